@@ -5,10 +5,10 @@ limits are within 5 to 1,000 cents of the mean price.
 
 `dam clear` by the default plan takes turns with the whole run of the twin, with two workers and cut 3 as in the default plan, and with an
 enumeration of all selections with numpy, `tools/audit --best` by four threads, which also checks the results. For one seed a node of one
-worker without a cut is compared with the twin's, and the peak memory of `dam clear` with that of the same book without its blocks. A run
+worker without a cut is compared with the twin's, and the peak memory of `dam clear` with the one of the same book without its blocks. A run
 ends after 60 s, or after the seconds of LIMIT in the environment."""
 
-# blocks.py [KIND..]: only these kinds. `bench/run blocks` builds what it needs.
+# blocks.py [KIND..]: only these kinds. `bench/run blocks` builds the files that it needs.
 
 import statistics
 import sys
@@ -46,7 +46,7 @@ class Book:
         return write(f"out/{name}-{'-'.join(self.drawn.words)}.csv", "./make_blocks.py", *self.drawn.words, *more)
 
     def clear(self):
-        """Times `dam clear` by the default plan, and what it is compared with, in turns."""
+        """Times `dam clear` by the default plan, and its comparisons, in turns."""
         words = {"dam": [DAM, "clear"], "before": BEFORE and [BEFORE, "clear"], "twin": [TWIN, *DEFAULT]}
         words["enumeration"] = enumeration.words(self.path)
         runs = by_turns({name: given for name, given in words.items() if given}, self.path, most=TURNS, seconds=SECONDS)

@@ -1,4 +1,4 @@
-"""What the scripts of the bench share: programs run and timed by turns, and a line for each figure."""
+"""The common parts of the scripts of the bench: programs run and timed by turns, and a line for each figure."""
 
 import os
 import statistics
@@ -29,7 +29,7 @@ STACKS, PLACES = 32, 32
 
 
 class Run(NamedTuple):
-    """What a program printed, and its seconds."""
+    """The output of a program, and its seconds."""
 
     text: bytes
     stderr: bytes
@@ -69,7 +69,7 @@ def run(words, given=os.devnull, statuses=(0,), limit=LIMIT, padding=0):
 
 
 def write(path, *words):
-    """Writes what a program prints to a file, and returns its path."""
+    """Writes the output of a program to a file, and returns its path."""
     with open(path, "wb") as made:
         made.write(run(words).text)
     return path
@@ -90,7 +90,7 @@ def by_turns(programs, given=os.devnull, most=31, seconds=5.0):
 
 
 def peak(words, given):
-    """The peak memory of a program in MiB. (What the system reports of a child of this process also counts this process's pages.)"""
+    """The peak memory of a program in MiB. (The system's report on a child of this process also counts this process's pages.)"""
     if not os.access(TIME, os.X_OK):
         sys.exit(f"{TIME} is missing")
     with open(given, "rb") as text, tempfile.NamedTemporaryFile("r") as used:
@@ -124,7 +124,7 @@ def times(value):
 
 
 def ratio(what, ones, others, most=None, least=None, shown=seconds, note=""):
-    """Prints the median of `ones` as a multiple of that of `others`; the details have both, and the multiple for the least of both."""
+    """Prints the median of `ones` as a multiple of `others`' median; the details have both, and the multiple for the least of both."""
     one, other = statistics.median(ones), statistics.median(others)
     value = one / other
     target = f"at most {times(most)}" if most else f"at least {times(least)}" if least else ""

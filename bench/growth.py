@@ -36,7 +36,7 @@ def made_by(family, parts, blocks):
 
 
 class Book:
-    """A book of a family, and what its search costs. A figure is None if there was none within the limit."""
+    """A book of a family, and the cost of its search. A figure is None if there was none within the limit."""
 
     def __init__(self, family, periods, blocks):
         self.family, self.periods, self.blocks = family, periods, blocks
@@ -92,7 +92,7 @@ def mebibytes(size):
 
 
 def table(title, head, rows, columns=tuple(f"{blocks} blocks" for blocks in BLOCKS)):
-    """A table with a row for each family and length of a day, and a column for each number of blocks or what else is named."""
+    """A table with a row for each family and length of a day, and a column for each number of blocks or other thing that is named."""
     columns = [head, *columns]
     lines = [f"| {' | '.join(cells)} |" for cells in (columns, *rows)]
     lines.insert(1, "|---" * len(columns) + "|")
@@ -100,13 +100,13 @@ def table(title, head, rows, columns=tuple(f"{blocks} blocks" for blocks in BLOC
 
 
 def rows_of(books, shown):
-    """The rows of a table, of what `shown` says of each book."""
+    """The rows of a table, by the text of `shown` for each book."""
     for (family, periods), ones in books.items():
         yield [f"{family}, {periods} periods", *(shown(each) for each in ones)]
 
 
 def page(books):
-    """Writes what MEASURED has of this part: tables of nodes, time and memory, and the picture's place."""
+    """Writes the parts of MEASURED from here: tables of nodes, time and memory, and the picture's place."""
     all_selections = ["all selections, 2^n", *(f"{2 ** blocks:,}" for blocks in BLOCKS)]
     with open(PAGE, "w", encoding="utf-8") as text:
         text.write(table("Nodes", "Family", [all_selections, *rows_of(books, lambda book: amount(book.nodes))]) + "\n")

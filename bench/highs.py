@@ -27,7 +27,7 @@ def find(problem, limit):
             return None
         welfare = selection.eligible(problem, chosen)
         taken = time.perf_counter() - begun
-        if welfare is not None and taken < limit:  # at its limit HiGHS returns what it has, whether it is the best or not
+        if welfare is not None and taken < limit:  # at its limit HiGHS returns its selection, whether it is the best or not
             return welfare, taken
         model.forbid(chosen)
     return None

@@ -15,7 +15,7 @@ DAY = "out/day.csv"
 LOOKS, CALLS = 1_000_000, 2_000
 # The peak memory of a day in MiB when looks took the gate's lock, and no version was kept.
 LOCKED = 11.1
-# What a figure may be as a multiple of the one before a change, since both vary from run to run.
+# The allowed multiple of the figure before a change, since both vary from run to run.
 NOISE = 1.1
 
 
@@ -24,7 +24,7 @@ def laps(runs, name, repeats):
 
 
 def compare_with_before(what, words, repeats, book, most=None):
-    """Compares what the measures take with what those from before a change take, if these are named."""
+    """Compares the time of the measures with the time of those from before a change, if these are named."""
     if BEFORE_MEASURES:
         runs = by_turns({"one": [MEASURES, *words], "before": [BEFORE_MEASURES, *words]}, book)
         ratio(what, laps(runs["one"], words[0], repeats), laps(runs["before"], words[0], repeats), most)

@@ -27,7 +27,7 @@ NIGHT = [hour for hour in range(1, HOURS + 1) if hour not in PEAK]
 
 
 class Market(Day):
-    """A day, and what draws the volumes of its blocks."""
+    """A day, and the generator of the volumes of its blocks."""
 
     def volume(self):
         return self.rng.randint(LEAST_BLOCK, GREATEST_BLOCK)
@@ -77,7 +77,7 @@ KINDS = {"base": base, "peaks": peaks, "shaped": shaped, "odd": odd, "random": u
 
 
 class Book(NamedTuple):
-    """What a book with the most blocks is drawn from."""
+    """The generator of a book with the most blocks."""
 
     kind: str
     spread: int

@@ -18,7 +18,7 @@ import sys
 from dataclasses import dataclass, field
 
 HOURS = 24
-BLOCKS, MOST_HOURLY = 24, 4_000  # what a book may have
+BLOCKS, MOST_HOURLY = 24, 4_000  # the limits of a book
 PARTICIPANTS = ["ALPHA", "BRAVO", "CHARLIE", "DELTA", "ECHO", "FOXTROT", "GOLF", "HOTEL"]
 SEED = 20_251_001
 
@@ -39,7 +39,7 @@ class Block:
 
 
 class Day:
-    """The periods of a day, of which each hour has `parts`, and what draws its orders."""
+    """The periods of a day, of which each hour has `parts`, and the generator of its orders."""
 
     def __init__(self, parts, rng):
         self.parts, self.rng = parts, rng
@@ -151,7 +151,7 @@ def main():
     parts = number_of("PARTS", words[3], (1, 4), "1 or 4") if len(words) > 3 else 1
     day = Day(parts, random.Random(f"{SEED} {family} {orders}"))
     order = flat if family == "ties" else hourly
-    # a tenth of what stands on one side of a period
+    # a tenth of the volume of one side of a period
     volume = max(orders * 275 // day.count // 20, 10)
     print(f"day,{day.count},,,,,,,")
     for number in range(orders):

@@ -31,7 +31,7 @@ SHOWN = {
     "looks": r"a look compared with a plain one, while [03] threads.*|a call, 4,000 orders held|dam day.*",
     "quarters": r"dam replay of 10,000 blocks.*",
 }
-# What the cells of such a table are, and the names of its columns.
+# The contents of the cells of such a table, and the names of its columns.
 CELLS = {
     "families": ("`dam clear` by the default plan", "{} hourly orders"),
     "blocks": ("`dam clear` by the default plan, spread 50", "{} periods"),
@@ -50,7 +50,7 @@ how many of a kind are missed, their figures, and the worst. `grep MISSED bench/
 
 
 def printed(words):
-    """What a program prints, or nothing if it is missing or fails."""
+    """The output of a program, or nothing if it is missing or fails."""
     try:
         return subprocess.run(words, stdout=subprocess.PIPE, stderr=subprocess.DEVNULL, text=True, check=True).stdout.strip()
     except (OSError, subprocess.CalledProcessError):
@@ -64,7 +64,7 @@ def processor():
 
 
 def run_of(part):
-    """The day, the commit, the machine and the kit of a part's figures, and what else is to be known of them."""
+    """The day, the commit, the machine and the kit of a part's figures, and other facts about them."""
     commit = printed(["git", "rev-parse", "--short", "HEAD"]) or "unknown"
     if printed(["git", "status", "--porcelain", "--", "..", f":!{PAGE}", f":!{KEPT}"]):
         commit += " with changes"

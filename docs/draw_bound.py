@@ -29,7 +29,7 @@ def net_volumes(day, number):
 
 def lines(orders, least, most):
     """The straight lines of a period between two net volumes, from the greatest down: the net volume at which each ends, and its
-    slope. Sells and buys stand in one list by rising limit; what is taken of it, from the bottom up, is all buys less the net
+    slope. Sells and buys stand in one list by rising limit; the volume taken of it, from the bottom up, is all buys less the net
     volume, so that the price is the limit of the order in which that ends."""
     top = sum(volume for side, _, volume in orders if side == "buy")
     found = []

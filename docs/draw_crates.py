@@ -2,7 +2,7 @@
 """draw_crates.py > docs/crates.svg: draws the crates of crates.txt, each above those that it uses.
 
 A line from a crate down to one that it also uses by way of another is left out. In each row that a line passes it has a place of its own
-between the boxes. The rows follow from the list; the order in a row is that of the middles of what stands below, and then above."""
+between the boxes. The rows follow from the list; the order in a row is the order of the middles of the boxes below, and then above."""
 
 import sys
 from pathlib import Path

@@ -49,7 +49,7 @@ class Counts(NamedTuple):
 
 
 class Effect(NamedTuple):
-    """What the block does to the prices of its periods, and gains, if it is rejected and if it is accepted."""
+    """The prices of the block's periods, and its gain, if it is rejected and if it is accepted."""
 
     limit: int
     periods: list
@@ -98,7 +98,7 @@ def effect(day, accepted):
 
 
 def steps(counts):
-    """What each rule leaves, from all selections down to the published one."""
+    """The selections that each rule leaves, from all selections down to the published one."""
     yield 2**counts.blocks, f"ways to accept or reject {counts.blocks} blocks"
     yield counts.admitted, "of these obey links and groups"
     yield counts.balanced, f"{'(all of these)' if counts.balanced == counts.admitted else 'of these'} balance in each hour"

@@ -5,7 +5,7 @@ paradoxically rejected. All volumes below are in MW and all prices in EUR/MWh; t
 
 HOURS = range(1, 25)
 
-# What the town buys in each hour, and what wind and sun are expected to give.
+# The volume that the town buys in each hour, and the volumes expected from wind and sun.
 LOAD = [3020, 2880, 2790, 2750, 2810, 2990, 3440, 3990, 4180, 4050, 3830, 3640]
 LOAD += [3500, 3390, 3400, 3560, 3860, 4210, 4480, 4520, 4310, 3930, 3560, 3210]
 WIND = [1130, 1180, 1210, 1190, 1140, 1080, 1010, 960, 940, 970, 1040, 1110]
@@ -43,12 +43,12 @@ PLANTS = [
     ("OIL", "DIESEL-B", 246, 50),
 ]
 
-# The wind farms and solar parks: name, limit, and share of what is expected, in per cent. Some are subsidised for what they feed in, and
+# The wind farms and solar parks: name, limit, and share of the expected volume, in per cent. Some are subsidised for what they feed in, and
 # ask less than nothing.
 FARMS = [("COAST", -55, 35), ("PLAIN", -12, 40), ("RIDGE", 1, 25)]
 PARKS = [("ROOF", -60, 45), ("FIELD", -18, 35), ("DAM", 0, 20)]
 
-# What industry buys: name, limit, volume and hours.
+# The orders of industry: name, limit, volume and hours.
 WORKS = [
     ("FOUNDRY", 132, 90, range(7, 20)),
     ("MILL", 104, 110, HOURS),

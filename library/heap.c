@@ -17,7 +17,7 @@ static struct tried tried(void *at) {
     return (struct tried){at != NULL, at != NULL ? at : (void *)16};
 }
 
-/* What malloc gives fits every type of C, and no type of the library asks for more. */
+/* Memory from malloc fits every type of C, and no type of the library asks for more. */
 static bool is_aligned_by_malloc(size_t align) {
     return align <= _Alignof(max_align_t);
 }

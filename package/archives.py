@@ -31,7 +31,7 @@ class Entry(NamedTuple):
 
 
 def called(line, folder=None, seconds=0):
-    """What a command prints."""
+    """The output of a command."""
     ran = subprocess.run(line, cwd=folder, env=made_of.environment(seconds), capture_output=True)
     if ran.returncode:
         raise command.Stop(f"{line[0]} failed: {ran.stderr.decode(errors='replace').strip()}", command.FAILED)
@@ -117,7 +117,7 @@ def plain(tree, clone, target):
 
 
 def entries(data, prefix=""):
-    """What a tar archive has, by name."""
+    """The contents of a tar archive, by name."""
     found = {}
     with tarfile.open(fileobj=io.BytesIO(data)) as archive:
         for member in archive:

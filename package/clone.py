@@ -1,4 +1,4 @@
-"""What a package is made of: the clone's commit, its tracked files, and what was proved and built of them."""
+"""The sources of a package: the clone's commit, its tracked files, and the files proved and built of them."""
 
 import datetime
 import json
@@ -36,7 +36,7 @@ def environment(seconds=0):
 
 
 def git(*words):
-    """What git prints."""
+    """The output of git."""
     ran = subprocess.run(["git", *words], cwd=TOP, capture_output=True)
     if ran.returncode:
         raise command.Stop(f"git {words[0]} failed: {ran.stderr.decode(errors='replace').strip()}")
@@ -103,5 +103,5 @@ def refuse_lack():
 
 
 def made_with():
-    """The versions of what makes the files of a package here; another one may make others."""
+    """The versions of the programs that make the files of a package here; other ones may make others."""
     return {name: sources.first_line([name, "--version"]) for name in NEEDED if name != "git"}

@@ -1,4 +1,4 @@
-"""Whether a package is what this clone makes."""
+"""Whether a package is the one that this clone makes."""
 
 import json
 
@@ -30,7 +30,7 @@ def of_provenance(there, here):
 
 
 def differences(there, here):
-    """What differs between two packages: a line for each file."""
+    """The differences between two packages: a line for each file."""
     for name in sorted({*there, *here}):
         ours, theirs = here.get(name), there.get(name)
         if ours is None:

@@ -1,4 +1,4 @@
-"""The man page of each command, made by help2man of its help. What is laid out in lines there, such as examples, stays so."""
+"""The man page of each command, made by help2man of its help. Parts that are laid out in lines there, such as examples, stay so."""
 
 import concurrent.futures
 import re

@@ -103,12 +103,12 @@ def make(clone, folder, totals):
 
 
 def recorded_of(clone, name):
-    """What is recorded of a file that was built, but for the sums of its sources."""
+    """The record of a file that was built, but for the sums of its sources."""
     return {key: it for key, it in clone.records[name].items() if key != "sources"}
 
 
 def provenance(clone, folder, totals):
-    """Of what a package was made, and the sum of each of its files but this one."""
+    """The sources of a package, and the sum of each of its files but this one."""
     files = sorted(path for path in folder.rglob("*") if path.is_file() and not path.is_symlink())
     return {
         "package": "dam",

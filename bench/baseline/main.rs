@@ -1,8 +1,8 @@
-//! What `dam replay` does, as a plain Rust program with std only, with which `dam` is compared.
+//! The work of `dam replay`, as a plain Rust program with std only, with which `dam` is compared.
 //!
 //! It reads the same journals, except amends and blocks with a parent or a group, and prints the same replies and fault lines. With the
 //! word `day` it does what `dam day` does before it clears: one thread for each participant enters its commands under a `Mutex`, and the
-//! journal that they made is compared with what the threads were answered, and printed.
+//! journal that they made is compared with the answers to the threads, and printed.
 
 use std::collections::HashMap;
 use std::env;
@@ -394,7 +394,7 @@ struct Entry {
     reply: Result<(), Reason>,
 }
 
-/// What the lock protects.
+/// The state that the lock protects.
 struct Gate {
     book: Book,
     entries: Vec<Entry>,
@@ -438,7 +438,7 @@ fn enter(gate: &Mutex<Gate>, commands: &[Command]) -> Vec<Entry> {
     receipts
 }
 
-/// The journal of a day, or nothing if an entry isn't what its participant was answered.
+/// The journal of a day, or nothing if an entry isn't the answer to its participant.
 fn journal(periods: u8, commands: &[Command]) -> Option<String> {
     let gate = Mutex::new(Gate { book: Book::new(periods), entries: Vec::new() });
     let receipts = enter(&gate, commands);

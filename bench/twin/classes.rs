@@ -1,12 +1,12 @@
-//! The bound of a prefix: the relaxed welfare with no block decided, less what each decision loses.
+//! The bound of a prefix: the relaxed welfare with no block decided, less the loss of each decision.
 //!
 //! Two periods are in one class if every block has the same volume in both, or none in either. Then their net volumes are equal under
-//! every prefix, so one look-up by that number gives what all periods of the class lose. There is a table of the welfare for each class
+//! every prefix, so one look-up by that number gives the loss of all periods of the class. There is a table of the welfare for each class
 //! before any decision, and one for each block that has a volume there, since its decision changes the stacks; and for each of the last
 //! blocks the losses by either decision at each net volume, side by side.
 //!
 //! The net volumes of the classes are in slots, one for each table. A decision writes the slots of its own block and reads those of earlier
-//! ones, so nothing is copied and nothing undone.
+//! ones, so there are no copies and no undoing.
 
 use std::collections::HashMap;
 
@@ -18,7 +18,7 @@ use crate::table::Table;
 
 /// A block in a class of periods.
 struct Touch {
-    /// What is added to a net volume to find the place of its loss, if the losses are kept.
+    /// The number added to a net volume to find the place of its loss, if the losses are kept.
     offset: i64,
     class: u32,
     /// The slots of the class before and after the block is decided, which are also the places of the tables.
@@ -66,7 +66,7 @@ impl Class {
         block.volume(self.periods[0])
     }
 
-    /// What a decision on a block against the prices may cost.
+    /// The possible cost of a decision on a block against the prices.
     fn stake(&self, block: &Block) -> i64 {
         let apart = |last: &i64| (last - height(block.price)).abs();
         self.volume(block) * self.heights.iter().map(apart).sum::<i64>()
@@ -109,7 +109,7 @@ fn orders(problem: &Problem, at: usize) -> impl Iterator<Item = Step> {
     problem.hours[at].iter().copied().chain(blocks.filter(|step| step.volume > 0))
 }
 
-/// What the nodes of a problem are computed from.
+/// The data from which the nodes of a problem are computed.
 pub struct Bounds<'a> {
     pub problem: &'a Problem,
     classes: Vec<Class>,

@@ -1,6 +1,6 @@
 //! The search for the best selection of blocks in plain Rust with std only, for comparison: it visits the same nodes as `dam`, without any
 //! proof. `twin WORKERS CUT [TIMES] < JOURNAL` prints the welfare, the selection, and the nodes that the last of TIMES walks visited;
-//! and on standard error lines with what was timed and the nanoseconds that it took. It reads the journals that `make_family.py` and
+//! and on standard error lines with the name of each timed part and its nanoseconds. It reads the journals that `make_family.py` and
 //! `make_blocks.py` print, which have only submits that are accepted.
 //!
 //! The bound of a prefix is that of the prefix before it less a look-up in a table for each class of periods. Workers draw the pieces from one shared word and
@@ -20,7 +20,7 @@ use std::time::Instant;
 use classes::Bounds;
 use problem::Problem;
 
-/// Prints what was done, and the nanoseconds since the instant.
+/// Prints the part that was timed, and the nanoseconds since the instant.
 fn tell(what: &str, begun: Instant) {
     eprintln!("{what} {}", begun.elapsed().as_nanos());
 }

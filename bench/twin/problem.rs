@@ -44,7 +44,7 @@ impl Block {
         self.volumes.iter().find(|pair| pair.0 == at).map_or(0, |pair| pair.1)
     }
 
-    /// What the net volume gains in a period by this block, if it is accepted.
+    /// The net volume of this block in a period, if it is accepted.
     pub fn change(&self, volume: i64) -> i64 {
         if self.side == Side::Sell { volume } else { -volume }
     }
@@ -105,7 +105,7 @@ impl Problem {
         (0..self.blocks.len()).all(|place| accepted >> place & 1 == 0 || self.admits(accepted & ((1 << place) - 1), place))
     }
 
-    /// Whether an accepted block loses at these prices of the periods: its surplus and those of its accepted descendants are below 0.
+    /// Whether an accepted block loses at these prices of the periods: its surplus and its accepted descendants' add up to less than 0.
     pub fn loses(&self, prices: &[i64], accepted: u32) -> bool {
         let surplus = |block: &Block| -> i64 {
             block.volumes.iter().map(|(at, volume)| block.change(*volume) * (prices[*at] - block.price)).sum()

@@ -1,4 +1,4 @@
-//! From which block on the losses at each net volume are kept. They are quick to look up and take memory, so they are those of the last
+//! From which block on the losses at each net volume are kept. They are quick to look up and take memory, so they are kept for the last
 //! blocks, which a search decides most often.
 
 use crate::classes::Class;

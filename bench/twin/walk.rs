@@ -19,7 +19,7 @@ impl Best {
     }
 }
 
-/// The best of what one turned decision makes of a selection, from the place on, or else `best`.
+/// The best of the selections that one turned decision makes, from the place on, or else `best`.
 fn best_turn(bounds: &Bounds, best: Best, base: u32, from: usize, scores: &mut u64) -> Best {
     let nets = bounds.nets_of(base);
     let mut turned = nets.clone();
@@ -79,7 +79,7 @@ impl Walk<'_> {
         self.shared.greatest.load(Ordering::SeqCst)
     }
 
-    /// Visits what extends a node whose bound is at least the greatest welfare found.
+    /// Visits the extensions of a node whose bound is at least the greatest welfare found.
     fn explore(&mut self, total: i64, accepted: u32, depth: usize) {
         if depth == self.bounds.problem.blocks.len() {
             self.leaf(total, accepted);

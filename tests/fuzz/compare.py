@@ -1,4 +1,4 @@
-"""What the program must print on an input, by the rules as `tools/lib` has them, and how what it prints differs."""
+"""The output that the program must print on an input, by the rules of `tools/lib`, and how its output differs."""
 
 import functools
 import os
@@ -18,7 +18,7 @@ from lib import best, book, check, journal, results, rules, selection
 MOST_BLOCKS = 10
 SECONDS = 60.0  # that a program may take to answer, if nothing else is said
 COMMAND_LINE = 2  # the program's status
-ENDED = -1  # that of a program which took too long
+ENDED = -1  # the status of a program that took too long
 LATE = "no answer in time"
 
 
@@ -30,7 +30,7 @@ class Program:
         self.environment = dict(os.environb)  # which `os.environ` would encode for each run
 
     def printed(self, words, data):
-        """What it prints for an input. Its streams are files in memory: pipes would have to be served while it runs, which takes longer
+        """Its output for an input. Its streams are files in memory: pipes would have to be served while it runs, which takes longer
         than most runs."""
         with in_memory(data) as stdin, in_memory() as stdout, in_memory() as stderr:
             ran = subprocess.Popen([self.path, *words], stdin=stdin, stdout=stdout, stderr=stderr, close_fds=False, env=self.environment)
@@ -88,7 +88,7 @@ def reading(data):
 
 
 def right_answer(command, words, data, like=None):
-    """What a command must print for an input, by another program or else by the rules; None if that takes too long."""
+    """The output that a command must print for an input, by another program or else by the rules; None if that takes too long."""
     if like is None:
         return wanted(command, data)
     answer = like.printed([command, *words], data)
@@ -97,7 +97,7 @@ def right_answer(command, words, data, like=None):
 
 @functools.lru_cache(maxsize=1)
 def wanted(command, data):
-    """What a command must print for an input, by the rules; None if that takes too long. The last answer is kept, for several plans."""
+    """The right output of a command for an input, by the rules; None if that takes too long. The last answer is kept, for several plans."""
     read = reading(data)
     if isinstance(read, journal.Fault):
         return refused(read)
@@ -138,7 +138,7 @@ def day_faults(read):
 
 
 def day_differences(data, got):
-    """What is wrong with what `dam day` printed. Its participants' commands may come in any order that keeps each one's own,
+    """The faults of the output of `dam day`. Its participants' commands may come in any order that keeps each one's own,
     so that no one text is right."""
     if got.status == ENDED:
         return [LATE]
@@ -161,7 +161,7 @@ def day_differences(data, got):
 
 
 def differences(program, command, words, data, like=None):
-    """What is wrong with what a command prints for an input, by another program or else by the rules: nothing if all is right, only LATE
+    """The faults of a command's output for an input, by another program or else by the rules: nothing if all is right, only LATE
     if it took too long. A failure of the tool is a difference too."""
     try:
         return found_differences(program, command, words, data, like)

@@ -9,7 +9,7 @@ LIMITS = [rules.LEAST_PRICE, rules.LEAST_PRICE + 1, -1, 0, 1, rules.GREATEST_PRI
 
 
 def price_source(rng):
-    """What draws limit prices."""
+    """The generator of limit prices."""
     kind = rng.randrange(6)
     if kind == 0:
         return lambda: rng.randint(rules.LEAST_PRICE, rules.GREATEST_PRICE)
@@ -26,7 +26,7 @@ def price_source(rng):
 
 
 def volume_source(rng):
-    """What draws volumes."""
+    """The generator of volumes."""
     kind = rng.randrange(5)
     if kind == 0:
         return lambda: rng.choice([1, rules.GREATEST_VOLUME - 1, rules.GREATEST_VOLUME])
@@ -39,7 +39,7 @@ def volume_source(rng):
 
 
 class Draft:
-    """The lines of a day in the making, and what the next ones are drawn from."""
+    """The lines of a day in the making, and the state that the next ones are drawn from."""
 
     def __init__(self, rng, with_profiles=None):
         """With profiles, or without; or else by chance."""

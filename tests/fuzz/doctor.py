@@ -1,4 +1,4 @@
-"""Changes of a text, as somebody makes them who doctors it or whose program breaks it; and its content without what concerns only how it
+"""Changes of a text, as somebody makes them who doctors it or whose program breaks it; and its content, apart from how it
 is encoded, by a plain reading of its own that uses nothing of `lib`."""
 
 import csv
@@ -19,7 +19,7 @@ def a_byte(rng, data):
 
 
 def a_field(rng, data):
-    """A field of a line, made larger, smaller, empty, or that of another line."""
+    """A field of a line, made larger, smaller, empty, or a field of another line."""
     lines = [line.split(b",") for line in data.split(b"\n")]
     line = rng.choice([line for line in lines if len(line) > 1] or [lines[0]])
     at = rng.randrange(len(line))
@@ -55,7 +55,7 @@ def a_cut(rng, data):
 
 
 def doctored(rng, data):
-    """In words what was changed, and the changed text."""
+    """The change in words, and the changed text."""
     return rng.choice([a_byte, a_field, a_field, a_line, a_line, a_cut])(rng, data)
 
 

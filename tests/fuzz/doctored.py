@@ -137,7 +137,7 @@ def changed(rng, pairs, data, text):
 
 
 def trouble(folder, pairs, data, text):
-    """What is wrong with the audit of a pair; nothing if all is right."""
+    """The fault of the audit of a pair; nothing if all is right."""
     right = wanted(pairs, data, text)
     try:
         status, record = audited(folder, data, text)

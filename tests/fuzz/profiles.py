@@ -11,7 +11,7 @@ def hours_of(periods):
 
 
 class Profiles:
-    """What draws the volumes of a day's blocks, as a number for each period."""
+    """The generator of the volumes of a day's blocks, as a number for each period."""
 
     def __init__(self, rng, periods, volume):
         self.rng, self.volume = rng, volume

@@ -64,7 +64,7 @@ def inputs(args):
 
 
 def made(script, words):
-    """What a script of the bench prints."""
+    """The output of a script of the bench."""
     return subprocess.run([sys.executable, BENCH / script, *words], capture_output=True, check=True).stdout
 
 
@@ -108,7 +108,7 @@ def best_above(problem, said, jobs):
 
 
 def wrong_of(program, data, jobs):
-    """What is wrong of a day, in words; and to what its results were altered, None if they couldn't be."""
+    """The faults of a day, in words; and the altered results, None if they couldn't be."""
     problem = selection.Problem(book.run(journal.read_journal(data))[0])
     got = program.printed(["clear"], data)
     if got.status:

@@ -2,7 +2,7 @@
 
 
 def without(parts, fails, tries):
-    """Leaves out runs of parts, long ones first, while what is left still fails. Returns that, and how many tries are left."""
+    """Leaves out runs of parts, long ones first, while the rest still fails. Returns that, and how many tries are left."""
     size = len(parts) // 2
     while size >= 1:
         at = 0

@@ -9,7 +9,7 @@ from preload import EVERY, Program, Refusal
 from shared.printed import Printed
 
 REFUSALS = Path(__file__).resolve().parents[2] / "crates/dam_refusals/out/dam_refusals"
-# What is printed if memory is refused before the first call of the row: to its words or its input, or to what it stands on.
+# The output if memory is refused before the first call of the row: to its words or its input, or to the state that it needs.
 BEFORE = {Printed(1, b"", b"Error: Kind(OutOfMemory)\n"), Printed(0, b"memory\n", b"")}
 SPREAD = 40  # of the calls for memory of a long beginning, as many as this are refused
 
@@ -22,7 +22,7 @@ class Again(NamedTuple):
     data: bytes
     answer: str
     least: int = 1  # how many refusals come to the calls of the row, at least
-    is_split: bool = False  # whether what the row stands on is made between its calls too
+    is_split: bool = False  # whether the state that the row needs is made between its calls too
     goes_on: bool = False  # whether a refused call for memory may change nothing: for a thread, whose work the caller does, or in `clap`
     beginning: list = ()  # the words of a row that is this one's long beginning
 
@@ -62,7 +62,7 @@ class Refusals:
         total = self.calls(row.words, row.data)
         numbers = self.numbers(row, total)
         *printed, last = self.runs.pool.map(lambda number: self.printed(row, Refusal("memory", number, number)), numbers)
-        # one call for memory, for the words, is made anew by the kit if it is refused
+        # one call for memory, for the words, is made again by the kit if it is refused
         before = next((at for at, got in enumerate(printed) if got not in BEFORE | {row.told(0)}), len(printed))
         check(f"{row.about}: refused calls change nothing", row.goes_on or printed[:before].count(row.told(0)) <= 1)
         again = 0

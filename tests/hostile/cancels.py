@@ -1,8 +1,8 @@
 """An old order costs no more to cancel than a new one, and a name that is used again no more than another. A book that moved all later
 orders up at each cancel would take ten times as much.
 
-The cost is a number of instructions, which valgrind counts: it does not depend on what else the machine does. It is that of a journal
-that submits as many orders as a book holds, less that of the journal of the submits alone."""
+The cost is a number of instructions, which valgrind counts: it does not depend on other work of the machine. It is the cost of a journal
+that submits as many orders as a book holds, less the cost of the journal of the submits alone."""
 
 from colliding import DRAWN, ORDERS, instructions
 

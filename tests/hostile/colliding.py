@@ -2,7 +2,7 @@
 own. If it gets no random bytes, it takes the fixed seed, and then they do: so the names collide, and each engine passes its seed on. So do
 `Gate::begin_seeded` and `run_commands`, which `dam_refusals` calls with a seed that it draws in the same way.
 
-The cost is a number of instructions, which valgrind counts: it does not depend on what else the machine does."""
+The cost is a number of instructions, which valgrind counts: it does not depend on other work of the machine."""
 
 import errno
 import re

@@ -1,4 +1,4 @@
-"""What a run with calls refused may print: what the same run prints with none refused, or the fault's line and status."""
+"""The output that a run with calls refused may have: the same run's with none refused, or the fault's line and status."""
 
 import re
 import threading
@@ -15,7 +15,7 @@ WRITE = re.compile(rb"device: write after (\d+) bytes\n")
 
 
 class Answer:
-    """What a run prints with no call refused. The text of a day is one of many, each of which is looked at once: its journal has
+    """The output of a run with no call refused. The text of a day is one of many, each of which is looked at once: its journal has
     each participant's commands in their order and then the close, and its results are those that the program makes of that
     journal."""
 
@@ -63,7 +63,7 @@ def read(answer, refusal, got, calls):
 
 
 def write(answer, refusal, got, calls):
-    """A failed write ends the run; what was written are the first bytes of the text, and the line says how many."""
+    """A failed write ends the run; the written bytes are the first of the text, and the line says how many."""
     text = answer.usual.stdout
     if calls < refusal.first:
         return got == answer.usual

@@ -55,7 +55,7 @@ class Program:
         return file
 
     def run(self, words, data, refusal, stdout=subprocess.PIPE, seconds=SECONDS, under=()):
-        """What it prints, and how many calls of the refusal's kind it made. The words of `under` go before the program."""
+        """Its output, and how many calls of the refusal's kind it made. The words of `under` go before the program."""
         calls = self.counts()
         calls.write_bytes(bytes(8))
         surroundings = {

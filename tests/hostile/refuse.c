@@ -49,7 +49,7 @@ static create_thread *create;
 static give_entropy *entropy;
 static give_random *randomly;
 
-/* Reads what is to be refused. What the program and its libraries ask for before this is granted. */
+/* Reads which calls are to be refused. Requests of the program and its libraries before this are granted. */
 __attribute__((constructor)) static void begin(void) {
     const char *plan = getenv("HOSTILE"), *file = getenv("HOSTILE_CALLS");
     char name[16];

@@ -163,7 +163,7 @@ def device_rows():
 
 
 def end_of_input(answer, refusal, got, calls):
-    """A read of 0 bytes is the end of the input: the answer is that of the bytes before it."""
+    """A read of 0 bytes is the end of the input: the answer is the answer to the bytes before it."""
     if calls < refusal.first:
         return answer.is_given(got)
     return answer.of_front(refusal.moved_before(len(answer.data))).is_given(got)
@@ -194,7 +194,7 @@ class Runs(Counts):
         return sorted({1 + at * total // (row.some - 1) for at in range(row.some)})
 
     def difference(self, row, answer, number):
-        """What is wrong with a run, or nothing."""
+        """The fault of a run, or nothing."""
         refusal = row.refusal(number)
         got, calls = self.program.run(row.words, row.data, refusal)
         if row.judge(answer, refusal, got, calls):
@@ -247,7 +247,7 @@ class Answer(judge.Answer):
 
 
 def closed(program, words, data, stream):
-    """What is printed if a standard stream is closed from the start."""
+    """The output if a standard stream is closed from the start."""
     command = ["sh", "-c", f'exec "$0" "$@" {stream}', program.path, *words]
     with open(program.given(data), "rb") as stdin:
         ran = subprocess.run(command, stdin=stdin, stdout=subprocess.PIPE, stderr=subprocess.PIPE, timeout=SECONDS)

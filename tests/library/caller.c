@@ -1,4 +1,4 @@
-/* caller replay|clear [NODES]: prints for the journal on standard input what `dam` prints, with its status, by the library. */
+/* caller replay|clear [NODES]: prints for the journal on standard input the output of `dam`, with its status, by the library. */
 #include "dam.h"
 
 #include <stdio.h>

@@ -1,4 +1,4 @@
-//! caller replay|clear: prints for the journal on standard input what `dam` prints, with its status, by the library.
+//! caller replay|clear: prints for the journal on standard input the output of `dam`, with its status, by the library.
 
 use std::fs::File;
 use std::io::{Read, Write, stderr, stdin, stdout};

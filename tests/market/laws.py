@@ -1,4 +1,4 @@
-"""The laws of the market, each run on a book: what the program prints for the book and for a change of it is compared with the law's
+"""The laws of the market, each run on a book: the program's output for the book and for a change of it is compared with the law's
 conclusion. docs/MARKET.md says each law in words, and names the function whose contract states it."""
 
 import itertools
@@ -9,7 +9,7 @@ from lib import rules
 
 
 class Printed(NamedTuple):
-    """What the program printed for a book."""
+    """The program's output for a book."""
 
     welfare: int
     prices: list  # by period, from 1
@@ -42,7 +42,7 @@ def read(text):
 
 
 class Market:
-    """The program, and what it printed for the books so far."""
+    """The program, and its output for the books so far."""
 
     def __init__(self, program):
         self.program, self.kept = program, {}
@@ -61,7 +61,7 @@ def side(order, amount):
 
 
 def surplus(row, printed):
-    """What an order gains: an hourly one by its executed volume, a block if it is accepted, by its limit, volumes and the prices."""
+    """The gain of an order: an hourly one by its executed volume, a block if it is accepted, by its limit, volumes and the prices."""
     if row.is_block:
         volumes = row.order.volumes if printed.accepts(row) else ()
     else:
@@ -82,7 +82,7 @@ def traded(book, printed):
     return volumes
 
 
-# Each law takes the market, a book and what draws its change, and yields what is wrong, if anything is.
+# Each law takes the market, a book and the generator of its change, and yields the faults, if there are any.
 
 
 def welfare_is_shared_out(market, book, _):
@@ -118,7 +118,7 @@ def nobody_loses(market, book, _):
 
 
 def family_surplus(book, row, printed):
-    """What a block and its accepted descendants gain; a rejected block has none."""
+    """The gain of a block with its accepted descendants; a rejected block has none."""
     return surplus(row, printed) + sum(family_surplus(book, child, printed) for child in book.children(row))
 
 

@@ -30,7 +30,7 @@ class Fixed:
 
 
 def wrong(law, printed, others=None, book=BOOK):
-    """What a law finds by several changes of the book."""
+    """The faults that a law finds by several changes of the book."""
     return [text for seed in range(10) for text in law(Fixed(book, printed, others), book, random.Random(seed))]
 
 

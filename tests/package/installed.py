@@ -14,7 +14,7 @@ TOP = Path(__file__).resolve().parents[2]
 RESULTS = TOP / "tests/cases/sunny-day.stdout"
 SUNNY = "/usr/share/doc/dam/examples/sunny-day.csv"
 DAY = "/srv/day"  # in the system: the files of the day
-# These files, and what Debian's own tools keep, aren't the package's.
+# These files, and the ones that Debian's own tools keep, aren't the package's.
 OF_DEBIAN = ("proc", "dev", "sys", "run", "tmp", "var/cache", "var/log", "var/lib/apt", "var/lib/dpkg/status-old", "var/lib/dpkg/triggers")
 KEPT = (DAY.removeprefix("/"), *OF_DEBIAN)
 OF_THE_REPORT = "python3-jinja2, python3-matplotlib"
@@ -35,7 +35,7 @@ class System:
         self.root = root
 
     def run(self, *words, data=b""):
-        """The status, the output and the errors of a command. It gets a /proc of its own, and what it starts ends with it."""
+        """The status, the output and the errors of a command. It gets a /proc of its own, and its processes end with it."""
         inside = 'mount -t proc proc "$0/proc" && cd "$0" && exec chroot "$0" "$@"'
         clean = ["env", "-i", "PATH=/usr/bin:/usr/sbin:/bin:/sbin", f"HOME={DAY}", "LC_ALL=C.UTF-8", "DEBIAN_FRONTEND=noninteractive"]
         line = ["unshare", "--mount", "--pid", "--fork", "sh", "-c", inside, self.root, *clean, *words]

@@ -1,4 +1,4 @@
-"""What tests of the built program share. Modules that read journals and results need `lib`, of tools/, which is found from here on."""
+"""Shared parts of the program's tests. Modules that read journals and results need `lib`, of tools/, which is found from here on."""
 
 import sys
 from pathlib import Path

@@ -1,22 +1,22 @@
 """The worked cases of tests/cases/. A file there is a text with several cases, which `read` reads and `written` writes.
 
-It begins with what its cases show, and maybe with the line `-- args` of the cases that have none. A case begins with a
-line `== NAME`, and maybe with what it shows. Then come its parts, each a line `-- PART`, most with lines below it:
+It begins with the facts that its cases show, and maybe with the line `-- args` of the cases that have none. A case begins with a
+line `== NAME`, and maybe with the fact that it shows. Then come its parts, each a line `-- PART`, most with lines below it:
 
     -- args WORD..          the program's arguments
     -- runs                 further arguments: the program is run once with those of each line
     -- stdin                the input
-    -- stdout, -- stderr    what the program prints; of several texts for a stream, each is right
-    -- stdout begins        the first lines of what it prints; and so `-- stdout ends`, `-- stderr begins`, `-- stderr ends`
+    -- stdout, -- stderr    the program's output; of several texts for a stream, each is right
+    -- stdout begins        the first lines of its output; and so `-- stdout ends`, `-- stderr begins`, `-- stderr ends`
     -- status N             the status; without it, 0
     -- table                columns' names, and rows of cells, with two blanks or more between the cells: the case stands
                             for one case of each row, and in all its lines `{COLUMN}` is replaced by the cell
 
 A text that is left out is empty. `-- PART as in CASE` takes the text of a case above, or of FILE/CASE, and
-`-- PART from PATH` that of a file of the repository. Empty lines at the end of a text don't count. Each other line
+`-- PART from PATH` the text of a file of the repository. Empty lines at the end of a text don't count. Each other line
 stands for itself and its line end, but for:
 
-    {1..9}, {5 times}       the line stands once for each number, with that number here; or so many times, with nothing here
+    {1..9}, {5 times}       the line stands once for each number, with that number here; or as many times, with nothing here
     \\n \\r \\x7b \\\\           a line end, a return, the byte 0x7b, a backslash
     \\ at the end            the line has no line end
 """
@@ -35,16 +35,16 @@ TIMES = re.compile(r"\{(?:(\d+)\.\.(\d+)|(\d+) times)\}")
 BRACE = re.compile(r"\{([^{}]*)\}")
 ESCAPE = re.compile(r"\\(x[0-9a-f]{2}|.?)")
 ESCAPED = {"n": "\n", "r": "\r", "\\": "\\", "": ""}
-# What doesn't stand for itself: the beginning of a heading, a blank at the end, and such bytes.
+# The text that doesn't stand for itself: the beginning of a heading, a blank at the end, and such bytes.
 UNPLAIN = re.compile(r"^[=-](?=[=-] )| $|[^ -z|}~]|\\")
 
 
 class Fault(Exception):
-    """What is wrong in a file of cases; a first argument is the number of the line."""
+    """The fault of a file of cases; a first argument is the number of the line."""
 
 
 class Printed(NamedTuple):
-    """What is right on a stream: one of some texts, or any text that begins and ends so."""
+    """The right output of a stream: one of some texts, or any text that begins and ends so."""
 
     texts: list
     begins: bytes = b""
@@ -69,11 +69,11 @@ class Case(NamedTuple):
 
     @property
     def printed(self):
-        """What is right on standard output; the first, if several texts are."""
+        """The right standard output; the first, if several texts are."""
         return self.stdout.texts[0]
 
     def differences(self, status, stdout, stderr):
-        """What of a run isn't right."""
+        """The wrong parts of a run."""
         found = {"stdout": self.stdout.is_right(stdout), "status": status == self.status, "stderr": self.stderr.is_right(stderr)}
         return [what for what, is_right in found.items() if not is_right]
 
@@ -137,7 +137,7 @@ class Reader:
 
 
 def blocks_of(text):
-    """What stands before the first case, and the cases: each the number of its line, its name, and the lines below it."""
+    """The text before the first case, and the cases: each the number of its line, its name, and the lines below it."""
     found = [(0, "", [])]
     for number, line in enumerate(text.split("\n"), 1):
         if not PLAIN.fullmatch(line):

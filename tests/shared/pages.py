@@ -17,7 +17,7 @@ def anchors(page):
 
 
 def links(page):
-    """Each link of a page to a file or a heading, with what is wrong with it, or None."""
+    """Each link of a page to a file or a heading, with its fault, or None."""
     for path, anchor in LINK.findall(prose(page)):
         target = (page.parent / path).resolve() if path else page
         wrong = None if target.exists() else "no such file"

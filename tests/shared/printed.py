@@ -1,4 +1,4 @@
-"""What a run of the program prints."""
+"""The output of a run of the program."""
 
 from typing import NamedTuple
 
@@ -20,7 +20,7 @@ def by_participant(commands):
 
 
 def wrong_of_journal(given, written):
-    """What is wrong with the journal that a day printed for the one given. Any order is right that keeps each participant's own, with the
+    """The faults of the journal that a day printed for the one given. Any order is right that keeps each participant's own, with the
     close at its end. And the journal as it is read; None if it can't be."""
     try:
         run = journal.read_journal(written)

@@ -1,9 +1,9 @@
-"""What a check printed: whether the crate is proved, and which functions were refused for themselves.
+"""The output of a check: whether the crate is proved, and which functions were refused for themselves.
 
 A check goes on after a function that it does not prove, and reports each function in a line `fn NAME: ..`. The goals that are not
 proved stand in notes right above that line; the errors of proof files stand together at the top, and belong to the function of
 their folder. A loop that may not end has no goal: the check asks for its measure, and that is a refusal. `it calls F, which is not
-proved` alone is no refusal of the function's own: what calls a function sees its contract and never its body, so a caller is checked
+proved` alone is no refusal of the function's own: a caller of a function sees its contract and never its body, so a caller is checked
 to its end all the same.
 """
 
@@ -16,7 +16,7 @@ ERROR = re.compile(r"(?:\./)?((?:src|specs|proofs)/\S+?):(\d+):\d+: error(?:\[[\
 VERDICT = re.compile(r"(?:fn|struct|enum|impl) (\S+): (.*)")
 ENDLESS = re.compile(r"no proof: (expected a measure\b.*)")
 CLOSURE = re.compile(r"::fn::(\S+?)::[^\s:+]+(?:\+Fn(?:Mut|Once)?::\w+)?$")
-# A check speaks so of a proof that cites a name which an edit took away, of what rests on a proof that was refused, and of a text
+# A check speaks so of a proof that cites a name which an edit took away, of the facts that rest on a proof that was refused, and of a text
 # that it cannot read.
 GONE = re.compile(r"has no field|is not in scope|has no `")
 RESTS = re.compile(r"was not admitted|rejected, (?:was|were) not checked")
@@ -26,7 +26,7 @@ TOO = " (and a proof of the function cites a name that went)"
 
 
 class Error(NamedTuple):
-    """An error of a check: the file and the line that it names, and what it says."""
+    """An error of a check: the file and the line that it names, and its text."""
 
     path: str
     line: int
@@ -37,7 +37,7 @@ class Error(NamedTuple):
 
 
 class Report:
-    """What a check printed, read."""
+    """The output of a check, read."""
 
     def __init__(self, printed):
         self.lines = printed.rstrip("\n").split("\n")

@@ -23,14 +23,14 @@ class Token(NamedTuple):
 
 
 class Owner(NamedTuple):
-    """An impl, a trait or a module: the name under which a check lists what stands in it, and the type if the impl is of no trait."""
+    """An impl, a trait or a module: the name under which a check lists its items, and the type if the impl is of no trait."""
 
     name: str
     type: str = None
 
 
 class Function(NamedTuple):
-    """A function with a body: its name, with that of its impl before it, where the body lies, braces included, and the type if it
+    """A function with a body: its name, with the name of its impl before it, where the body lies, braces included, and the type if it
     is a method of no trait."""
 
     name: str
@@ -85,7 +85,7 @@ def body_of(tokens, at):
 
 
 def owner_of(head):
-    """Returns the owner of what stands after a head such as `impl<T> From<Step<T>> for Way`, which is listed as WayFromStep: first the
+    """Returns the owner of the items after a head such as `impl<T> From<Step<T>> for Way`, which is listed as WayFromStep: first the
     words of the type, then those of the trait, without the parameters of the impl."""
     kind = re.match(r"\w+", head)[0]
     rest = " ".join(re.split(r"\bwhere\b", head[len(kind) :].replace("->", ""))[0].split())
@@ -146,7 +146,7 @@ def homes_of(texts):
 
 def listed_name(crate, path, function, homes):
     """Returns the name under which a check lists a function of this file of the crate: a method of no trait stands in the module of its
-    type, any other function in that of the file."""
+    type, any other function in the owner of the file."""
     path = homes.get(function.type, path)
     module = re.sub(r"(^|/)(lib|main|mod)$", "", path[len("src/") : -len(".rt")])
     return "::".join([crate, *filter(None, module.split("/")), function.name])

@@ -1,4 +1,4 @@
-"""What is read of a check's output, by lines that checks printed."""
+"""The reading of a check's output, by lines that checks printed."""
 
 import unittest
 

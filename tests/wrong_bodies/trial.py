@@ -13,9 +13,9 @@ from source import functions_of, homes_of, leaders_of, listed_name, outside
 
 
 class Trial:
-    """A copy of a crate on which wrong bodies are tried, each check over what is proved of the crate as it stands.
+    """A copy of a crate on which wrong bodies are tried, each check over the proofs of the crate as it stands.
 
-    What a check keeps has one state of each function, so the proved state is set aside, and each check begins with a copy of it.
+    The kept work of a check has one state of each function, so the proved state is set aside, and each check begins with a copy of it.
     """
 
     def __init__(self, copy, crate, jobs=None, logs=None):
@@ -160,7 +160,7 @@ class Trial:
 
 
 class NotProved(Exception):
-    """What a check printed last of a crate that is not proved as it stands."""
+    """The last output of a check about a crate that is not proved as it stands."""
 
 
 def processor_time():

@@ -61,7 +61,7 @@ REFUSED = 1  # the program's status for a text that it doesn't take
 
 @contextlib.contextmanager
 def as_faults():
-    """What the tools say of a text, a table or a date is a fault here."""
+    """The tools' message about a text, a table or a date is a fault here."""
     try:
         yield
     except (command.Stop, order_table.Wrong, shapes.Wrong) as fault:
@@ -126,7 +126,7 @@ def clear(source, program=None, workers=None, cut=None, nodes=None, timeout=None
 
 
 def printed(read, words, timeout):
-    """What a run of the program prints for a journal."""
+    """The output of a run of the program for a journal."""
     return engine.printed(words, journal.journal_text(read).encode(), timeout)
 
 
@@ -181,7 +181,7 @@ def clear_many(journals, jobs=None, executor=None, program=None, quiet=False, no
 
 
 def days_of(journals, quiet, answers):
-    """The days of journals, or their faults, by what answers their texts."""
+    """The days of journals, or their faults, by the engine of their texts."""
     whole = len(journals) if hasattr(journals, "__len__") else None
     kept = collections.deque()  # the journals whose results are still to come
 

@@ -1,4 +1,4 @@
-"""A long call in a process of its own. What is written in C may keep Python from everything else, Ctrl-C too; another process can be
+"""A long call in a process of its own. Code written in C may keep Python from everything else, Ctrl-C too; another process can be
 ended, and this one shows meanwhile how long it takes."""
 
 import contextlib
@@ -21,7 +21,7 @@ def deaf():
 
 
 def answer(call, progress, words):
-    """What a call returns, in a process of its own. The words say how far it is; the call gets a function that reports others."""
+    """The result of a call, in a process of its own. The words say how far it is; the call gets a function that reports others."""
     context = multiprocessing.get_context("fork")
     ours, theirs = context.Pipe(duplex=False)
     process = context.Process(target=work, args=(call, theirs), daemon=True)
@@ -37,7 +37,7 @@ def answer(call, progress, words):
 
 
 def work(call, pipe):
-    """Sends what the call reports, and then what it returns or how it fails."""
+    """Sends the call's reports, and then its result or its failure."""
     if hasattr(system := ctypes.CDLL(None), "prctl"):
         system.prctl(DEATH, signal.SIGKILL)
     try:
@@ -47,7 +47,7 @@ def work(call, pipe):
 
 
 def received(pipe, progress, words):
-    """The answer that comes; what is reported before it is shown."""
+    """The answer that comes; the reports before it are shown."""
     while True:
         if not pipe.poll(PAUSE):
             progress.look(words)

@@ -78,8 +78,8 @@ class Search:
         return self.best
 
     def descend(self, place, accepted, taken, net, worth, value):
-        """Tries what accepts these blocks before a place: `taken` are the groups that they use up, `net` and `worth` the net
-        volumes and welfares of the periods, `value` what the blocks themselves add to the welfare."""
+        """Tries the selections that accept these blocks before a place: `taken` are the groups that they use up, `net` and `worth` the net
+        volumes and welfares of the periods, `value` the welfare that the blocks themselves add."""
         if place == len(self.problem.blocks):
             self.look(accepted, net, worth, value)
             return

@@ -1,4 +1,4 @@
-"""How a better selection of blocks is looked for, and what is said about one."""
+"""The search for a better selection of blocks, and the lines about one."""
 
 from . import aside, best, command, selection, text
 
@@ -9,7 +9,7 @@ FEW_BLOCKS = 10
 
 
 def look(problem, said, method, progress, jobs):
-    """A selection that ranks above that of right results, or None; and how it was looked for. Ends the tool if the time is over."""
+    """A selection that ranks above the one of right results, or None; and how it was looked for. Ends the tool if the time is over."""
     try:
         return {ENUMERATION: enumerate_all, HIGHS: ask_highs}[method](problem, said, progress, jobs)
     except TimeoutError as fault:
@@ -50,7 +50,7 @@ def named(problem, places):
 
 
 def told(problem, said, found):
-    """What is said about a better selection: its blocks and welfare, its prices, and how it differs from the published one."""
+    """The lines about a better selection: its blocks and welfare, its prices, and how it differs from the published one."""
     more = found.welfare - said.welfare
     if more:
         kind = f"it has a greater welfare, {problem.euros(found.welfare)} EUR, which is {problem.euros(more)} EUR more"

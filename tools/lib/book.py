@@ -1,4 +1,4 @@
-"""The order book: what each command does to it, or why it is refused."""
+"""The order book: the effect of each command on it, or why it is refused."""
 
 from . import rules
 from .journal import Amend, Cancel, Close, Submit
@@ -30,7 +30,7 @@ class Book:
         self.held = {"hour": 0, "block": 0}
 
     def apply(self, command):
-        """Does what the command says and returns None, or changes nothing and returns the reason."""
+        """Carries out the command and returns None, or changes nothing and returns the reason."""
         reason = self.refusal(command)
         if reason is None:
             self.change(command)
@@ -103,7 +103,7 @@ def run(journal):
 
 
 def replies_text(journal):
-    """What is printed of a run: the day, and the reply to each command."""
+    """The printed text of a run: the day, and the reply to each command."""
     _, reasons = run(journal)
     lines = [f"day,{journal.periods}"]
     for number, reason in enumerate(reasons, 1):

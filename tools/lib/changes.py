@@ -1,9 +1,9 @@
-"""What differs between two cleared days, as a table; and further commands of a day, which are put before its close."""
+"""The differences between two cleared days, as a table; and further commands of a day, which are put before its close."""
 
 from . import book, command_table, journal, order_table, sent, text
 from .engine import Fault
 
-MOST_LINES = 5  # of what is wrong with a table
+MOST_LINES = 5  # of the faults of a table
 HEADS = ["what", "unit", "participant", "order", "period", "before", "after", "change", "outcome_before", "outcome_after"]
 
 
@@ -70,7 +70,7 @@ def differing(before, after, but=None):
 
 
 def in_few_lines(fault):
-    """The first lines of what is wrong, and how many more there are."""
+    """The first lines of the faults, and how many more there are."""
     lines = str(fault).split("\n")
     more = len(lines) - MOST_LINES
     return "\n  ".join(lines[:MOST_LINES] + ([f"and {more} more"] if more > 0 else []))

@@ -17,8 +17,8 @@ def better_word(row, price):
 
 
 def differences(problem, data):
-    """The results of a text (None if it has none), and each difference from what follows from their own selection of blocks, as a
-    line with its place: first what is wrong with the selection itself, then the numbers in the order of their lines, and last the sums
+    """The results of a text (None if it has none), and each difference from the results of their own selection of blocks, as a
+    line with its place: first the faults of the selection itself, then the numbers in the order of their lines, and last the sums
     that don't add up. One wrong block changes the prices of many periods, so its own fault is said before these."""
     said, wrong = results.read_results(problem, data)
     if said is None:
@@ -42,7 +42,7 @@ def foreign(said, wrong, most):
 
 
 def fault(said, kind, about, words):
-    """What is wrong with the line about something."""
+    """The fault of the line about something."""
     return of_line(kind, said.lines[about], about, words)
 
 

@@ -1,5 +1,5 @@
-"""A cleared day as comparisons take it: the orders of its book by participant and name, and what became of each. Nothing is checked; it is
-made of what a run of the program has just printed, or of results that were checked."""
+"""A cleared day as comparisons take it: the orders of its book by participant and name, and the outcome of each. Nothing is checked; it is
+made of the output of a run of the program, or of results that were checked."""
 
 from . import journal, rules, trades
 from .engine import Fault
@@ -15,7 +15,7 @@ class Cleared:
 
     @classmethod
     def of_text(cls, rows, periods, printed):
-        """The same of what `dam clear` printed for a book; a fault if it isn't of this book."""
+        """The same from the output of `dam clear` for a book; a fault if it isn't of this book."""
         welfare, prices, volumes, orders = None, [], [], {}
         for line in printed.decode().splitlines():
             kind, *fields = line.split(",")
@@ -56,12 +56,12 @@ class Cleared:
         return sum(volume for _, volume in self.traded(key))
 
     def amount(self, key):
-        """What the participant is paid for an order, below 0 if it pays, in cents per MWh times tenths of a MW."""
+        """The payment to the participant for an order, below 0 if it pays, in cents per MWh times tenths of a MW."""
         paid = sum(volume * self.prices[period - 1] for period, volume in self.traded(key))
         return -paid if paid and self.rows[key].side == "buy" else paid
 
     def surplus(self, key):
-        """What an order gains compared with trading at its limit: of a block at the prices, whether it is accepted or not."""
+        """The gain of an order compared with trading at its limit: for a block at the prices, whether it is accepted or not."""
         order = self.rows[key]
         volumes = order.volumes if order.kind == "block" else self.traded(key)
         sign = 1 if order.side == "sell" else -1
@@ -72,11 +72,11 @@ class Cleared:
         return sum(self.surplus(key) for key in self.rows if key[0] == who and self.orders[key])
 
     def net(self, who):
-        """What a participant is paid less what it pays."""
+        """The payments to a participant less its own payments."""
         return sum(self.amount(key) for key in self.rows if key[0] == who)
 
     def outcome(self, key):
-        """What became of an order, in a word or two; nothing of one that isn't in the book."""
+        """The outcome of an order, in a word or two; nothing for one that isn't in the book."""
         order = self.rows.get(key)
         if order is None:
             return ""

@@ -3,7 +3,7 @@
 from . import rules
 
 USUAL = 24 * 60  # minutes of a day on which the clocks don't change
-# In spring the clocks go from the end of the second hour to that of the third. In autumn the third hour comes twice.
+# In spring the clocks go from the end of the second hour to the end of the third. In autumn the third hour comes twice.
 SPRING, AUTUMN = 2 * 60, 3 * 60
 
 
@@ -34,7 +34,7 @@ def ends(periods, number):
 
 
 def periods_between(periods, first, last):
-    """The periods of a day from one clock time to another, such as `07:00` and `09:00`. A ValueError says what is wrong with a time."""
+    """The periods of a day from one clock time to another, such as `07:00` and `09:00`. A ValueError names the fault of a time."""
     numbers = range(1, periods + 1)
     starts = [number for number in numbers if begins(periods, number) == first]
     last = "24:00" if last == "00:00" else last

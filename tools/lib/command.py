@@ -1,4 +1,4 @@
-"""What the tools' command lines share: reading files, reporting faults, and finding packages that aren't in the standard
+"""The common parts of the tools' command lines: reading files, reporting faults, and finding packages that aren't in the standard
 library."""
 
 import argparse
@@ -29,7 +29,7 @@ PACKAGES = {
     "tqdm": "python3-tqdm",
 }
 
-# The statuses of all tools. FAILED is that of a tool which can't do its work: a package is missing, memory ran out, or it has a defect.
+# The statuses of all tools. FAILED is a tool's that can't do its work: a package is missing, memory ran out, or it has a defect.
 DONE, DIFFERS, COMMAND_LINE, NO_INPUT, UNDECIDED, FAILED, ENCODING = range(7)
 INTERRUPTED = ending.INTERRUPTED
 
@@ -78,7 +78,7 @@ def tell(tool, words):
 
 def hold_streams():
     """Lets no other file take the number of a closed standard stream. Python has None for such a stream, and would print to standard
-    output what is meant for a closed standard error."""
+    output the text that is meant for a closed standard error."""
     while (number := os.open(os.devnull, os.O_RDWR)) <= 2:
         pass
     os.close(number)
@@ -121,7 +121,7 @@ class Parser(argparse.ArgumentParser):
 
 
 def discard(stream):
-    """Discards what couldn't be written, so that Python doesn't try again at its end."""
+    """Discards the text that couldn't be written, so that Python doesn't try again at its end."""
     os.dup2(os.open(os.devnull, os.O_WRONLY), stream.fileno())
 
 
@@ -202,7 +202,7 @@ def read_texts(path, results_path):
 
 
 def refuse_kind(path, data, right, hints=()):
-    """Ends the tool if a text looks like one of another kind. Hints say what to do with some kinds."""
+    """Ends the tool if a text looks like one of another kind. Hints give advice on some kinds."""
     kind = kinds.kind_of(data)
     if kind not in (None, right):
         hint = hints[kind] if kind in hints else ""

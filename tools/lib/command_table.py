@@ -56,7 +56,7 @@ def is_command_table(data):
 
 
 def read_command(row, what):
-    """The command of a row: an order to submit, or what amends or cancels one. What is wrong is added to the row's faults."""
+    """The command of a row: an order to submit, or the amend or cancel of one. Faults are added to the row's faults."""
     if what == "cancel":
         return journal.Cancel(row.read("participant", order_table.read_participant), row.read("order", order_table.read_name))
     if what == "amend":
@@ -74,7 +74,7 @@ def read_command(row, what):
 
 
 def read_commands(data, periods):
-    """The commands of a table, each with its line. What is wrong with them, a line each, is `order_table.Wrong`."""
+    """The commands of a table, each with its line. Their faults, a line each, are `order_table.Wrong`."""
     columns, found, wrong = Columns(data, ()), [], []
     for line, cells in columns.table.rows:
         if columns.is_empty(cells):

@@ -15,7 +15,7 @@ TOOL = Path(__file__).resolve().parents[1] / "audit"
 JOURNAL, RESULTS = ".csv", ".txt"
 COLUMNS = ["journal", "results"]  # of a manifest
 MOST_SHOWN = command.LONGEST_PATH + 200  # characters of the first fault, which may begin with a file's name
-# Of the statuses of the days, the first that one of them has is that of all.
+# Of the statuses of the days, the first that one of them has is the status of all.
 WORST = [command.DIFFERS, command.FAILED, command.NO_INPUT, command.UNDECIDED, command.ENCODING]
 VERDICTS = [verdict.RIGHT, verdict.WRONG, verdict.ENCODING, verdict.UNREAD, verdict.UNDECIDED, verdict.FAILED]
 HEADS = ["day", "verdict", "periods", "hourly", "blocks", "accepted", "welfare, EUR", "refused", "faults", "seconds", "first fault"]

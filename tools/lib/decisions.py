@@ -1,6 +1,6 @@
 """The decision on each block of a result: accepted, rejected, or paradoxically rejected, and why.
 
-A rejected block is judged with the best family that it belongs to (see `families`): what that gains at the prices, and what would
+A rejected block is judged with the best family that it belongs to (see `families`): its gain at the prices, and the welfare that would
 happen if it were accepted instead of the accepted blocks of its groups."""
 
 from typing import NamedTuple
@@ -13,7 +13,7 @@ MOST_LOSERS = 3
 
 
 class Other(NamedTuple):
-    """Another selection, and what speaks against it."""
+    """Another selection, and the reasons against it."""
 
     accepted: frozenset
     unbalanced: object  # the first period that doesn't balance, or None
@@ -21,7 +21,7 @@ class Other(NamedTuple):
     losers: dict  # each accepted block that loses, with its loss
 
 
-# Short words for what decided, for programs and filters: of blocks, and of hourly orders. docs/TABLES.md lists them.
+# Short words for the deciding reasons, for programs and filters: of blocks, and of hourly orders. docs/TABLES.md lists them.
 GAINS, COVERED, LOSES, NEVER, NO_PRICE = "gains", "covered", "loses", "never", "no-price"
 PARENT, GROUP, UNBALANCED, WOULD_LOSE, LESS, TIE, BETTER = "parent", "group", "unbalanced", "would-lose", "less-welfare", "tie", "better"
 IN_THE_MONEY, AT_THE_PRICE, OUT_OF_THE_MONEY, NO_TRADE = "in-the-money", "at-the-price", "out-of-the-money", "no-trade"
@@ -140,7 +140,7 @@ class Judge:
         return why + (f"; its parent {self.name(parent)} is rejected" if rejected else "")
 
     def selection_with(self, family):
-        """What would happen if a family were accepted."""
+        """The result if a family were accepted."""
         accepted = self.accepted - family.removed | family.members
         then = selection.outcome(self.problem, accepted)
         unbalanced = next((number for number, found in then.cleared.items() if found is None), None)
@@ -160,7 +160,7 @@ class Judge:
         return f"{why}{join}with {word} {self.consequence(place, other)}"
 
     def at_the_prices(self, place, family):
-        """What a block would gain or lose at the prices, with its family."""
+        """The gain or loss of a block at the prices, with its family."""
         own, helping = family.gains[place], family.members.intersection(self.problem.rescuers[place])
         if own < 0:
             return f"would lose {self.eur(-own)} at the prices" + (f", even with {self.names(helping)}" if helping else "")
@@ -177,7 +177,7 @@ class Judge:
         return why
 
     def instead(self, place, family):
-        """Which accepted blocks leave no room in the groups, and what would take their place."""
+        """Which accepted blocks leave no room in the groups, and the blocks that would take their place."""
         own = self.problem.blocks[place].order.group
         groups = []
         for rival in family.rivals:
@@ -192,7 +192,7 @@ class Judge:
         return f"{listed(groups)} {are} accepted, and with {self.names(family.members)} in {their} place{besides}"
 
     def consequence(self, place, other):
-        """What another selection would be worth, and who would lose in it."""
+        """The welfare of another selection, and who would lose in it."""
         if other.unbalanced is not None:
             return f"period {other.unbalanced} wouldn't balance"
         worth = self.worth(other)
@@ -234,7 +234,7 @@ def listed(words):
 
 
 def hourly(day, row, executed):
-    """The code and the words for what decided an hourly order."""
+    """The code and the words for the reason that decided an hourly order."""
     number = row.order.volumes[0][0]
     if not day.said.volumes[number - 1]:
         return NO_TRADE, f"nothing is traded in period {number}"

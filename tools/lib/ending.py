@@ -11,7 +11,7 @@ from . import place
 FAILED = 5
 INTERRUPTED = 130  # as shells have it for Ctrl-C
 
-# What the system's loader and Python's threads say if there is no memory for them.
+# The messages of the system's loader and of Python's threads if there is no memory for them.
 NO_MEMORY = ("cannot allocate memory", "failed to map segment", "can't start new thread", "can't allocate", "out of memory")
 
 
@@ -21,7 +21,7 @@ def is_memory(fault):
 
 
 def words(fault):
-    """What is said of a failure."""
+    """The message about a failure."""
     if is_memory(fault):
         return "out of memory"
     first = ascii(str(fault))[1:-1][:200]

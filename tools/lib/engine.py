@@ -1,4 +1,4 @@
-"""Runs of the program and calls of the library for C: the text of a journal goes in, and what `dam` prints for it comes out. Many journals
+"""Runs of the program and calls of the library for C: the text of a journal goes in, and the output of `dam` comes out. Many journals
 run at the same time, on threads or by any executor of `concurrent.futures`."""
 
 import collections
@@ -30,7 +30,7 @@ PREFIX = Path(*place.FOLDER.parts[:-4]) if place.FOLDER.parts[-4:-1] == ("lib", 
 WHEELS = place.FOLDER / LIBRARY.name
 MOST_NODES, MOST_ANSWER = 67_108_864, 300_000  # of library/dam.h
 ONE_WORKER = ("clear", "--workers=1", "--cut=0")  # as the library searches: many days share the processors
-RESULTS = re.compile(rb"day,[0-9]+\nwelfare,-?[0-9]+\n")  # what the results of a day begin with
+RESULTS = re.compile(rb"day,[0-9]+\nwelfare,-?[0-9]+\n")  # the beginning of the results of a day
 LATE = "late"  # instead of the status of a run that took too long
 AHEAD = 2  # texts for each job that wait for a thread
 MOST_AHEAD = 1_024  # texts that wait for an executor
@@ -49,7 +49,7 @@ class TimedOut(Fault):
 
 
 class Answer(ctypes.Structure):
-    """What the library answers: see library/dam.h."""
+    """The answer of the library: see library/dam.h."""
 
     _fields_ = [("status", ctypes.c_uint8), ("length", ctypes.c_size_t)]
 
@@ -69,7 +69,7 @@ def is_built():
 
 
 class Where(NamedTuple):
-    """What clears a journal: the library or the program; of the package, the wheel or the clone that this module is part of, of the
+    """The engine for a journal: the library or the program; of the package, the wheel or the clone that this module is part of, of the
     system, or named by the environment; and its path, or a name that the system finds."""
 
     what: str
@@ -84,7 +84,7 @@ def packaged(*parts):
 
 
 def where():
-    """What clears a journal if neither an option nor a program is named; None if there is neither library nor program. The library and
+    """The engine of a journal if neither an option nor a program is named; None if there is neither library nor program. The library and
     the program that belong to this module come before those that the system finds."""
     for what, name in ("library", "DAM_LIBRARY"), ("program", "DAM"):
         if path := os.environ.get(name):
@@ -148,7 +148,7 @@ buffers = Buffers()
 
 
 def called(path, text, nodes=MOST_NODES):
-    """The status and what the library prints for a text; names are hashed with random bytes. Other threads run in the meantime."""
+    """The status and the text that the library prints for a text; names are hashed with random bytes. Other threads run in the meantime."""
     secret, buffer = os.urandom(16), buffers.own
     answer = clear_call(path)(secret, len(secret), text, len(text), nodes, buffer, MOST_ANSWER)
     return answer.status, ctypes.string_at(buffer, min(answer.length, MOST_ANSWER))
@@ -163,7 +163,7 @@ def program_of(program=None):
 
 
 def ran(words, text, timeout=None, running=None):
-    """The status of a run of a program, what it prints, and what it says on standard error. While it runs, it is among `running`."""
+    """The status of a run of a program, its output, and its lines on standard error. While it runs, it is among `running`."""
     try:
         process = subprocess.Popen(words, stdin=subprocess.PIPE, stdout=subprocess.PIPE, stderr=subprocess.PIPE)
     except OSError as fault:
@@ -181,7 +181,7 @@ def ran(words, text, timeout=None, running=None):
 
 
 def printed(words, text, timeout=None):
-    """What a run of a program prints."""
+    """The output of a run of a program."""
     status, out, said = ran(words, text, timeout)
     if status:
         raise Fault(fault_words(status, said), status)
@@ -199,7 +199,7 @@ def has_results(out):
 
 
 def cleared_by_library(path, text):
-    """What `dam clear` prints for a text, by the library for C."""
+    """The output of `dam clear` for a text, by the library for C."""
     status, shown = called(path, text)
     if status:
         raise Fault(shown.decode(errors="replace").strip(), status)
@@ -240,7 +240,7 @@ def threads_of(jobs):
 
 
 class Promise:
-    """What a thread of a team will answer. It is as a future, which takes longer to make and to wait for than a small day to clear."""
+    """The later answer of a thread of a team. It is as a future, which takes longer to make and to wait for than a small day to clear."""
 
     def __init__(self):
         self.kept = queue.SimpleQueue()
@@ -252,11 +252,11 @@ class Promise:
         return found
 
     def cancel(self):
-        """Nothing: the team's end drops what hasn't begun."""
+        """Nothing: the team's end drops the jobs that haven't begun."""
 
 
 class Team:
-    """Threads that do what they are given, in its order. The program doesn't wait for them when it ends."""
+    """Threads that do the jobs they are given, in their order. The program doesn't wait for them when it ends."""
 
     def __init__(self, jobs):
         self.given, self.jobs, self.is_over = queue.SimpleQueue(), jobs, False
@@ -295,7 +295,7 @@ def team_of(jobs):
 
 
 def answer(text, program=None, running=None, nodes=MOST_NODES, timeout=None):
-    """What `dam clear` prints for the text of a journal, as a pair of None and these bytes; or else of the status (0 if there is none, LATE
+    """The output of `dam clear` for a journal's text, as a pair of None and these bytes; or else of the status (0 if there is none, LATE
     of a run that took too long) and the words of the fault. By the library if there is one, unless a program is named, or a timeout, which
     only a run of the program can have. The pair has no type of this package, so that any executor can send it."""
     try:
@@ -330,8 +330,8 @@ def processors():
 
 
 def answers(texts, jobs=None, executor=None, program=None, call=answer):
-    """For each text, in their order, what `dam clear` prints as bytes, or a `Fault`; a text that is a fault already stays one. Texts are
-    taken as they are needed, so there may be any number of them. If no more answers are asked for, what still runs is ended."""
+    """For each text, in their order, the output of `dam clear` as bytes, or a `Fault`; a text that is a fault already stays one. Texts are
+    taken as they are needed, so there may be any number of them. If no more answers are asked for, the runs that are left are ended."""
     if jobs is not None and jobs < 1:
         raise ValueError("jobs should be 1 or more")
     if executor is not None:
@@ -343,7 +343,7 @@ def answers(texts, jobs=None, executor=None, program=None, call=answer):
 
 
 def ordered(texts, submit, most):
-    """The results of what is submitted for each text, in order, of which at most so many are waiting."""
+    """The results of the jobs submitted for the texts, in order. At most `waiting` of them wait."""
     waiting = collections.deque()
     try:
         for text in texts:
@@ -366,7 +366,7 @@ def submitted(submit, text):
 
 
 def waited(future):
-    """What a future gives; a fault if its executor has lost it."""
+    """The result of a future; a fault if its executor has lost it."""
     if isinstance(future, Fault):
         return future
     try:

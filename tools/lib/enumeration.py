@@ -7,9 +7,9 @@ at once, for all rows.
 In a period, each tenth of a MW that hourly orders take comes from the cheapest order left: a sell that is executed, or a buy that
 isn't. If they take none, all buys are executed and no sell; accepted buy blocks take more, and sell blocks less. So a period has
 one table, of the welfare of its hourly orders by the tenths taken, over all that its blocks can reach; and a selection's welfare
-is a sum of one number from each table, and of what its blocks themselves are worth.
+is a sum of one number from each table, and of the worths of its blocks themselves.
 
-Only a selection that ranks above the published one is checked for a loss. What is found is checked again by the rules alone.
+Only a selection that ranks above the published one is checked for a loss. A selection that is found is checked again by the rules alone.
 
 All numbers are whole, of 64 bits, which no sum exceeds (`greatest_sum`)."""
 
@@ -43,10 +43,10 @@ class Period:
         """`takes` has the tenths that each block takes, if it is accepted; a sell's are under 0."""
         self.curve = Curve(orders)
         self.limits, self.ends, self.buys = self.curve.limits, self.curve.ends, self.curve.most
-        # What the blocks of high bits take, and those of low bits.
+        # The volumes that the blocks of high bits take, and the ones of low bits.
         high_bits = len(takes) - low_bits
         self.high, self.low = subset_sums(takes[:high_bits]), subset_sums(takes[high_bits:])
-        # What the orders take in all, at least and at most; and the same of the selections that balance.
+        # The volume that the orders take in all, at least and at most; and the same for the selections that balance.
         self.least = self.buys + int(self.high.min() + self.low.min())
         self.most = self.buys + int(self.high.max() + self.low.max())
         self.first, self.last = max(self.least, 0), min(self.most, self.ends[-1])
@@ -54,11 +54,11 @@ class Period:
         self.coded = None
 
     def worths(self):
-        """The welfare by what is taken, from `least` to `most`."""
+        """The welfare by the volume that is taken, from `least` to `most`."""
         table = numpy.full(self.most - self.least + 1, NEVER, dtype=numpy.int64)
         balanced = table[self.first - self.least : self.last - self.least + 1]
         balanced[0] = self.curve.welfare(self.buys - self.first)
-        # What each further tenth adds.
+        # The welfare that each further tenth adds.
         counts = numpy.diff(numpy.clip(self.ends, self.first, self.last))
         balanced[1:] = numpy.repeat(-numpy.array(self.limits, dtype=numpy.int64), counts)
         numpy.cumsum(balanced, out=balanced)
@@ -157,7 +157,7 @@ class Selections:
             for number, net in selection.signed(block.order):
                 takes[number][place] = -net
         self.periods = {number: Period(orders, takes[number], self.low_bits) for number, orders in problem.orders.items()}
-        # By period and block what it sells, less what it buys; and what a block is worth, but for the prices.
+        # By period and block the sold less the bought volume; and the worth of a block, but for the prices.
         self.volumes = -numpy.array([*takes.values()], dtype=numpy.int64).T
         self.own = [-block.order.price * sum(net for _, net in selection.signed(block.order)) for block in problem.blocks]
         high_bits = self.count - self.low_bits
@@ -221,7 +221,7 @@ def greatest_sum(problem):
 
 
 class Rows:
-    """Some rows of selections: their welfares, and what of them ranks above the published selection and has no loss."""
+    """Some rows of selections: their welfares, and the ones that rank above the published selection and has no loss."""
 
     def __init__(self, every, highs, floor, progress):
         self.every, self.highs, self.progress = every, highs, progress
@@ -253,7 +253,7 @@ class Rows:
         return welfares
 
     def add(self, welfares, period, rows):
-        """Adds the welfare of a period. Rows whose blocks take the same of it get the same."""
+        """Adds the welfare of a period. Rows whose blocks take the same volume of it get the same welfare."""
         table = period.worths()
         places = period.low[self.every.lows] - period.low.min()
         starts = period.high[rows] - period.high.min()

@@ -1,6 +1,6 @@
 """Which blocks a rejected block would be accepted with: the family that makes most of it at the prices of a result.
 
-A block is accepted only with its ancestors, and its accepted descendants may make up for what it loses. So a rejected block is
+A block is accepted only with its ancestors, and its accepted descendants may make up for its loss. So a rejected block is
 judged with those of its ancestors that are rejected, and with the rejected descendants that add most."""
 
 import itertools
@@ -10,12 +10,12 @@ from typing import NamedTuple
 class Family(NamedTuple):
     needed: tuple  # the block and its rejected ancestors, the topmost first
     members: frozenset  # these, and the rejected blocks that descend from them and add most
-    gains: dict  # by needed block: what it gains at the prices, together with the members that descend from it
+    gains: dict  # by needed block: its gain at the prices, together with the members that descend from it
     rivals: tuple  # the accepted blocks of the groups of the needed ones
     removed: frozenset  # the rivals, and the accepted blocks that descend from them
 
     def gain(self):
-        """What the members gain at the prices, all together."""
+        """The gain of the members at the prices, all together."""
         return self.gains[self.needed[0]]
 
     def losers(self):

@@ -1,4 +1,4 @@
-"""What is wrong with a text, as a line for readers that has parts for programs."""
+"""The faults of a text, each as a line for readers that has parts for programs."""
 
 # The kinds of faults, in words; docs/FORMATS.md lists them for users.
 KINDS = {
@@ -28,7 +28,7 @@ KINDS = {
 
 
 class Fault(str):
-    """A line that says what is wrong; its kind, the number of the line of the text if it has one, and what that line is about."""
+    """A line about a fault; its kind, the number of the line of the text if it has one, and the subject of that line."""
 
     def __new__(cls, words, kind, line=None, about=None):
         made = super().__new__(cls, words)
@@ -40,5 +40,5 @@ class Fault(str):
 
 
 def of_line(kind, line, about, words):
-    """What is wrong with a line of results."""
+    """The fault of a line of results."""
     return Fault(f"results line {line}: {words}", kind, line, about)

@@ -1,8 +1,8 @@
-"""The fields of a journal's record, read one by one: what is wrong with each in words, and what it is taken for, so that one
+"""The fields of a journal's record, read one by one: the fault of each in words, and the value that it is taken for, so that one
 fault isn't reported as several.
 
-A reader takes the text of a field and returns a value, or None if it has none, and what is wrong with the text: what is allowed
-and what to write instead."""
+A reader takes the text of a field and returns a value, or None if it has none, and the fault of the text: the allowed texts
+and the text to write instead."""
 
 import re
 from fractions import Fraction
@@ -65,7 +65,7 @@ def read_price(found):
 
 
 def suggested(found, allowed, factor, unit, least, greatest):
-    """What a number that breaks its rule is taken for, if that is plain."""
+    """The number that is meant by one that breaks its rule, if that is plain."""
     digits = DECIMAL.fullmatch(found.strip())
     if not digits:
         return None, allowed
@@ -80,7 +80,7 @@ def suggested(found, allowed, factor, unit, least, greatest):
 
 
 def read_pair(pair):
-    """A period and a volume of a text `period:volume`, and what is wrong with it."""
+    """A period and a volume of a text `period:volume`, and its fault."""
     number, colon, volume = (part.strip() for part in pair.partition(":"))
     if not colon:
         return None, f"{text.quoted(pair)} should be period:volume, such as 8:450"
@@ -130,7 +130,7 @@ READERS = {
 
 
 def read(name, found):
-    """A field without the spaces around it: its value, and what is wrong."""
+    """A field without the spaces around it: its value, and its fault."""
     bare = found.strip(" \t\u00a0")
     value, wrong = READERS[name](bare)
     if bare != found:

@@ -87,7 +87,7 @@ def optional_name(field):
 
 
 def word(*words):
-    """What reads one of these words."""
+    """The reader of one of these words."""
     return lambda field: field.decode() if field.decode() in words else None
 
 
@@ -97,7 +97,7 @@ def one_volume(field):
 
 
 def take(fields, *readers):
-    """What the readers make of the fields after the first, one each; an empty field after the last reader's. The first
+    """The values that the readers make of the fields after the first, one each; an empty field after the last reader's. The first
     that breaks its rule is the record's fault."""
     values = []
     for at in range(1, 9):

@@ -1,4 +1,4 @@
-"""What is said of the worst limit of a block: in words with a table, as a record, and as a row of a table."""
+"""The text about the worst limit of a block: in words with a table, as a record, and as a row of a table."""
 
 import time
 
@@ -120,7 +120,7 @@ def of_rejected(day, who=None):
 
 
 def soon(given, until):
-    """What is printed for a text, unless it is too late or the search is long."""
+    """The output for a text, unless it is too late or the search is long."""
     if time.monotonic() > until:
         return engine.Fault("no time is left")
     return engine.result(engine.answer(given, nodes=NODES))
@@ -134,7 +134,7 @@ def columns(rows):
 
 
 def table(search, found):
-    """What the block and the day come to in each case, and the prices that concern the block or differ."""
+    """The results of the block and the day in each case, and the prices that concern the block or differ."""
     days = list(cases(search, found))
     yield ["", *(name for name, _, _ in days)]
     yield ["limit, EUR/MWh", *(text.shown_price(limit) for _, limit, _ in days)]

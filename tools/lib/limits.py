@@ -24,7 +24,7 @@ def place_of(side, limit):
 
 
 class Found(NamedTuple):
-    """The worst limit at which a block is accepted, in cents per MWh, None if there is none; what is cleared at it, and one cent past it,
+    """The worst limit at which a block is accepted, in cents per MWh, None if there is none; the clearing at it, and one cent past it,
     or at the best limit if none is enough; None at a place past the range. `clearings` is how many were needed apart from the day as it
     was."""
 
@@ -41,7 +41,7 @@ class Search:
     def __init__(self, held, key, clear):
         self.held, self.key, self.clear = held, key, clear
         self.order = held.rows[key]
-        self.seen, self.printed = {}, {}  # what is cleared, and what was printed, by limit
+        self.seen, self.printed = {}, {}  # the clearing, and the output, by limit
 
     def rows(self, limit):
         """The orders of the book with this limit."""
@@ -51,7 +51,7 @@ class Search:
         return book_text(self.rows(limit), self.held.periods)
 
     def at(self, limit):
-        """What is cleared with a limit."""
+        """The clearing with a limit."""
         if limit not in self.seen:
             self.keep(limit, self.clear(self.text(limit)))
         return self.seen[limit]

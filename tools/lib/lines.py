@@ -13,7 +13,7 @@ def moved(wanted, found, pairs):
 
 def matched(wanted, found):
     """The places of the lines that are wanted and of those found, in their order, as pairs; None stands for the other place of a
-    line that is missing, or that is found and not wanted. Lines are given by what they are about, so that a stray line is one pair."""
+    line that is missing, or that is found and not wanted. Lines are given by their subject, so that a stray line is one pair."""
     if wanted == found:  # the usual case, and far quicker to see
         return [(at, at) for at in range(len(wanted))]
     near = found[: 2 * len(wanted)]

@@ -1,6 +1,6 @@
-"""Every fault of a journal at once, in words: its line, the field, what it holds, what is allowed and what to do.
+"""Every fault of a journal at once, in words: its line, the field, its text, the allowed texts and the remedy.
 
-What the format doesn't allow is reported for each record, and then the record is taken for what it was probably meant to be, so
+Breaches of the format are reported for each record, and then the record is taken for the one that was probably meant, so
 that the commands after it are judged as well, also those that the book would refuse."""
 
 import re
@@ -10,13 +10,13 @@ from . import book, fields, journal, kinds, place, rules, text
 
 DAY = "day,24,,,,,,,"
 CLOSE = "close,,,,,,,,"
-RESULTS = ([b"results"],)  # the line before the results in what `dam day` prints
+RESULTS = ([b"results"],)  # the line before the results in the output of `dam day`
 MOST_LINES = 20  # of those with characters that aren't ASCII
 FEW = 5  # faults that other tools report
 MOST_QUOTES = 20  # that aren't closed and are reported
 SEPARATORS = {";": "semicolons", "\t": "tabs"}  # that stand in place of commas
 AUDIT, LINT, TABLE = map(place.as_here, ("tools/audit", "tools/lint", "tools/table"))
-# What a text of another kind is for.
+# The tool for a text of another kind.
 OTHERS = {
     kinds.ORDERS: f"this seems to be a table of orders: {TABLE} --journal makes a journal of it",
     kinds.RESULTS: f"these seem to be results, which aren't a journal: {AUDIT} reads them with their journal",
@@ -83,7 +83,7 @@ class Lint:
         return sorted(self.found, key=lambda found: found.line)
 
     def readable(self, data):
-        """The text with what concerns all of it put right, and what separates its fields."""
+        """The text with the faults put right that concern all of it, and the separator of its fields."""
         if len(data) > rules.MOST_BYTES:
             self.tell(1, f"the text has {len(data):,} bytes, but a journal has at most {rules.MOST_BYTES:,}: split the day")
         for mark, encoding in BYTE_ORDER_MARKS.items():
@@ -97,7 +97,7 @@ class Lint:
         return self.closed_quotes(data, comma), comma
 
     def comma(self, data):
-        """What separates the fields, by the first line."""
+        """The separator of the fields, by the first line."""
         first = re.split(rb"[\r\n]", data.lstrip(b"\r\n"), maxsplit=1)[0]
         for mark, name in SEPARATORS.items():
             if first.count(mark.encode()) > first.count(b",") != len(fields.NAMES) - 1:
@@ -246,7 +246,7 @@ class Lint:
         self.settle(line, kind, values, self.held.apply(command))
 
     def settle(self, line, kind, values, reason):
-        """Keeps what later commands are judged by, or reports why the book refuses the command."""
+        """Keeps the facts by which later commands are judged, or reports why the book refuses the command."""
         who, name = values.get("participant"), values.get("order")
         if reason is None:
             if kind == "submit":
@@ -264,7 +264,7 @@ class Lint:
         return journal.Submit(who, name, journal.Order(kind, side, price, volumes, parent, group))
 
     def refusal(self, reason, who, name, values):
-        """The field that a refusal is about, and what to do."""
+        """The field that a refusal is about, and the remedy."""
         parent = values.get("parent")
         if reason == "PeriodOutOfDay":
             late = next(number for number, _ in values["volumes"] if number > self.held.periods)
@@ -312,7 +312,7 @@ def first_word(data, comma=b","):
 
 
 def faults(data, command="clear", bar=None):
-    """What is wrong with a text as a journal for `dam clear`, `dam replay` or `dam day`, by line. A bar shows how far it is read."""
+    """The faults of a text as a journal for `dam clear`, `dam replay` or `dam day`, by line. A bar shows how far it is read."""
     return Lint(data, command, bar=bar).run()
 
 
@@ -324,7 +324,7 @@ def counted(found):
 
 
 def in_few_words(data, periods=None):
-    """The first faults of a text that can't be read as a journal, each on a line of its own; or as the commands of a day of so many
+    """The first faults of a text that can't be read as a journal, each on a line of its own; or as the commands of a day of as many
     periods, with the day or without it."""
     lines = [str(fault) for fault in Lint(data, "replay", periods).run() if not fault.refusal]
     more = [f"and {len(lines) - FEW} more: see {LINT}"] if len(lines) > FEW else []

@@ -1,4 +1,4 @@
-"""From tables of orders, one row each, to a journal: what spreadsheets and scripts have, read with errors that name the line and the
+"""From tables of orders, one row each, to a journal: the tables of spreadsheets and scripts, read with errors that name the line and the
 column."""
 
 import difflib
@@ -12,7 +12,7 @@ from .tables import ORDER, RESULT
 # The columns that a row may leave empty, or a table out.
 OPTIONAL = ["parent", "group"]
 NEEDED = [name for name in ORDER if name not in OPTIONAL]
-# The column of a table of commands that says what a row does, and what a table of orders can't do.
+# The column of a table of commands that says the command of a row, which a table of orders can't say.
 WHAT = "what"
 COMMANDS_ALONE = ("amend", "cancel", "close")
 MOST_ERRORS = 20
@@ -34,7 +34,7 @@ GROUPED = re.compile(r"(?P<whole>-?[0-9]{1,3}([.,' \u00a0\u202f])[0-9]{3}(?:\2[0
 
 
 class Wrong(Exception):
-    """What is wrong with a cell, or with a table."""
+    """A fault of a cell, or of a table."""
 
 
 def trimmed(cells):
@@ -163,7 +163,7 @@ def read_word(*words):
 
 
 def read_field(name):
-    """A name, as a field of a journal; of one that breaks its rule it is said what to write."""
+    """A name, as a field of a journal; for one that breaks its rule the message says the right form."""
 
     def read(cell):
         found, wrong = fields.read(name, cell)
@@ -182,7 +182,7 @@ def read_price(cell, decimal_comma):
 
 
 class Row:
-    """A row of the table of a day of `periods` periods: what is wrong with it is gathered by column."""
+    """A row of the table of a day of `periods` periods: its faults are gathered by column."""
 
     def __init__(self, cells, table, periods):
         self.cells, self.table, self.periods = cells, table, periods
@@ -194,7 +194,7 @@ class Row:
         return sheets.unescaped(self.cells[at].strip()) if at is not None and at < len(self.cells) else ""
 
     def read(self, name, reader):
-        """What a reader makes of a cell; None if it is wrong."""
+        """The value that a reader makes of a cell; None if it is wrong."""
         try:
             return reader(self.cell(name))
         except Wrong as fault:
@@ -212,7 +212,7 @@ class Row:
         return range(1, 1 + max(len(parts(cell)), 1))
 
     def meant(self, name):
-        """A name, or what one that breaks its rule was probably meant to be, so that other lines that name it aren't wrong too."""
+        """A name, or the one that was probably meant if it breaks its rule, so that other lines that name it aren't wrong too."""
         return fields.read(name, self.cell(name))[0]
 
     def command(self):
@@ -232,14 +232,14 @@ class Row:
 
 
 class Entered:
-    """The orders of the lines so far, also of those that can't be read: what links the next line to them."""
+    """The orders of the lines so far, also of those that can't be read: the links of the next line to them."""
 
     def __init__(self, periods):
         self.held = book.Book(periods)
         self.lines = {}  # the line and the kind of each order, by participant and name
 
     def enter(self, line, row, command):
-        """Adds to what is wrong with a row why the book would refuse it."""
+        """Adds to the faults of a row why the book would refuse it."""
         who, name, parent = row.meant("participant"), row.meant("order"), command.order.parent
         if who and name and (who, name) in self.lines:
             row.wrong.append(f"column order: {who} has an order {name} in {self.lines[who, name][0]} (NameTaken)")

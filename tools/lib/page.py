@@ -1,5 +1,5 @@
 """A whole day as one page of HTML, with its pictures in it and nothing to fetch. Its form is in templates/, and jinja2 fills it
-in; this module has what it says."""
+in; this module has its contents."""
 
 import contextlib
 import functools
@@ -61,14 +61,14 @@ class Table(NamedTuple):
     heads: list
     rows: list
     sum: object = None  # the last row
-    summary: object = None  # what is shown of a table that has to be opened
+    summary: object = None  # the part shown of a table that has to be opened
 
 
 class Picture(NamedTuple):
     words: str
     broad: Markup
     narrow: Markup
-    summary: object = None  # what is shown of a picture that has to be opened
+    summary: object = None  # the part shown of a picture that has to be opened
     heads = None
 
 
@@ -136,7 +136,7 @@ def euros(day, amount):
 
 
 def figures(day, found):
-    """What a day comes to, in a few numbers: their names, values and units."""
+    """The figures of a day, in a few numbers: their names, values and units."""
     kinds = [decision.kind for decision in found]
     yield "welfare", euros(day, day.said.welfare), "EUR"
     yield "energy traded", energy(day, sum(day.said.volumes)), "MWh"
@@ -291,7 +291,7 @@ def folded_curve(number):
 
 @contextlib.contextmanager
 def curves_of(day, numbers):
-    """What gives the curves of some periods, in their order. Many are drawn by several processes, which begin at once, so that the rest of
+    """A source of the curves of some periods, in their order. Many are drawn by several processes, which begin at once, so that the rest of
     the page can be made in the meantime; a line says how far they are."""
     jobs = min(len(os.sched_getaffinity(0)), len(numbers))
     if len(numbers) <= FEW_CURVES or jobs == 1:
@@ -337,7 +337,7 @@ def own_commands(day, who):
 
 
 def statement_table(day, who, limits):
-    """What a participant sent, the replies, and what became of its orders, with the limits that its rejected blocks needed."""
+    """A participant's sent commands, the replies, and the outcomes of its orders, with the limits that its rejected blocks needed."""
     needed = {day.problem.blocks[place].name: words for place, words in limits.items()}
     rows = []
     for cells in own_commands(day, who):
@@ -354,7 +354,7 @@ def statement_table(day, who, limits):
 
 
 def own_periods(day, who):
-    """What a participant trades in each period."""
+    """The trades of a participant in each period."""
     rows = []
     for owner, number, *sums in list(published.long_participants(day))[1:]:
         if owner == who:
@@ -365,7 +365,7 @@ def own_periods(day, who):
 
 
 def own_sections(day, who, limits, curves):
-    """The page of a participant: its statement, its periods, and what everybody may see."""
+    """The page of a participant: its statement, its periods, and the parts that everybody may see."""
     yield Section("statement", f"Orders of {who}", [statement_table(day, who, limits)])
     yield Section("periods", "Periods", [own_periods(day, who)])
     yield Section("prices", "Prices and volumes", [drawn(lambda width: pictures.prices_picture(day, width), "prices", prices_words(day))])
@@ -374,7 +374,7 @@ def own_sections(day, who, limits, curves):
 
 
 def own_figures(day, who):
-    """What a day comes to for a participant."""
+    """The figures of a day for a participant."""
     total = trades.totals(day).get(who, trades.Total())
     refused = sum(reason is not None for command, reason in zip(day.journal.commands, day.reasons) if getattr(command, "who", None) == who)
     yield "orders in the book", sum(row.who == who for row in day.problem.rows), ""

@@ -50,7 +50,7 @@ def supporting(orders, net):
     """The least and the greatest supporting price; None if no execution balances.
 
     A price supports a balanced execution exactly if it sells neither too little nor too much, for each volume between
-    what it demands and what it admits can be had. As the price grows it only ever sells more and buys less, so that a price
+    its demanded and its admitted volume can be had. As the price grows it only ever sells more and buys less, so that a price
     is supporting from where it no longer sells too little to where it doesn't sell too much yet."""
     bounds = rules.LEAST_PRICE, rules.GREATEST_PRICE
     low = first(*bounds, lambda price: not sells_too_little(orders, net, price))

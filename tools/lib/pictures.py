@@ -1,6 +1,6 @@
 """Pictures of a day by matplotlib: prices, volumes and blocks over the periods, and the curves of one period.
 
-They are made for black and white: what matters differs in lightness, hatching or line. The colours stand in `COLOURS` by what
+They are made for black and white: parts that matter differ in lightness, hatching or line. The colours stand in `COLOURS` by what
 they are for, so that a page can replace them by its own."""
 
 import io
@@ -58,8 +58,8 @@ STYLE = {
 # The widths of figures, in inches: for a page or a screen, and for a telephone's.
 WIDTHS = {"broad": 10, "narrow": 4.6}
 BROAD = WIDTHS["broad"]
-# Of the curves of a period, the steps within this share of the traded volume are shown, and what is no further from the price than this, in
-# EUR/MWh; but not a limit that is so many times further from it than the one before.
+# Of the curves of a period, the steps within this share of the traded volume are shown, and those no further from the price than this, in
+# EUR/MWh; but not a limit that is this many times further from it than the one before.
 NEAR_SHARE, NEAR_PRICES, JUMP = 0.15, 20, 4
 # Up to this many periods each bar has an outline.
 MOST_OUTLINED = 25
@@ -111,7 +111,7 @@ def set_margins(figure, left, right, bottom, top):
 
 
 def set_label_places(axes, under, left):
-    """Puts what the axes mean so many inches under and left of them, so that no place has to be found for it by drawing the ticks."""
+    """Puts the axes' labels at distances in inches under and left of them, so that no place has to be found for it by drawing the ticks."""
     width, height = axes.get_position().size * axes.figure.get_size_inches()
     axes.xaxis.set_label_coords(0.5, -under / height)
     axes.yaxis.set_label_coords(-left / width, 0.5)
@@ -196,7 +196,7 @@ CURVE_MARGINS = {"broad": (0.85, 0.75, 0.5, 0.5), "narrow": (0.7, 0.62, 1.2, 0.5
 
 
 class CurveSheet:
-    """A figure for the curves of one period after another, since to make new axes and ticks takes as long as half of what is drawn."""
+    """A figure for the curves of one period after another, since to make new axes and ticks takes as long as half of the drawing."""
 
     def __init__(self, width=BROAD):
         with matplotlib.rc_context(STYLE):
@@ -205,7 +205,7 @@ class CurveSheet:
         set_label_places(self.axes, 0.234, 0.47)
 
     def clear(self):
-        """Takes away what was drawn, and leaves the axes as they were made."""
+        """Takes away the drawing, and leaves the axes as they were made."""
         axes = self.axes
         for artist in [*axes.lines, *axes.patches, *axes.collections, *axes.texts, *filter(None, [axes.get_legend()])]:
             artist.remove()
@@ -294,7 +294,7 @@ def without_trade(axes, numbers, periods):
 
 
 def price_bounds(prices, ends):
-    """What of the price axis is shown: the prices, and the supporting prices that aren't far off."""
+    """The shown part of the price axis: the prices, and the supporting prices that aren't far off."""
     least, most = min(prices), max(prices)
     far = max(most - least, 20)
     near = [end for pair in ends for end in pair if least - far <= end <= most + far]
@@ -304,13 +304,13 @@ def price_bounds(prices, ends):
 
 
 def shares(day, side):
-    """What a side trades in each period, in MW: by hourly orders, and by accepted blocks."""
+    """The traded volume of a side in each period, in MW: by hourly orders, and by accepted blocks."""
     found = trades.shares(day).values()
     return [[mw(parts[kind, side]) for parts in found] for kind in ("hour", "block")]
 
 
 def draw_volumes(axes, day):
-    """What is bought above the line, what is sold below it; the blocks' shares are hatched."""
+    """The bought volume above the line, the sold volume below it; the blocks' shares are hatched."""
     most = 1
     for side, sign in (("buy", 1), ("sell", -1)):
         hourly, blocks = shares(day, side)
@@ -488,7 +488,7 @@ def steps(orders, side, begin):
 
 
 def net_volume(day, number):
-    """What the accepted blocks sell in a period, and what they buy."""
+    """The sold volume of the accepted blocks in a period, and their bought volume."""
     sold = bought = 0
     for place in day.said.accepted:
         for at, volume in selection.signed(day.problem.blocks[place].order):
@@ -498,7 +498,7 @@ def net_volume(day, number):
 
 
 def price_range(day, number, curves):
-    """What of the price axis is shown of a period's curves: the limits about the crossing, or all if they aren't far off."""
+    """The shown part of the price axis for a period's curves: the limits about the crossing, or all if they aren't far off."""
     limits = [limit for _, limit, _ in day.problem.orders[number]]
     price, traded = day.said.prices[number - 1], trades.is_traded(day, number)
     limits += [price] * (traded or not limits)
@@ -602,7 +602,7 @@ def draw_clearing(axes, day, number, net):
 
 
 def draw_net(axes, net, bottom, top):
-    """The net volume of the accepted blocks, which have no price in a period: what they sell is under all supply, what they buy
+    """The net volume of the accepted blocks, which have no price in a period: their sold volume is under all supply, their bought volume
     over all demand."""
     height = 0.05 * (top - bottom)
     low = bottom if net > 0 else top - height

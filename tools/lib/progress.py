@@ -46,7 +46,7 @@ class Progress:
         return self.begun + self.seconds - time.monotonic()
 
     def over(self, words):
-        """What is said when no time is left."""
+        """The message when no time is left."""
         return f"after {self.seconds:g} seconds, {words}: --seconds gives more time"
 
     def step(self, done=1):

@@ -1,4 +1,4 @@
-"""What others publish of a day: the aggregated curves of its periods and its figures; and long forms of the tables."""
+"""The data that others publish of a day: the aggregated curves of its periods and its figures; and long forms of the tables."""
 
 import math
 from fractions import Fraction
@@ -10,7 +10,7 @@ PEAK = 8 * 60, 20 * 60
 
 
 def steps(day, number, side):
-    """The curve of a side in a period: what its accepted blocks trade, which has no price of its own and so stands at the limit of
+    """The curve of a side in a period: the volume of its accepted blocks, which has no price of its own and so stands at the limit of
     the range, and then its hourly orders by price, the best first. Each as a part, a price and a volume."""
     blocks = sum(volume for at, volume in accepted_volumes(day, side) if at == number)
     if blocks:
@@ -75,7 +75,7 @@ def mean_prices(day):
 
 
 def figures(day):
-    """What a day comes to, in a few numbers."""
+    """The figures of a day, in a few numbers."""
     yield ["figure", "unit", "value"]
     yield ["welfare", "EUR", text.euros(day.said.welfare, day.problem.hours, "")]
     yield ["energy", "MWh", text.energy(sum(day.said.volumes), day.problem.hours, "")]

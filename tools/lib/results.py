@@ -20,7 +20,7 @@ class Results(NamedTuple):
     executed: list  # of the hourly orders in book order
     accepted: set  # places of blocks
     surpluses: list  # of the blocks
-    lines: dict  # from what a line is about, such as "period 3" or "block WHO,NAME", to its number
+    lines: dict  # from the subject of a line, such as "period 3" or "block WHO,NAME", to its number
 
 
 def split_day(data):
@@ -37,7 +37,7 @@ def number(field):
 
 
 def expected_lines(problem):
-    """For each line of the results: what it is about, its fields that are known beforehand, and how many numbers or words
+    """For each line of the results: its subject, its fields that are known beforehand, and how many numbers or words
     come after them."""
     yield "the day", ["day", str(problem.periods)], ""
     yield "the welfare", ["welfare"], "n"
@@ -67,7 +67,7 @@ def line_values(line, known, behind):
 
 
 def beginning(line):
-    """What a line is about, if it is one of results: its known fields."""
+    """The subject of a line, if it is one of results: its known fields."""
     fields = line.split(b",")
     return tuple(fields[: {b"day": 2, b"welfare": 1, b"period": 2}.get(fields[0], 3)])
 
@@ -75,11 +75,11 @@ def beginning(line):
 QUOTED = re.compile(rb'(?<![^,\n])"([^",\n]*)"(?![^,\n])')
 MARKS = {text.MARK: ("utf-8-sig", "a byte order mark"), b"\xff\xfe": ("utf-16", "a byte order mark of UTF-16")}
 MARKS[b"\xfe\xff"] = MARKS[b"\xff\xfe"]
-UTF_32 = b"\xff\xfe\0\0"  # its mark begins as that of UTF-16
+UTF_32 = b"\xff\xfe\0\0"  # its mark begins as the mark of UTF-16
 
 
 def plain(data):
-    """The text as `dam` writes it, if other programs have changed only how it is encoded; and what they have changed."""
+    """The text as `dam` writes it, if other programs have changed only how it is encoded; and the changes."""
     odd = []
     for mark, (encoding, words) in MARKS.items():
         if data.startswith(mark) and not data.startswith(UTF_32) and is_text(data, encoding):
@@ -119,7 +119,7 @@ def foreign(wanted, beginnings):
 
 
 def none_belongs(line, wanted):
-    """What is said of results of which no line is one of this journal's."""
+    """The message about results of which no line is one of this journal's."""
     for comma, name in ((b";", "semicolons"), (b"\t", "tabs")):
         if comma in line and beginning(line.replace(comma, b",")) in wanted:
             words = f"the fields of the results are separated by {name} instead of commas: the first line is {text.quoted(line)}"
@@ -128,7 +128,7 @@ def none_belongs(line, wanted):
 
 
 def read_results(problem, data):
-    """The results that a text is for this problem, and what is wrong with its form; results are None if something is."""
+    """The results that a text is for this problem, and the faults of its form; results are None if something is."""
     wrong, lines, values = [], {}, []
     if not data.endswith(b"\n"):
         wrong.append(Fault("the last line of the results has no line end", "form"))
@@ -165,13 +165,13 @@ def read_results(problem, data):
 
 
 def missing_line(line, lines, about):
-    """What is said of a line that is missing before another, or at the end."""
+    """The message about a line that is missing before another, or at the end."""
     where = f"before results line {line}" if line <= lines else f"at the end of the results, as line {line}"
     return Fault(f"the line for {about} is missing {where}", "missing", line, about)
 
 
 def form_words(about, line, known, behind):
-    """What is said of a line whose fields after the known ones aren't numbers or words as they should be."""
+    """The message about a line whose fields after the known ones aren't numbers or words as they should be."""
     fields = line.split(b",")
     if len(fields) == len(known) + len(behind):
         for field, kind in zip(fields[len(known) :], behind):
@@ -182,7 +182,7 @@ def form_words(about, line, known, behind):
 
 
 def moved_line(expected, at):
-    """What is said of a line that stands in another place than its own."""
+    """The message about a line that stands in another place than its own."""
     after = f"after that for {expected[at - 1][0]}" if at else "before all others"
     return f"the line for {expected[at][0]} stands here and belongs {after}"
 

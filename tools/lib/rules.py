@@ -18,11 +18,11 @@ LONGEST_PARTICIPANT, LONGEST_NAME = 8, 12  # characters
 
 MOST_HOURLY, MOST_BLOCKS = 4_000, 24  # orders in a book
 MOST_BYTES, MOST_RECORDS = 16_777_216, 10_001  # of a journal
-MOST_DAY_COMMANDS, MOST_DAY_PARTICIPANTS = 9_999, 8  # of what `dam day` reads
+MOST_DAY_COMMANDS, MOST_DAY_PARTICIPANTS = 9_999, 8  # of the input of `dam day`
 
 
 def rescuers(place, blocks):
-    """The places of the blocks that, if they are accepted, make up for what the block at this place loses: those that descend
+    """The places of the blocks that, if they are accepted, make up for the loss of the block at this place: the ones that descend
     from it, its children and theirs. Each comes after its parent."""
     family = {(blocks[place].who, blocks[place].name)}
     found = []

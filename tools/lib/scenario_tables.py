@@ -1,4 +1,4 @@
-"""The tables of scenarios: what was asked for of each, and over all of them what becomes of a participant's blocks."""
+"""The tables of scenarios: the rows asked for of each, and over all of them the outcomes of a participant's blocks."""
 
 from fractions import Fraction
 
@@ -46,7 +46,7 @@ TABLES = {
 
 
 class Distribution:
-    """What becomes of some blocks over many scenarios: whether each is accepted, and its surplus at the prices."""
+    """The outcomes of some blocks over many scenarios: whether each is accepted, and its surplus at the prices."""
 
     def __init__(self, held, keys):
         self.rows, self.keys, self.hours = held.rows, keys, rules.DAYS[held.periods]
@@ -54,7 +54,7 @@ class Distribution:
         self.rejected = dict.fromkeys(keys, 0)
 
     def add(self, printed):
-        """Adds a scenario by what `dam clear` printed for it."""
+        """Adds a scenario by the output of `dam clear` for it."""
         for key in self.keys:
             begin = printed.index(f"\nblock,{key[0]},{key[1]},".encode()) + 1
             outcome, surplus = printed[begin : printed.index(b"\n", begin)].split(b",")[3:]
@@ -81,7 +81,7 @@ class Distribution:
 
 
 def quantile(found, part):
-    """The number of a sorted list that so many per cent of it are at most; None of an empty list."""
+    """The number of a sorted list that this percentage of it doesn't exceed; None of an empty list."""
     return found[max(-(-len(found) * part // 100) - 1, 0)] if found else None
 
 

@@ -1,4 +1,4 @@
-"""Scenarios of a day: those of a table, with what each changes, and random ones, in which the orders of all but one participant have other
+"""Scenarios of a day: those of a table, with its changes, and random ones, in which the orders of all but one participant have other
 limits and volumes."""
 
 import functools
@@ -17,7 +17,7 @@ SCENARIO = "scenario"
 class Scenario(NamedTuple):
     name: str
     text: bytes  # of the journal that has its book
-    rows: object  # what gives the orders of its book, by participant and name
+    rows: object  # the source of the orders of its book, by participant and name
 
 
 class Sampler:
@@ -29,7 +29,7 @@ class Sampler:
         import numpy
 
         self.held, self.seed, self.numpy = held, seed, numpy
-        self.random = numpy.random.RandomState(0)  # seeded anew for each scenario: to make one takes longer than to draw
+        self.random = numpy.random.RandomState(0)  # seeded again for each scenario: to make one takes longer than to draw
         orders = list(held.rows.values())
         changes_it = numpy.array([key[0] != who for key in held.rows])
         self.sds = numpy.where(changes_it, price_sd, 0), numpy.where(changes_it, volume_sd, 0)
@@ -78,7 +78,7 @@ class Sampler:
 
 
 def read_table(name, data, held):
-    """The scenarios of a table: each is the book with the commands of its lines, which stand together. What is wrong is a fault."""
+    """The scenarios of a table: each is the book with the commands of its lines, which stand together. An error is a fault."""
     try:
         columns = Columns(data, (SCENARIO,))
     except order_table.Wrong as fault:

@@ -1,4 +1,4 @@
-"""A closed book as a problem, and what follows from a selection of its blocks."""
+"""A closed book as a problem, and the consequences of a selection of its blocks."""
 
 from typing import NamedTuple
 
@@ -53,7 +53,7 @@ class Problem:
 
 
 class Outcome(NamedTuple):
-    """What follows from a selection. A period that doesn't balance has None, and then so has the welfare."""
+    """The consequences of a selection. A period that doesn't balance has None, and then so has the welfare."""
 
     cleared: dict  # by period
     bought: dict  # executed hourly buys and accepted buy blocks, by period
@@ -62,7 +62,7 @@ class Outcome(NamedTuple):
 
 
 def signed(order):
-    """The volumes of a block as net volumes: what it sells, less what it buys."""
+    """The volumes of a block as net volumes: its sold volumes, less its bought volumes."""
     return [(number, volume if order.side == "sell" else -volume) for number, volume in order.volumes]
 
 
@@ -81,7 +81,7 @@ def link_faults(problem, accepted):
 
 
 def surplus(order, prices):
-    """What a block gains at the prices; None if it has a volume in a period without a price."""
+    """The gain of a block at the prices; None if it has a volume in a period without a price."""
     total = 0
     for number, net in signed(order):
         if prices[number] is None:
@@ -91,7 +91,7 @@ def surplus(order, prices):
 
 
 def outcome(problem, accepted):
-    """What follows from the selection that accepts these places."""
+    """The consequences of the selection that accepts these places."""
     net = dict.fromkeys(problem.orders, 0)
     bought = dict.fromkeys(problem.orders, 0)
     value = 0
@@ -117,18 +117,18 @@ def outcome(problem, accepted):
 
 
 def helping(problem, accepted, place):
-    """The accepted blocks that make up for what an accepted block loses."""
+    """The accepted blocks that make up for the loss of an accepted block."""
     return [other for other in problem.rescuers[place] if other in accepted]
 
 
 def answers_for(problem, accepted, place, surpluses):
-    """What an accepted block gains, with the accepted blocks that make up for what it loses; None if a surplus isn't known."""
+    """The gain of an accepted block, with the accepted blocks that make up for its loss; None if a surplus isn't known."""
     gains = [surpluses[other] for other in [place, *helping(problem, accepted, place)]]
     return None if None in gains else sum(gains)
 
 
 def losing(problem, accepted, surpluses):
-    """The accepted places that lose, each with what it loses, as far as that is known."""
+    """The accepted places that lose, each with its loss, as far as that is known."""
     gains = {place: answers_for(problem, accepted, place, surpluses) for place in sorted(accepted)}
     return {place: -gain for place, gain in gains.items() if gain is not None and gain < 0}
 

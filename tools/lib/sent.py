@@ -1,4 +1,4 @@
-"""What a participant sent, compared with its commands in the published journal: each there once, in its order, and no others."""
+"""A participant's sent commands, compared with its commands in the published journal: each there once, in its order, and no others."""
 
 import difflib
 import re
@@ -13,7 +13,7 @@ WORDS = re.compile(rb'[\s"]*(?:day|submit|amend|cancel|close)\b', re.IGNORECASE)
 
 
 class Wrong(Exception):
-    """The text isn't what a participant of that name sends on that day."""
+    """The text isn't from a participant of that name on that day."""
 
 
 class Sent(NamedTuple):
@@ -22,9 +22,9 @@ class Sent(NamedTuple):
 
 
 class Published(NamedTuple):
-    record: int  # of the journal; that of the day is 1
+    record: int  # of the journal; the record of the day is 1
     command: object
-    reason: object  # for which the book refused it; None if it did what it says
+    reason: object  # for which the book refused it; None if it was carried out
 
     @property
     def reply(self):
@@ -57,7 +57,7 @@ class Own(NamedTuple):
 
     commands: list  # of `Sent`
     others: int  # how many commands of others the list has
-    is_table: bool  # whether it is a table of orders, which may also be what they have become at the end
+    is_table: bool  # whether it is a table of orders, which may also be the orders at the end
 
 
 def read_sent(data, who, periods, has_none):
@@ -89,7 +89,7 @@ def read_records(data, periods):
 
 
 def read_table(data, periods, who):
-    """The orders of a participant in a table, as what was sent, and how many others it has."""
+    """The orders of a participant in a table, as the sent commands, and how many others it has."""
     if command_table.is_command_table(data):
         raise Wrong(f"it is a table of commands, with the column {command_table.WHAT}: give records of a journal, or a table of orders")
     try:
@@ -126,7 +126,7 @@ def in_order(sent, published):
 
 
 def paired(sent, published, key):
-    """Pairs of entries with the same key, by their order; and what is left of both lists."""
+    """Pairs of entries with the same key, by their order; and the rest of both lists."""
     waiting = defaultdict(deque)
     for entry in published:
         waiting[key(entry.command)].append(entry)
@@ -141,8 +141,8 @@ def paired(sent, published, key):
 
 
 def compared(own, published, closed, who):
-    """What is wrong with a participant's commands in a journal, and lines about what is right. A table of orders may have the commands, or
-    what the orders are at the end: of both, the one with fewer differences is meant."""
+    """The faults of a participant's commands in a journal, and lines about the right ones. A table of orders may have the commands, or
+    the orders at the end: of both, the one with fewer differences is meant."""
     commands, reasons = own.commands, [entry.reason for entry in published]
     wrong = differences(commands, published)
     others = f" ({own.others} of others left out)" if own.others else ""
@@ -171,7 +171,7 @@ def held_of(closed, who):
 
 
 def differences(sent, published, where=JOURNAL):
-    """What is wrong with the published commands, or with those of the book, a line each, by their records."""
+    """The faults of the published commands, or of the book's, a line each, by their records."""
     pairs = in_order(sent, published)
     there, here = ({place[side] for place in pairs} for side in (0, 1))
     left = [entry for at, entry in enumerate(sent) if at not in there]
@@ -187,7 +187,7 @@ def differences(sent, published, where=JOURNAL):
 
 
 def about(entry):
-    """What a fault of a command is about."""
+    """The subject of a fault of a command."""
     return f"order {entry.command.who},{entry.command.name}"
 
 
@@ -209,7 +209,7 @@ def missing_line(one, where):
 
 
 def more_line(other, times):
-    """What is said of a record that wasn't sent; its command was sent `count` times."""
+    """The message about a record that wasn't sent; its command was sent `count` times."""
     shown = journal.command_line(other.command)
     if not times:
         return Fault(f"{other.place} was not sent: {shown}", "unsent", other.line, about(other))

@@ -1,4 +1,4 @@
-"""What can be done to any table: times of a date, only some periods, typed records, and JSON."""
+"""Operations on any table: times of a date, only some periods, typed records, and JSON."""
 
 import datetime
 import json
@@ -29,7 +29,7 @@ def date_of(words):
 
 
 def as_date(date):
-    """A date, that of a time, or that of a text."""
+    """A date, the date of a time, or the date of a text."""
     if isinstance(date, str):
         return date_of(date)
     try:
@@ -84,7 +84,7 @@ def of_participant(rows, who):
 
 
 def day_of_periods(periods, date=None):
-    """What JSON says of a day without its results."""
+    """A day without its results, as JSON."""
     return {"date": date.isoformat() if date else None, "periods": periods, "hours_per_period": float(rules.DAYS[periods])}
 
 
@@ -93,7 +93,7 @@ def unit(column):
 
 
 def column(name, heads):
-    """What a column holds."""
+    """The type of a column."""
     if LISTS <= set(heads) and name in LISTS:
         kind = "array"
     elif name in WHOLE:

@@ -1,4 +1,4 @@
-"""Tables as files: text with separators, and Excel workbooks (by openpyxl). Here they are rows of cells; others say what these mean."""
+"""Tables as files: text with separators, and Excel workbooks (by openpyxl). Here they are rows of cells; others interpret them."""
 
 import csv
 import datetime
@@ -11,7 +11,7 @@ from . import command, shapes, text
 XLSX = b"PK\x03\x04"  # the first bytes of a workbook
 MOST_UNPACKED = 256 * 2**20  # bytes of a workbook's parts
 PREFERRED = "orders"  # the sheet that is read if there are several
-FORMULA = ("=", "+", "-", "@", "\t", "\r")  # what a program takes a cell for a formula by
+FORMULA = ("=", "+", "-", "@", "\t", "\r")  # the marks by which a program takes a cell for a formula
 
 
 class Wrong(Exception):
@@ -23,7 +23,7 @@ def is_workbook(data):
 
 
 def is_workbook_file(path):
-    """Whether a file is a workbook, whatever its name; only of a file that can be read again."""
+    """Whether a file is a workbook, with any name; only of a file that can be read again."""
     try:
         if not os.path.isfile(path):
             return False
@@ -65,7 +65,7 @@ def text_rows(data):
 
 
 def workbook_rows(data):
-    """The rows of a workbook's sheet: that of the orders, or else the first."""
+    """The rows of a workbook's sheet: the orders' sheet, or else the first."""
     if not command.has("openpyxl"):
         other = f"this Python lacks openpyxl: run it with {command.DEBIAN_PYTHON}, which has it"
         raise command.Stop(other if command.elsewhere("openpyxl") else command.missing("openpyxl"), command.FAILED)
@@ -80,12 +80,12 @@ def workbook_rows(data):
         return [(line, [cell_text(cell) for cell in cells]) for line, cells in enumerate(sheet.iter_rows(values_only=True), 1)]
     except (Wrong, MemoryError):
         raise
-    except Exception as fault:  # a broken workbook raises whatever its parts do
+    except Exception as fault:  # a broken workbook raises any exception of its parts
         raise Wrong(f"line 1: the Excel workbook can't be read: {text.safe(str(fault))}") from None
 
 
 def cell_text(value):
-    """What a cell of a workbook says, as it would stand in a text."""
+    """The content of a cell of a workbook, as it would stand in a text."""
     if value is None:
         return ""
     if isinstance(value, float):

@@ -5,7 +5,7 @@ supporting price of each period at which no accepted block loses, links and grou
 than that at hand; then, for each block that is rejected, for one of as much welfare that accepts this block and is the same on
 the blocks before it. Each selection that it gives is looked at exactly, by the rules and in whole numbers: it is better, or it
 is forbidden and HiGHS is asked again. When HiGHS has no more solution, none is better. That HiGHS misses none is taken on trust;
-that what it finds is better is checked."""
+that its finds are better is checked."""
 
 import contextlib
 import itertools
@@ -18,7 +18,7 @@ from . import best, rules, selection
 
 EUR, MW = 100, 10  # cents and tenths: the program is reckoned in EUR per MWh and MW, for moderate numbers
 
-# What is rounding: half a unit of welfare, or this part of the greatest sum. HiGHS loses solutions where the rows leave no more
+# The size of rounding: half a unit of welfare, or this part of the greatest sum. HiGHS loses solutions where the rows leave no more
 # room than that, so it gets more, and offers some selections that turn out to lose or to have less welfare. Where it has offered
 # too many, its room for welfare is narrowed.
 HALF, ROUNDING, ROOM, TOO_MANY = 0.5 / (EUR * MW), 1e-11, 1_000, 100
@@ -29,7 +29,7 @@ LIMIT, NO_SOLUTION = 1, 2  # statuses of scipy's
 
 @contextlib.contextmanager
 def quiet():
-    """Discards what HiGHS itself prints on standard output."""
+    """Discards the output of HiGHS itself on standard output."""
     print(end="", flush=True)
     kept, nowhere = os.dup(1), os.open(os.devnull, os.O_WRONLY)
     os.dup2(nowhere, 1)
@@ -82,8 +82,8 @@ class Program:
 class Model:
     """The program of a problem.
 
-    For each step of a period's curve: how much of it is taken, and at least what it gains at the price. Welfare is the value of
-    all buys less the cost of what is taken; what all steps and accepted blocks gain together is never less, and equal exactly
+    For each step of a period's curve: how much of it is taken, and at least its gain at the price. Welfare is the value of
+    all buys less the cost of the part that is taken; the gain of all steps and accepted blocks together is never less, and equal exactly
     if the prices support the execution, which is the one row over the whole day."""
 
     def __init__(self, problem):
@@ -135,7 +135,7 @@ class Model:
         return price
 
     def gain(self, place, order):
-        """The column of what a block gains: its surplus if it is accepted, else 0."""
+        """The column of a block's gain: its surplus if it is accepted, else 0."""
         accepted, limit = self.accepted[place], order.price / EUR
         volumes = [(number, volume / MW) for number, volume in selection.signed(order)]
         ends = [
@@ -215,7 +215,7 @@ def equal_blocks(problem):
 
 
 def questions(accepted, welfare, blocks):
-    """What is asked of HiGHS: the least welfare, and how the blocks at the first places are decided."""
+    """The question to HiGHS: the least welfare, and how the blocks at the first places are decided."""
     flags = [int(place in accepted) for place in range(blocks)]
     yield welfare + 1, []
     for place in range(blocks):

@@ -1,7 +1,7 @@
 """The sources that a program or the library for C is built of, and the record of each build.
 
-The record stands beside the file that was built, as NAME.json. It has the SHA-256 of the file and that of the sources of each crate, and
-names the kit. By it tools/package knows that a file was built of the present sources, whatever the dates say. Whoever builds takes the
+The record stands next to the file that was built, as NAME.json. It has the SHA-256 of the file and that of the sources of each crate, and
+names the kit. By it tools/package knows that a file was built of the present sources, regardless of the dates. Whoever builds takes the
 sums before, and the record is written only if they are the same afterwards.
 
     python3 tools/lib/sources.py CRATE                  prints the sums of a crate's sources
@@ -22,7 +22,7 @@ else:
 
 TOP = os.path.dirname(os.path.dirname(os.path.dirname(os.path.realpath(__file__))))
 PARTS = ("src", "specs", "proofs")
-# What the library for C is made of, besides its crate.
+# The files of the library for C, besides its crate.
 LIBRARY = "dam_c"
 IN_C = ("build", "dam.h", "exports.map", "heap.c")
 
@@ -100,7 +100,7 @@ def record(crate, before, *paths):
 
 
 def recorded(path):
-    """Returns what is recorded of a file that was built, or None."""
+    """Returns the record of a file that was built, or None."""
     try:
         with open(record_of(path), encoding="utf-8") as file:
             told = json.load(file)
@@ -110,7 +110,7 @@ def recorded(path):
 
 
 def fault(path, crate):
-    """Returns why a file is not what was built of the present sources, or None if it is."""
+    """Returns why a file was not built of the present sources, or None if it is."""
     name = os.path.relpath(path, TOP)
     if not os.path.isfile(path):
         return f"{name} is missing"

@@ -6,7 +6,7 @@ RUN = re.compile(r"([1-9][0-9]{0,3})(?:-([1-9][0-9]{0,3}))?")
 
 
 def read(words, greatest, separators=";"):
-    """The periods of a text, in its order; a ValueError says what the text should be."""
+    """The periods of a text, in its order; a ValueError says the right form of the text."""
     numbers = []
     parts = [part for part in re.split(rf"[{separators}\s]+", words) if part]
     for part in parts or [""]:

@@ -1,4 +1,4 @@
-"""The definitions and types of a repository, and what each of them and each contract names."""
+"""The definitions and types of a repository, and the names in each of them and in each contract."""
 
 import itertools
 import re
@@ -73,7 +73,7 @@ class Repository:
         return " ".join(line[3:] for line in lines[first:at])
 
     def subject(self, crate, module):
-        """The comment at the head of a module: what it is about."""
+        """The comment at the head of a module: its subject."""
         lines = self.read(f"crates/{crate}/specs/{module}.antt").splitlines()
         comment = list(itertools.takewhile(lambda line: line.startswith("-- "), lines))
         if not comment:
@@ -115,7 +115,7 @@ class Repository:
         return crate
 
     def definition(self, path, name):
-        """What a name of a `use` line leads to, or nothing if that is the kit's."""
+        """The target of a name of a `use` line, or nothing if that is the kit's."""
         parts = path.split(".")
         if parts[0] != "Rattle" or parts[1] not in self.crates:
             return None
@@ -128,7 +128,7 @@ class Repository:
         return self.home(crate, module), "specs", module, name
 
     def used(self, text, into):
-        """What the `use` lines of a text of a file say of its names."""
+        """The targets of the names of a file's text, by its `use` lines."""
         for path, words in USE.findall(text):
             for alias, name in aliases(words):
                 into[alias] = self.definition(path, name)
@@ -152,7 +152,7 @@ class Repository:
         return text
 
     def source_names(self, crate, module):
-        """What the names of a source lead to: by its own types, its imports, and its `ghost use` lines."""
+        """The targets of the names of a source: by its own types, its imports, and its `ghost use` lines."""
         text = self.source(crate, module)
         found = {}
         for name in re.findall(r"^pub(?:\(crate\))? (?:struct|enum) (\w+)", text, re.M):
@@ -174,13 +174,13 @@ class Repository:
         return whole[0].rstrip("{").rstrip() + "\n"
 
     def contract(self, function, crate, module):
-        """What the clauses of a public function or method name."""
+        """The names in the clauses of a public function or method."""
         head = self.head(function, crate, module)
         _, found = self.source_names(crate, module)
         return {found.get(name) for name in names_used(head[CLAUSE.search(head).start() :])} - {None}
 
     def below(self, node):
-        """What a definition or a type names."""
+        """The names in a definition or a type."""
         crate, kind, module, name = node
         if kind == "src":
             return self.below_type(crate, module, name)
@@ -208,7 +208,7 @@ class Repository:
         return {found.get(word) for word in names_used(told)} - {None, (crate, "src", module, name)}
 
     def closure(self, nodes):
-        """What can be reached from some names, each before those that name it, if there is no circle."""
+        """The names that can be reached from some names, each before those that name it, if there is no circle."""
         ordered, seen = [], set()
 
         def visit(node):

@@ -30,7 +30,7 @@ def fault(day, kind, about, words):
 
 
 def volume_differences(day):
-    """In each period, what is bought is what is sold, and is the volume; so at its one price buyers pay what sellers receive."""
+    """In each period, the bought volume is the sold one, and the period's volume; so at its one price payments are receipts."""
     for number, parts in trades.shares(day).items():
         bought, sold = (sum(parts[kind, side] for kind in ("hour", "block")) for side in ("buy", "sell"))
         volume = day.said.volumes[number - 1]
@@ -84,6 +84,6 @@ def sums(problem, said):
 
 
 def line(problem, found):
-    """What buyers pay and sellers receive, in words, of right results."""
+    """The payments of buyers and to sellers, in words, of right results."""
     paid, received = problem.euros(found.paid), problem.euros(found.received)
     return f"by adding: buyers pay {paid} EUR, sellers receive {received} EUR; the surpluses add up to the welfare, and nobody loses"

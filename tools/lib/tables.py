@@ -9,7 +9,7 @@ from .book import REASONS
 
 # The columns of a table of orders that make a journal: `order_table` reads them.
 ORDER = ["participant", "order", "kind", "side", "price_eur_mwh", "periods", "volume_mw", "parent", "group"]
-# What the table of a result's orders has in addition.
+# The further columns of the table of a result's orders.
 RESULT = ["offered_mwh", "executed_mwh", "outcome", "surplus_eur", "amount_eur"]
 MOST_NAMED = 5  # participants whose commands were refused
 
@@ -43,7 +43,7 @@ def order_cells(row):
 
 
 def outcomes(day):
-    """What became of each row of the book, and the surplus of a block."""
+    """The outcome of each row of the book, and the surplus of a block."""
     found = iter(zip(decisions.decisions(day.problem, day.said.accepted, day.outcome), day.said.surpluses))
     executed = iter(day.said.executed)
     for row in day.problem.rows:
@@ -59,13 +59,13 @@ def orders(day):
     for (row, made), outcome in zip(trades.row_trades(day), outcomes(day)):
         offered = energy(day, sum(tenths for _, tenths in row.order.volumes))
         executed = energy(day, sum(trade.volume for trade in made))
-        # What a participant is paid for a sell, and pays for a buy.
+        # The payment to a participant for a sell, and by it for a buy.
         amount = sum(trade.amount() if trade.side == "sell" else -trade.amount() for trade in made)
         yield [*order_cells(row), offered, executed, *outcome, euros(day, amount)]
 
 
 def blocks(day):
-    """A row for each block: its order, what became of it and why, and, if it is rejected, what its best family was worth."""
+    """A row for each block: its order, its outcome and why, and, if it is rejected, the worth of its best family."""
     family_heads = ["family", "family_gain_eur", "family_welfare_eur"]
     yield [*ORDER, "offered_mwh", "executed_mwh", "outcome", "surplus_eur", *family_heads, "why", "code"]
     found = decisions.decisions(day.problem, day.said.accepted, day.outcome)
@@ -91,7 +91,7 @@ def participants(day):
 
 
 def command_cells(command):
-    """What a command says: its kind, and the cells of `ORDER`, empty if it says nothing."""
+    """The content of a command: its kind, and the cells of `ORDER`, empty if it says nothing."""
     match command:
         case journal.Submit(who, name, order):
             return ["submit", *order_cells(selection.Row(who, name, order))]
@@ -111,7 +111,7 @@ def commands(read, reasons):
 
 
 class Result(NamedTuple):
-    """What became of an order of the book."""
+    """The outcome of an order of the book."""
 
     outcome: str
     surplus: str  # of a block, in EUR
@@ -122,7 +122,7 @@ class Result(NamedTuple):
 
 
 def results_by_row(day):
-    """What became of each order of the book, by participant and name. `write` writes the amounts of the reasons."""
+    """The outcome of each order of the book, by participant and name. `write` writes the amounts of the reasons."""
     found = iter(zip(decisions.decisions(day.problem, day.said.accepted, day.outcome), day.said.surpluses))
     executed = iter(day.said.executed)
     made = {}
@@ -152,7 +152,7 @@ def last_commands(day):
 
 
 def statement(day):
-    """Each command with the book's reply, and with what became of its order if no later command changed it. `write` writes the amounts of
+    """Each command with the book's reply, and with the outcome of its order if no later command changed it. `write` writes the amounts of
     the reasons."""
     yield ["command", "what", *ORDER, "reply", "reason", "outcome", "executed_mwh", "surplus_eur", "amount_eur", "code", "why"]
     became, (last, replaced) = results_by_row(day), last_commands(day)
@@ -168,7 +168,7 @@ def statement(day):
 
 
 def later_why(day, number):
-    """What the command that changed an order last did to it."""
+    """The last change of an order by a command."""
     does = "cancels" if isinstance(day.journal.commands[number - 1], journal.Cancel) else "changes"
     return f"command {number} {does} it"
 

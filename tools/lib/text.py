@@ -14,7 +14,7 @@ NO_NUL = "\u0100"  # no byte: stands for the byte 0, which `csv` doesn't read be
 NUMBER = re.compile(rb"-?[1-9][0-9]{0,17}|0")
 PARTICIPANT = re.compile(rb"[A-Z]{1,%d}" % rules.LONGEST_PARTICIPANT)
 NAME = re.compile(rb"[A-Z0-9-]{1,%d}" % rules.LONGEST_NAME)
-# What they are, in messages.
+# Their names in messages.
 A_PARTICIPANT = f"1 to {rules.LONGEST_PARTICIPANT} letters A to Z"
 A_NAME = f"1 to {rules.LONGEST_NAME} of A to Z, 0 to 9 and -"
 
@@ -26,7 +26,7 @@ def records(text):
 
 def placed_records(text, comma=b","):
     """The same, each with its offset in the text; also of a text whose fields are separated by something other than commas. A field whose
-    quote isn't closed goes to the end of the text; what follows a closing quote belongs to the field."""
+    quote isn't closed goes to the end of the text; the text after a closing quote belongs to the field."""
     begin, taken = 0, []
     for fields in csv.reader(noted(csv_lines(text), taken), delimiter=comma.decode()):
         if fields:
@@ -180,7 +180,7 @@ THOUSANDS = ","  # between thousands, for readers
 
 
 def shown(value, digits, thousands=THOUSANDS):
-    """A number for readers, rounded to this many digits after the point. What would round to nothing and isn't has more."""
+    """A number for readers, rounded to this many digits after the point. A number that would round to 0 and isn't 0 has more."""
     value = Fraction(value)
     scaled = int(abs(value) * 10**digits + Fraction(1, 2))
     if value and not scaled:

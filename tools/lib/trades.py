@@ -1,4 +1,4 @@
-"""What the results of a day trade, order by order and participant by participant."""
+"""The trades of the results of a day, order by order and participant by participant."""
 
 from typing import NamedTuple
 
@@ -21,12 +21,12 @@ class Trade(NamedTuple):
         return self.volume * self.price
 
     def gain(self, limit):
-        """What is gained compared with trading at the limit, in the same unit."""
+        """The gain compared with trading at the limit, in the same unit."""
         return self.volume * (self.price - limit if self.side == "sell" else limit - self.price)
 
 
 class Total(NamedTuple):
-    """What a participant trades over the day: sums of tenths of a MW, of volume times price, and of surpluses."""
+    """The trades of a participant over the day: sums of tenths of a MW, of volume times price, and of surpluses."""
 
     bought: int = 0
     sold: int = 0
@@ -64,7 +64,7 @@ def row_trades(day):
 
 def gains(day):
     """Each row of the book with its surplus as far as it is executed: an hourly order's by its executed volume, and the published one of an
-    accepted block; that of a rejected block is 0."""
+    accepted block; the surplus of a rejected block is 0."""
     blocks = iter(enumerate(day.said.surpluses))
     for row, made in row_trades(day):
         if row.order.kind == "hour":
@@ -80,7 +80,7 @@ def how_far(order, executed):
 
 
 def shares(day):
-    """What is bought and sold in each period, by hourly orders and by blocks: tenths of a MW by `SHARES`."""
+    """The bought and sold volumes in each period, by hourly orders and by blocks: tenths of a MW by `SHARES`."""
     found = {number: dict.fromkeys(SHARES, 0) for number in day.problem.orders}
     for row, made in row_trades(day):
         for trade in made:

@@ -1,4 +1,4 @@
-"""The verdict of an audit: what was checked, what is wrong, the status that says so, and the same as a record for programs."""
+"""The verdict of an audit: the checks, the faults, the status that reports them, and the same as a record for programs."""
 
 import hashlib
 import time
@@ -32,7 +32,7 @@ HINTS = {
 
 
 class Audit:
-    """An audit of one day by the options of the command line. It keeps what it reads, checks and finds, so that a record can be made of
+    """An audit of one day by the options of the command line. It keeps its inputs, checks and findings, so that a record can be made of
     it at any time, also if it fails."""
 
     def __init__(self, options):
@@ -44,11 +44,11 @@ class Audit:
         self.wrong, self.odd = [], []  # faults, and differences of encoding alone
         self.unlike = 0  # how many of the faults, the first ones, are of the commands that were sent
         self.search = None  # a record of the search for a better selection
-        self.right, self.last = [], None  # lines about what is right, and one after what is wrong
+        self.right, self.last = [], None  # lines about the right parts, and one after the faults
         self.progress = None
 
     def run(self):
-        """Checks what the options ask for. Ends with `command.Stop` if that can't be done."""
+        """Makes the checks that the options ask for. Ends with `command.Stop` if that can't be done."""
         options = self.options
         written, published = self.texts()
         read = self.read_journal(written)
@@ -132,7 +132,7 @@ class Audit:
                 self.right += own_lines(data, self.options.participant)
 
     def look(self, problem, said):
-        """Looks for a better selection than that of right results, and says how."""
+        """Looks for a better selection than the one of right results, and says how."""
         options = self.options
         seconds = SECONDS if options.seconds is None else options.seconds
         by, whole = options.by or better.ENUMERATION, 2 ** len(problem.blocks)
@@ -153,7 +153,7 @@ class Audit:
         return how
 
     def check_sent(self, read, reasons, closed):
-        """Compares what a participant sent with the journal."""
+        """Compares a participant's sent commands with the journal."""
         options = self.options
         self.checked.append("commands sent")
         published = sent.published_of(read, reasons, options.participant)
@@ -167,7 +167,7 @@ class Audit:
         self.right += right if not wrong else []
 
     def parts(self):
-        """What is wrong by part, each a headline and its faults; without --sent there is one part, which has no headline."""
+        """The faults by part, each a headline and its faults; without --sent there is one part, which has no headline."""
         if self.options.sent is None:
             return [(None, self.wrong)]
         own, rest = self.wrong[: self.unlike], self.wrong[self.unlike :]
@@ -210,7 +210,7 @@ def reply_faults(read, data):
 
 
 def figures(problem, said):
-    """What a day comes to, for a record; as the rules have it if the results can't be read."""
+    """The figures of a day, for a record; as the rules have it if the results can't be read."""
     made = {"hourly_orders": len(problem.rows) - len(problem.blocks), "blocks": len(problem.blocks)}
     if said is not None:
         amounts = {"welfare": said.welfare, **sums.sums(problem, said)._asdict()}
@@ -228,7 +228,7 @@ def own_lines(data, who):
 
 
 def last_line(is_compared, is_best):
-    """What is said after the faults of results about what wasn't checked."""
+    """The lines after the faults of results about the checks that weren't made."""
     if not is_compared:
         return NEITHER if is_best else NOT_COMPARED
     return NOT_LOOKED if is_best else None

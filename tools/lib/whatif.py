@@ -1,4 +1,4 @@
-"""The commands of tools/whatif: their words on the command line, and what each does."""
+"""The commands of tools/whatif: their words on the command line, and the work of each."""
 
 import argparse
 import collections
@@ -107,7 +107,7 @@ def read(args):
 
 
 def clear_one(args, running=None):
-    """What clears a text; a run that fails is a `Fault`."""
+    """The engine that clears a text; a run that fails is a `Fault`."""
     return lambda given: engine.result(engine.answer(given, args.program, running))
 
 
@@ -143,7 +143,7 @@ def limit(args):
 
 
 def unknown(held, who, name):
-    """What is said of an order that isn't in the book."""
+    """The message about an order that isn't in the book."""
     own = [other for owner, other in held.rows if owner == who]
     if not own:
         return f"{who} has no order in the book"
@@ -312,7 +312,7 @@ def keys_asked(args, held):
 
 @contextlib.contextmanager
 def executor_of(args):
-    """The executor of the cluster that is named, or None; and what it calls."""
+    """The executor of the cluster that is named, or None; and the engine that it calls."""
     if args.cluster is None:
         yield None, engine.answer
         return
@@ -369,7 +369,7 @@ def run_scenarios(args):
 
 
 def scenario_rows(args, held, given, count, over):
-    """The rows of the scenarios, or none, and then what they come to is added to the distribution."""
+    """The rows of the scenarios, or none, and then their results are added to the distribution."""
     make, heads = scenario_tables.TABLES[args.rows or "welfare"]
     waiting = collections.deque()
 
@@ -400,7 +400,7 @@ def asked_of(args):
 
 
 def printed_of(name, printed):
-    """What was printed; ends the tool if it is a fault."""
+    """The printed text; ends the tool if it is a fault."""
     if isinstance(printed, engine.Fault):
         raise command.Stop(f"{text.safe(name)}: {printed}")
     return printed

@@ -82,7 +82,7 @@ class Plain:
 
     def families(self, accepted, place):
         """Each family that a rejected block may be accepted with, and the selection with it: its ancestors are in it that are
-        rejected, and of what descends from the topmost of them any that links and groups admit. The accepted blocks of the needed
+        rejected, and of the descendants of the topmost of them any that links and groups admit. The accepted blocks of the needed
         ones' groups have to go, and those that descend from them."""
         needed = [other for other in self.places if self.descends(place, other) and other not in accepted]
         rivals = [other for other in accepted if self.groups[other] in {self.groups[member] for member in needed} - {""}]
@@ -110,7 +110,7 @@ def values(orders):
 
 
 def price(values, net):
-    """What one tenth of a MW more is worth, and what the last one is, are the ends of the supporting prices."""
+    """The worth of one tenth of a MW more, and of the last one, are the ends of the supporting prices."""
     low = values[net + 1] - values[net] if net + 1 in values else LEAST
     high = values[net] - values[net - 1] if net - 1 in values else GREATEST
     if low == LEAST and high < GREATEST:

@@ -1,6 +1,6 @@
 """The commands that a page shows, each with the output that it quotes; they are run one after another in a folder of their own.
 
-`tools/tests/shown.py PAGE..` writes the outputs into pages again, after a change of what is printed."""
+`tools/tests/shown.py PAGE..` writes the outputs into pages again, after a change of the output."""
 
 import os
 import re
@@ -26,14 +26,14 @@ def pairs(text):
 
 
 def link(folder):
-    """Links into a folder what the commands of a page name: the program as `dam`, and folders of the repository."""
+    """Links into a folder the files that the commands of a page name: the program as `dam`, and folders of the repository."""
     for name in ("docs", "examples", "tests", "tools"):
         Path(folder, name).symlink_to(TOP / name)
     Path(folder, "dam").symlink_to(engine.BUILT)
 
 
 def ran(folder, commands):
-    """What a shell prints for commands, without spaces at the end of a line, its status, and its errors."""
+    """The output of a shell for commands, without spaces at the end of a line, its status, and its errors."""
     path = f"{Path(sys.executable).parent}:{os.environ['PATH']}"
     environment = {**os.environ, "PATH": path, "PYTHONDONTWRITEBYTECODE": "1"}
     done = subprocess.run(["sh", "-ec", commands], cwd=folder, env=environment, capture_output=True, text=True)

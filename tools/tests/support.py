@@ -1,4 +1,4 @@
-"""What the tests share: the repository's worked cases, random days, and runs of the tools."""
+"""The common parts of the tests: the repository's worked cases, random days, and runs of the tools."""
 
 import importlib.machinery
 import importlib.util
@@ -35,7 +35,7 @@ def loaded(name):
 
 
 def heed_interrupts(case):
-    """Lets what a test starts be interrupted: a shell's command in the background ignores the signal, and so would all that it starts."""
+    """Lets a test's processes be interrupted: a shell's command in the background ignores the signal, and so would all that it starts."""
     case.addCleanup(signal.signal, signal.SIGINT, signal.signal(signal.SIGINT, signal.default_int_handler))
 
 
@@ -80,7 +80,7 @@ def journal_of(*lines):
 
 def tool(name, *words, data=b"", python=None):
     """A run of a tool: its status, output and errors. If no Python is named, it runs in a copy of this process, which has loaded already
-    what a new Python would load each time. But HiGHS has threads, and a copy of a process that has used it would wait for them."""
+    modules that a new Python loads each time. But HiGHS has threads, and a copy of a process that has used it would wait for them."""
     words = list(map(str, words))
     if python is None and "highs" not in words:
         load(name)

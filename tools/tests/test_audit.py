@@ -1,4 +1,4 @@
-"""The audit: that it accepts what is right and refuses what isn't, by other readings of the rules than its own."""
+"""The audit: that it accepts right results and refuses others, by other readings of the rules than its own."""
 
 import itertools
 import os
@@ -308,7 +308,7 @@ class Best(unittest.TestCase):
         self.assertGreater(tried, 100)
 
     def equal_prices(self):
-        """A book whose prices are all equal, of which HiGHS may hold for infeasible what isn't."""
+        """A book whose prices are all equal, of which HiGHS may hold a feasible one for infeasible."""
         data = journal_of(
             "submit,A,K1,block,buy,81610,1:10;23:10,,",
             "submit,A,S1,hour,sell,81610,23:10,,",
@@ -399,7 +399,7 @@ class CommandLine(unittest.TestCase):
             self.assertEqual((ran.returncode, ran.stdout, ran.stderr.decode()), (command.FAILED, b"", said))
 
     def test_what_was_not_checked_is_said(self):
-        """Without --best, that of the selection; of a wrong form, that of the numbers."""
+        """Without --best, the status of the selection; for a wrong form, the status of the numbers."""
         data, text = AUCTION.read_bytes(), printed(AUCTION)
         said = "welfare 3,021,520.00 EUR, 1 of 94 commands refused" + verdict.NOT_CHECKED
         self.assertTrue(audit(data, text)[1].decode().splitlines()[0].endswith(said))

@@ -1,4 +1,4 @@
-"""How the worked cases of tests/cases/ are read and written, and what tests/run-cases and tests/run-units count."""
+"""How the worked cases of tests/cases/ are read and written, and the counts of tests/run-cases and tests/run-units."""
 
 import os
 import random
@@ -194,7 +194,7 @@ class Four(unittest.TestCase):
 
 
 class Units(unittest.TestCase):
-    """By what runs the tests here, and by unittest."""
+    """By the runner of the tests here, and by unittest."""
 
     def counted(self, test):
         for without in (False, True):

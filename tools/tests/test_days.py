@@ -1,4 +1,4 @@
-"""The audit of many days: one broken pair doesn't end the rest, and the status is that of the worst."""
+"""The audit of many days: one broken pair doesn't end the rest, and the status is the worst one's."""
 
 import errno
 import json

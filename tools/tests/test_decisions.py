@@ -1,4 +1,4 @@
-"""What decided each block: cases worked out by hand, and random families, of which everything is tried."""
+"""The reason that decided each block: cases worked out by hand, and random families, of which everything is tried."""
 
 import random
 import re
@@ -149,7 +149,7 @@ class Hand(unittest.TestCase):
         self.assertTrue(told(data, {1})[0][1].endswith(f"{end} it ranks above"))
 
     def test_a_twin_that_stands_earlier(self):
-        """It is the reason, whatever would happen if both were accepted."""
+        """It is the reason, regardless of the result if both were accepted."""
         data = journal_of("submit,A,B,hour,buy,6000,8:10,,", "submit,A,K1,block,sell,100,8:10,,", "submit,B,K1,block,sell,100,8:10,,")
         self.assertEqual(best_of(data), {0})
         why = "would gain 59.00 EUR at the prices, but A,K1 offers the same and stands earlier in the book"
@@ -273,7 +273,7 @@ class Random(unittest.TestCase):
         else:
             losers = plain.losers(choices[family], plain.surpluses(choices[family]))
             self.assertEqual(decision.other.losers, losers)
-            # The selection is the best one: what is named must speak against another.
+            # The selection is the best one: the named reason must speak against another.
             self.assertTrue(losers or welfare <= without)
             self.told(decision, welfare - without, losers, place)
         for kind, holds in {
@@ -288,11 +288,11 @@ class Random(unittest.TestCase):
             self.assertLessEqual({day.blocks[other].name for other in lost}, named)
 
     def rank(self, plain, family, surpluses):
-        """That nobody in it loses at the prices, and what it gains; the fewer blocks the better."""
+        """That nobody in it loses at the prices, and its gain; the fewer blocks the better."""
         return not plain.losers(family, surpluses), sum(surpluses[place] for place in family), -len(family)
 
     def told(self, decision, more, losers, place):
-        """What is said of the welfare and of who would lose; nothing is said of a block that would lose by itself, whose family
+        """The text about the welfare and the losers; it is silent about a block that would lose by itself, whose family
         can't be worth more."""
         found = WORTH.search(decision.why)
         if found is None:

@@ -15,7 +15,7 @@ from lib import best, book, command, journal, period, rules, selection
 from lib.progress import Progress
 from small_days import ranked, small_problems
 
-# Of so many days each kind that a test asks for comes up 15 times or more: with all of 20 seeds, so another draw in `days` does no harm.
+# Of this many days each kind that a test asks for comes up 15 times or more: with all of 20 seeds, so another draw in `days` does no harm.
 SMALL_DAYS = 400
 MAKE_FAMILY, MAKE_BLOCKS = TOP / "bench" / "make_family.py", TOP / "bench" / "make_blocks.py"
 
@@ -140,7 +140,7 @@ class Enumeration(unittest.TestCase):
                     self.assertEqual(tables.prices(*at).tolist(), [found.price])
 
     def test_sums_fit(self):
-        """No sum of the fullest book is as far from 0 as what stands for a period that doesn't balance."""
+        """The sums of the fullest book are nearer to 0 than the number for a period that doesn't balance."""
         from lib import enumeration
 
         volumes = rules.MOST_HOURLY + rules.MOST_BLOCKS * rules.GREATEST_PERIOD
@@ -151,7 +151,7 @@ class Enumeration(unittest.TestCase):
             enumeration.Selections(problem(family("market", "500")))
 
     def test_books_of_the_most_blocks(self):
-        """What is found is the best: nothing ranks above it, and it is found from wherever one begins."""
+        """The selection that is found is the best: nothing ranks above it, and it is found from wherever one begins."""
         for name, parts in ("links", "1"), ("groups", "4"), ("ties", "1"):
             with self.subTest(name):
                 day = problem(family(name, "200", "24", parts))
@@ -247,7 +247,7 @@ class CommandLine(unittest.TestCase):
 
     @unittest.skipUnless(command.is_debians(), "this isn't Debian's Python")
     def test_without_numpy_fewer_blocks_are_tried(self):
-        """By the same results, and the same lines of what is better."""
+        """By the same results, and the same lines about the better one."""
         data = family("market", "200", "11")
         found, _ = best.enumerate_all(problem(data))
         for accepted in found.accepted, frozenset():

@@ -1,4 +1,4 @@
-"""The examples: what is written by a script, and what the audit says of the results that the worked case has."""
+"""The examples: the output of their scripts, and the audit of the results that the worked case has."""
 
 import subprocess
 import sys

@@ -41,7 +41,7 @@ LIMITS = {
     rf"On a day of hours,? {NUMBER} (?:of these )?units": (1_000,),
     rf"on a day of quarter-hours, in which 1 MW makes 0.25 MWh, {NUMBER} are": (4_000,),
 }
-# Explanations that stand once, each with its page; the others link to it. The header stands alone, and the changelog says what a version had.
+# Explanations that stand once, each with its page; the others link to it. The header stands alone, and the changelog has each version's.
 ONCE = {
     r"whole cents per MWh": ["RULES.md", "dam.h"],
     r"cents per MWh times tenths of a MW, and are": ["RULES.md"],

@@ -1,4 +1,4 @@
-"""The files that tools read and write: no input is lost, what is written is named, and what is odd about results is said."""
+"""The files that tools read and write: no input is lost, written files are named, and oddities of results are reported."""
 
 import os
 import subprocess
@@ -18,7 +18,7 @@ NOTE = "table: 1 of 94 commands was refused (of GAS): see --rows commands\n"
 
 
 def at_a_terminal(name, *words, cwd):
-    """What a tool says on standard error, if that is a terminal."""
+    """The lines of a tool on standard error, if that is a terminal."""
     ours, theirs = os.openpty()
     subprocess.run([sys.executable, TOOLS / name, *words], stderr=theirs, check=True, cwd=cwd)
     os.close(theirs)
@@ -74,7 +74,7 @@ class Files(unittest.TestCase):
         self.assertEqual(tool("table", *texts, "--all", self.journal), (command.NO_INPUT, b"", said))
 
     def test_what_is_odd_about_results_is_said_in_words(self):
-        """They are read nevertheless, and every tool says what the audit says first."""
+        """They are read nevertheless, and every tool first says the same as the audit."""
         text = printed(AUCTION)
         for name in TOOLS_HERE:
             words = ["-o", "-"]

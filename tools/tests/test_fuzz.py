@@ -28,7 +28,7 @@ def fake_program(folder, name):
 
 
 class Called:
-    """The same program, called in the process of the fuzzer. What follows the last point of its file's name is its defect."""
+    """The same program, called in the process of the fuzzer. The part after the last point of its file's name is its defect."""
 
     def __init__(self, path, seconds=compare.SECONDS):
         self.defect = Path(path).suffix.removeprefix(".")
@@ -177,7 +177,7 @@ class Doctored(unittest.TestCase):
         self.assertRegex(out, r"case \d+ of seed 1: .*: the status is \d and should be \d\n")
 
     def test_the_changes(self):
-        """Each kind of change alters the text, except for a field that was so before; the content is what is left of an encoding."""
+        """Each kind of change alters the text, except for a field that was so before; the content is the text without its encoding."""
         import doctor
 
         data, alike = support.printed(support.AUCTION), 0

@@ -44,7 +44,7 @@ class Help(unittest.TestCase):
                 for line in lines:
                     shown = re.sub(r"(?<!\S)tools/", f"{shlex.quote(sys.executable)} -B tools/", line)
                     ran = subprocess.run(["sh", "-c", shown], cwd=folder, capture_output=True, text=True)
-                    # The lint finds what the examples' books refuse.
+                    # The lint finds the commands that the examples' books refuse.
                     self.assertEqual(ran.returncode, command.DIFFERS if name == "lint" else 0, f"{line}\n{ran.stderr}")
 
     def test_defaults_are_said_to_be(self):

@@ -36,7 +36,7 @@ def opened(pipe):
 
 
 def wait_until_asleep(process):
-    """Returns once the process sleeps, because it waits for what isn't there yet. A signal that comes between two calls of the system is
+    """Returns once the process sleeps, because it waits for missing input. A signal that comes between two calls of the system is
     only seen after the second, so a tool that is about to read from a pipe would wait for its end."""
     end = time.monotonic() + SECONDS
     while "\nState:\tS" not in Path(f"/proc/{process.pid}/status").read_text():

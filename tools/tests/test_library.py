@@ -1,4 +1,4 @@
-"""The page on the libraries: that what it quotes of its programs stands there; and the numbers of the library for C that copy others."""
+"""The page on the libraries: that its quotes of its programs stand there; and the numbers of the library for C that copy others."""
 
 import re
 import unittest

@@ -64,7 +64,7 @@ class Hand(unittest.TestCase):
         self.check(b"day,24,,,,,,,\n" + text[7:], ("line 2", "these are results"), ("line 2", "no command closes the book"))
 
     def test_quotes_that_are_not_closed(self):
-        """Each is reported on its line, and what follows is read as if it weren't there."""
+        """Each is reported on its line, and the text after it is read as if it weren't there."""
         said = "a quote begins a field and isn't closed on its line: remove it, or close it"
         self.check(GOOD.replace(b"WIND", b'"WIND'), ("line 2", said))
         self.check(GOOD.replace(b"WIND", b'"WIND').replace(b"UNIT", b'"UNIT'), ("line 2", said), ("line 3", said))
@@ -94,7 +94,7 @@ class Hand(unittest.TestCase):
                 self.assertIn("xcel workbook", err)
 
     def test_other_kinds_of_files(self):
-        """One line says what the file seems to be, and which tool reads it."""
+        """One line says which kind of file it seems to be, and which tool reads it."""
         orders = tool("table", "--rows", "orders", AUCTION, AUCTION_RESULTS)[1]
         replies = book.replies_text(journal.read_journal(AUCTION.read_bytes())).encode()
         for data, part in (
@@ -183,7 +183,7 @@ class Hand(unittest.TestCase):
         )
 
     def test_one_fault_is_not_told_of_as_many(self):
-        # The order is taken for what it was meant to be, so that the cancel finds it; of one that can't be read nothing is reported.
+        # The order is taken for the one that was meant, so that the cancel finds it; one that can't be read isn't reported.
         cancel = GOOD.replace(b"close", b"cancel,NORD,WIND-8,,,,,,\nclose")
         self.check(cancel.replace(b"NORD,WIND-8,hour", b"nord,WIND-8,hour"), ("line 2, participant", "write NORD"))
         self.check(cancel.replace(b"8:450", b"x"), ("line 2, volumes", "'x' should be period:volume"))

@@ -1,4 +1,4 @@
-"""Many journals at once: the order of their results, their faults, executors, and what ends with the one who asks."""
+"""Many journals at once: the order of their results, their faults, executors, and the work that ends with its caller."""
 
 import concurrent.futures
 import itertools
@@ -23,7 +23,7 @@ from lib import command
 FAKE = Path(__file__).with_name("fake_dam.py")
 SECONDS = 30
 OPEN = b"day,24,,,,,,,\n"
-EMPTY = "printf 'day,24\\nwelfare,0\\n'"  # what results begin with, by a shell
+EMPTY = "printf 'day,24\\nwelfare,0\\n'"  # the beginning of results, by a shell
 # A stand-in for the library: it answers with the text itself, or with status 1 if that is empty.
 ECHO = """
 #include <stdint.h>
@@ -108,7 +108,7 @@ class Many(unittest.TestCase):
         self.assertTrue(all(map(ends, Path(self.folder, "pids").read_text().split())))
 
     def interrupted(self, code, environment, begun):
-        """What a program says that is interrupted once something has begun."""
+        """The lines of a program that is interrupted once something has begun."""
         support.heed_interrupts(self)
         environment = {**os.environ, "PYTHONPATH": str(support.TOOLS), **environment}
         running = subprocess.Popen([sys.executable, "-B", "-c", code], env=environment, stderr=subprocess.PIPE, start_new_session=True)

@@ -12,7 +12,7 @@ FUNCTION = re.compile(r"^pub fn (\w+)\(\)\n(.*?)^\{", re.M | re.S)
 MIDDLE = (rules.LEAST_PRICE + rules.GREATEST_PRICE) // 2  # the price of a period without orders
 CITED = re.compile(r"`((?:\w+::)*)(\w+)`(?: \(([^)]*)\))?")
 
-CASES = [  # what is printed before and after each change
+CASES = [  # the output before and after each change
     ("another-buyer", ["welfare,20000"], ["welfare,0", "hour,MILL,SAW,0", "block,GEN,UNIT,rejected,20000"]),
     ("better-hourly-limit", ["period,1,8000,30", "hour,CITY,TOWN,10"], ["period,1,10000,0", "hour,CITY,TOWN,0", "block,STEEL,OVEN,rejected,-20000"]),
     (
@@ -96,7 +96,7 @@ class Market(unittest.TestCase):
                 self.assertIn(case, cases(file))
 
     def test_the_cases_come_out(self):
-        """What the table says of each pair; `./check` compares the program with these cases."""
+        """The table's entry for each pair; `./check` compares the program with these cases."""
         for name, before, after in CASES:
             for when, lines in ("before", before), ("after", after):
                 with self.subTest(name, when=when):

@@ -41,7 +41,7 @@ class Module(unittest.TestCase):
         self.assertEqual(dam_tools.TABLES, tuple(tables.TABLES))
 
     def test_an_older_python(self):
-        """It reads the file, and the import says what it needs."""
+        """It reads the file, and the import names its missing package."""
         code = "import sys; sys.version_info = (3, 9, 18); import dam_tools"
         ran = subprocess.run([sys.executable, "-B", "-c", code], cwd=support.TOOLS, capture_output=True, text=True)
         self.assertEqual(ran.stderr.splitlines()[-1:], ["ImportError: dam_tools needs Python 3.10 or newer"])

@@ -17,7 +17,7 @@ CRATES = sorted(path for path in (TOP / "crates").iterdir() if (path / "src").is
 PAGES = [TOP / "README.md", TOP / "CHANGELOG.md", *sorted((TOP / "docs").glob("*.md")), *sorted((TOP / "crates").glob("*/*.md"))]
 MOST = 200  # characters of a cell
 WIDEST = 140  # columns of a line that isn't of a table
-# What the house rule of English has other words for, apart from the table of that rule.
+# The words for which the house rule of English has others, apart from the table of that rule.
 OTHER_WORDS = re.compile(r"\b(anew|beside|dear|so many|want of|whoever)\b", re.IGNORECASE)
 # Pages whose sentences with 'what' aren't looked at: examples, and sentences that stand in sources.
 OTHER_PAGES = {"CONTRIBUTING.md", "CHECK.md", "OPERATING.md", "DEFINITIONS.md", "READING.md"}

@@ -1,4 +1,4 @@
-"""The pictures: that each is drawn, says what it should, and can be told apart without colours."""
+"""The pictures: that each is drawn, says the right things, and can be told apart without colours."""
 
 import sys
 import tempfile

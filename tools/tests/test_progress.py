@@ -37,7 +37,7 @@ class Told(unittest.TestCase):
 
 class Bars(unittest.TestCase):
     def told(self, stream, seconds, **more):
-        """What is shown of ten steps, which take so many seconds each."""
+        """The bar of ten steps, which take this many seconds each."""
         with mock.patch("sys.stderr", stream), mock.patch("time.monotonic", side_effect=(seconds * at for at in range(99))):
             bar = Bar("audit", 10, "days", **more)
             for _ in range(10):

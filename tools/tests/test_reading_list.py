@@ -93,7 +93,7 @@ class ReadingList(unittest.TestCase):
         write("crates/dam_c/src/lib.rt", ENGINE.replace("NAME", "dam_clear").replace("pub fn", 'pub extern "C" fn'))
 
     def few(self, names):
-        """What the tool says of the few definitions with these names in the repository of this test."""
+        """The output of the tool for the few definitions with these names in the repository of this test."""
         module = loaded("reading-list")
         module.FIRST = {"run_clear": {"Sizes": names}}
         with tempfile.TemporaryDirectory() as folder:

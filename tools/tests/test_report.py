@@ -1,4 +1,4 @@
-"""The page of a day: that it is whole, stands alone, and says what the day's results are."""
+"""The page of a day: that it is whole, stands alone, and has the day's results."""
 
 import functools
 import html.parser

@@ -1,4 +1,4 @@
-"""Scenarios: tables of them, random ones, and what is said of bad ones."""
+"""Scenarios: tables of them, random ones, and the messages about bad ones."""
 
 import csv
 import io

@@ -1,4 +1,4 @@
-"""The comparison of what a participant sent with the published journal."""
+"""The comparison of a participant's sent commands with the published journal."""
 
 import random
 import tempfile
@@ -12,7 +12,7 @@ from lib import book, command, journal, rules, sent
 
 
 def audit(published, own, who="A", *words):
-    """A run of the tool on a journal and what a participant sent."""
+    """A run of the tool on a journal and a participant's sent commands."""
     with tempfile.TemporaryDirectory() as folder:
         paths = Path(folder, "journal"), Path(folder, "sent")
         for path, content in zip(paths, (published, own)):
@@ -132,7 +132,7 @@ class Worked(unittest.TestCase):
             self.assertEqual(audit(data, text_of(own), who)[:2], (command.NO_INPUT, ""))
 
     def test_a_table_is_compared_both_ways(self):
-        """Of one with the orders at the end, only what differs there is said, and not each amend that led to it."""
+        """For one with the orders at the end, only the differences there are reported, and not each amend that led to them."""
         heads = "participant,order,kind,side,price_eur_mwh,periods,volume_mw"
         status, out, _ = audit(PUBLISHED, text_of([heads, "A,H1,hour,buy,3.01,1,1", "A,K1,block,buy,1.00,1-2,1"]))
         was, now = "submit,A,H1,hour,buy,301,1:10,,", "submit,A,H1,hour,buy,300,1:10,,"

@@ -1,4 +1,4 @@
-"""Pages that show commands: each prints what the page quotes. Each number of TRUST.md is among what its section's commands print, and the
+"""Pages that show commands: each prints the page's quotes. Each number of TRUST.md is among what its section's commands print, and the
 orders that GUIDE.md quotes are in its journals."""
 
 import re
@@ -17,13 +17,13 @@ import draw_trust
 
 TRUST, GUIDE = TOP / "docs" / "TRUST.md", TOP / "docs" / "GUIDE.md"
 NUMBER = re.compile(r"(?<![\w.-])-?\d[\d,]*(?:\.\d+)?(?![\w-])")
-HIDDEN = re.compile(r"^```.*?^```$|`[^`\n]*`|\]\([^)]*\)|Python 3\.\d+", re.MULTILINE | re.DOTALL)  # what isn't prose
+HIDDEN = re.compile(r"^```.*?^```$|`[^`\n]*`|\]\([^)]*\)|Python 3\.\d+", re.MULTILINE | re.DOTALL)  # the parts that aren't prose
 NEEDS_NUMPY = unittest.skipUnless(command.has("numpy"), "numpy is missing (Debian's python3-numpy)")
 NEEDS_PROGRAM = unittest.skipUnless(engine.BUILT.exists(), "the program isn't built")
 
 
 def numbers(text):
-    """The sizes of the numbers of a text, whatever their digits after the point and the commas between their thousands."""
+    """The sizes of the numbers of a text, regardless of the digits after the point and the commas between thousands."""
     return {abs(float(number.replace(",", ""))) for number in NUMBER.findall(text)}
 
 

@@ -1,4 +1,4 @@
-"""What strangers write reaches no terminal as it is: each tool escapes it, and cuts what is long."""
+"""Strangers' text never reaches a terminal as it is: each tool escapes it, and cuts long lines."""
 
 import tempfile
 import unittest
@@ -29,7 +29,7 @@ class Safe(unittest.TestCase):
 
 class Tools(unittest.TestCase):
     def said(self, name, *words, data=b""):
-        """What a tool prints, which nothing in it may change: neither a terminal, nor a line of 1,000 characters."""
+        """The output of a tool, which nothing in it may change: neither a terminal, nor a line of 1,000 characters."""
         _, out, err = tool(name, *words, data=data)
         lines = (out.decode() + err).splitlines()
         for line in lines:

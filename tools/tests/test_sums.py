@@ -1,4 +1,4 @@
-"""The sums of published results: what they find in doctored ones by themselves, and that right results have none wrong."""
+"""The sums of published results: the faults that they find in doctored ones by themselves, and that right results have none wrong."""
 
 import json
 import unittest
@@ -60,7 +60,7 @@ class Sums(unittest.TestCase):
         self.assertEqual(
             doctored(volumes=[121, *volumes[1:]]), [(*about, "period 1: the orders buy 120 and sell 120, and the volume is 121")]
         )
-        # A block less: nobody sells what TOWN buys in period 2.
+        # A block less: nobody sells the volume that TOWN buys in period 2.
         self.assertIn(
             ("money", 4, "period 2", "period 2: the orders buy 50 and sell 0, and the volume is 50"), doctored(accepted={0})
         )

@@ -170,7 +170,7 @@ class Orders(unittest.TestCase):
         self.assertIn(f"line {len(blocks) + 1}, a book holds at most {rules.MOST_BLOCKS} blocks (BlocksFull)", self.wrong(*blocks))
 
     def test_a_bad_line_makes_no_other_one_wrong(self):
-        """What names its order isn't wrong, and what else is wrong in it is said too."""
+        """A line that names its order isn't wrong, and its other faults are reported too."""
         child, last = "A,K2,block,buy,1,1,5,K1,", "A,K3,block,buy,1,1,5,K2,"
         for parent, column in (
             ("A,K1,block,buy,x,1,5,,", "price_eur_mwh"),
@@ -208,7 +208,7 @@ class Orders(unittest.TestCase):
             self.assertIn(words, self.wrong(row, header=header))
 
     def test_a_name_or_a_number_that_is_nearly_right(self):
-        """The message says what to write."""
+        """The message says the right form."""
         header = HEADER.replace(",", ";")
         for row, words in (
             ("Coal;H;hour;buy;1;1;5;;", "column participant: 'Coal' should be 1 to 8 capitals A to Z: write COAL"),

@@ -15,7 +15,7 @@ PRINTED = {"CR LF": TEXT.replace(b"\n", b"\r\n"), "CR": TEXT.replace(b"\n", b"\r
 
 
 class Encoding(unittest.TestCase):
-    """What other programs add to a text is no wrong number: it has a status of its own."""
+    """An addition of other programs to a text isn't a wrong number: it has a status of its own."""
 
     RIGHT = (
         "as the rules say: 24 periods, 80 hourly orders, 6 of 9 blocks accepted, welfare 3,021,520.00 EUR, 1 of 94 commands refused"

@@ -1,4 +1,4 @@
-"""The walks through example days in EXAMPLES.md: that the lines that they quote are printed, and that what they say of other
+"""The walks through example days in EXAMPLES.md: that the lines that they quote are printed, and that their statements about other
 selections is so by the audit's reading of the rules."""
 
 import re
@@ -34,7 +34,7 @@ class Walk:
         self.names = names
 
     def outcome(self, without=(), plus=()):
-        """What the selection with some blocks left out and some others would lead to, and the blocks that would lose."""
+        """The results of the selection with some blocks left out and some others added, and the blocks that would lose."""
         chosen = self.accepted - {self.names[name] for name in without} | {self.names[name] for name in plus}
         self.assertEqual(list(selection.link_faults(self.problem, chosen)), [])
         found = selection.outcome(self.problem, chosen)

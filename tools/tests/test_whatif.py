@@ -377,7 +377,7 @@ class Tools(unittest.TestCase):
 
 @unittest.skipUnless(engine.BUILT.exists() and command.has("numpy") and command.has("matplotlib"), "the program or a package is missing")
 class Examples(unittest.TestCase):
-    """The page, and the section on many days: that the commands work, one after another, and print what is quoted."""
+    """The page, and the section on many days: that the commands work, one after another, and print the quotes."""
 
     def setUp(self):
         folder = tempfile.TemporaryDirectory()

@@ -37,7 +37,7 @@ class Where(unittest.TestCase):
         shutil.copytree(TOP / "tools" / "lib", self.at / folder / "dam_tools" / "lib", ignore=shutil.ignore_patterns("__pycache__"))
 
     def where(self, folder, **more):
-        """What dam_tools in a folder says."""
+        """The answer of dam_tools in a folder."""
         kept = {name: value for name, value in os.environ.items() if name not in ("DAM", "DAM_LIBRARY")}
         environment = {**kept, "PYTHONPATH": str(self.at / folder), "PATH": str(self.at / "path"), **more}
         words = [os.path.realpath(sys.executable), "-B", "-c", CODE]

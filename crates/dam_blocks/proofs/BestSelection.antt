@@ -1,4 +1,5 @@
--- What ranks above has more welfare or accepts first, and the result ranks above each other eligible selection.
+-- A selection that ranks above another has more welfare or accepts first, and the result ranks above each other
+-- eligible selection.
 use Rattle.std.proofs.Common.{◌≡◌, ◌≢◌, ◌<◌, ◌↔◌, ◌⊎◌, inl, inr, ℤ, ◌<ℤ◌, Bool, true, List, ◌∙◌, sym, subst, arith}
 use Rattle.std.proofs.lemmas.Int.{ints, by_lt_z}
 use Rattle.dam_blocks.specs.Problem.{ProblemState}

@@ -1,4 +1,4 @@
--- What the bits of a selection's number say of its acceptances.
+-- The bits of a selection's number are its acceptances.
 use Rattle.std.proofs.Common.{◌≡◌, ℕ, zero, suc, ◌/◌, ◌%◌, ◌^◌, ◌<◌, max, ◌==◌, Bool, true, false, List, ◌∷◌, length, replicate, slice_set}
 use Rattle.std.proofs.Common.{ap, ap₂, ◌∙◌, sym, refl, arith}
 use Rattle.std.specs.Int.{bit_at}

@@ -1,4 +1,4 @@
--- In whatever order the blocks stand, each eligible selection has its counterpart, which accepts the same blocks.
+-- In another order of the blocks, each eligible selection has its counterpart, which accepts the same blocks.
 use Rattle.std.proofs.Common.{◌≡◌, inl, inr, ℕ, zero, suc, ◌+◌, ◌<◌, ◌≤◌, ℤ, pos, ◌+ℤ◌, ◌≤ℤ◌, Bool, true, false, ◌&&◌, cond, Option}
 use Rattle.std.proofs.Common.{Some, List, [], ◌∷◌, length, ap, ap₂, ◌∙◌, sym, subst, refl, arith}
 use Rattle.std.specs.List.{slice_get}
@@ -217,7 +217,7 @@ stands_at [] j l = absurd (omega (arith, l))
 stands_at (b ∷ bs) zero l = (b, refl)
 stands_at (b ∷ bs) (suc j) l = stands_at bs j (omega (arith, l))
 
--- what the counterpart accepts stands among the blocks
+-- the blocks that the counterpart accepts stand among the blocks
 accepted_stands : (bs cs : List Block) (xs ys : List Bool) (j : ℕ) → Matches bs cs xs ys → IsAdmissible bs xs → accepts ys j ≡ true
     → (b : Block) × (slice_get cs j ≡ Some b)
 accepted_stands bs cs xs ys j m is acc = elim (cases_lt j (length cs)) [

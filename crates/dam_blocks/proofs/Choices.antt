@@ -75,7 +75,7 @@ some_choice xs = (number_of xs, number_of-small xs, choice-number_of xs)
 pub choice_once : (n j k : ℕ) → j < 2 ^ n → k < 2 ^ n → choice n j ≡ choice n k → j ≡ k
 choice_once n j k l m e = sym (number_of-choice n j l) ∙ ap number_of e ∙ number_of-choice n k m
 
--- what accepts nothing
+-- a selection that accepts nothing
 none_accepted : (ys : List Bool) → ((i : ℕ) → accepts ys i ≡ true → ⊥) → ys ≡ replicate (length ys) false
 none_accepted [] h = refl
 none_accepted (true ∷ ys) h = absurd (h 0 refl)
@@ -110,7 +110,7 @@ admissible_choice problem sel is long admissible =
     (λ i e. (let allowed = admissible.each i e in slice_get_within problem.blocks i allowed.block allowed.stands))
 
 -- ---- a choice made place by place
--- the places so far, and what is left of the number, make the choice
+-- the places so far, and the rest of the number, make the choice
 pub record IsChosen (count number place rest : ℕ) (sel : List Bool) : Type 0 where
   pub front : List Bool
   pub long : length front ≡ place

@@ -1,4 +1,4 @@
--- What is decided: it holds, or it doesn't.
+-- Propositions that are decided: each holds, or it doesn't.
 use Rattle.std.proofs.Common.{◌≡◌, ℕ, zero, suc, ◌<◌, ℤ, ◌≤ℤ◌, Bool, true, false, Decides, inl, inr, Option, Some, None, List, ap, subst}
 use Rattle.std.proofs.Common.{refl, arith}
 use Rattle.std.proofs.lemmas.Int.{ints, by_lt_z}
@@ -7,7 +7,7 @@ use Rattle.std.proofs.lemmas.Bool.Decides.{Decides-eqb}
 use Rattle.std.proofs.Math.Decide.{map_dec}
 use Rattle.std.proofs.lemmas.Slice.Eq.{bytes_eq-Decides}
 
--- ---- the parts of what is decided
+-- ---- the parts of a decided proposition
 by_test : (P : Type 0) (b : Bool) → Decides b P → Dec P
 by_test P true d = yes (d.0 refl)
 by_test P false d = no (λ p. absurd (let e : false ≡ true = d.1 p in cc))

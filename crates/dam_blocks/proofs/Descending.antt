@@ -87,7 +87,7 @@ enough problem i (suc m) (suc n) (Some p) is within also =
     (λ q e. (let before = parent_stands_before problem p q is e in omega (arith, before, near)))
     (λ q e. (let before = parent_stands_before problem p q is e in omega (arith, before, near_too))))
 
--- of a block whose parent is known: that one, or what it descends from
+-- a block whose parent is known descends from that one, or from an ancestor of it
 of_parent : (problem : ProblemState) (i j p n : ℕ) → IsProblem problem → parent_place problem.blocks j ≡ Some p
     → length problem.blocks ≡ suc n → p < suc n
     → descends problem.blocks i j ≡ ((p == i) || descends problem.blocks i p)

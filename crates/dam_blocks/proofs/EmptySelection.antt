@@ -14,7 +14,7 @@ use Rattle.dam_blocks.specs.Eligible.{ArePrices, added, period_welfare, welfare_
 use Rattle.dam_blocks.proofs.Sums.{over_accepted-replicate}
 use Rattle.dam_blocks.proofs.Choices.{accepts-replicate}
 
--- what the laws of one period say of a net volume within its offers
+-- the laws of one period on a net volume within its offers
 pub record ExistenceLaws : Type 0 where
   pub ends : (ss : List Step) (net : ℤ) → AreInRange ss → IsWithinOffers ss net → (low : ℤ) × (high : ℤ) × AreEnds ss net low high
   pub best : (ss : List Step) (net : ℤ) → AreInRange ss → IsWithinOffers ss net → (xs : List ℕ) × IsBest ss net xs

@@ -1,4 +1,4 @@
--- What an outcome says of one hourly order.
+-- One hourly order in an outcome.
 use Rattle.std.proofs.Common.{◌≡◌, ℕ, zero, suc, ◌+◌, ℤ, Bool, Some, List, [], ◌∷◌, subst, refl, arith}
 use Rattle.std.specs.List.{slice_get}
 use Rattle.dam_hour.specs.declared.step.Step.{Step}

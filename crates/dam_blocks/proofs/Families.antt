@@ -105,7 +105,7 @@ over_accepted-at_least_or f (b ∷ bs) [] h = omega (arith, ints)
 over_accepted-at_least_or f (b ∷ bs) (true ∷ sel) h = h 0 refl
 over_accepted-at_least_or f (b ∷ bs) (false ∷ sel) h = over_accepted-at_least_or f bs sel (λ i e. h (suc i) e)
 
--- a sum over the accepted places is the sum over all places of what stands there
+-- a sum over the accepted places is the sum over all places of the numbers there
 by_place : (f : BlockTerms → ℤ) (n : ℕ) (root : ℕ → ℕ) (bs : List Block) (t : ℕ) (sel : List Bool)
     → ((i : ℕ) → accepts sel i ≡ true → root (t + i) < n)
     → sum_below n (λ r. over_accepted f bs (accepted_where (λ j. root j == r) t sel)) ≡ over_accepted f bs sel
@@ -211,7 +211,7 @@ leads_to_its_root blocks sel r (suc n) j p chains top l =
     one_link blocks r n p (parent_place blocks p) top refl
     (λ q e. (let below = chains.before p q e in leads_to_its_root blocks sel r n p q chains top (omega (arith, l, below))))
 
--- what stands in the family of a block without a parent
+-- the members of the family of a block without a parent
 pub in_family : (blocks : List Block) (sel : List Bool) (r j : ℕ) (o : Option ℕ) → AreChains blocks sel → parent_place blocks r ≡ None
     → parent_place blocks j ≡ o → j < length blocks
     → (root_from (length blocks) blocks j o == r) ≡ ((j == r) || leads_to (length blocks) blocks r o)
@@ -221,7 +221,7 @@ in_family blocks sel r j (Some p) chains top e l =
     sym (ap (λ (x : Bool). x || leads_to (length blocks) blocks r (Some p)) (not_the_top blocks r j p top e)
     ∙ leads_to_its_root blocks sel r (length blocks) j p chains top (omega (arith, below, l)))
 
--- what the accepted blocks whose chains end at a place gain
+-- the gain of the accepted blocks whose chains end at a place
 abbrev family_gain : List Block → List Bool → List ℤ → ℕ → ℤ
 family_gain blocks sel prices r = over_accepted (surplus_of prices) blocks (accepted_where (λ j. root blocks j == r) 0 sel)
 

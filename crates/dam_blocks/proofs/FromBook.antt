@@ -1,4 +1,4 @@
--- The problem of a book keeps what every book keeps.
+-- The book invariant, carried over to the problem of the book.
 use Rattle.std.proofs.Common.{◌≡◌, ℕ, zero, suc, ◌+◌, ◌-◌, ◌<◌, ◌≤◌, Bool, true, false, cond, not, ◌&&◌, ◌==◌, nat_lt, nat_eq, Option, Some}
 use Rattle.std.proofs.Common.{None, is_some, List, [], ◌∷◌, ◌++◌, length, append_assoc, length-append, ap, ap₂, ◌∙◌, sym, subst, refl}
 use Rattle.std.proofs.Common.{arith}
@@ -219,7 +219,7 @@ true_not : (b : Bool) → not b ≡ true → b ≡ false
 true_not true e = absurd (cc)
 true_not false e = refl
 
--- what is found is a block
+-- an order that is found is a block
 block_in : (o : Option Order) → not (is_found is_block o) ≡ false → (p : BlockTerms) × (o ≡ Some (BlockVariant p))
 block_in None e = absurd (cc)
 block_in (Some (Hour p)) e = absurd (cc)

@@ -9,7 +9,7 @@ use Rattle.dam_blocks.proofs.Choices.{accepts-replicate}
 use Rattle.dam_blocks.proofs.AdmissionDecided.{accepted_within}
 use Rattle.dam_blocks.proofs.GroupCounts.{count_at_most}
 
--- what the front accepts the whole accepts ..
+-- the whole accepts each block that the front accepts ..
 whole_accepts : (xs ys : List Bool) (i : ℕ) → accepts xs i ≡ true → accepts (xs ++ ys) i ≡ true
 whole_accepts [] ys i e = absurd (cc)
 whole_accepts (x ∷ xs) ys zero e = e

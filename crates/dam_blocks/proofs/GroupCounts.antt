@@ -1,4 +1,4 @@
--- The number of accepted blocks of a group: what it depends on.
+-- The number of accepted blocks of a group, and the facts on which it depends.
 use Rattle.std.proofs.Common.{◌≡◌, ℕ, suc, ◌+◌, ◌≤◌, Bool, true, false, ◌&&◌, cond, Option, Some, None, List, [], ◌∷◌, ap, ap₂}
 use Rattle.std.proofs.Common.{◌∙◌, subst, refl, arith}
 use Rattle.std.specs.List.{slice_get}

@@ -1,4 +1,4 @@
--- The blocks that may keep another from being accepted, found place by place, and what they come to.
+-- The blocks that may keep another from being accepted, found place by place, and their effect.
 use Rattle.std.proofs.Common.{◌≡◌, ◌⊎◌, ℕ, zero, suc, ◌+◌, ◌≤◌, Bool, true, false, cond, Some, inl, inr, List, [], ◌∷◌, ◌++◌, length}
 use Rattle.std.proofs.Common.{length-append, append_assoc, drop, ap, ap₂, ◌∙◌, sym, subst, refl, arith}
 use Rattle.std.specs.List.{slice_get}
@@ -23,7 +23,7 @@ pub record AreFoundSoFar (test : Block → Bool) (blocks : List Block) (at : ℕ
 pub found_none : (test : Block → Bool) (blocks : List Block) → AreFoundSoFar test blocks 0 []
 found_none test blocks = record { few = omega arith; found = refl }
 
--- what is left, with the block at the place
+-- the rest, with the block at the place
 left_over : (test : Block → Bool) (blocks : List Block) (at : ℕ) (b : Block) (x : Bool) → slice_get blocks at ≡ Some b → test b ≡ x
     → cond x (at ∷ places_where test (at + 1) (drop (at + 1) blocks)) (places_where test (at + 1) (drop (at + 1) blocks))
     ≡ places_where test at (drop at blocks)
@@ -176,7 +176,7 @@ from_first sel k = ap (λ (n : ℕ). accepts sel n) (let same_place : 0 + k ≡ 
 counted_group : (g : Block) (bs : List Block) (sel : List Bool) → accepted_among sel (group_of g bs) ≡ accepted_of_group g bs sel
 counted_group g bs sel = counted g bs 0 sel sel (from_first sel)
 
--- ---- what they come to
+-- ---- their effect
 pub allowed_by : (blocks : List Block) (sel : List Bool) (i : ℕ) (own : Hindrances) (parents group : List ℕ) → AreHindrances blocks i own
     → parents ≡ own.parents.items → group ≡ own.group.items → accepted_among sel parents ≡ length parents
     → accepted_among sel group ≤ most_of_group → IsAllowed blocks sel i

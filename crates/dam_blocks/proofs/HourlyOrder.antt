@@ -1,4 +1,4 @@
--- In whatever order the hourly orders of a period stand, the prices, the welfare and the result are the same.
+-- In every order of the hourly orders of a period, the prices, the welfare and the result are the same.
 use Rattle.std.proofs.Common.{◌≡◌, ℕ, suc, ℤ, ◌+ℤ◌, Bool, Option, List, [], ◌∷◌, ap, ap₂, ◌∙◌, sym, subst, refl}
 use Rattle.std.specs.List.Sorted.{IsPermutation}
 use Rattle.std.specs.Option.{option_map}
@@ -13,7 +13,7 @@ use Rattle.dam_blocks.specs.Eligible.{ArePrices, HasNoLoss, added, welfare_from,
 use Rattle.dam_blocks.specs.Result.{IsResult}
 use Rattle.dam_blocks.specs.Changes.{AreReordered, IsReordered}
 
--- what the laws of one period say of another order of its hourly orders
+-- the laws of one period on another order of its hourly orders
 pub record OrderLaws : Type 0 where
   pub welfare : (ss ts : List Step) (net : ℤ) → IsPermutation ss ts → greatest_welfare ss net ≡ greatest_welfare ts net
   pub ends : (ss ts : List Step) (net low high : ℤ) → IsPermutation ss ts → AreEnds ss net low high → AreEnds ts net low high

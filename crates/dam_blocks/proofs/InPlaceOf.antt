@@ -267,7 +267,7 @@ more_welfare problem i j b c xs v two d e =
     )
 
 -- ---- eligible
--- what is accepted is the better block, or was accepted before
+-- an accepted block is the better block, or was accepted before
 was_accepted : (xs : List Bool) (i j k : ℕ) → AreDecided xs i j → (k ≡ i → ⊥) → accepts (exchanged xs i j) k ≡ true → accepts xs k ≡ true
 was_accepted xs i j k d from_i on =
     sym (as_before xs i j k from_i (λ e. (let off = ap (λ (n : ℕ). accepts (exchanged xs i j) n) e ∙ now_off xs i j d in absurd (cc)))) ∙ on

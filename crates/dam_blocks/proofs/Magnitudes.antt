@@ -77,7 +77,7 @@ block_value_within periods t (b ∷ bs) (false ∷ sel) are =
     record { at_least = omega (arith, ints, l); at_most = omega (arith, ints, h) }
 
 -- ---- a selection
--- what the laws of one period say of a welfare, and those of the book of a day
+-- the laws of one period on a welfare, and the laws of the book of a day
 pub record Reached : Type 0 where
   pub short : (periods : ℕ) → is_day periods ≡ true → periods ≤ last_period
   pub reached : (ss : List Step) (net w : ℤ) → greatest_welfare ss net ≡ Some w

@@ -1,4 +1,4 @@
--- What the orders of the book gain, row by row, adds up to the welfare.
+-- The gains of the book's orders, row by row, add up to the welfare.
 use Rattle.std.proofs.Common.{◌≡◌, ℕ, zero, suc, ◌+◌, ◌-◌, ◌<◌, ◌≤◌, ℤ, pos, ◌+ℤ◌, Bool, true, false, cond, Some, List, []}
 use Rattle.std.proofs.Common.{◌∷◌, ◌++◌, length, length-append, drop, append_assoc, ap, ap₂, ◌∙◌, sym, refl, arith}
 use Rattle.std.specs.List.{slice_get}

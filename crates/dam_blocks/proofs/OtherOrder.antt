@@ -1,4 +1,5 @@
--- A book whose rows stand in another order, each parent before its children, keeps what every book keeps.
+-- A book whose rows stand in another order, each parent before its children, satisfies the book
+-- invariant.
 use Rattle.std.proofs.Common.{◌≡◌, ℕ, Bool, true, false, cond, not, ◌&&◌, is_some, Option, Some, None, List, [], ap, ap₂, ◌∙◌, sym, subst, refl, arith}
 use Rattle.std.specs.List.Sorted.{IsPermutation}
 use Rattle.std.specs.Map.{lookup}

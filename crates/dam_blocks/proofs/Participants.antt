@@ -30,7 +30,7 @@ use Rattle.dam_blocks.proofs.PricesUnique.{prices_unique}
 use Rattle.dam_blocks.proofs.FromBook.{blocks-append}
 
 -- ---- hourly orders
--- what the laws of one period say of its price and its best execution
+-- the laws of one period on its price and its best execution
 pub record GainLaws : Type 0 where
   pub support : (ss : List Step) (net low high : ℤ) (xs : List ℕ) → AreEnds ss net low high → IsBest ss net xs
       → Supports (price_between low high) ss xs
@@ -99,7 +99,7 @@ accepts_mine who blocks sel i =
     accepts_where (λ j. is_of who (slice_get blocks j)) 0 sel i
     ∙ ap (λ (m : ℕ). accepts sel i && is_of who (slice_get blocks m)) (zero_first i)
 
--- what is accepted of the participant is accepted, and the participant's
+-- a block that is accepted of the participant is accepted, and the participant's
 mine_parts : (who : List ℕ) (blocks : List Block) (sel : List Bool) (i : ℕ) → accepts (mine who blocks sel) i ≡ true
     → (accepts sel i ≡ true) × (is_of who (slice_get blocks i) ≡ true)
 mine_parts who blocks sel i e =

@@ -42,7 +42,7 @@ period_within hours i ss net bought sold w are few at t =
     let is = t.welfare_is in let long = hour.1 in
     (omega (arith, ints, within.0, is, long), omega (arith, ints, within.1, is, long))
 
--- the same of a period of the list that the code reads
+-- the same for a period of the list that the code reads
 pub period_read : (hours hours' : List (List Step)) (i : ℕ) (ss : List Step) (net : ℤ) (bought sold : ℕ) (w : ℤ) → hours' ≡ hours
     → AreHours hours → hourly_orders hours ≤ most_hourly → slice_get hours' i ≡ Some ss → AreBestTotals ss net bought sold w
     → (neg_ℤ (pos (most_hourly * greatest_value)) ≤ℤ w) × (w ≤ℤ pos (most_hourly * greatest_value))

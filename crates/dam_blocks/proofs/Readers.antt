@@ -1,4 +1,4 @@
--- What the readers of a problem find is within the limits.
+-- The values that the readers of a problem find are within the limits.
 use Rattle.std.proofs.Common.{◌≡◌, ℕ, zero, suc, ◌≤◌, Some, List, [], ◌∷◌, subst, arith}
 use Rattle.std.specs.List.{slice_get}
 use Rattle.dam_book.specs.Limits.{most_hourly}

@@ -1,5 +1,5 @@
--- A block with another limit: no price reads it, and a better one raises what the block and its ancestors gain, and the
--- welfare of the selections that accept it.
+-- A block with another limit: no price reads it, and a better one raises the gain of the block and its ancestors, and
+-- the welfare of the selections that accept it.
 use Rattle.std.proofs.Common.{◌≡◌, ◌⊎◌, inl, inr, ℕ, zero, suc, ◌+◌, ◌*◌, ◌<◌, ◌≤◌, ℤ, pos, negsuc, ◌+ℤ◌, ◌-ℤ◌, ◌*ℤ◌, ◌≤ℤ◌, Bool, true, false}
 use Rattle.std.proofs.Common.{◌&&◌, ◌||◌, ◌==◌, cond, not, nat_lt, Option, Some, None, List, [], ◌∷◌, length, slice_set, ap, ap₂, ◌∙◌, sym, subst, refl, arith}
 use Rattle.std.specs.List.{slice_get, position_or_len}
@@ -211,7 +211,7 @@ abbrev where_true : Bool → ℤ → ℤ
 where_true true x = x
 where_true false x = pos 0
 
--- the sum changes by what changes of the block, if it is accepted
+-- the sum changes by the change of the block, if it is accepted
 sum_changed : (f : BlockTerms → ℤ) (bs : List Block) (sel : List Bool) (i : ℕ) (b : Block) (limit : ℤ) → slice_get bs i ≡ Some b
     → over_accepted f (repriced bs i limit) sel
     ≡ over_accepted f bs sel +ℤ where_true (accepts sel i) (f (with_limit b limit).order -ℤ f b.order)
@@ -260,7 +260,7 @@ sum_raised f bs sel i b limit at less =
     let more = where_at_least (accepts sel i) (f (with_limit b limit).order -ℤ f b.order) (omega (arith, ints, less)) in
     omega (arith, ints, change, more)
 
--- ---- what a better limit raises
+-- ---- the values that a better limit raises
 times_at_least : (z : ℤ) (x : ℕ) → pos 0 ≤ℤ z → pos 0 ≤ℤ (z *ℤ pos x)
 times_at_least (pos n) x h = omega (arith, ints)
 times_at_least (negsuc n) x h = absurd (let no : 0 < 0 = omega (arith, ints, h) in omega (arith, no))
@@ -450,7 +450,7 @@ eligible_raised problem other i b limit sel v w better is =
     )
 
 -- ---- results
--- what ranks at or below with less welfare does so with the same, and with more
+-- a selection that ranks at or below with less welfare does so with the same, and with more
 rank_lowered : (u v w : ℤ) (xs ys : List Bool) → u ≤ℤ v → RanksAtOrBelow v xs w ys → RanksAtOrBelow u xs w ys
 rank_lowered u v w xs ys less h =
     let below = h.by_welfare in record {

@@ -34,7 +34,7 @@ drop_at xs i x e = go xs i x e ∙ ap (λ (n : ℕ). x ∷ drop n xs) (let one :
 take_at : {X : Type 0} (xs : List X) (i : ℕ) (x : X) → slice_get xs i ≡ Some x → take (i + 1) xs ≡ take i xs ++ x ∷ []
 take_at xs i x e = take_more xs i x (slice_get_within xs i x e) ∙ ap (λ (y : _). take i xs ++ y ∷ []) (get_or_from_slice_get xs i x x e)
 
--- what passes joins the items
+-- an item that passes joins the items
 pub more_some : {X Y : Type 0} (f : X → Option Y) (xs : List X) (i : ℕ) (x : X) (y : Y) (items items' total : List Y)
     → slice_get xs i ≡ Some x → Some y ≡ f x
     → items' ≡ items ++ y ∷ [] → items ++ filter_map f (drop i xs) ≡ total → items' ++ filter_map f (drop (i + 1) xs) ≡ total
@@ -55,7 +55,7 @@ same_block b who name o e f g =
 pub one_longer : {X : Type 0} (xs ys : List X) (x : X) → ys ≡ xs ++ x ∷ [] → length ys ≡ length xs + 1
 one_longer xs ys x e = ap length e ∙ length-append xs (x ∷ [])
 
--- what doesn't pass is left out
+-- an item that doesn't pass is left out
 pub more_none : {X Y : Type 0} (f : X → Option Y) (xs : List X) (i : ℕ) (x : X) (items total : List Y) → slice_get xs i ≡ Some x
     → None ≡ f x
     → items ++ filter_map f (drop i xs) ≡ total → items ++ filter_map f (drop (i + 1) xs) ≡ total

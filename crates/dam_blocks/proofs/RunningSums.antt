@@ -13,7 +13,7 @@ use Rattle.dam_blocks.specs.Eligible.{surplus_in, surplus_from}
 one_more : (i : ℕ) → suc i ≡ i + 1
 one_more i = omega arith
 
--- an accepted block and what is left
+-- an accepted block and the rest
 sum-accepted : (f : BlockTerms → ℤ) (i : ℕ) (bs : List Block) (b : Block) (sel : List Bool) → slice_get bs i ≡ Some b → accepts sel i ≡ true
     → over_accepted f (drop i bs) (drop i sel) ≡ f b.order +ℤ over_accepted f (drop (suc i) bs) (drop (suc i) sel)
 sum-accepted f i [] b sel e a = absurd (cc)
@@ -41,7 +41,8 @@ sum-rejected f zero (b ∷ bs) (true ∷ sel) e = absurd (cc)
 sum-rejected f zero (b ∷ bs) (false ∷ sel) e = refl
 sum-rejected f (suc i) (b ∷ bs) (x ∷ sel) e = sum-rejected f i bs sel e
 
--- the sum over the accepted blocks so far, each of which adds at most the limit, and that of the blocks that are left
+-- the sum over the accepted blocks so far, each of which adds at most the limit, and the sum over the blocks that are
+-- left
 pub record IsSumSoFar (f : BlockTerms → ℤ) (limit : ℕ) (bs : List Block) (sel : List Bool) (place : ℕ) (total : ℤ) : Type 0 where
   pub sum : total +ℤ over_accepted f (drop place bs) (drop place sel) ≡ over_accepted f bs sel
   pub low : neg_ℤ (pos (place * limit)) ≤ℤ total
@@ -75,7 +76,7 @@ surplus_at_next : (t i : ℕ) (prices : List ℤ) (p : ℤ) (o : BlockTerms) →
 surplus_at_next t i prices p o l e =
     ap (λ (ps : List ℤ). surplus_from t ps o) (drop-cons prices i p l ∙ ap (λ (q : ℤ). q ∷ drop (suc i) prices) (sym e))
 
--- the sum over the periods so far, each of which adds at most the limit, and that of the periods that are left
+-- the sum over the periods so far, each of which adds at most the limit, and the sum over the periods that are left
 pub record IsSurplusSoFar (o : BlockTerms) (prices : List ℤ) (place : ℕ) (total : ℤ) : Type 0 where
   pub sum : total +ℤ surplus_from (place + 1) (drop place prices) o ≡ surplus_from 1 prices o
   pub low : neg_ℤ (pos (place * greatest_gain)) ≤ℤ total

@@ -1,4 +1,4 @@
--- What the participants gain adds up to the welfare: each order is one participant's.
+-- The gains of the participants add up to the welfare: each order is one participant's.
 use Rattle.std.proofs.Common.{◌≡◌, ℕ, zero, suc, ℤ, pos, ◌+ℤ◌, Bool, true, false, cond, Some, List, [], ◌∷◌, ap, ◌∙◌, sym, refl, arith}
 use Rattle.std.specs.List.{slice_get}
 use Rattle.std.specs.Cmp.Lexicographic.{bytes_decides}

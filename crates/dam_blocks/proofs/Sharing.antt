@@ -1,4 +1,4 @@
--- The welfare of a selection is what its orders gain, and what is bought is what is sold.
+-- The welfare of a selection is the gain of its orders, and as much is bought as is sold.
 use Rattle.std.proofs.Common.{◌≡◌, ℕ, suc, ℤ, pos, neg_ℤ, ◌+ℤ◌, ◌*ℤ◌, Bool, Option, Some, List, [], ◌∷◌, length, ap, ap₂, ◌∙◌}
 use Rattle.std.proofs.Common.{sym, refl, arith}
 use Rattle.std.specs.Option.{option_map}
@@ -15,7 +15,7 @@ use Rattle.dam_blocks.specs.Eligible.{ArePrices, surplus_in, surplus_from, added
 use Rattle.dam_blocks.specs.Market.{AreBestExecutions, block_volume_of, traded, money_from, hourly_surplus, accepted_surplus}
 use Rattle.dam_blocks.proofs.Sums.{over_accepted-plus, over_accepted-same, over_accepted-zero, accepted_surplus as value_and_price}
 
--- what the laws of one period say of a best execution
+-- the laws of one period on a best execution
 pub record SharingLaws : Type 0 where
   pub best : (ss : List Step) (net : ℤ) (xs : List ℕ) → IsBest ss net xs → greatest_welfare ss net ≡ Some (welfare_of ss xs)
   pub welfare : (p net : ℤ) (ss : List Step) (xs : List ℕ) → Balances ss net xs → welfare_of ss xs ≡ execution_surplus p ss xs +ℤ p *ℤ net

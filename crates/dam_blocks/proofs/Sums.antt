@@ -85,7 +85,7 @@ over_accepted-at_least f (b ∷ bs) (true ∷ sel) h =
     omega (arith, ints, here, rest)
 over_accepted-at_least f (b ∷ bs) (false ∷ sel) h = over_accepted-at_least f bs sel (λ i c a s. h (suc i) c a s)
 
--- ---- what a block gains is its value and the price of what it adds to the net volume
+-- ---- the gain of a block is its value and the price of its net volume
 minus_times : (a b : ℤ) (x : ℕ) → (a -ℤ b) *ℤ pos x +ℤ b *ℤ pos x ≡ a *ℤ pos x
 minus_times a b x =
     let e : up (a -ℤ b) + down a + up b ≡ down (a -ℤ b) + up a + down b = omega (arith, ints) in

@@ -1,4 +1,4 @@
--- What the verdict on a selection rests on, and what it rules out.
+-- The facts on which the verdict on a selection rests, and the verdicts that it rules out.
 use Rattle.std.proofs.Common.{◌≡◌, ◌≢◌, ℕ, zero, suc, ◌+◌, ◌-◌, ◌<◌, ℤ, pos, negsuc, nat_abs, ◌≤ℤ◌, Bool, Some, List, [], ◌∷◌, length, take}
 use Rattle.std.proofs.Common.{◌∙◌, sym, subst, refl, arith}
 use Rattle.std.specs.List.{slice_get}

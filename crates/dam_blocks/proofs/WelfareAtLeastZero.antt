@@ -22,7 +22,7 @@ use Rattle.dam_blocks.specs.Eligible.{IsClearingPrice, ArePrices, surplus_in, su
 use Rattle.dam_blocks.proofs.Sums.{over_accepted-plus, over_accepted-zero, accepted_surplus}
 use Rattle.dam_blocks.proofs.Families.{AreChains, no_loss_in_families}
 
--- what the laws of one period say of its price
+-- the laws of one period on its price
 pub record PriceLaws : Type 0 where
   pub between : (low high : ℤ) → low ≤ℤ high → (low ≤ℤ price_between low high) × (price_between low high ≤ℤ high)
   pub supports : (ss : List Step) (net low high p : ℤ) → AreEnds ss net low high → IsSupporting ss net p ↔ ((low ≤ℤ p) × (p ≤ℤ high))
@@ -31,7 +31,7 @@ pub record PriceLaws : Type 0 where
   pub welfare : (p net : ℤ) (ss : List Step) (xs : List ℕ) → Balances ss net xs → welfare_of ss xs ≡ execution_surplus p ss xs +ℤ p *ℤ net
   pub at_least_zero : (p : ℤ) (ss : List Step) (xs : List ℕ) → IsExecution ss xs → Supports p ss xs → pos 0 ≤ℤ execution_surplus p ss xs
 
--- at its price a period is worth at least what its net volume is
+-- at its price the welfare of a period is at least the value of its net volume
 hour_at_least : PriceLaws → (ss : List Step) (net p w : ℤ) → IsClearingPrice ss net p → greatest_welfare ss net ≡ Some w → (p *ℤ net) ≤ℤ w
 hour_at_least laws ss net p w c e =
     let ordered = c.ends.least c.high c.ends.high_supports in

@@ -27,7 +27,7 @@ use Rattle.dam_blocks.proofs.Participants.{over_accepted-agree}
 use Rattle.dam_blocks.proofs.Transfer.{prices_transfer, executions_transfer, welfare_transfer}
 
 -- ---- places
--- the place in the whole of what stands at place j of the rest
+-- the place in the whole of the block at place j of the rest
 abbrev up : ℕ → ℕ → ℕ
 up zero j = suc j
 up (suc i) zero = zero
@@ -149,7 +149,7 @@ record AreBoth (whole rest : ProblemState) (i : ℕ) (gone : Block) : Type 0 whe
   is_rest : IsProblem rest
   without : IsWithoutBlock whole rest i gone
 
--- what stands in the rest stands in the whole, and the other way round
+-- the blocks of the rest stand in the whole, and the other way round
 stands_up : (whole rest : ProblemState) (i : ℕ) (gone : Block) (j : ℕ) (b : Block) → IsWithoutBlock whole rest i gone
     → slice_get rest.blocks j ≡ Some b → slice_get whole.blocks (up i j) ≡ Some b
 stands_up whole rest i gone j b w at =
@@ -270,7 +270,7 @@ whole_allowed whole rest i gone zs j both allowed = record {
   group = subst (λ (n : ℕ). n ≤ most_of_group) (sym (count_both whole rest i gone allowed.block zs both.without)) allowed.group;
 }
 
--- what the whole accepts is of the rest
+-- a block that the whole accepts is of the rest
 accepted_of_rest : (zs : List Bool) (i j : ℕ) → accepts (insert zs i false) j ≡ true → (k : ℕ) × (up i k ≡ j)
 accepted_of_rest zs i j acc = elim (from_rest i j) as (λ _. (k : ℕ) × (up i k ≡ j)) [
   | inl same ↦ absurd (let off = ap (λ (m : ℕ). accepts (insert zs i false) m) same ∙ accepts_gone zs i in cc)

@@ -79,7 +79,7 @@ pub record HasBlocksReordered (problem other : ProblemState) : Type 0 where
   pub hours : other.hours ≡ problem.hours
   pub blocks : IsPermutation problem.blocks other.blocks
 
--- the two selections accept the same of the blocks that stand in both lists
+-- the two selections accept the same blocks among those that stand in both lists
 abbrev pub AcceptTheSame : List Block → List Block → List Bool → List Bool → Type 0
 AcceptTheSame blocks others selection counterpart =
     (i j : ℕ) (block : Block) → slice_get blocks i ≡ Some block → slice_get others j ≡ Some block

@@ -19,7 +19,7 @@ pub record IsClearingPrice (steps : List Step) (net p : ℤ) : Type 0 where
   pub ends : AreEnds steps net low high
   pub between : p ≡ price_between low high
 
--- each price is that of its period under the selection, from period t on
+-- each price is the price of its period under the selection, from period t on
 abbrev pub ArePrices : List Block → List Bool → ℕ → List (List Step) → List ℤ → Type 0
 ArePrices blocks selection t [] [] = Unit {0}
 ArePrices blocks selection t (steps ∷ hours) (p ∷ prices) =
@@ -27,8 +27,8 @@ ArePrices blocks selection t (steps ∷ hours) (p ∷ prices) =
 ArePrices blocks selection t [] (p ∷ prices) = ⊥
 ArePrices blocks selection t (steps ∷ hours) [] = ⊥
 
--- what a block gains in a period at a price: limit less price, times volume, if it buys, and the
--- same with the other sign if it sells
+-- the surplus of a block in a period at a price: limit less price, times volume, if it buys, and
+-- the same with the other sign if it sells
 abbrev pub surplus_in : ℕ → ℤ → BlockTerms → ℤ
 surplus_in t p o = signed o.side ((o.price -ℤ p) *ℤ pos (volume_in o.volumes t))
 
@@ -37,7 +37,7 @@ abbrev pub surplus_from : ℕ → List ℤ → BlockTerms → ℤ
 surplus_from t [] o = pos 0
 surplus_from t (p ∷ prices) o = surplus_in t p o +ℤ surplus_from (suc t) prices o
 
--- what a block gains at the prices of the day
+-- the surplus of a block at the prices of the day
 abbrev pub surplus_of : List ℤ → BlockTerms → ℤ
 surplus_of prices o = surplus_from 1 prices o
 
@@ -46,8 +46,8 @@ abbrev pub surplus_at : List Block → List ℤ → ℕ → ℤ
 surplus_at blocks prices i =
     unwrap_or (option_map (λ b. surplus_of prices b.order) (slice_get blocks i)) (pos 0)
 
--- the sum that must be at least 0 for the accepted block at a place: its own surplus and those of
--- its accepted descendants
+-- the sum that must be at least 0 for the accepted block at a place: its own surplus and the
+-- surpluses of its accepted descendants
 abbrev pub family_surplus : List Block → List Bool → List ℤ → ℕ → ℤ
 family_surplus blocks selection prices i =
     surplus_at blocks prices i
@@ -62,8 +62,8 @@ abbrev pub added : Option ℤ → Option ℤ → Option ℤ
 added (Some x) (Some y) = Some (x +ℤ y)
 added _ _ = None
 
--- the welfare of a period's hourly orders with what the accepted blocks are worth there; None if
--- no execution balances
+-- the welfare of a period's hourly orders with the value of the accepted blocks there; None if no
+-- execution balances
 abbrev pub period_welfare : List Block → List Bool → ℕ → List Step → Option ℤ
 period_welfare blocks selection t steps =
     option_map (λ w. w +ℤ block_value blocks selection t) (greatest_welfare steps (net_volume blocks selection t))

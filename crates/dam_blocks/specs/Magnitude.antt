@@ -21,11 +21,11 @@ greatest_block_value_in_period = most_blocks * greatest_value
 abbrev pub greatest_block_value : ℕ
 greatest_block_value = last_period * greatest_block_value_in_period
 
--- what a block gains in one period: the greatest difference of two prices, by a volume
+-- the greatest surplus of a block in one period: the greatest difference of two prices, times a volume
 abbrev pub greatest_gain : ℕ
 greatest_gain = price_span * greatest_volume
 
--- what a block gains over a day
+-- the greatest surplus of a block over a day
 abbrev pub greatest_surplus : ℕ
 greatest_surplus = last_period * greatest_gain
 

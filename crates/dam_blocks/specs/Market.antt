@@ -1,5 +1,5 @@
--- The outcome of a selection: its prices and executions, what is traded and paid, and what each order and each participant
--- gains.
+-- The outcome of a selection: its prices and executions, the traded volumes and the payments, and the surplus of each
+-- order and each participant.
 use Rattle.std.specs.Prelude.{◌≡◌, ℕ, zero, suc, ◌-◌, ℤ, pos, ◌+ℤ◌, ◌*ℤ◌, Bool, true, ◌||◌, ◌==◌, None, Some, if◌then◌else◌, List, [], ◌∷◌, slice_get}
 use Rattle.dam_book.specs.Name.{same_text}
 use Rattle.dam_book.specs.Terms.{BlockTerms}
@@ -32,7 +32,7 @@ pub record IsOutcome (problem : ProblemState) (selection : List Bool) (prices : 
   pub prices_are : ArePrices problem.blocks selection 1 problem.hours prices
   pub executions_are : AreBestExecutions problem.blocks selection 1 problem.hours executions
 
--- What is traded and paid.
+-- Traded volumes and payments.
 
 -- a block's volume in a period if it is of that side, else 0
 abbrev pub block_volume_of : Side → ℕ → BlockTerms → ℤ
@@ -43,26 +43,27 @@ abbrev pub traded : Side → List Block → List Bool → ℕ → List Step → 
 traded side blocks selection t steps volumes =
     pos (executed_volume side steps volumes) +ℤ over_accepted (block_volume_of side t) blocks selection
 
--- the price times the volume of one side, summed over the periods from t on: what buyers pay, or sellers receive
+-- the price times the volume of one side, summed over the periods from t on: the payments of the buyers, or the
+-- receipts of the sellers
 abbrev pub money_from : Side → List Block → List Bool → ℕ → List ℤ → List (List Step) → List (List ℕ)
     → ℤ
 money_from side blocks selection t (p ∷ prices) (steps ∷ hours) (volumes ∷ executions) =
     (p *ℤ traded side blocks selection t steps volumes) +ℤ money_from side blocks selection (suc t) prices hours executions
 money_from side blocks selection t _ _ _ = pos 0
 
--- Who gains what.
+-- Surpluses.
 
--- what the hourly orders of the day gain
+-- the surplus of the hourly orders of the day
 abbrev pub hourly_surplus : List ℤ → List (List Step) → List (List ℕ) → ℤ
 hourly_surplus (p ∷ prices) (steps ∷ hours) (volumes ∷ executions) =
     execution_surplus p steps volumes +ℤ hourly_surplus prices hours executions
 hourly_surplus _ _ _ = pos 0
 
--- what the accepted blocks gain
+-- the surplus of the accepted blocks
 abbrev pub accepted_surplus : List ℤ → List Block → List Bool → ℤ
 accepted_surplus prices blocks selection = over_accepted (surplus_of prices) blocks selection
 
--- what the order at a place of one period gains, 0 if there is none
+-- the surplus of the order at a place of one period, 0 if there is none
 abbrev pub order_surplus_at : ℤ → List Step → List ℕ → ℕ → ℤ
 order_surplus_at price (step ∷ steps) (x ∷ volumes) zero = order_surplus price step x
 order_surplus_at price (step ∷ steps) (x ∷ volumes) (suc i) = order_surplus_at price steps volumes i
@@ -76,7 +77,8 @@ order_surplus_in (p ∷ prices) (steps ∷ hours) (volumes ∷ executions) (suc 
     order_surplus_in prices hours executions k i
 order_surplus_in _ _ _ k i = pos 0
 
--- what the order at a place of the book gains: an hourly one by its executed volume, a block if it is accepted
+-- the surplus of the order at a place of the book: of an hourly one by its executed volume, of a block if it is
+-- accepted
 abbrev pub gain_of : ProblemState → List Bool → List ℤ → List (List ℕ) → Place → ℤ
 gain_of problem selection prices executions (AtHour t i) =
     order_surplus_in prices problem.hours executions (t - 1) i

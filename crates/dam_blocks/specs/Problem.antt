@@ -32,7 +32,7 @@ step_in t (BlockVariant o) = None
 abbrev pub steps_in : ℕ → List Row → List Step
 steps_in t rows = filter_map (λ (r : Row). step_in t r.1) rows
 
--- those of `n` periods, from this one on
+-- the steps of `n` periods, from this one on
 abbrev pub hours_from : ℕ → ℕ → List Row → List (List Step)
 hours_from t zero rows = []
 hours_from t (suc n) rows = steps_in t rows ∷ hours_from (suc t) n rows
@@ -51,7 +51,7 @@ abbrev pub place_after : List Row → Order → Place
 place_after front (Hour o) = AtHour o.period (length (steps_in o.period front))
 place_after front (BlockVariant o) = AtBlock (length (blocks_in front))
 
--- the rows with the places of their orders, those of `front` standing before them
+-- the rows with the places of their orders, after the rows of `front`
 abbrev pub rows_after : List Row → List Row → List ProblemRow
 rows_after front [] = []
 rows_after front (r ∷ rs) =
@@ -66,7 +66,7 @@ problem_of b = record {
   rows = rows_after [] b.rows;
 }
 
--- What every problem keeps.
+-- The problem invariant.
 
 -- the number of hourly orders
 abbrev pub hourly_orders : List (List Step) → ℕ
@@ -110,8 +110,8 @@ StandsAt p r (AtHour t i) =
 StandsAt p r (AtBlock i) =
     (b : Block) × (slice_get p.blocks i ≡ Some b) × (b.who ≡ r.who) × (b.name ≡ r.name)
 
--- every problem is that of a closed book that keeps a book's facts: its rows are the book's, each
--- once, in book order, with unique keys
+-- the problem invariant: the problem is made from a closed book that satisfies the book invariant.
+-- Its rows are the book's, each once, in book order, with unique keys
 pub record IsProblem (p : ProblemState) : Type 0 where
   pub book : BookState
   pub is_book : IsBook book

@@ -1,4 +1,4 @@
--- What the score of a selection says.
+-- The verdict on a selection.
 use Rattle.std.specs.Prelude.{◌≡◌, ℕ, ◌-◌, ◌<◌, ◌≤◌, ℤ, pos, ◌≤ℤ◌, ◌<ℤ◌, Bool, true, Some, List, slice_get}
 use Rattle.dam_hour.specs.Execution.{IsBalanced, IsUnbalanced}
 use Rattle.dam_hour.specs.declared.step.Step.{Step}

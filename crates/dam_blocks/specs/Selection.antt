@@ -1,4 +1,4 @@
--- Selections of blocks: what they take part in, and which of them the links and the groups admit.
+-- Selections of blocks: their volumes and values, and which of them the links and the groups admit.
 use Rattle.std.specs.Prelude.{◌≡◌, ℕ, zero, suc, ◌+◌, ◌-◌, ◌^◌, ◌≤◌, ℤ, pos, neg_ℤ, ◌+ℤ◌, ◌*ℤ◌, Bool, true, false, ◌&&◌, nat_lt, ◌==◌}
 use Rattle.std.specs.Prelude.{Option, Some, List, [], ◌∷◌, ◌++◌, length, replicate, slice_get, slice_index_or, if◌then◌else◌}
 use Rattle.dam_book.specs.Name.{same_text}
@@ -42,8 +42,7 @@ over_accepted f (b ∷ bs) (true ∷ selection) = f b.order +ℤ over_accepted f
 over_accepted f (b ∷ bs) (false ∷ selection) = over_accepted f bs selection
 over_accepted f _ _ = pos 0
 
--- what a block adds to the net volume of a period: its volume if it sells, and minus its volume
--- if it buys
+-- the net volume of a block in a period: its volume if it sells, and minus its volume if it buys
 abbrev pub net_volume_of : ℕ → BlockTerms → ℤ
 net_volume_of t o = neg_ℤ (signed o.side (pos (volume_in o.volumes t)))
 

@@ -85,7 +85,7 @@ pub fn value_of(order: &BlockOrder, period: Period) -> i64
 
 /// The accepted sell blocks' volume in a period less the accepted buy blocks', in tenths of a MW.
 ///
-/// The selection's places are those of the list.
+/// The selection's places are the places of the list.
 pub fn net_volume(blocks: &[Block], selection: Selection, period: Period) -> i64
     requires { length blocks.now ≤ most_blocks }
     ensures value { result ≡ net_volume blocks.now selection period }

@@ -15,7 +15,7 @@ pub(crate) fn is_parent(parent: &Block, child: &Block) -> bool
     }
 }
 
-/// Whether the block names no parent; then no block is looked at.
+/// Whether the block doesn't name a parent, so that it isn't a child of any block.
 fn has_no_parent(child: &Block) -> bool
     ensures { result ≡ true → (parent : Block) → names parent child.now ≡ false }
 {
@@ -41,7 +41,7 @@ fn parent_place(blocks: &[Block], place: usize) -> Option<usize>
 }
 
 /// Whether the block at a place descends from the one at another: the chain of its parents leads
-/// there. Places are those of the list, from 0.
+/// there. Places count the list from 0.
 ///
 /// It is meant for the blocks of a problem, in which each parent stands before its child and a
 /// participant's names differ, so that no block descends from itself.

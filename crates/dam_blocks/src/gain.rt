@@ -99,7 +99,7 @@ fn surplus_of_descendants(
 /// times tenths of a MW: the surplus of each at the prices, summed. In an eligible selection it is at
 /// least 0 for each accepted block (EUPHEMIA Public Description, "Linked Block Orders").
 ///
-/// The prices are those of the day's periods, from the first one on.
+/// The prices are the prices of the day's periods, from the first one on.
 pub fn family_surplus(blocks: &[Block], selection: Selection, prices: &[Price], place: usize) -> i64
     requires periods { length prices.now ≤ last_period }
     requires blocks { length blocks.now ≤ most_blocks }

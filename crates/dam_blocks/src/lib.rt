@@ -2,9 +2,9 @@
 //! score, and the plain search over all of them.
 //!
 //! A `Problem` has each period's hourly orders, ready to be cleared, and the blocks in book order. A
-//! `Selection` is a set of these blocks. `score` says whether one is eligible and what its welfare is,
-//! or the first thing that speaks against it; `ranks_above` orders the eligible ones, and
-//! `best_of_all` finds the best of them by trying every selection.
+//! `Selection` is a set of these blocks. `score` returns a selection's welfare if it is eligible, and
+//! otherwise the first reason why it isn't; `ranks_above` orders the eligible ones, and `best_of_all`
+//! finds the best of them by trying every selection.
 //!
 //! ```
 //! let problem = Problem::of_book(alloc, &book)?;
@@ -15,9 +15,9 @@
 //! ```
 //!
 //! A contract sees a problem as the steps of each period, the blocks and the rows, a selection as the
-//! list of its acceptances, and a block as its names and terms. What these words mean stands in
-//! `specs/`. Tests alone show what the faults say, and that a call reports out of memory only if
-//! memory was refused.
+//! list of its acceptances, and a block as its names and terms. `specs/` defines these words. Only
+//! tests show the texts of the faults, and that a call reports out of memory only if memory was
+//! refused.
 //!
 //! The crate doesn't know a faster search for a result than trying every selection, nor texts.
 #![tactic(auto)]

@@ -86,9 +86,10 @@ pub fn hourly_orders_are_executed()
         × IsExecutedAt steps (net_volume problem.blocks selection (k + 1)) price i step volume }
 {}
 
-/// Welfare is shared out: the welfare of a selection is what all hourly orders and the accepted blocks
-/// gain at its prices, also summed order by order over the book (`orders`), and participant by participant
-/// (`participants`). Other prices would share out the same sum in another way (`any_prices`).
+/// Welfare is shared out: the welfare of a selection is the sum of the surpluses of all hourly orders and
+/// the accepted blocks at its prices. Summed order by order over the book, it is the same (`orders`), and
+/// so it is participant by participant (`participants`). Other prices would share out the same sum in
+/// another way (`any_prices`).
 pub fn welfare_is_shared_out()
     ensures shared { (problem : ProblemState) (selection : List Bool) (prices : List ℤ)
         (executions : List (List ℕ)) → IsOutcome problem selection prices executions
@@ -116,7 +117,8 @@ pub fn welfare_is_shared_out()
 }
 
 /// Money balances: in each period, the hourly orders and the accepted blocks together buy as much as they
-/// sell. So, at the period's one price, buyers pay what sellers receive, in each period and over the day.
+/// sell. So, at the period's one price, the buyers' payments equal the sellers' receipts, in each period
+/// and over the day.
 pub fn money_balances()
     ensures volume { (blocks : List Block) (selection : List Bool) (t : ℕ) (steps : List Step)
         (volumes : List ℕ) → IsBest steps (net_volume blocks selection t) volumes
@@ -133,8 +135,8 @@ pub fn money_balances()
         ≡ money_from Sell problem.blocks selection 1 prices problem.hours executions }
 {}
 
-/// Nobody loses: no hourly order has a surplus below 0, and what all orders of a participant gain
-/// together, hourly ones and accepted blocks, is at least 0.
+/// Nobody loses: each hourly order has a surplus of at least 0, and so have all orders of a participant
+/// together, hourly ones and accepted blocks.
 ///
 /// A single block may lose, but an accepted block and its accepted descendants together gain at least 0
 /// (`descendants`). Each accepted block is, or descends from, just one accepted block without a parent
@@ -249,8 +251,8 @@ pub fn a_rejected_block_that_asks_for_worse()
         → IsResult other selection welfare }
 {}
 
-/// Book order decides only ties, for hourly orders: in whatever order those of a period stand, the prices
-/// of each selection are the same, and so are the result and its welfare.
+/// Book order decides only ties, for hourly orders: if the orders of a period stand in another order, the
+/// prices of each selection are the same, and so are the result and its welfare.
 pub fn book_order_of_hourly_orders()
     ensures prices { (problem other : ProblemState) (selection : List Bool) (prices : List ℤ)
         → IsReordered problem other
@@ -263,9 +265,9 @@ pub fn book_order_of_hourly_orders()
     dam_hour::market::book_order();
 }
 
-/// Book order decides only ties, for blocks: in whatever order they stand, parents before their children,
-/// each eligible selection has its counterpart, which accepts the same blocks at the same prices with the
-/// same welfare. So the welfare of the result is the same.
+/// Book order decides only ties, for blocks: if they stand in another order, parents before their
+/// children, each eligible selection has its counterpart, which accepts the same blocks at the same
+/// prices with the same welfare. So the welfare of the result is the same.
 pub fn book_order_of_blocks()
     ensures selections { (problem other : ProblemState) (selection : List Bool) (welfare : ℤ)
         → IsProblem problem → IsProblem other → HasBlocksReordered problem other

@@ -40,7 +40,7 @@ fn no_steps<A: Allocator + Copy>(alloc: A, periods: u8) -> Result<Vec<Vec<Step, 
     Ok(hourly)
 }
 
-/// Adds an order to those of its period; the answer is its place among them.
+/// Adds an order to its period's orders, and returns its place among them.
 fn add_step<A: Allocator>(
     hourly: &mut Vec<Vec<Step, A>, A>,
     order: &HourOrder,

@@ -20,8 +20,8 @@ pub enum Verdict {
     /// No execution balances with the selection in this period, the first such.
     Unbalanced(Period),
     /// At the prices of the selection the accepted block at this place, the first such, loses: its
-    /// surplus with those of the accepted blocks that descend from it is below 0. Places count the
-    /// blocks alone, from 0 in book order.
+    /// surplus and the surpluses of its accepted descendants add up to less than 0. Places count
+    /// the blocks alone, from 0 in book order.
     Losing(usize),
     /// The selection is eligible; its welfare in cents per MWh times tenths of a MW.
     Eligible(u64),
@@ -83,9 +83,9 @@ fn first_losing<A: Allocator>(
 /// Whether the selection is eligible, and its welfare; or else the first fault: it isn't admissible, a
 /// period doesn't balance (the least such), or an accepted block loses at the prices (the least such).
 ///
-/// An accepted block loses if its surplus and those of its accepted descendants add up to less than 0
-/// (EUPHEMIA Public Description, "Price Determination Sub-problem" and "Linked Block Orders"); a
-/// rejected one may have any surplus, also one over 0 ("PRB reinsertion"). Takes no memory.
+/// An accepted block loses if its surplus and the surpluses of its accepted descendants add up to less
+/// than 0 (EUPHEMIA Public Description, "Price Determination Sub-problem" and "Linked Block Orders");
+/// a rejected one may have any surplus, also one over 0 ("PRB reinsertion"). Takes no memory.
 pub fn score<A: Allocator>(problem: &Problem<A>, selection: Selection) -> Verdict
     ensures { IsVerdict problem.now selection result }
 {

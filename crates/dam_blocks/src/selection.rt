@@ -95,7 +95,7 @@ impl Selection {
 
 /// A selection and a welfare, in cents per MWh times tenths of a MW.
 ///
-/// The type promises nothing of them; the function that returns one states its meaning.
+/// The type doesn't constrain them; the function that returns one states its meaning.
 #[derive(Clone, Copy, PartialEq, Eq, Debug)]
 pub struct Best {
     pub selection: Selection,

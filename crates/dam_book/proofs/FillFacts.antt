@@ -43,7 +43,7 @@ filler_absent k a n (suc i) (p ∷ ps) l x h e row some is =
     let head = other_label k p.0 a (other_number n p.0.1 a p.1 h.0 (omega (arith, some, is)) (λ f. omega (arith, f, is))) in
     rw head (filler_absent k a (suc n) i ps l x h.1 e row (omega arith) (omega (arith, is)))
 
--- What the last place leaves, once it has taken the place of another.
+-- The places once the last one has taken the place of another.
 
 cut : (ps : List Place) (x : Place) → take (length ps) (ps ++ x ∷ []) ≡ ps
 cut [] x = refl
@@ -76,7 +76,7 @@ slice_get-push [] x i q e = absurd (cc)
 slice_get-push (p ∷ ps) x zero q e = e
 slice_get-push (p ∷ ps) x (suc i) q e = slice_get-push ps x i q e
 
--- what the list of places is, if the gap at place i has another label
+-- the list of places, if the gap at place i has another label
 pub record Filled (n : ℕ) (ps qs : List Place) : Type 0 where
   pub rows : held qs ≡ held ps
   pub count : gap_count qs ≡ gap_count ps
@@ -106,12 +106,12 @@ filled n (suc i) a (p ∷ ps) l k h e is =
 pub if_some : (P : Place → Type 0) (r : Option Place) (p : Place) → r ≡ Some p → IfSome r P → P p
 if_some P r p e h = subst (λ (o : Option Place). IfSome o P) e h
 
--- what is taken out of place i, once a filler was put last
+-- the order taken out of place i, once a filler was put last
 pub at_gap : (ps qs : List Place) (i : ℕ) (k f : Label) (r : Option Place) → slice_get ps i ≡ Some (k, None) → qs ≡ ps ++ (f, None) ∷ []
     → r ≡ slice_get qs i → r ≡ Some (k, None)
 at_gap ps qs i k f r gap last taken = taken ∙ ap (λ (xs : List Place). slice_get xs i) last ∙ slice_get-push ps (f, None) i (k, None) gap
 
--- and what is left
+-- and the places that are left
 pub refilled : (ps qs es : List Place) (i : ℕ) (k f : Label) (r : Option Place) → AreNumbered 1 ps → slice_get ps i ≡ Some (k, None)
     → f.1 ≡ i + 1 → qs ≡ ps ++ (f, None) ∷ [] → r ≡ slice_get qs i
     → IfSome r (λ p. es ≡ swap_remove qs i p) → Filled 1 ps es

@@ -58,7 +58,7 @@ pub none_head : {V : Type 0} (b : Bool) (v : V) (o : Option V) → cond b (Some 
 none_head true v o e = absurd (cc)
 none_head false v o e = (refl, e)
 
--- what a place holds, if there is one
+-- the order that a place holds, if there is one
 abbrev pub flat : Option (Option Order) → Option Order
 flat None = None
 flat (Some o) = o
@@ -210,7 +210,7 @@ numbered-filtered n m [] h = tt
 numbered-filtered n m (p ∷ ps) h =
     filtered-numbered n m p.0 p.1 (filter (λ (q : Place). is_some q.1) ps) h.0 (λ i. numbered-filtered (suc n) i ps h.1)
 
--- what is taken out of the place at a key, if there is such a place
+-- the order taken out of the place at a key, if there is such a place
 pub record Took (k : Label) (ps : List Place) (x : Option Order) : Type 0 where
   pub value : x ≡ lookup (same_key k.0) (held ps)
   pub rows : held (set_value (same_label k) ps None) ≡ remove_entry (same_key k.0) (held ps)
@@ -249,7 +249,7 @@ changed-absent k f (x ∷ xs) e =
     let parts = none_head (same_key k x.0) x.1 (lookup (same_key k) xs) e in
     rw parts.0 (ap (λ (ys : List Row). x ∷ ys) (changed-absent k f xs parts.1))
 
--- what a change at a key's place leaves
+-- the places after a change at a key's place
 pub record Changed (k : Key) (f : Order → Order) (ps qs : List Place) : Type 0 where
   pub rows : held qs ≡ changed k f (held ps)
   pub count : gap_count qs ≡ gap_count ps
@@ -369,7 +369,7 @@ module _ (ps : List Place) (rows : List Row) (at : ℕ) (view : held ps ≡ rows
   pub no_row_at : None ≡ slice_get ps at → None ≡ slice_get rows at
   no_row_at e = sym (no_gap-none ps at none (sym e)) ∙ ap (λ (rs : List Row). slice_get rs at) view
 
--- What is asked of any row.
+-- Whether any row names a key as its parent.
 
 any-head : (k : Key) (at : Key) (x : Option Order) (rows : List Row) (b : Bool) → b ≡ list_any (names_parent k) rows
     → (child_at k at.0 x || b) ≡ list_any (names_parent k) (with_place at x rows)

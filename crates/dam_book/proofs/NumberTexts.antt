@@ -71,7 +71,7 @@ number_read (Some n) text some few lead digits =
 no_dash : (digits : List ℕ) (n : ℕ) → n < 10 ^ 9 → 45 ∷ digits ≢ decimal n
 no_dash digits n small e = no_other_byte (45 ∷ digits) n small refl e
 
--- after a dash, the text of a number is that of one above zero
+-- after a dash, the text of a number is the text of one above zero
 pub below_zero : (text digits : List ℕ) (z : ℤ) → text ≡ 45 ∷ digits → IsShort z → text ≡ signed_decimal z
     → (n : ℕ) × (0 < n) × (n < 10 ^ 9) × (digits ≡ decimal n)
 below_zero text digits (pos n) dash small e = absurd (no_dash digits n (omega (arith, ints, small)) (sym dash ∙ e))

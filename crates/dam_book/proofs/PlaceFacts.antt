@@ -1,4 +1,4 @@
--- What stands at the place of a label.
+-- The order at the place of a label.
 use Rattle.std.proofs.Common.{◌≡◌, ℕ, ◌+◌, zero, suc, Bool, true, false, if◌then◌else◌, List, [], ◌∷◌, Option, Some, None, is_some}
 use Rattle.std.proofs.Common.{slice_get, refl, sym, ap, ◌∙◌, subst}
 use Rattle.std.specs.List.{IsDistinct}
@@ -24,7 +24,7 @@ looked_up k l ps i o key at =
     let same : k ≡ l = same_label-equal k l (lookup_key_passes (same_label k) ps l (sym key)) in
     (o, at ∙ ap (λ (m : Label). let p : Place = (m, o) in Some p) (sym same))
 
--- the label is found there, and what is put there is put at the label
+-- the label is found there, and an order that is put there is put at the label
 pub record AtLabel (k : Label) (ps : List Place) (i : ℕ) (o : Option Order) : Type 0 where
   pub found : lookup (same_label k) ps ≡ Some o
   pub put : (w : Option Order) → set_value_at ps i w ≡ set_value (same_label k) ps w
@@ -79,7 +79,7 @@ pub apart-put : (ps : List Place) (i : ℕ) (w : Option Order) → IsDistinct sa
     → IsDistinct same_label (keys_of (set_value_at ps i w))
 apart-put ps i w d = subst (λ (ls : List Label). IsDistinct same_label ls) (sym (keys-put ps i w)) d
 
--- What is taken out of the place of a row's label, or changed there.
+-- The order taken out of the place of a row's label, or changed there.
 
 module _ (k : Label) (ps : List Place) (i : ℕ) (x : Option Order) (row : k.1 ≡ 0) (numbered : AreNumbered 1 ps)
     (apart : IsDistinct same_label (keys_of ps)) (labelled : IsLabelledAt k ps i) (is : Some x ≡ slice_get (values_of ps) i) where

@@ -1,4 +1,5 @@
--- A book keeps what every book keeps without the row at a place, if no row names it as its parent.
+-- A book still satisfies the book invariant without the row at a place, if no row names it as its
+-- parent.
 use Rattle.std.proofs.Common.{◌≡◌, ℕ, zero, suc, Bool, true, false, cond, List, [], ◌∷◌, Some, None, ap, ◌∙◌, sym, subst, arith}
 use Rattle.std.specs.List.{slice_get, remove, list_any}
 use Rattle.std.specs.Map.{lookup, remove_entry}
@@ -11,7 +12,7 @@ use Rattle.dam_book.proofs.LinkFacts.{are_linked-removed}
 same_row : (a b : Row) → Some a ≡ Some b → a ≡ b
 same_row a b e = cc
 
--- a key that no row has isn't that of a row that stands
+-- a key that no row has isn't the key of a row that stands
 other_key : (test : Key → Bool) (rs : List Row) (k : ℕ) (row : Row) → lookup test rs ≡ None → slice_get rs k ≡ Some row → test row.0 ≡ false
 other_key test [] k row e at = absurd (cc)
 other_key test (x ∷ xs) zero row e at =

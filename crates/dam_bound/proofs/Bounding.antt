@@ -15,7 +15,7 @@ use Rattle.dam_bound.specs.Relaxed.{as_steps, relaxed_hours}
 use Rattle.dam_bound.specs.inside.Levels.{greatest_period_bound}
 use Rattle.dam_bound.proofs.Levelling.{drop_at}
 
--- the welfare of the periods so far, and what is left of them
+-- the welfare of the periods so far, and the periods that are left
 pub record IsBoundSoFar (blocks : List Block) (taken : List Bool) (left : List Block) (hours : List (List Step)) (place : ℕ) (total : ℤ)
     : Type 0 where
   pub sum : added (Some total) (welfare_from blocks taken (place + 1) (relaxed_hours left (place + 1) (drop place hours)))

@@ -26,7 +26,7 @@ use Rattle.dam_bound.proofs.BuildingRanges.{one_of_side, net_small, net_read, ow
 use Rattle.dam_bound.proofs.BuildingTouches.{keeps_on, class_curve_stays, curves_stay}
 
 -- ---- the net volumes after a block
--- what it adds lies between what it adds if it buys and if it sells, and so does 0
+-- its net volume lies between its net volume if it buys and if it sells, and so does 0
 record IsBetween (own : Side) (volume : ℕ) : Type 0 where
   least : side_net Buy own volume ≤ℤ neg_ℤ (signed own (pos volume))
   most : neg_ℤ (signed own (pos volume)) ≤ℤ side_net Sell own volume
@@ -73,8 +73,8 @@ choice_is problem all k c b choice least most at adds is_least is_most before af
       };
     }
 
--- ---- what the block adds, and the net volumes before it, as the code has them
--- the number is what the block adds in the period, read once and twice
+-- ---- the net volume of the block, and the net volumes before it, as the code has them
+-- the number is the block's net volume in the period, read once and twice
 pub record IsNetOf (t : ℕ) (b : Block) (net : ℤ) : Type 0 where
   pub read : to_z w32 (of_z w32 net) ≡ net_volume_of t b.order
   pub again : to_z w32 (of_z w32 (to_z w32 (of_z w32 net))) ≡ net_volume_of t b.order

@@ -107,7 +107,7 @@ welfare_zero f blocks i (ss ∷ hours) are =
     ap₂ added (period_zero blocks (suc i) ss (f (suc i)) (first_worth f i ss hours are))
     (welfare_zero f blocks (suc i) hours (rest_worth f i ss hours are))
 
--- ---- what each period is worth with no block decided
+-- ---- the welfare of each period with no block decided
 abbrev pub own_worth : ProblemState → ℕ → ℤ
 own_worth problem t = worth (greatest_welfare (get_or (relaxed_hours problem.blocks 1 problem.hours) (t - 1) []) (pos 0))
 
@@ -122,7 +122,7 @@ own_are law problem k ss at =
     ∙ ap worth found.1 in
     found.1 ∙ ap (λ (z : ℤ). Some z) (sym own)
 
--- what a class is worth
+-- the worth of a class
 abbrev pub class_worth : ProblemState → ℕ → ℤ
 class_worth problem c = over_class (own_worth problem) problem.blocks c 0 (length problem.hours)
 

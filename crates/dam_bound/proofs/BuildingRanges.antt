@@ -27,7 +27,7 @@ use Rattle.dam_bound.specs.inside.Building.{side_net, AreRanges, PeriodsState, A
 use Rattle.dam_bound.specs.declared.periods.Range.{Range}
 use Rattle.dam_bound.proofs.BuildingPairs.{IsNextPair, block_at}
 
--- ---- what one side's blocks add to the net volume
+-- ---- the net volume of one side's blocks
 pub side_none : (side own : Side) → side_net side own 0 ≡ pos 0
 side_none Buy Buy = refl
 side_none Sell Sell = refl
@@ -291,7 +291,7 @@ either_min x y = elim (int_lt y x) as (λ (t : Bool). (cond t y x ≡ x) ⊎ (co
 either_max : (x y : ℤ) → (int_max x y ≡ x) ⊎ (int_max x y ≡ y)
 either_max x y = elim (int_lt y x) as (λ (t : Bool). (cond t x y ≡ x) ⊎ (cond t x y ≡ y)) [ true ↦ inl refl | false ↦ inr refl ]
 
--- what a block adds to the net volume is below 0 if it buys, and above 0 if it sells
+-- the net volume of a block is below 0 if it buys, and above 0 if it sells
 bought_net : (own : Side) (volume : ℕ) (n m : ℤ) → n ≡ neg_ℤ (signed own (pos volume)) → (m ≡ n) ⊎ (m ≡ pos 0) → m ≤ℤ n → m ≤ℤ pos 0
     → m ≡ side_net Buy own volume
 bought_net Buy volume n m is (inl e) a b = omega (arith, ints, is, e)

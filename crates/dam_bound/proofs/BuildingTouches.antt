@@ -1,4 +1,4 @@
--- The touches of a block, pair by pair, and what stays of those that are there.
+-- The touches of a block, pair by pair, and the curves and losses that stay.
 use Rattle.std.proofs.Common.{◌≡◌, ◌≢◌, ℕ, zero, suc, ◌+◌, ◌<◌, ◌≤◌, ◌==◌, ◌&&◌, not, nat_lt, cond, Bool, true, false, ℤ, pos, ◌+ℤ◌, ◌*ℤ◌}
 use Rattle.std.proofs.Common.{negsuc, Some, List, [], ◌∷◌, ◌++◌, length, length-append, length-drop, take, drop, get_or, inl, inr}
 use Rattle.std.proofs.Common.{ap, ap₂, ◌∙◌, sym, subst, refl, arith}
@@ -33,7 +33,7 @@ use Rattle.dam_bound.proofs.DayLevels.{of_pushed}
 use Rattle.dam_bound.proofs.Classing.{class_volume, same_class}
 use Rattle.dam_bound.proofs.BuildingPairs.{IsNextPair, block_at}
 
--- ---- what is there stays
+-- ---- the values that are there stay
 pub keeps_all : (all : CurvesState) → Keeps all all
 keeps_all all = record { curves = λ curve periods least most is. is; losses = take-length all.losses }
 
@@ -275,7 +275,7 @@ all_touched problem all kept k j b touches at are past so_far = record {
   each = so_far.each;
 }
 
--- ---- what a block is worth in a class
+-- ---- the value of a block in a class
 times_more : (v : ℤ) (m : ℕ) → v +ℤ v *ℤ pos m ≡ v *ℤ pos (suc m)
 times_more (pos n) m = let e = mul-suc n m in omega (arith, ints, e)
 times_more (negsuc n) m = let e = mul-suc (suc n) m in omega (arith, ints, e)

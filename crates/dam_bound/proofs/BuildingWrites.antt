@@ -1,4 +1,4 @@
--- What is written for each touch, and the curves and slots that a block leaves.
+-- The values written for each touch, and the curves and slots that a block leaves.
 use Rattle.std.proofs.Common.{◌≡◌, ◌≢◌, ℕ, zero, suc, ◌+◌, ◌*◌, ◌<◌, ◌≤◌, ◌==◌, cond, Bool, true, false, Some, List, [], ◌∷◌}
 use Rattle.std.proofs.Common.{◌++◌, length, drop, get_or, slice_set, inl, inr, ap, ap₂, ◌∙◌, sym, subst, refl, arith, ℤ, pos}
 use Rattle.std.specs.List.{slice_get}
@@ -41,7 +41,7 @@ blank = record {
   stake = pos 0;
 }
 
--- ---- what is written for each touch, at its place
+-- ---- the values written for each touch, at its place
 abbrev pub written : {X : Type 0} → (Touch → X) → List X → List Touch → List X
 written f xs [] = xs
 written f xs (touch ∷ touches) = written f (slice_set xs touch.at (f touch)) touches
@@ -57,7 +57,7 @@ same_at c touch e = let t : (touch.at == c) ≡ true = grind (arith, nat_tests) 
 other_at : (c : ℕ) (touch : Touch) → touch.at ≢ c → ◌≡◌ {A = ℕ} (cond (touch.at == c) 1 0) 0
 other_at c touch e = let t : (touch.at == c) ≡ false = grind (arith, nat_tests) in ap {B = ℕ} (λ (b : Bool). cond b 1 0) t
 
--- the place of no touch has what it had
+-- a place without a touch has the value that it had
 pub written_other : {X : Type 0} (f : Touch → X) (xs : List X) (touches : List Touch) (c : ℕ) (d : X) → touches_at c touches ≡ 0
     → get_or (written f xs touches) c d ≡ get_or xs c d
 written_other f xs [] c d none = refl
@@ -67,7 +67,7 @@ written_other f xs (touch ∷ touches) c d none =
     written_other f (slice_set xs touch.at (f touch)) touches c d (omega (arith, none, parts))
     ∙ get_or-set_other xs touch.at c (f touch) d apart
 
--- the place of a touch has what was written for one
+-- the place of a touch has the value written for a touch
 pub written_own : {X : Type 0} (P : X → Type 0) (f : Touch → X) (xs : List X) (touches : List Touch) (c : ℕ) (d : X) → c < length xs
     → 0 < touches_at c touches
     → ((j : ℕ) (touch : Touch) → slice_get touches j ≡ Some touch → touch.at ≡ c → P (f touch))
@@ -95,7 +95,7 @@ written_own P f xs (touch ∷ touches) c d l some each =
           ])
     ]
 
--- a fact of what was there and of all that is written
+-- a fact of the values that were there and of all that are written
 pub written_all : {X : Type 0} (P : X → Type 0) (f : Touch → X) (xs : List X) (touches : List Touch) (c : ℕ) (d : X) → c < length xs
     → P (get_or xs c d) → ((j : ℕ) (touch : Touch) → slice_get touches j ≡ Some touch → P (f touch))
     → P (get_or (written f xs touches) c d)

@@ -129,7 +129,7 @@ member_none blocks left c i net (hour ∷ rest) e = elim (equal_or (first_of blo
       (member_none blocks left c (suc i) net rest (sym (joint_elsewhere blocks left c i net hour rest other) ∙ e))
 ]
 
--- what the periods are worth is the class's welfare, and what is added to each
+-- the worths of the periods are the class's welfare, and the value added to each
 joint_parts : (f more : ℕ → ℤ) (blocks left : List Block) (c i : ℕ) (net : ℤ) (rest : List (List Step)) (w : ℤ)
     → ((k j : ℕ) (ss : List Step) (g : ℤ) → j ≡ i + k → slice_get rest k ≡ Some ss → first_of blocks j ≡ c
     → great_in left net j ss ≡ Some g → f (suc j) ≡ g +ℤ more (suc j))
@@ -170,11 +170,11 @@ same_joint blocks left other c i net (hour ∷ rest) same = elim (equal_or (firs
       ∙ sym (joint_elsewhere blocks other c i net hour rest apart)
 ]
 
--- ---- what a class is worth
+-- ---- the worth of a class
 abbrev pub class_part : ProblemState → List Bool → ℕ → ℤ
 class_part problem prefix c = over_class (part problem.blocks problem.hours prefix) problem.blocks c 0 (length problem.hours)
 
--- what the accepted blocks are worth in it
+-- the value of the accepted blocks in it
 abbrev pub class_blocks : ProblemState → List Bool → ℕ → ℤ
 class_blocks problem prefix c = over_class (block_value problem.blocks prefix) problem.blocks c 0 (length problem.hours)
 
@@ -284,7 +284,7 @@ over_by Decide false f blocks c n = over_none blocks c 0 n
 over_by Turn true f blocks c n = refl
 over_by Turn false f blocks c n = over_neg f blocks c 0 n
 
--- what the accepted blocks are worth in the class changes by what the block is worth there
+-- the value of the accepted blocks in the class changes by the block's value there
 class_blocks_change : (problem : ProblemState) (place depth : ℕ) (change : Change) (accept : Bool) (before after : List Bool) (c : ℕ) (b : Block)
     → IsChange problem.blocks place change accept depth before after → slice_get problem.blocks place ≡ Some b
     → class_blocks problem after c ≡ class_blocks problem before c +ℤ by change accept (class_value problem b.order c)
@@ -295,7 +295,7 @@ class_blocks_change problem place depth change accept before after c b is at =
     ∙ ap (λ (z : ℤ). class_blocks problem before c +ℤ z)
     (over_by change accept (λ t. value_of t b.order) problem.blocks c (length problem.hours))
 
--- what the total gains by a class
+-- the change of the total by a class
 pub class_gain : (problem : ProblemState) (place depth : ℕ) (change : Change) (accept : Bool) (before after : List Bool) (c : ℕ) (b : Block)
     (own next : Position) (gained : ℤ) → IsChange problem.blocks place change accept depth before after
     → slice_get problem.blocks place ≡ Some b → IsPosition problem before c own → IsPosition problem after c next
@@ -328,7 +328,7 @@ pub record IsClassOf (problem : ProblemState) (c : ℕ) : Type 0 where
   pub inside : c < length problem.hours
   pub first : first_of problem.blocks c ≡ c
 
--- each class stands where the decisions that count for it put it, and the total is what all classes are worth
+-- each class stands where the decisions that count for it put it, and the total is the worth of all classes
 pub record IsChangedSoFar (problem : ProblemState) (before after : List Bool) (rest : List Touch) (at : ℕ → Position) (total : ℤ)
     : Type 0 where
   pub each : (c : ℕ) → IsClassOf problem c → IsPosition problem (chosen rest before after c) c (at c)
@@ -529,7 +529,7 @@ all_alike : (z : ℤ) (most t n : ℕ) → z ≡ pos most → sum_from (λ u. z)
 all_alike z most t zero e = omega (arith, ints)
 all_alike z most t (suc n) e = let rest = all_alike z most (suc t) n e in omega (arith, ints, rest, e)
 
--- what every problem keeps, as far as sizes go
+-- the sizes that every problem keeps
 pub record IsSized (problem : ProblemState) : Type 0 where
   pub few_periods : length problem.hours ≤ last_period
   pub few_blocks : length problem.blocks ≤ most_blocks
@@ -615,7 +615,7 @@ sum_at_most f g c (suc n) each =
     let rest = sum_at_most f g (suc c) n (λ d l m. each d (omega (arith, l)) (omega (arith, m))) in
     omega (arith, ints, here, rest)
 
--- what a period is worth after the change, and before it if none rises
+-- the worth of a period after the change, and before it if none rises
 falls_in : (problem : ProblemState) (before after : List Bool) (i : ℕ) (ss : List Step) (u : ℤ) → NeverRises problem.blocks before after
     → slice_get problem.hours i ≡ Some ss
     → period_welfare problem.blocks after (suc i) (relaxed_in problem after ss i) ≡ Some u
@@ -627,7 +627,7 @@ falls_in problem before after i ss u never at e =
     let most = more.2 in
     omega (arith, ints, now, was, most)
 
--- what a class is worth after the change, if it balances, and before it if no period rises
+-- the worth of a class after the change, if it balances, and before it if no period rises
 pub class_falls : (problem : ProblemState) (before after : List Bool) (c : ℕ) (next : Position) → NeverRises problem.blocks before after
     → IsPosition problem after c next → class_part problem after c ≤ℤ class_part problem before c
 class_falls problem before after c next never is =

@@ -74,7 +74,7 @@ alike_net blocks sel i j e =
     alike_sum net_volume_of blocks sel i j (λ o same. ap (λ (q : ℕ). neg_ℤ (signed o.side (pos q))) same) e
 
 -- ---- the first period of a class
--- what is found lies no later than the period, and is like it
+-- the period that is found isn't later than the period, and is like it
 found_from : (blocks : List Block) (i j left : ℕ) → j + left ≡ i
     → (first_from blocks i j left ≤ i) × (are_alike blocks (first_from blocks i j left) i ≡ true)
 found_from blocks i j zero e =
@@ -123,7 +123,7 @@ first_first blocks i =
     (alike_chain blocks (first_of blocks c) c i (first_alike blocks c) (first_alike blocks i)) in
     omega (arith, below, least)
 
--- the net volume of a period is that of the first one of its class
+-- the net volume of a period is the net volume of the first one of its class
 pub class_net : (blocks : List Block) (sel : List Bool) (i c : ℕ) → first_of blocks i ≡ c
     → net_volume blocks sel (suc i) ≡ net_volume blocks sel (suc c)
 class_net blocks sel i c e =

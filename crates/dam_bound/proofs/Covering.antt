@@ -1,4 +1,4 @@
--- The bound law: what a selection reaches in a period, the relaxed period reaches too.
+-- The bound law: the relaxed period reaches every welfare that a selection reaches in the period.
 use Rattle.std.proofs.Common.{◌≡◌, ℕ, suc, ◌+◌, ℤ, pos, ◌+ℤ◌, ◌≤ℤ◌, Bool, Option, Some, None, List, [], ◌∷◌, ◌++◌, length, drop, ap, ap₂}
 use Rattle.std.proofs.Common.{◌∙◌, sym, refl, arith}
 use Rattle.std.specs.Option.{option_map}
@@ -17,13 +17,13 @@ use Rattle.dam_bound.specs.Relaxed.{as_steps, relaxed_hours}
 use Rattle.dam_bound.proofs.Levelling.{relaxed_at}
 use Rattle.dam_bound.proofs.Standing.{stand, idle}
 
--- what the laws of sums over blocks say
+-- the laws of sums over blocks
 pub record SumLaws : Type 0 where
   pub parted : (f : BlockTerms → ℤ) (bs : List Block) (prefix rest : List Bool)
       → over_accepted f bs (prefix ++ rest) ≡ over_accepted f bs prefix +ℤ over_accepted f (drop (length prefix) bs) rest
   pub padded : (f : BlockTerms → ℤ) (bs : List Block) (prefix : List Bool) → over_accepted f bs (padded prefix) ≡ over_accepted f bs prefix
 
--- what the laws of one period and of sums over blocks say
+-- the laws of one period and of sums over blocks
 pub record Laws : Type 0 where
   pub joined : (ss ts : List Step) (xs ys : List ℕ) → IsExecution ss xs → IsExecution ts ys → IsExecution (ss ++ ts) (xs ++ ys)
   pub parted : (ss ts : List Step) (zs : List ℕ) → IsExecution (ss ++ ts) zs

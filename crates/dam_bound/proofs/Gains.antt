@@ -1,4 +1,4 @@
--- What a block gains, pair by pair of its volumes.
+-- The gain of a block, pair by pair of its volumes.
 use Rattle.std.proofs.Common.{◌≡◌, ◌≢◌, ℕ, zero, suc, ◌+◌, ◌<◌, ◌≤◌, ℤ, pos, ◌+ℤ◌, ◌-ℤ◌, ◌*ℤ◌, Bool, true, Option, Some, None, List, []}
 use Rattle.std.proofs.Common.{◌∷◌, length, drop, ap, ap₂, ◌∙◌, sym, subst, refl, arith}
 use Rattle.std.specs.List.{slice_get}

@@ -1,4 +1,4 @@
--- What is left of the total once a block is decided, class by class.
+-- The rest of the total once a block is decided, class by class.
 use Rattle.std.proofs.Common.{◌≡◌, ℕ, ◌+◌, ◌*◌, ◌^◌, ◌<◌, ◌≤◌, ◌==◌, cond, Bool, true, false, ℤ, pos, neg_ℤ, ◌+ℤ◌, ◌-ℤ◌, ◌≤ℤ◌, ◌<ℤ◌, ◌⊎◌, ◌↔◌}
 use Rattle.std.proofs.Common.{Option, Some, None, MatchOption, IfSome, List, [], ◌∷◌, ◌++◌, length, drop, get_or, inl, inr, ap, ◌∙◌, sym, subst, refl, arith}
 use Rattle.std.specs.List.{slice_get}
@@ -56,8 +56,8 @@ settled problem prefix c own is = record {
 abbrev pub stand_by : ProblemState → List Bool → List Bool → List Touch → ℕ → Position
 stand_by problem before after rest c = standing problem (chosen rest before after c) c
 
--- each class stands where the decisions that count for it put it, and what is left is what all are worth; or it is under
--- the floor, and so is the relaxed welfare after the decision, if there is one
+-- each class stands where the decisions that count for it put it, and the rest of the total is the worth of all; or it
+-- is under the floor, and so is the relaxed welfare after the decision, if there is one
 pub record IsLeft (problem : ProblemState) (before after : List Bool) (floor : ℤ) (rest : List Touch) (left : ℤ) : Type 0 where
   pub above : floor ≤ℤ left → IsChangedSoFar problem before after rest (stand_by problem before after rest) left
   pub under : left <ℤ floor → IsBelow problem after floor
@@ -110,7 +110,7 @@ welfare_none true after choice net e = both_none (Some choice.value) (joint_welf
 welfare_none false after choice net e =
     let same : net +ℤ pos 0 ≡ net = omega (arith, ints) in ap (joint_welfare after) same ∙ e
 
--- what is left after a touch, by the class's welfare before it and after it: less by the fall; or under the floor, and no
+-- the rest after a touch, by the class's welfare before it and after it: less by the fall; or under the floor, and no
 -- less than that
 abbrev pub Falls : ℤ → ℤ → ℤ → ℤ → Option ℤ → Type 0
 Falls floor left next before None = next <ℤ floor
@@ -272,7 +272,7 @@ pub exact_either : (accept : Bool) (after : List (List Step)) (choice : Choice) 
 exact_either true after choice net w loss l t = t
 exact_either false after choice net w loss l t = l
 
--- what 'lowered' makes of the total
+-- the total that 'lowered' makes
 abbrev pub IsLowered : ℤ → Option ℤ → ℤ → ℤ → Type 0
 IsLowered left loss floor next =
     MatchOption loss (next ≡ neg_ℤ (pos 1)) (λ fall. (floor ≤ℤ left → next ≡ left -ℤ fall) × (left <ℤ floor → next ≡ left))
@@ -288,7 +288,7 @@ exact_low : (floor left next : ℤ) (loss : Option ℤ) → pos 0 ≤ℤ floor �
 exact_low floor left next None some f low = omega (arith, ints, f, some)
 exact_low floor left next (Some fall) some f low = let same = f.1 low in omega (arith, ints, same, low)
 
--- what the class is worth there, as the curve before the choice has it
+-- the worth of the class there, as the curve before the choice has it
 pub own_welfare : {problem : ProblemState} {place : ℕ} {accept : Bool} (before : List Bool) (c : ℕ) (net whole : ℤ)
     → IsDecision problem place accept before → Some whole ≡ relaxed_welfare problem before → net ≡ net_volume problem.blocks before (c + 1)
     → joint_welfare (class_hours problem place c) net ≡ Some (as_read problem before c net).welfare
@@ -341,7 +341,7 @@ all_lost {problem} {before} {after} {floor} {left} {rest} (Some z) m none is =
     (ap (λ (x : ℤ). Some x) same ∙ all.1, high)
 
 -- ---- either decision
--- what is left for a decision, of the two
+-- the rest for a decision, of the two
 abbrev pub left_by : Bool → ℤ → ℤ → ℤ
 left_by true rejected accepted = accepted
 left_by false rejected accepted = rejected
@@ -388,7 +388,7 @@ none_left {problem} {before} {after} {floor} {rest} true result rejected accepte
 none_left {problem} {before} {after} {floor} {rest} false result rejected accepted e low high is =
     subst (λ (x : Extensions). IsBoundFrom problem after floor (bound_by false x)) (sym e) (is.under low)
 
--- and else each is what is left of the total, if it isn't under the floor
+-- and else each is the rest of the total, if it isn't under the floor
 pub both_left : {problem : ProblemState} {before after : List Bool} {floor : ℤ} {rest : List Touch} (accept : Bool)
     (rejected accepted : ℤ) (result : Extensions)
     → MatchOption result.rejected (rejected <ℤ floor) (λ z. (z ≡ rejected) × (floor ≤ℤ z))
@@ -413,7 +413,7 @@ relaxed_within laws problem prefix total sized whole =
     some_is : (x y : ℤ) → Some x ≡ Some y → x ≡ y
     some_is x y e = cc
 
--- ---- by what was asked for
+-- ---- by the bound that was asked for
 pub bound_is : (problem : ProblemState) (prefix : List Bool) (least : ℕ) (shown floor : ℤ) (result : Option ℤ) → shown ≡ floor
     → floor ≤ℤ pos least → IsBoundFrom problem prefix shown result → IsBoundOf problem prefix least result
 bound_is problem prefix least shown floor None same below is = λ w e. (let low = is w e in omega (arith, ints, low, below, same))

@@ -1,4 +1,4 @@
--- The blocks that descend from one, place by place, and the sum of what they gain.
+-- The blocks that descend from one, place by place, and the sum of their gains.
 use Rattle.std.proofs.Common.{◌≡◌, ◌≢◌, ℕ, zero, suc, ◌+◌, ◌<◌, ◌≤◌, ℤ, pos, ◌+ℤ◌, Bool, true, false, Option, Some, List, [], ◌∷◌, length}
 use Rattle.std.proofs.Common.{drop, get_or, slice_set, option_map, unwrap_or, ap, ◌∙◌, sym, refl, inl, inr, arith}
 use Rattle.std.specs.List.{slice_get}
@@ -65,7 +65,7 @@ first_apart : (f : BlockTerms → ℤ) (b : Block) (bs : List Block) (c : Bool) 
 first_apart f b bs true sel = refl
 first_apart f b bs false sel = omega (arith, ints)
 
--- a place, and what is left
+-- a place, and the rest
 from_place : (f : BlockTerms → ℤ) (i : ℕ) (bs : List Block) (b : Block) (sel : List Bool) → slice_get bs i ≡ Some b
     → over_accepted f (drop i bs) (drop i sel) ≡ if_accepted (accepts sel i) (f b.order) +ℤ over_accepted f (drop (suc i) bs)
     (drop (suc i) sel)

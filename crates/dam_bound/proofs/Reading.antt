@@ -18,7 +18,8 @@ use Rattle.dam_bound.specs.Trail.{IsDayIn, slot_at}
 use Rattle.dam_bound.proofs.Changing.{standing, stands}
 use Rattle.dam_bound.proofs.Walking.{net_in_range, curve_fits}
 
--- what a class is looked up by: its curve with every block decided, and its net volume on it, at which it has a welfare
+-- the parts by which a class is looked up: its curve with every block decided, and its net volume on it, at which it
+-- has a welfare
 pub record IsRead (problem : ProblemState) (all : CurvesState) (prefix : List Bool) (c : ℕ) (curve : Curve) (net : ℤ) : Type 0 where
   pub net_is : net ≡ net_volume problem.blocks prefix (c + 1)
   pub curve_is : IsClassCurve problem all (length problem.blocks) c curve

@@ -41,7 +41,7 @@ added_up x y a b all =
       ap (λ (z : ℤ). to_z w64 (of_z w64 z)) same ∙ to_z-of_z w64 (x +ℤ y) all,
     )
 
--- a sum as the code has it, of a local and of what a call returned
+-- a sum as the code has it, of a local and of the result of a call
 pub added_to : (x y : ℤ) → SFits w64 y → SFits w64 (x +ℤ y)
     → SFits w64 (x +ℤ to_z w64 (of_z w64 y)) × (to_z w64 (of_z w64 (x +ℤ to_z w64 (of_z w64 y))) ≡ x +ℤ y)
 added_to x y b all =

@@ -82,7 +82,7 @@ slot_apart blocks i at k b here l apart = still (volume_in b.order.volumes (i + 
         let own = slot_own blocks i k b here (omega (arith, e)) in omega (arith, own, apart)
 
 -- ---- the days
--- a day that has the same of each place
+-- a day with the same position at each place
 pub copied : (problem : ProblemState) (prefix : List Bool) (count : ℕ) (from to : Day) → length problem.hours ≤ count
     → ((i : ℕ) (d : Position) → i < count → get_or to.classes i d ≡ get_or from.classes i d) → to.total ≡ from.total
     → length to.classes ≡ last_period
@@ -94,7 +94,7 @@ copied problem prefix count from to few same total long is = record {
   total_is = ap Some total ∙ is.total_is;
 }
 
--- what stands below a block's row is there for each prefix that doesn't decide it
+-- the slots below a block's row are there for each prefix that doesn't decide it
 pub keeps_days : (problem : ProblemState) (depth : ℕ) (before after : Trail) → length problem.hours ≤ last_period
     → ((i : ℕ) (d : ℤ) → i < (depth + 1) * last_period → get_or after.slots i d ≡ get_or before.slots i d)
     → length after.slots ≡ slot_count → KeepsDays problem depth before after

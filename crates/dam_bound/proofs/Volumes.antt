@@ -40,7 +40,7 @@ pair_above low (q ∷ ps) zero p e at = let same : q ≡ p = cc in let n = ap (�
 pair_above low (q ∷ ps) (suc k) p e at = let less = first_above low q ps e in let more = pair_above q.0 ps k p (rest_above low q ps e) at in
     omega (arith, less, more)
 
--- the volume of a pair is that of its period
+-- the volume of a pair is the volume in its period
 pub volume_at : (low : ℕ) (ps : List Pair) (k : ℕ) (p : Pair) → is_increasing low ps ≡ true → slice_get ps k ≡ Some p
     → volume_in ps p.0 ≡ p.1
 volume_at low [] k p e at = absurd (cc)

@@ -49,7 +49,7 @@ use Rattle.dam_blocks.proofs.Magnitudes.{value_within}
 use Rattle.dam_bound.proofs.Levelling.{drop_at}
 use Rattle.dam_bound.proofs.Slots.{slot_kept, slot_own, slot_below, slot_within, slot_apart}
 
--- ---- what all tables tell
+-- ---- the facts of all tables
 pub sized : {problem : ProblemState} {tables : _} → AreTablesOf problem tables → IsSized problem
 sized {problem} {tables} are = record {
   few_periods = are.few_periods;
@@ -59,7 +59,7 @@ sized {problem} {tables} are = record {
   few_hourly = are.few_hourly;
 }
 
--- ---- the net volume lies between what the blocks of either side can make of it
+-- ---- the net volume lies between the net volumes that the blocks of either side can make
 side_net : (side : Side) (v : ℕ) (least most : ℤ) (n : ℤ) → least ≤ℤ n → n ≤ℤ most
     → ((if_of Buy side (neg_ℤ (signed side (pos v))) +ℤ least) ≤ℤ (neg_ℤ (signed side (pos v)) +ℤ n))
     × ((neg_ℤ (signed side (pos v)) +ℤ n) ≤ℤ (if_of Sell side (neg_ℤ (signed side (pos v))) +ℤ most))
@@ -105,7 +105,7 @@ now_position problem place depth change accept before after c b own next net is 
   welfare_is = ap₂ (λ (k : ℕ) (z : ℤ). class_welfare problem k c z) is.long sum ∙ found;
 }
 
--- it is within what the curve is for
+-- it is within the range of the curve
 pub moved_within : (problem : ProblemState) (place depth : ℕ) (change : Change) (accept : Bool) (before after : List Bool) (c : ℕ) (b : Block)
     (own : Position) (net : ℤ) → IsChange problem.blocks place change accept depth before after → slice_get problem.blocks place ≡ Some b
     → IsPosition problem before c own → net ≡ by change accept (net_volume_of (c + 1) b.order)
@@ -380,12 +380,12 @@ pub to_within : {problem : ProblemState} {all : CurvesState} {place : ℕ} {b : 
 to_within {problem} {all} {place} {b} {kept} {touch} few many t =
     let inside = t.inside in let to = t.to_is in omega (arith, inside, few, many, to)
 
--- one touch more leaves what is below the block's row
+-- one touch more leaves the slots below the block's row
 pub below_more : (place to i : ℕ) (slots : List ℤ) (next d : ℤ) → (place + 1) * last_period ≤ to → i < (place + 1) * last_period
     → get_or (slice_set slots to next) i d ≡ get_or slots i d
 below_more place to i slots next d high low = get_or-set_other slots to i next d (omega (arith, high, low))
 
--- ---- what is looked up at a touch
+-- ---- the numbers looked up at a touch
 abbrev no_curve : Curve
 no_curve = record { first = 0; count = 0; bottom = pos 0; top = pos 0; hints = record { first = 0; shift = 0 } }
 

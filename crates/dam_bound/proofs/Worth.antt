@@ -1,4 +1,4 @@
--- The total of a day, as the sum of what its periods are worth.
+-- The total of a day, as the sum of the worths of its periods.
 use Rattle.std.proofs.Common.{◌≡◌, ◌≢◌, ℕ, zero, suc, ◌+◌, ◌-◌, ◌*◌, ◌<◌, ◌≤◌, ℤ, pos, ◌+ℤ◌, ◌-ℤ◌, ◌≤ℤ◌, Bool, Option, Some, None, List, []}
 use Rattle.std.proofs.Common.{◌∷◌, ◌++◌, length, drop, get_or, inl, inr, ap, ap₂, ◌∙◌, sym, subst, refl, arith}
 use Rattle.std.specs.List.{slice_get}
@@ -13,13 +13,13 @@ use Rattle.dam_bound.specs.Relaxed.{as_steps, relaxed_hours}
 use Rattle.dam_bound.proofs.Covering.{added_some}
 use Rattle.dam_bound.proofs.Levelling.{relaxed_at}
 
--- ---- what a period is worth
+-- ---- the worth of a period
 -- the welfare, if there is one
 abbrev pub worth : Option ℤ → ℤ
 worth None = pos 0
 worth (Some w) = w
 
--- what a period is worth under a prefix, with the undecided blocks as steps
+-- the worth of a period under a prefix, with the undecided blocks as steps
 abbrev pub part : List Block → List (List Step) → List Bool → ℕ → ℤ
 part blocks hours prefix t = worth (period_welfare blocks prefix t (get_or hours (t - 1) [] ++ as_steps t (drop (length prefix) blocks)))
 
@@ -75,7 +75,7 @@ sum_within f t (suc n) most each =
     let a = here.at_least in let b = here.at_most in let c = more.at_least in let e = more.at_most in
     record { at_least = omega (arith, ints, a, c); at_most = omega (arith, ints, b, e) }
 
--- the sum is the relaxed welfare, if each is what its period is worth
+-- the sum is the relaxed welfare, if each number is its period's worth
 pub sum_is_welfare : (f : ℕ → ℤ) (blocks left : List Block) (prefix : List Bool) (t : ℕ) (hours : List (List Step))
     → ((i : ℕ) (ss : List Step) → slice_get hours i ≡ Some ss → Some (f (t + i)) ≡ period_welfare blocks prefix (t + i)
     (ss ++ as_steps (t + i) left))

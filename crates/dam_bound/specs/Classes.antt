@@ -13,7 +13,8 @@ abbrev pub are_alike : List Block → ℕ → ℕ → Bool
 are_alike [] i j = true
 are_alike (b ∷ bs) i j = (volume_in b.order.volumes (suc i) == volume_in b.order.volumes (suc j)) && are_alike bs i j
 
--- the first of so many places from j on whose period is like the one at i; the place after them if none is
+-- the first of `left` places from j on whose period is like the one at i; the place after them if there is
+-- none
 abbrev pub first_from : List Block → ℕ → ℕ → ℕ → ℕ
 first_from blocks i j zero = j
 first_from blocks i j (suc left) = if are_alike blocks j i then j else first_from blocks i (suc j) left

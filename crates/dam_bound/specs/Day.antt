@@ -1,4 +1,4 @@
--- What a prefix makes of each class of periods.
+-- The day of a prefix: the position of each class of periods.
 use Rattle.std.specs.Prelude.{◌≡◌, ℕ, ◌+◌, ◌<◌, Bool, ℤ, pos, ◌<ℤ◌, Some, List, length, slice_index_or}
 use Rattle.dam_book.specs.Limits.{last_period}
 use Rattle.dam_blocks.specs.Problem.{ProblemState}
@@ -8,8 +8,8 @@ use Rattle.dam_bound.specs.Relaxed.{relaxed_welfare}
 use Rattle.dam_bound.specs.declared.day.Day.{Day}
 use Rattle.dam_bound.specs.declared.day.Position.{Position}
 
--- where the class stands: the net volume of the prefix's accepted blocks, and the joint welfare there, without what
--- these are worth
+-- the position of the class: the net volume of the prefix's accepted blocks, and the joint welfare there, without the
+-- value of these blocks
 pub record IsPosition (problem : ProblemState) (prefix : List Bool) (c : ℕ) (own : Position) : Type 0 where
   pub net_is : own.net ≡ net_volume problem.blocks prefix (c + 1)
   pub welfare_is : class_welfare problem (length prefix) c own.net ≡ Some own.welfare

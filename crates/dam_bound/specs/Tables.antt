@@ -1,4 +1,5 @@
--- What the walk reads: the curve of each class at each depth, and what each block is in each of its classes.
+-- The tables that a walk reads: the curve of each class at each depth, and the touches of each block, one for each of
+-- its classes.
 use Rattle.std.specs.Prelude.{◌≡◌, ℕ, ◌+◌, ◌*◌, ◌<◌, ◌≤◌, ◌==◌, ◌&&◌, not, nat_lt, if◌then◌else◌, Bool, ℤ, pos, ◌+ℤ◌, Option, Some, List, [], ◌∷◌, length}
 use Rattle.std.specs.Prelude.{take, slice_get, slice_index_or, count_by}
 use Rattle.dam_book.specs.Limits.{last_period, most_hourly, most_blocks}
@@ -17,7 +18,7 @@ use Rattle.dam_bound.specs.Trail.{slot_count, slot_at}
 use Rattle.dam_bound.specs.inside.Families.{AreFamilies}
 use Rattle.dam_bound.specs.declared.touch.Touch.{Touch}
 
--- ---- what the decided blocks can make of the net volume
+-- ---- the net volumes that the decided blocks can make
 -- the number, if it is of the side that is asked for
 abbrev pub if_of : Side → Side → ℤ → ℤ
 if_of Buy Buy z = z
@@ -25,7 +26,7 @@ if_of Sell Sell z = z
 if_of Buy Sell z = pos 0
 if_of Sell Buy z = pos 0
 
--- what the blocks of one side add to the net volume of a period, if all of them are accepted
+-- the net volume of one side's blocks in a period, if all of them are accepted
 abbrev pub net_of_side : Side → ℕ → List Block → ℤ
 net_of_side side t [] = pos 0
 net_of_side side t (b ∷ bs) = if_of side b.order.side (net_volume_of t b.order) +ℤ net_of_side side t bs
@@ -51,7 +52,7 @@ pub record AreCurves (problem : ProblemState) (all : CurvesState) (depth : ℕ) 
       → IsClassCurve problem all depth c (slice_index_or curves c d)
 
 -- ---- a block
--- what the block is worth in all periods of a class
+-- the value of the block in all periods of a class
 abbrev pub class_value : ProblemState → BlockTerms → ℕ → ℤ
 class_value problem o c = over_class (λ t. value_of t o) problem.blocks c 0 (length problem.hours)
 
@@ -61,7 +62,8 @@ HasLosses problem all place touch =
     AreLosses all.losses (class_hours problem place touch.at) (class_hours problem (place + 1) touch.at) touch.choice touch.offset
     (least_net problem.blocks place touch.at) (most_net problem.blocks place touch.at)
 
--- what a decision on the block at the place makes of one of its classes; the losses are kept from this place on
+-- a touch of the block at the place: the decision on it in one of its classes; the losses are kept from the place
+-- 'kept' on
 pub record IsTouch (problem : ProblemState) (all : CurvesState) (place : ℕ) (b : Block) (kept : ℕ) (touch : Touch) : Type 0 where
   pub inside : touch.at < length problem.hours
   pub first : first_of problem.blocks touch.at ≡ touch.at
@@ -120,8 +122,8 @@ pub record TablesState : Type 0 where
   pub root : ℤ
   pub families : List (Option (List Bool))
 
--- what the tables of a problem have: a curve for each class and depth, the touches of each block, the relaxed welfare with
--- no block decided, and the families
+-- the tables of a problem: a curve for each class and depth, the touches of each block, the relaxed welfare with no
+-- block decided, and the families
 pub record AreTablesOf (problem : ProblemState) (tables : TablesState) : Type 0 where
   pub count_is : tables.count ≡ length problem.hours
   pub few_periods : length problem.hours ≤ last_period

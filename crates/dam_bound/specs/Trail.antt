@@ -1,4 +1,5 @@
--- The days of a walk, in slots: what a decision writes is read by the prefixes that extend it alone.
+-- The days of a walk, in slots: the slots that a decision writes are read only by the prefixes that
+-- extend it.
 use Rattle.std.specs.Prelude.{◌≡◌, ℕ, zero, suc, ◌+◌, ◌*◌, ◌<◌, ◌≤◌, ◌==◌, if◌then◌else◌, Bool, true, false, ℤ, Option, Some, None, List, length, MatchOption}
 use Rattle.std.specs.Prelude.{slice_get, slice_index_or}
 use Rattle.dam_book.specs.Limits.{last_period, most_blocks}

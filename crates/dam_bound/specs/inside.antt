@@ -1,4 +1,4 @@
--- What only contracts inside this crate cite.
+-- Only contracts inside this crate cite these.
 pub mod Levels
 pub mod Change
 pub mod Families

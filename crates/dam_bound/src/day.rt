@@ -22,8 +22,8 @@ use std::alloc::Allocator;
 pub struct Position {
     /// The net volume of the accepted blocks in each of its periods, in tenths of a MW.
     pub(crate) net: i64,
-    /// The relaxed welfare of its periods, apart from what the accepted blocks are worth, in cents per MWh times
-    /// tenths of a MW.
+    /// The relaxed welfare of its periods, without the value of the accepted blocks, in cents per MWh times tenths of a
+    /// MW.
     pub(crate) welfare: i64,
 }
 

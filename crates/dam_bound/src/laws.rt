@@ -53,9 +53,9 @@ pub fn decided()
     dam_blocks::laws::sums();
 }
 
-/// The completions of a prefix are those of its two extensions by the next block. The prefix with
-/// no other block accepted is one of them; and if every block is decided, it is the only one that
-/// can be admissible.
+/// The completions of a prefix are the completions of its two extensions by the next block. The
+/// prefix with no other block accepted is one of them; and if every block is decided, it is the
+/// only one that can be admissible.
 pub fn completions()
     ensures extended { (prefix sel : List Bool) → length prefix < most_blocks
         → IsCompletion prefix sel

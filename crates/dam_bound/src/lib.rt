@@ -15,14 +15,14 @@
 //! let same = relaxed.bound(Selection::none().with(0), 1); // from the definition
 //! ```
 //!
-//! Two periods are in one class if every block has the same volume in both, so that they have the same net volume
-//! whatever is decided. A table is the joint welfare of a class's periods over its net volume, without what the
-//! accepted blocks are worth, as straight lines (`dam_curve`): one with no block decided, and one for each block
-//! with a volume there. It is proved to be the definition's welfare, which [`Relaxed::bound`] finds by clearing
-//! each period. The tables before and after a block give its losses in a class: by how much the welfare falls at a net
-//! volume if the block is rejected, and if it is accepted. In tables for a long search (`with_losses`) the last blocks
-//! keep their losses for each net volume that the earlier ones can make, and one look-up then finds the losses of both
-//! decisions, unless the bound is too far above what is asked for to need them.
+//! Two periods are in one class if every block has the same volume in both, so that any decisions give both the same
+//! net volume. A table is the joint welfare of a class's periods over its net volume, without the value of the accepted
+//! blocks, as straight lines (`dam_curve`): one with no block decided, and one for each block with a volume there. It
+//! is proved to be the definition's welfare, which [`Relaxed::bound`] finds by clearing each period. The tables before
+//! and after a block give its losses in a class: by how much the welfare falls at a net volume if the block is
+//! rejected, and if it is accepted. In tables for a long search (`with_losses`) the last blocks keep their losses for
+//! each net volume that the earlier ones can make. One look-up then finds the losses of both decisions, unless the
+//! bound is so far above the value asked for that they aren't needed.
 //!
 //! A walk down the tree of prefixes keeps the days of those on its way, the net volume of each class, in the slots of
 //! a [`Trail`]. It begins with the day of the prefix that decides nothing (`begin`). The losses of the next block, one
@@ -32,9 +32,9 @@
 //! decision reversed, and `gain` returns the gain of an accepted block with its accepted descendants. It clears the
 //! hours of the problem at the net volumes of the day, since no table has the price of a period.
 //!
-//! What these words mean stands in `specs/`: prefixes and their completions, the relaxed welfare, the live count, the
-//! classes and the tables. A contract sees a [`Walk`] or a [`Relaxed`] as the problem that it was built of, without its
-//! rows. Tests alone show that a call reports out of memory only if memory was refused.
+//! `specs/` defines these words: prefixes and their completions, the relaxed welfare, the live count, the classes and
+//! the tables. A contract sees a [`Walk`] or a [`Relaxed`] as the problem that it was built from, without its rows.
+//! Only tests show that a call reports out of memory only if memory was refused.
 //!
 //! The crate doesn't know exclusive groups, or which selections are admissible or eligible. The only links it knows are
 //! which block descends from which.

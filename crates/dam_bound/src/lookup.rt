@@ -40,8 +40,8 @@ pub(crate) fn end_of<A: Allocator>(tables: &Tables<A>, at: usize) -> Curve
     tables.ends[at]
 }
 
-/// Where a class stands after a change that adds this net volume and this value, on the curve that it then has; and
-/// what the total gains by it. `None` if some period doesn't balance.
+/// The class's position after a change that adds this net volume and this value, on the curve that it then has; and the
+/// change of the total. `None` if some period doesn't balance.
 #[inline(always)]
 pub(crate) fn moved<A: Allocator>(
     tables: &Tables<A>,

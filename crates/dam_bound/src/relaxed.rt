@@ -27,7 +27,7 @@ use std::marker::Model;
 pub struct Relaxed<A: Allocator = Global> {
     periods: Vec<Levels<A>, A>,
     blocks: Vec<Block, A>,
-    /// What a walk reads.
+    /// The tables that a walk reads.
     tables: Tables<A>,
 }
 
@@ -105,8 +105,8 @@ impl<A: Allocator + Copy> Relaxed<A> {
     }
 }
 
-/// The greatest welfare of a period at a depth, with what the accepted blocks are worth there;
-/// `None` if no execution balances.
+/// The greatest welfare of a period at a depth, with the value of the accepted blocks there; `None`
+/// if no execution balances.
 fn period_bound<A: Allocator>(
     levels: &Levels<A>,
     blocks: &[Block],
@@ -135,7 +135,7 @@ impl<A: Allocator> Relaxed<A> {
     /// of its periods apart from the others: the sum over the periods of the greatest welfare with
     /// the undecided blocks as orders, and the accepted buy blocks' limit times volume less the
     /// accepted sell blocks'. It may be below 0. `None` exactly if some period so relaxed has no
-    /// execution that balances. Nothing is promised if `taken` has a block past the decided
+    /// execution that balances. The result is unspecified if `taken` has a block past the decided
     /// ones. Takes no memory.
     pub fn bound(&self, taken: Selection, depth: usize) -> Option<i64>
         requires { depth ≤ length self.now.blocks }

@@ -1,5 +1,5 @@
-//! Which blocks keep their losses for each net volume. Losses that are kept are faster to look up, but take memory,
-//! so they are those of the last blocks, which a search decides most often.
+//! Which blocks keep their losses for each net volume. Losses that are kept are faster to look up, but take memory, so
+//! only the last blocks keep theirs, which a search decides most often.
 
 use dam_blocks::{Block, MOST_PERIODS};
 use dam_book::BlockOrder;

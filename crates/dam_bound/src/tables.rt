@@ -81,7 +81,7 @@ fn net_of(side: Side, qty: Qty) -> i32
     }
 }
 
-/// What is worth this much in one period, in this number of periods.
+/// The value over this number of periods, if it is `worth` in one.
 fn times(worth: i64, periods: i64) -> i64
     requires worth { IsWithin greatest_value worth }
     requires some { pos 0 ≤ℤ periods }
@@ -92,8 +92,8 @@ fn times(worth: i64, periods: i64) -> i64
     worth * periods
 }
 
-/// What is lost, or below 0 gained, by accepting the block, at this sum of the class's prices. It only decides which
-/// class is looked at first.
+/// The loss of accepting the block, at this sum of the class's prices; a gain is below 0. It only decides which class
+/// is looked at first.
 fn stake_of(order: &BlockOrder, qty: Qty, worth: i64, price: i64) -> i64 {
     let sold = price.saturating_mul(i64::from(qty.get()));
     match order.side() {
@@ -235,7 +235,7 @@ impl<A: Allocator> Deciding<'_, A> {
     }
 }
 
-/// The lot with what may be lost or gained most at the front.
+/// The lot by falling size of the stakes: the greatest possible loss or gain is at the front.
 fn by_stake<A: Allocator>(touches: Vec<Touch, A>) -> Lot<A>
     ensures { IsPermutation touches.items result }
 {

@@ -24,9 +24,9 @@ const SLOTS: usize = (MOST_BLOCKS + 1) * MOST_PERIODS;
 
 /// The days of the prefixes on a walk's way, from the one that decides nothing to the one that it is at.
 ///
-/// What a decision makes of a class is written to a slot of its own, and read if a later block has a
-/// volume there; so the days of the shorter prefixes stay, and the other decision on the same block
-/// begins from the same day.
+/// The net volume of a class after a decision is written to a slot of its own, and read if a later block
+/// has a volume there. So the days of the shorter prefixes stay, and the other decision on the same
+/// block begins from the same day.
 #[derive(Drop)]
 pub struct Trail {
     pub(crate) slots: [i64; SLOTS],
@@ -91,7 +91,8 @@ impl Extensions {
     }
 }
 
-/// `least` as an `i64`: no total is greater than `i64::MAX`, so a greater `least` becomes `i64::MAX`.
+/// `least` as an `i64`: a total is never greater than `i64::MAX`, so a greater `least` becomes
+/// `i64::MAX`.
 fn floor_of(least: u64) -> i64
     ensures floor { (total : ℤ) → IsWithin (last_period * greatest_period_bound) total
         → (total <ℤ result) ↔ (total <ℤ pos least) }

@@ -123,8 +123,8 @@ impl<'a, A: Allocator, B: Allocator> Walk<'a, A, B> {
         day_of(self.tables, trail, total)
     }
 
-    /// Makes `to` a day of whichever prefix `from` is the day of. Only what belongs to the problem's
-    /// periods is copied. Takes no memory.
+    /// Copies `from` to `to`, which then is the day of the same prefixes. Only the classes of the
+    /// problem's periods are copied. Takes no memory.
     pub fn copy_day(&self, from: &Day, to: &mut Day)
         ensures { (prefix : List Bool) → IsDay self.now prefix from.now
             → IsDay self.now prefix to.new }
@@ -135,7 +135,7 @@ impl<'a, A: Allocator, B: Allocator> Walk<'a, A, B> {
 
     /// Reverses the decision on the block at the place, to `accept`, on a day on which every block is
     /// decided, and returns `true`. Returns `false` if some period doesn't balance with the new decision;
-    /// nothing is then promised of the day.
+    /// the day is then unspecified.
     ///
     /// Only the classes of periods in which the block has a volume are changed. Takes no memory.
     pub fn turn(&self, day: &mut Day, place: usize, accept: bool) -> bool

@@ -1,4 +1,4 @@
--- What an export answers, and leaves in the caller's buffer.
+-- The answer of an export, and the caller's buffer after it.
 use Rattle.std.specs.Prelude.{◌≡◌, ◌⊎◌, ℕ, List, ◌++◌, length, take, drop, codes}
 use Rattle.dam_engines.specs.declared.fault.RunFault.{RunFault}
 use Rattle.dam_engines.specs.Fault.{fault_status, fault_text}
@@ -19,7 +19,7 @@ pub record IsDone (IsPrinted : List ℕ → Type 0) (answer : DamAnswer) (old ne
   pub printed : IsPrinted text
   pub holds : HoldsText old new answer.length text
 
--- the status is that of a fault that may be answered, and the buffer holds its line
+-- the status is the status of a fault that may be answered, and the buffer holds its line
 pub record IsFailed (IsFault : RunFault → Type 0) (answer : DamAnswer) (old new : List ℕ) : Type 0 where
   pub fault : RunFault
   pub is : IsFault fault

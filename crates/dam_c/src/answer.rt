@@ -8,7 +8,8 @@ use dam_engines::{RunFault, short_line, status};
 #[repr(C)]
 #[derive(Clone, Copy)]
 pub struct DamAnswer {
-    /// 0, or the fault's status. If it is 0, the text is what `dam` prints, and else the line of the fault.
+    /// 0, or the fault's status. If it is 0, the text is the output of `dam`; otherwise it is the line of
+    /// the fault.
     pub status: u8,
     /// The length of the whole text in bytes. The buffer holds its first bytes, as many as it has room for.
     pub length: usize,

@@ -1,11 +1,11 @@
-//! The engines of `dam` for callers in C, and in any language that calls C: each reads a journal's text, and leaves the
-//! text that `dam` prints for it in a buffer of the caller's.
+//! The engines of `dam` for callers in C, and in any language that calls C: each reads a journal's text, and writes the
+//! text that `dam` prints for it to a buffer of the caller's.
 //!
-//! They start no thread, keep nothing between calls, and read and write nothing but memory, so any number of threads
-//! may call them at the same time. If memory runs out, that is a status. `library/dam.h` is the header; it says what a
-//! caller owes.
+//! They don't start threads, keep no state between calls, and read and write only memory, so any number of threads may
+//! call them at the same time. If memory runs out, a status reports it. `library/dam.h` is the header; it states the
+//! preconditions that a caller must satisfy.
 //!
-//! The crate knows nothing of rules: it hands a text to an engine of `dam_engines`, and copies what that makes.
+//! The crate doesn't know rules: it hands a text to an engine of `dam_engines`, and copies the engine's text.
 #![tactic(auto)]
 
 mod answer;
@@ -24,7 +24,7 @@ use dam_engines::{clear_text_alone, replies_of};
 use given::drawn_from;
 use std::alloc::Global;
 
-/// What `dam replay` prints for the text. The book hashes names by the seed that everybody knows.
+/// The output of `dam replay` for the text. The book hashes names with the public fixed seed.
 #[unsafe(no_mangle)]
 pub extern "C" fn dam_replay(alloc: Global, text: &[u8], buffer: &mut [u8]) -> DamAnswer
     ensures { IsReturned (IsMadeFrom AreReplies text.now) (IsTextFault text.now)
@@ -33,7 +33,7 @@ pub extern "C" fn dam_replay(alloc: Global, text: &[u8], buffer: &mut [u8]) -> D
     answer(replies_of(alloc, Seed::fixed(), text), buffer)
 }
 
-/// The same, but the book hashes names by a seed that is drawn from the caller's secret, at least 16 random bytes.
+/// The same, but the book hashes names with a seed that is drawn from the caller's secret, at least 16 random bytes.
 #[unsafe(no_mangle)]
 pub extern "C" fn dam_replay_seeded(
     alloc: Global,
@@ -47,9 +47,9 @@ pub extern "C" fn dam_replay_seeded(
     answer(replies_of(alloc, drawn_from(secret), text), buffer)
 }
 
-/// What `dam clear` prints for the text. The search visits at most `nodes` nodes, and maybe a trial before: 0 leaves
-/// every search unfinished, and from 67,108,864 on none is. A limit below the number of nodes that the search must visit
-/// gives no results.
+/// The output of `dam clear` for the text. The search visits at most `nodes` nodes, besides those of a trial that may
+/// come first. With 0, a search never finishes; with 67,108,864 or more, it always does. If the search needs more nodes
+/// than the limit, there are no results.
 #[unsafe(no_mangle)]
 pub extern "C" fn dam_clear(alloc: Global, text: &[u8], nodes: u32, buffer: &mut [u8]) -> DamAnswer
     ensures { IsReturned (IsClearedWithin (terms_alone nodes) text.now)
@@ -59,7 +59,7 @@ pub extern "C" fn dam_clear(alloc: Global, text: &[u8], nodes: u32, buffer: &mut
     answer(clear_text_alone(alloc, Seed::fixed(), text, nodes), buffer)
 }
 
-/// The same, but the book hashes names by a seed that is drawn from the caller's secret, at least 16 random bytes.
+/// The same, but the book hashes names with a seed that is drawn from the caller's secret, at least 16 random bytes.
 #[unsafe(no_mangle)]
 pub extern "C" fn dam_clear_seeded(
     alloc: Global,

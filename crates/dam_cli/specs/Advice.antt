@@ -1,4 +1,5 @@
--- What a person at a terminal reads about a fault of the input, and about words that name a file or ask for the version.
+-- The text that a person at a terminal reads about a fault of the input, and about words that name a file or ask for
+-- the version.
 use Rattle.std.specs.Prelude.{◌≡◌, ◌≢◌, ◌≤◌, ◌+◌, ◌==◌, ◌||◌, ℕ, ℤ, pos, Bool, false, not, List, [], ◌∷◌, ◌++◌, take, codes}
 use Rattle.std.specs.Prelude.{Option, None, Some, option_map, if◌then◌else◌}
 use Rattle.std.specs.Fmt.{signed_decimal}
@@ -20,7 +21,7 @@ rule_text (Within before least greatest after) =
 abbrev pub BeginsWithField : ℕ → List ℕ → Type 0
 BeginsWithField field text = take 8 text ≡ codes "field " ++ ((48 + field) ∷ codes " ")
 
--- of a bad field of a command's record, and of field 2 of the day, the rule begins with the name of that field
+-- for a bad field of a command's record, and for field 2 of the day, the rule begins with the name of that field
 abbrev pub NamesItsField : JournalFault → List ℕ → Type 0
 NamesItsField (BadField at field) rule = (at ≡ 1 → field ≡ 2) → 1 ≤ field → field ≤ 9 → BeginsWithField field rule
 NamesItsField fault rule = Unit {0}
@@ -30,7 +31,7 @@ abbrev pub ShowsRange : ℤ → ℤ → Rule → Type 0
 ShowsRange least greatest (Plain text) = ⊥
 ShowsRange least greatest (Within before shown_least shown_greatest after) = (shown_least ≡ least) × (shown_greatest ≡ greatest)
 
--- of a bad price or bad volumes in a command's record, the rule shows the limits on them
+-- for a bad price or bad volumes in a command's record, the rule shows the limits on them
 abbrev pub ShowsItsLimits : JournalFault → Rule → Type 0
 ShowsItsLimits (BadField at field) rule = at ≢ 1 → (field ≡ 6 → ShowsRange lowest_price highest_price rule)
     × (field ≡ 7 → ShowsRange (pos 1) (pos greatest_volume) rule)
@@ -53,7 +54,9 @@ is_option (byte ∷ rest) = byte == 45
 abbrev pub has_number : List ℕ → Bool
 has_number word = list_any (λ byte. byte == 61) word
 
--- the first word that is neither an option nor an option's number; `is_number` says whether the first one is such a number
+-- the first word that is neither an option nor the number of the option before it. If `is_number` is true, the first
+-- word is an option's number and is skipped. An option without `=` has its number in the next word, so that word is
+-- skipped too
 abbrev pub first_file : Bool → List (List ℕ) → Option (List ℕ)
 first_file is_number [] = None
 first_file is_number (word ∷ words) =

@@ -1,5 +1,5 @@
-//! What a person at a terminal reads in addition to a fault of the input, or to the refusal of words that name a file or
-//! ask for the version.
+//! The text that a person at a terminal reads in addition to a fault of the input, or to the refusal of words that name
+//! a file or ask for the version.
 
 ghost use Rattle.std.specs.Prelude.{◌≡◌, ◌≤◌, ◌↔◌, pos, false, map, IfSome, IsSome, option_map};
 ghost use Rattle.std.specs.List.{list_any};
@@ -48,7 +48,7 @@ impl fmt::Display for Rule {
     }
 }
 
-/// Which rule the input breaks; nothing for a fault that isn't the input's.
+/// The rule that the input breaks; `None` for a fault that isn't the input's.
 pub fn rule_of(fault: &RunFault) -> Option<Rule>
     ensures input { IsSome result ↔ (fault_status fault.now ≡ 1) }
     ensures field { (given : JournalFault) → fault.now ≡ RunFault.Input given
@@ -74,7 +74,7 @@ pub fn rule_of(fault: &RunFault) -> Option<Rule>
     Some(Rule::Plain(text))
 }
 
-/// The same of a journal's fault.
+/// The same for a journal's fault.
 fn rule_of_journal(fault: JournalFault) -> Option<Rule>
     ensures input { IsSome result ↔ (input_status fault ≡ 1) }
     ensures field { IfSome result (λ rule. NamesItsField fault (rule_text rule)) }
@@ -178,7 +178,7 @@ fn is_command(word: &str) -> bool
     word == "replay" || word == "clear" || word == "day"
 }
 
-/// The first of these words that may be a file.
+/// The first of these words that is neither an option nor an option's number.
 fn first_file(words: &[String]) -> Option<&str>
     ensures { option_map (λ file. file.now) result ≡ first_file false (map string_bytes words.now) }
 {

@@ -110,7 +110,7 @@ fn not_text(alloc: Global) -> LineFault
     }
 }
 
-/// Tells a person at a terminal that the program reads from it; otherwise it would seem to hang.
+/// Says to a person at a terminal that the program reads from it; otherwise it would seem to hang.
 fn hint(rt: &HostRuntime) {
     if rt.stdin().is_terminal() && rt.stderr().is_terminal() {
         let _ = eprintln!(rt; "dam: reading a journal from this terminal; end it with Ctrl-D");
@@ -147,8 +147,8 @@ fn answer(rt: &HostRuntime, fault: &LineFault, words: &[String]) -> ExitCode
     }
 }
 
-/// Prints why the words are refused. At a terminal, if one of them may be a journal's file, a last line says how it is
-/// read; if they ask for the version, it says what prints that.
+/// Prints why the words are refused. At a terminal a last line may follow: if the words ask for the version, the
+/// command that prints it; otherwise, if one of them may be a journal's file, how it is read.
 fn refuse(rt: &HostRuntime, text: &str, words: &[String]) -> ExitCode
     ensures { exit_status result ≡ 2 }
 {

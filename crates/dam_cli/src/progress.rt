@@ -1,4 +1,4 @@
-//! What a person at a terminal is shown of a run, on standard error. If that is no terminal, nothing is printed.
+//! The progress of a run, shown to a person at a terminal on standard error. It isn't printed if that isn't a terminal.
 
 ghost use Rattle.std.specs.Prelude.{◌≡◌, ◌+◌, ◌-◌, ◌^◌, min};
 
@@ -86,7 +86,7 @@ impl fmt::Display for Refused {
 /// How many milliseconds a search runs before anything is shown of it.
 const MOMENT: u64 = 500;
 
-/// What is counted, when the search began if the clock could be read, and whether its line stands at the terminal.
+/// The count, the start of the search if the clock could be read, and whether the count's line stands at the terminal.
 #[derive(Drop)]
 struct State {
     count: Count,

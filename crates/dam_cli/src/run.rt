@@ -13,7 +13,7 @@ use std::thread::Threads;
 
 /// Runs the engine of the job, under the job's plan, from the reader to the writer. The book hashes names by the seed.
 ///
-/// What `run_clear` says of readers and writers holds here too.
+/// The requirements of `run_clear` for readers and writers hold here too.
 pub fn run_job<H: Threads + Wait + Sync, R: Read, W: Write, T: Watch + Sync>(
     rt: &H,
     alloc: Global,

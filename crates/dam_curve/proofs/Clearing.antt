@@ -1,4 +1,4 @@
--- The greatest welfare of a period is read off what is taken of its supply.
+-- The greatest welfare of a period is read off the part taken of its supply.
 use Rattle.std.proofs.Common.{◌≡◌, ℕ, ◌+◌, ◌-◌, ◌*◌, ◌≤◌, ℤ, pos, ◌+ℤ◌, ◌-ℤ◌, ◌*ℤ◌, ◌≤ℤ◌, Some, List, [], ◌∷◌, ap, ◌∙◌}
 use Rattle.std.proofs.Common.{arith}
 use Rattle.std.proofs.lemmas.Int.{ints}
@@ -56,7 +56,7 @@ reaches_supporting ss net p x a u r h =
     }
 
 -- ---- the welfare
--- what the welfare's law says
+-- the law of the welfare
 pub record Laws : Type 0 where
   pub reached : (ss : List Step) (net w : ℤ) → greatest_welfare ss net ≡ Some w
       → (xs : List ℕ) × IsExecution ss xs × Balances ss net xs × (welfare_of ss xs ≡ w)
@@ -67,7 +67,7 @@ pub record Laws : Type 0 where
   pub greatest : (p : ℤ) (ss : List Step) (xs ys : List ℕ) → IsExecution ss xs → Supports p ss xs → IsExecution ss ys
       → execution_surplus p ss ys ≤ℤ execution_surplus p ss xs
 
--- what a price supports has the greatest welfare
+-- an execution that a price supports has the greatest welfare
 supporting_welfare : Laws → (ss : List Step) (net p : ℤ) (s : IsSupporting ss net p)
     → greatest_welfare ss net ≡ Some (welfare_of ss s.volumes)
 supporting_welfare laws ss net p s =

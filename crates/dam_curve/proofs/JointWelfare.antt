@@ -77,7 +77,7 @@ curve_more ss ps least most own old new hour period curve few lines within outsi
     none net low high (inr o) = no_right (greatest_welfare ss net) (joint_welfare ps net) (curve.outside net low high o)
 
 -- ---- how large it is
--- what the laws say of the size of a welfare
+-- the laws on the size of a welfare
 pub record SizeLaws : Type 0 where
   pub reached : (ss : List Step) (net w : ℤ) → greatest_welfare ss net ≡ Some w
       → (xs : List ℕ) × IsExecution ss xs × Balances ss net xs × (welfare_of ss xs ≡ w)

@@ -1,4 +1,4 @@
--- One step as supply: what of it is taken, at a height of the price.
+-- One step as supply: the part of it that is taken, at a height of the price.
 use Rattle.std.proofs.Common.{◌≡◌, ℕ, zero, suc, ◌+◌, ◌-◌, ◌*◌, ◌<◌, ◌≤◌, ℤ, pos, ◌+ℤ◌, ◌-ℤ◌, ◌*ℤ◌, inl, inr, ap, refl, arith}
 use Rattle.std.proofs.lemmas.Int.{ints}
 use Rattle.std.proofs.lemmas.Bool.{cases_lt}
@@ -41,7 +41,7 @@ pub part_most : (g q : ℕ) → if_any g q ≤ q
 part_most zero q = omega arith
 part_most (suc g) q = omega arith
 
--- ---- what is taken of a step as supply
+-- ---- the part taken of a step as supply
 abbrev pub taken_of : Side → ℕ → ℕ → ℕ
 taken_of Buy q x = q - x
 taken_of Sell q x = x
@@ -77,7 +77,7 @@ pub worse_none : (side : Side) (limit p c : ℤ) (a h q y : ℕ) → limit ≡ c
 worse_none Buy limit p c a h q y el ep f b w l = let e = b (omega (arith, ints)) in omega (arith, e)
 worse_none Sell limit p c a h q y el ep f b w l = w (omega (arith, ints))
 
--- ---- the cost of what is taken, and its gain
+-- ---- the cost of the part that is taken, and its gain
 pub part_cost : (a h q y : ℕ) → (a < h → y ≡ q) → (h < a → y ≡ 0) → a * y + (h - a) * q ≡ h * y
 part_cost a h q y b w = elim (cases_lt a h) [
   | inl l ↦
@@ -113,7 +113,7 @@ limit_times limit c a x e =
     let m = minus_times limit c x in
     omega (arith, ints, t, m)
 
--- the executed part of a buy and what is taken of it as supply
+-- the executed part of a buy and the part taken of it as supply
 served_cost : (a q x : ℕ) → x ≤ q → a * x + a * (q - x) ≡ a * q
 served_cost a q x l =
     let s : x + (q - x) ≡ q = omega arith in

@@ -66,7 +66,7 @@ no_gain m h (s ∷ ss) a l =
     let rest = no_gain m h ss a.1 l in
     omega (arith, here, rest)
 
--- ---- what stands under some of the steps
+-- ---- the supply under some of the steps
 -- from the one number of units to the other they stand at the height, and the first of them have the cost
 record ArePiece (all : List Step) (h b e c : ℕ) : Type 0 where
   under : units_under h all ≤ b
@@ -307,7 +307,7 @@ lines_small v w (s ∷ ss) b c a lb lc lv lw = (
 )
 
 -- ---- outside of them nothing balances
--- what the laws say of a net volume at which nothing balances
+-- the laws on a net volume at which nothing balances
 pub record NoLaws : Type 0 where
   pub none : (ss : List Step) (net : ℤ) → (greatest_welfare ss net ≡ None) ↔ IsUnbalanced ss net
   pub within : (ss : List Step) (net : ℤ) (xs : List ℕ) → IsExecution ss xs → Balances ss net xs → IsWithinOffers ss net

@@ -1,4 +1,4 @@
--- The losses between two straight lines change evenly, and what is kept of them.
+-- The losses between two straight lines change evenly, and the numbers kept of them.
 use Rattle.std.proofs.Common.{◌≡◌, ℕ, ◌+◌, ◌*◌, ℤ, pos, negsuc, neg_ℤ, ◌+ℤ◌, ◌-ℤ◌, ◌*ℤ◌, ◌≤ℤ◌, ◌<ℤ◌, Option, Some, List, [], ◌∷◌, ◌++◌, length, length-append}
 use Rattle.std.proofs.Common.{to_z, of_z, w32, w64, ap, ap₂, ◌∙◌, sym, subst, inl, inr, arith}
 use Rattle.std.proofs.lemmas.Int.{ints}
@@ -43,7 +43,7 @@ ramp_is b a ramp net added value i e f =
     let apart = minus_times b.price a.price i in
     omega (arith, ints, e, step, apart, here, moved)
 
--- ---- what is kept
+-- ---- the numbers that are kept
 kept_is : (z w after : ℤ) → z ≡ w -ℤ after → IsKept (kept_number z) w (Some after)
 kept_is (pos n) w after e below = elim (cases_lt n greatest_loss) [
   | inl less ↦ inl (omega (arith, ints, less, e))

@@ -1,4 +1,4 @@
--- The steps by rising limit, in whatever order they were given, and without one of them.
+-- The steps by rising limit, given in any order, and without one of them.
 use Rattle.std.proofs.Common.{◌≡◌, ℕ, zero, suc, ◌+◌, ◌-◌, ◌<◌, ◌≤◌, ℤ, ◌-ℤ◌, nat_abs, List, [], ◌∷◌, ◌++◌, length, length-append}
 use Rattle.std.proofs.Common.{get_or, ap, ◌∙◌, sym, inl, inr, refl, arith}
 use Rattle.std.specs.List.{remove, sum_by}
@@ -53,7 +53,7 @@ hour_without us vs s is =
     let few = is.few in let long = length-append us (s ∷ vs) in let less = length-append us vs in
     record { few = omega (arith, few, long, less); in_range = range_middle us vs s is.in_range }
 
--- the place in the longer list of what stands at a place in the shorter one
+-- the place in the longer list of the step at a place in the shorter one
 abbrev over : ℕ → ℕ → ℕ
 over zero i = suc i
 over (suc p) zero = zero
@@ -133,7 +133,7 @@ step_found us vs s rising a =
     let middle = total_middle (λ t. 1 - apart s t) us vs s in
     found s rising (omega (arith, own, total, middle))
 
--- without it the supply is that of the other steps
+-- without it the supply is the supply of the other steps
 pub supply_without : (us vs : List Step) (s : Step) (rising : List Step) (place : ℕ) → IsSupplyOf (us ++ s ∷ vs) rising
     → place < length rising → ((d : Step) → get_or rising place d ≡ s) → IsSupplyOf (us ++ vs) (remove rising place)
 supply_without us vs s rising place a l is = record {

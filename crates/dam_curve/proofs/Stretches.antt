@@ -178,7 +178,7 @@ losses_from earlier later moved choice own left taken r s old losses net last co
           });
     }
 
--- ---- a net volume of the choice, and what taking adds to it
+-- ---- a net volume of the choice, and the net volume after taking it
 pub moved_at : (earlier left taken : List Line) (choice : Choice) (net most from : ℤ) (ps qs : List (List Step))
     → ((at : ℤ) → net ≤ℤ at → at ≤ℤ most → AreReadAt earlier left taken choice ps qs at) → from ≡ to_z w32 (of_z w32 choice.net)
     → (at : ℤ) → net ≤ℤ at → at ≤ℤ most → AreMoved at choice.net from

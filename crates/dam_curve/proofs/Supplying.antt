@@ -1,4 +1,5 @@
--- The supply of a period's steps: what an execution takes of it, and what supports one.
+-- The supply of a period's steps: the part that an execution takes of it, and the prices that
+-- support one.
 use Rattle.std.proofs.Common.{◌≡◌, ℕ, suc, ◌+◌, ◌-◌, ◌*◌, ◌<◌, ◌≤◌, ℤ, pos, ◌+ℤ◌, ◌*ℤ◌, List, [], ◌∷◌, inl, inr, refl, arith}
 use Rattle.std.proofs.lemmas.Int.{ints}
 use Rattle.std.proofs.lemmas.Bool.{cases_lt}
@@ -15,7 +16,8 @@ use Rattle.dam_curve.specs.inside.Supply.{if_any, all_units, units_under, units_
 use Rattle.dam_curve.proofs.Parts.{under_up_to, under_full, up_to_none, part_most, taken_of, taken_back, taken_fits, taken_full, taken_none}
 use Rattle.dam_curve.proofs.Parts.{better_full, worse_none, part_cost, part_welfare}
 
--- the units that an execution takes of the supply: what it sells, and what of the buys isn't served
+-- the units that an execution takes of the supply: the volume that it sells, and the volume of the
+-- buys that isn't served
 abbrev pub taken : List Step → List ℕ → ℕ
 taken (s ∷ ss) (x ∷ xs) = taken_of s.side s.qty x + taken ss xs
 taken _ _ = 0
@@ -29,7 +31,7 @@ spent _ _ = 0
 pub height_is : (p : ℤ) → IsPrice p → p ≡ lowest_price +ℤ pos (height_of p)
 height_is p r = let a = r.at_least in omega (arith, ints, a)
 
--- ---- what is taken, all in all
+-- ---- the units that are taken, all in all
 taken_step : (side : Side) (q x t b o s : ℕ) → x ≤ q → t + b ≡ o + s
     → (taken_of side q x + t) + (volume_on Buy side x + b) ≡ (volume_on Buy side q + o) + (volume_on Sell side x + s)
 taken_step Buy q x t b o s l e = omega arith
@@ -56,7 +58,7 @@ all_offered (s ∷ ss) =
     let here = offered_step s.side s.qty (offered_volume Buy ss) (offered_volume Sell ss) in
     omega (arith, rest, here)
 
--- ---- the heights of what an execution takes that a price supports
+-- ---- the heights of the units taken by an execution that a price supports
 pub supported_spent : (p : ℤ) (ss : List Step) (xs : List ℕ) → IsPrice p → AreInRange ss → IsExecution ss xs → Supports p ss xs
     → spent ss xs + gain_under (height_of p) ss ≡ height_of p * taken ss xs
 supported_spent p [] [] r a e h = omega arith
@@ -81,7 +83,7 @@ under_most h [] = omega arith
 under_most h (s ∷ ss) =
     let here = under_up_to (height_of s.price) h s.qty in let rest = under_most h ss in omega (arith, here, rest)
 
--- what a step gives of a number of units
+-- the part of a step in a number of units
 record Part (u v under up_to x : ℕ) : Type 0 where
   y : ℕ
   at_least : u ≤ y
@@ -142,7 +144,7 @@ reached_execution p (s ∷ ss) x r a h =
       omega (arith, back, same, sum),
     )
 
--- ---- the welfare of an execution, by what it takes
+-- ---- the welfare of an execution, by the units that it takes
 pub welfare_spent : (ss : List Step) (xs : List ℕ) → AreInRange ss → IsExecution ss xs
     → (welfare_of ss xs +ℤ pos (spent ss xs)) +ℤ lowest_price *ℤ pos (executed_volume Sell ss xs)
     ≡ pos (worth_of ss) +ℤ lowest_price *ℤ pos (executed_volume Buy ss xs)

@@ -20,7 +20,7 @@ abbrev pub joint_welfare : List (List Step) → ℤ → Option ℤ
 joint_welfare [] net = Some (pos 0)
 joint_welfare (steps ∷ periods) net = both (greatest_welfare steps net) (joint_welfare periods net)
 
--- what a line says of a net volume
+-- the value of a line at a net volume
 abbrev pub line_at : Line → ℤ → ℤ
 line_at line net = line.surplus +ℤ line.price *ℤ net
 
@@ -55,7 +55,7 @@ abbrev pub AreHours : List (List Step) → Type 0
 AreHours [] = Unit {0}
 AreHours (steps ∷ periods) = IsHour steps × AreHours periods
 
--- what the orders of an hour gain at a price, at most, and as a size: the value of all buys, of all steps, and of the
+-- the greatest size of the surplus of an hour's orders at a price: the value of all buys, of all steps, and of the
 -- volume of all steps at that price, each over the least price
 abbrev pub greatest_line_surplus : ℕ
 greatest_line_surplus = 3 * (most_steps * (price_span * greatest_volume))

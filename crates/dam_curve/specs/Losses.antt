@@ -11,7 +11,7 @@ abbrev pub greatest_loss : ℕ
 greatest_loss = 2 ^ 32 - 1
 
 -- the number that is kept of a loss: by how much the welfare falls; or it is the greatest one, and the welfare falls by
--- as much at least, or there is none afterwards. Nothing is said if the welfare rises
+-- as much at least, or there is none afterwards. It is unspecified if the welfare rises
 abbrev pub IsKept : ℕ → ℤ → Option ℤ → Type 0
 IsKept kept before None = kept ≡ greatest_loss
 IsKept kept before (Some after) = after ≤ℤ before

@@ -15,7 +15,7 @@ abbrev pub total_of : (Step → ℕ) → List Step → ℕ
 total_of f [] = 0
 total_of f (step ∷ steps) = f step + total_of f steps
 
--- the same steps in any order: whatever number a step gives, the total is the same. That is no weaker than a
+-- the same steps in any order: for every number that steps may have, the totals are equal. That is no weaker than a
 -- permutation, since the number may be 1 for one step and 0 for all others
 abbrev pub AreAlike : List Step → List Step → Type 0
 AreAlike steps ts = (f : Step → ℕ) → total_of f ts ≡ total_of f steps

@@ -24,7 +24,7 @@ pub(crate) struct Hints {
     pub(crate) shift: u32,
 }
 
-/// A curve among those of many: where its lines stand, and between which net volumes it has a welfare.
+/// A curve among many: where its lines stand, and between which net volumes it has a welfare.
 #[derive(Clone, Copy)]
 pub struct Curve {
     pub(crate) first: u32,
@@ -146,7 +146,7 @@ impl<A: Allocator + Copy> Curves<A> {
 }
 
 impl<A: Allocator> Curves<A> {
-    /// Adds the curve of the sum. The error is out of memory, and no curve is then added.
+    /// Adds the curve of the sum. On an error, which is out of memory, the curve isn't added.
     pub fn add<B: Allocator>(&mut self, sum: &Sum<B>) -> Result<Curve, AllocError>
         ensures added { (periods : List (List Step)) (least most : ℤ)
             → IsCurve periods least most sum.now
@@ -171,8 +171,8 @@ impl<A: Allocator> Curves<A> {
         })
     }
 
-    /// The price of a line near the net volume, in cents per MWh summed over the curve's periods: a hint, of which
-    /// nothing is promised. It is 0 if there is none.
+    /// The price of a line near the net volume, in cents per MWh summed over the curve's periods. It is only a hint,
+    /// without a contract. It is 0 if there is none.
     pub fn price_near(&self, curve: Curve, net: i64) -> i64 {
         let first = curve.first as usize;
         let Some(lines) = self

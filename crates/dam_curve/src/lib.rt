@@ -2,8 +2,9 @@
 //! choice lowers it, at each net volume.
 //!
 //! The price of a period changes only where the volume of an order ends. Between two such net volumes the greatest
-//! welfare is a straight line: the price times the net volume, and what all orders gain at that price. Several
-//! periods at the same net volume add up to straight lines, too: their prices and what is gained at them, added up.
+//! welfare is a straight line: the price times the net volume, plus the surplus of all orders at that price. For
+//! several periods at the same net volume the sum is straight lines, too: the sum of their prices times the net volume,
+//! plus the sum of their surpluses.
 //!
 //! ```
 //! let mut supply = Supply::of(alloc, &steps)?; // the steps of a period, by one sort
@@ -12,7 +13,7 @@
 //! sum.add(&supply)?;
 //! let mut curves = Curves::new(alloc);
 //! let before = curves.add(&sum)?;
-//! let welfare = curves.welfare(before, 120); // that of `Hour::clear` at this net volume
+//! let welfare = curves.welfare(before, 120); // the welfare of `Hour::clear` at this net volume
 //!
 //! supply.remove(steps[0]); // the period without one of its steps
 //! sum.clear(-500, 500)?;
@@ -23,9 +24,9 @@
 //! let loss = curves.loss(offset, 120); // how far the welfare falls if it is left, and if it is taken
 //! ```
 //!
-//! A contract sees the lines of all curves and all losses. It asks of a curve which periods it is of, and between
-//! which net volumes. Tests alone show that a call reports out of memory only if memory was refused, or if more than
-//! 2^32 - 1 lines, hints or losses would be held.
+//! A contract sees the lines of all curves and all losses. It asks of a curve which periods it is of, and between which
+//! net volumes. Only tests show that a call reports out of memory only if memory was refused, or if more than 2^32 - 1
+//! lines, hints or losses would be held.
 //!
 //! The crate doesn't know blocks or books.
 #![tactic(auto)]

@@ -25,8 +25,8 @@ pub struct Choice {
 }
 
 /// By how much a choice lowers the welfare at a net volume, in cents per MWh times tenths of a MW. The greatest number
-/// of 32 bits stands for every loss from it on, and for 'no welfare afterwards'. If the welfare rises, or if there is
-/// none while the choice is open, nothing is promised.
+/// of 32 bits stands for every loss from it on, and for 'no welfare afterwards'. The loss is unspecified if the welfare
+/// rises, or if there is none while the choice is open.
 #[derive(Clone, Copy)]
 pub struct Loss {
     /// If it is left.
@@ -45,7 +45,7 @@ pub struct ExactLoss {
     pub taken: Option<i64>,
 }
 
-/// The lines of a curve among those of many.
+/// The lines of one curve among many.
 fn lines_of(lines: &[Line], curve: Curve) -> &[Line]
     requires { curve.first + curve.count ≤ length lines.now }
     ensures { result.now ≡ lines_at lines.now curve }
@@ -55,7 +55,7 @@ fn lines_of(lines: &[Line], curve: Curve) -> &[Line]
 }
 
 /// Writes the losses of a choice between the curves of these lines, one for each net volume from the least to the
-/// greatest. The error is out of memory, and no loss is then written. The losses that stood there before the call stay.
+/// greatest. On an error, which is out of memory, it writes none. The losses that stood there before the call stay.
 fn write_losses<A: Allocator>(
     losses: &mut Vec<Loss, A>,
     before: &[Line],
@@ -91,8 +91,8 @@ fn write_losses<A: Allocator>(
 
 impl<A: Allocator> Curves<A> {
     /// Keeps the loss of a choice at each net volume from the least to the greatest, and returns the offset from a net
-    /// volume to the place of its loss; if the greatest is less than the least, it keeps none and returns 0. The error is
-    /// out of memory, and no loss is then kept. Takes 8 bytes for each net volume.
+    /// volume to the place of its loss; if the greatest is less than the least, it keeps none and returns 0. On an
+    /// error, which is out of memory, it keeps none. Takes 8 bytes for each net volume.
     pub fn keep_losses(&mut self, choice: &Choice, least: i64, most: i64) -> Result<i64, AllocError>
         requires choice { (before : List (List Step)) × (after : List (List Step))
             × IsChoice self.old choice.now before after least most }

@@ -68,7 +68,8 @@ impl<A: Allocator> Sum<A> {
         Ok(())
     }
 
-    /// Adds a period, at the same net volumes. The error is out of memory, and nothing is then added.
+    /// Adds a period, at the same net volumes. On an error, which is out of memory, the sum is
+    /// unchanged.
     pub fn add<B: Allocator>(&mut self, supply: &Supply<B>) -> Result<(), AllocError>
         requires { (periods : List (List Step)) × (least : ℤ) × (most : ℤ) × (steps : List Step)
             × IsCurve periods least most self.old × IsSupplyOf steps supply.now
@@ -107,7 +108,7 @@ fn flat(most: i32) -> Line
     }
 }
 
-/// The line at a price, where this volume is taken of the supply, and its cost.
+/// The line at a price, if this volume at this cost is taken of the supply.
 fn line_of(demand: Demand, price: Price, before: u64, cost: u64) -> Line
     requires volume { demand.volume ≤ most_steps * greatest_volume }
     requires worth { demand.worth ≤ most_steps * (price_span * greatest_volume) }
@@ -144,7 +145,7 @@ fn write_lines<A: Allocator>(lines: &mut Vec<Line, A>, steps: &[Step]) -> Result
     Ok(())
 }
 
-/// The line that two make where they hold both, up to this net volume.
+/// The sum of two lines, at the net volumes at which both hold, up to this one.
 fn joined(a: Line, b: Line, most: i32) -> Line
     requires { (n : ℕ) × (m : ℕ) × IsSmallLine n a × IsSmallLine m b × (n + m ≤ last_period) }
     ensures { result ≡ joined a b most }
@@ -172,7 +173,7 @@ fn from_net(lines: &[Line], net: i32) -> usize
     place
 }
 
-/// The next place, if the line there holds up to this net volume, and else the same.
+/// The next place if the line there holds up to this net volume, and otherwise the same place.
 fn past(lines: &[Line], place: usize, net: i32) -> usize
     requires { place + 1 < length lines.now }
     ensures { IsPast lines.now place net result }

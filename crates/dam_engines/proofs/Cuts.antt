@@ -1,4 +1,4 @@
--- By cases on the fault: what a failed write says, and how a run with another fault ends.
+-- By cases on the fault: the facts of a failed write, and the end of a run with another fault.
 use Rattle.std.proofs.Common.{◌≤◌, ℕ, List, length, Option, Result, Ok, Err}
 use Rattle.dam_engines.specs.declared.fault.RunFault.{RunFault}
 use Rattle.dam_engines.specs.declared.fault.RunFault.TheVariants.{Read, Input, TooManyCommands, CloseGiven, TooManyParticipants, StillOpen}
@@ -6,7 +6,7 @@ use Rattle.dam_engines.specs.declared.fault.RunFault.TheVariants.{Mismatch, Unfi
 use Rattle.dam_engines.specs.Engine.{Ends, IsWritingFault}
 use Rattle.dam_engines.specs.inside.Reading.{IsReadingFault}
 
--- what holds of each failed write holds of a text's that was cut off
+-- a fact of each failed write is a fact of a text's that was cut off
 pub cut-told : (Q : RunFault → Type 0) (old new : Option (List ℕ)) (sent : List ℕ) → ((written : ℕ) → Q (Write written))
     → (fault : RunFault) → IsWritingFault old new sent fault → Q fault
 cut-told Q old new sent told Read cut = absurd cut
@@ -53,7 +53,7 @@ fault-ends IsPrinted IsFault old new asked none (Collected piece) is = is
 fault-ends IsPrinted IsFault old new asked none Memory is = is
 fault-ends IsPrinted IsFault old new asked none (Write written) is = absurd (none written is)
 
--- what is weaker ends a run too
+-- a weaker statement ends a run too
 pub ends-weaker : (IsPrinted IsText : List ℕ → Type 0) (IsFault IsOther : RunFault → Type 0) (old new : Option (List ℕ)) (asked : ℕ)
     → ((printed : List ℕ) → IsPrinted printed → IsText printed) → ((fault : RunFault) → IsFault fault → IsOther fault)
     → (fault : RunFault) → Ends IsPrinted IsFault old new asked (Err fault) → Ends IsText IsOther old new asked (Err fault)
@@ -69,7 +69,7 @@ ends-weaker IsPrinted IsText IsFault IsOther old new asked text other (Collected
 ends-weaker IsPrinted IsText IsFault IsOther old new asked text other Memory is = other Memory is
 ends-weaker IsPrinted IsText IsFault IsOther old new asked text other (Write written) is = (is.0, text is.0 is.1, is.2, is.3)
 
--- what holds of both faults of reading
+-- a fact of both faults of reading
 pub reading-told : (Q : RunFault → Type 0) → Q Read → Q Memory → (fault : RunFault) → IsReadingFault fault → Q fault
 reading-told Q read memory Read is = read
 reading-told Q read memory Memory is = memory

@@ -30,7 +30,7 @@ day_run-closed : (periods : ℕ) (commands : List Command) (entries : List Entry
 day_run-closed periods commands entries day =
     subst (λ cs. (run periods cs).closed ≡ true) (sym day.close_last) (closed-last day.before _)
 
--- what the book of a day run is answered, its commands are answered
+-- the answer for the book of a day run is the answer for its commands
 book_fault-day : (plan : PlanTerms) (periods : ℕ) (commands : List Command) (entries : List Entry) (fault : RunFault)
     → AreTaken commands → IsDayRun periods commands entries → IsBookFault plan (run periods (commands_of entries)) fault
     → IsCommandsFault plan periods commands fault

@@ -13,7 +13,7 @@ front-of-all : (old new : Option (List ℕ)) → GivesAll old new → GivesFront
 front-of-all None new all = record { front = []; few = omega arith; given = tt }
 front-of-all (Some given) new all = record { front = take most_read given; few = omega (arith, length-take most_read given); given = all }
 
--- a fault of no device, after which neither has failed and nothing is written
+-- a fault that isn't a device's, after which neither has failed and nothing is written
 pub neither-failed : {R W : Type 0} (Fails : RunFault → Type 0) (reader_old reader_new : SourceState R) (writer : SinkState W)
     → ¬ (Fails Read) → ((written : ℕ) → ¬ (Fails (Write written)))
     → HasServed reader_old reader_new → writer.failed ≡ false

@@ -1,4 +1,4 @@
--- What ends a run over a journal's text is said of that journal, since the text is no other one and has no fault.
+-- The end of a run over a journal's text is stated of that journal, since the text is no other one and has no fault.
 use Rattle.std.proofs.Common.{◌≡◌, ℕ, false, List, Option, Result, subst}
 use Rattle.dam_book.specs.declared.command.Command.{Command}
 use Rattle.dam_plan.specs.Plan.{PlanTerms}
@@ -15,14 +15,14 @@ use Rattle.dam_engines.specs.Clear.{AreResults, IsClearFault}
 use Rattle.dam_engines.specs.Day.{IsCommandsFault, IsDayText}
 use Rattle.dam_engines.proofs.Runs.{result-weaker}
 
--- the laws of what a text reads as
+-- the laws of the journal that a text reads as
 pub record AreRead : Type 0 where
   pub one : (text : List ℕ) (periods others : ℕ) (commands more : List Command) → ReadsAs text periods commands → ReadsAs text others more
       → (periods ≡ others) × (commands ≡ more)
   pub sound : (text : List ℕ) (fault : JournalFault) (periods : ℕ) (commands : List Command) → IsJournalFault text fault
       → ReadsAs text periods commands → fault ≡ MemoryOfJournal
 
--- what is made of a text's journal is made of this one
+-- a value made of a text's journal is made of this one
 made-one : {T : Type 0} → AreRead → (MadeOf : ℕ → List Command → T → Type 0) (text : List ℕ) (periods : ℕ) (commands : List Command)
     → ReadsAs text periods commands
     → (made : T) → IsMadeFrom MadeOf text made → MadeOf periods commands made

@@ -51,7 +51,7 @@ text_fault-given given (Collected piece) is = absurd is
 text_fault-given given Memory is = tt
 text_fault-given given (Write written) is = absurd is
 
--- what is made of the front's journal is made of the text's
+-- a value made of the front's journal is made of the text's
 pub made-given : {T : Type 0} (MadeOf : ℕ → List Command → T → Type 0) (given : List ℕ) (made : T)
     → IsMadeFrom MadeOf (take most_read given) made → IsMadeFrom MadeOf given made
 made-given MadeOf given made is = (is.0, is.1, reads-given given is.0 is.1 is.2, is.3)
@@ -101,7 +101,7 @@ made_fault-run IsFault text none (Collected piece) is = is
 made_fault-run IsFault text none Memory is = tt
 made_fault-run IsFault text none (Write written) is = is
 
--- what the search of a closed book's problem answers, the book is answered
+-- the answer of the search of a closed book's problem is the answer for the book
 pub search_fault-book : (plan : PlanTerms) (book : BookState) (fault : SearchFault) → book.closed ≡ true
     → ((piece visited : ℕ) → fault ≡ IsCut piece visited → IsUnfinished (problem_of book)
     (min plan.cut (length (problem_of book).blocks)) plan.nodes piece visited)

@@ -1,4 +1,5 @@
--- What was read is the front of the reader's bytes, if these are known, and the reader has lost just that.
+-- The text that was read is the front of the reader's bytes, if these are known, and the reader has lost
+-- just that.
 use Rattle.std.proofs.Common.{◌≡◌, ◌≤◌, ℕ, List, [], ◌++◌, length, take, Some, None, IfSome, Option, sym, ap, subst, ◌∙◌, append-nil}
 use Rattle.std.proofs.lemmas.List.{take_all}
 use Rattle.std.proofs.Math.Seq.{take-append_seam}
@@ -32,7 +33,7 @@ read-nothing before mid after text chunk count taken last none =
     let same : text ++ take count chunk ≡ text = ap (λ bs. text ++ bs) nothing ∙ append-nil text in
     subst (Consumes before after) same (Consumes-trans before mid after text (take count chunk) taken last)
 
--- the text is what is read of the bytes
+-- the text is the front that is read of the bytes
 pub gives-all : (before after : Option (List ℕ)) (text : List ℕ) → Consumes before after text → IfSome before
     (λ given. text ≡ take most_read given) → GivesAll before after
 gives-all None after text taken front = tt

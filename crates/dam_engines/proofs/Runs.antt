@@ -1,4 +1,4 @@
--- What is known of the given text, which may be unknown, from what is known of the text that was read.
+-- Facts of the given text, which may be unknown, from facts of the text that was read.
 use Rattle.std.proofs.Common.{◌≡◌, ◌≤◌, ◌+◌, ◌-◌, ℕ, List, length, take, Option, Some, None, IfSome, Result, Ok, Err, IfErr, OnOk}
 use Rattle.std.proofs.Common.{subst, arith}
 use Rattle.std.specs.Io.KnownBytes.{Appends}
@@ -15,7 +15,7 @@ use Rattle.dam_engines.proofs.Fronts.{reads-given}
 abbrev pub IsFrontOf : Option (List ℕ) → List ℕ → Type 0
 IsFrontOf known text = IfSome known (λ given. text ≡ take most_read given)
 
--- what a front says of the given bytes is said of them
+-- a fact that a front has of the given bytes is a fact of them
 known-front : (P Q : List ℕ → Type 0) (known : Option (List ℕ)) (text : List ℕ)
     → ((given : List ℕ) → P (take most_read given) → Q given) → IsFrontOf known text → P text → IfSome known Q
 known-front P Q None text carries front holds = tt

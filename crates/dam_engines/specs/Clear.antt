@@ -1,4 +1,4 @@
--- What the clearing engine prints for a journal's commands, and how it can fail.
+-- The text that the clearing engine prints for a journal's commands, and the engine's faults.
 use Rattle.std.specs.Prelude.{◌≡◌, ℕ, pos, min, true, false, Bool, List, length}
 use Rattle.dam_book.specs.Book.{BookState, run}
 use Rattle.dam_book.specs.declared.command.Command.{Command}
@@ -20,7 +20,7 @@ pub record IsCutShort (plan : PlanTerms) (book : BookState) (piece visited : ℕ
   pub closed : book.closed ≡ true
   pub unfinished : IsUnfinished (problem_of book) (min plan.cut (length (problem_of book).blocks)) plan.nodes piece visited
 
--- the problem has a result, and the plan's limit on nodes is at least the number of nodes that each piece needs to find it
+-- the terms of a search by one worker that cuts nothing; they are a plan's terms only if a plan may have this limit on
 pub record PlanHasNeeded (plan : PlanTerms) (problem : ProblemState) : Type 0 where
   pub selection : List Bool
   pub welfare : ℕ

@@ -1,4 +1,4 @@
--- What the engine of a day prints for a journal's commands, and how it can fail.
+-- The text that the engine of a day prints for a journal's commands, and the engine's faults.
 use Rattle.std.specs.Prelude.{◌≡◌, ◌+◌, ◌++◌, ℕ, List, codes}
 use Rattle.dam_book.specs.Book.{run, commands_of}
 use Rattle.dam_book.specs.declared.command.Command.{Command}

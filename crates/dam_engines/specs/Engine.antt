@@ -1,4 +1,4 @@
--- What the engines have in common: how a run ends, and with which faults.
+-- The end of a run and its faults, in all engines.
 use Rattle.std.specs.Prelude.{◌≢◌, ◌≤◌, ◌+◌, ℕ, List, Option, Result, Ok, Err, length, take}
 use Rattle.std.specs.Io.KnownBytes.{Appends}
 use Rattle.dam_book.specs.declared.command.Command.{Command}

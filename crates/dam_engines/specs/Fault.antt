@@ -14,7 +14,7 @@ use Rattle.dam_engines.specs.declared.fault.RunFault.{RunFault}
 use Rattle.dam_engines.specs.declared.fault.RunFault.TheVariants.{Read, Input, TooManyCommands, CloseGiven, TooManyParticipants, StillOpen}
 use Rattle.dam_engines.specs.declared.fault.RunFault.TheVariants.{Mismatch, Unfinished, Collected, Memory, Write}
 
--- what is printed of a fault of the input
+-- the printed text of a fault of the input
 abbrev pub input_text : JournalFault → List ℕ
 input_text TooLong = codes "input: TooLong"
 input_text (NotAscii offset) = codes "input: NotAscii at " ++ decimal offset
@@ -24,7 +24,7 @@ input_text (FieldCount at) = codes "input: FieldCount in record " ++ decimal at
 input_text (BadField at field) = codes "input: BadField in record " ++ (decimal at ++ (codes " field " ++ decimal field))
 input_text MemoryOfJournal = codes "memory"
 
--- what is printed of a journal and receipts that don't fit together
+-- the printed text for a journal and receipts that don't fit together
 abbrev pub mismatch_text : Unmatched → List ℕ
 mismatch_text OpenGate = codes "mismatch: StillOpen"
 mismatch_text (Missing number) = codes "mismatch: Missing " ++ decimal number
@@ -33,7 +33,7 @@ mismatch_text (Differs number) = codes "mismatch: Differs " ++ decimal number
 mismatch_text (Extra number) = codes "mismatch: Extra " ++ decimal number
 mismatch_text MemoryOfSettlement = codes "memory"
 
--- what is printed of a fault
+-- the printed text of a fault
 abbrev pub fault_text : RunFault → List ℕ
 fault_text Read = codes "device: read"
 fault_text (Input fault) = input_text fault

@@ -1,3 +1,3 @@
--- What only contracts inside this crate cite.
+-- Only contracts inside this crate cite these.
 pub mod Reading
 pub mod Counted

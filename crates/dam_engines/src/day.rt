@@ -79,7 +79,7 @@ fn day_text<H: Threads + Wait + Sync, T: Watch + Sync, U: Turnstile + Sync>(
     ensures fault { IfErr result (IsRunFault (IsCommandsFault plan) text.items) }
     ensures needed { OnOk result (HasNeededForDay plan text.items) }
 {
-    // No book is made of it here, and this seed is never used.
+    // A book isn't made of it here, so this seed is never used.
     let journal: PackedJournal = read_into(alloc, Seed::fixed(), text.as_slice())?;
     drop(text);
     let commands = journal.commands.as_slice();

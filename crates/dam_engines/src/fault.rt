@@ -25,8 +25,8 @@ pub enum RunFault {
     TooManyParticipants(usize),
     /// The journal's commands leave the book open, so there is nothing to clear.
     StillOpen,
-    /// The journal of a day's gate and the receipts of its participants don't fit together. No run is
-    /// known to meet it. If memory ran out, the fault is `Memory` of this type.
+    /// The journal of a day's gate and the receipts of its participants don't fit together. It isn't known
+    /// to occur in any run. If memory ran out, the fault is `Memory` of this type.
     Mismatch(Mismatch),
     /// The search visited as many nodes of this piece as the plan allows, and needed another. It is the least
     /// such piece.

@@ -8,7 +8,7 @@ pub trait Watch: Turnstile {
     /// Called before a search, with the number of its pieces.
     fn begin(&self, pieces: u32);
 
-    /// Called after the search, whatever it answers.
+    /// Called after the search, with or without a result.
     fn end(&self);
 }
 

@@ -1,4 +1,4 @@
--- What comes of the text of a journal.
+-- The results of the text of a journal.
 use Rattle.std.specs.Prelude.{ℕ, List}
 use Rattle.dam_book.specs.Book.{run}
 use Rattle.dam_book.specs.declared.command.Command.{Command}

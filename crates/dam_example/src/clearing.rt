@@ -1,4 +1,4 @@
-//! From the text of a journal, or from a book, to what is published of it.
+//! From the text of a journal, or from a book, to its published results.
 ghost use Rattle.std.specs.Prelude.{IfOk};
 ghost use Rattle.dam_results.specs.Clearing.{IsClearing};
 ghost use Rattle.dam_example.specs.Clearing.{IsClearingOf};

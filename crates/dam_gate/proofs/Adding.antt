@@ -43,7 +43,7 @@ adds_goes log v e old pre false is =
       rw is tt,
     )
 
--- whatever the history is, the exchange adds the entry to it if it has the expected length
+-- for any history, the exchange adds the entry to it if it has the expected length
 pub adds_moves : (v : List Entry) (e : Entry) (old : ℕ)
     → Moves IsKept shown moved 0 (v, (no_nib, None)) (λ n. either (n == old) (old + 1) n)
     (Adds (step 0 old (old + 1) e) (v, (no_nib, None)))

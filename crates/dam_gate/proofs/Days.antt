@@ -171,7 +171,7 @@ same_ordered low last less first (x ∷ xs) (y ∷ ys) a b same =
     (same_ordered x.number last y.number first xs ys a.1 b.1
     (λ m. same-tails m last first x y xs ys head a.1 b.1 (same m) (is_number x.number m)))
 
--- what passes of the receipts, in order, is what passes of the entries
+-- the receipts that pass, in order, are the entries that pass
 same_passing : (p : Entry → Bool) (periods seen : ℕ) (es rs : List Entry) → IsLegalHistory periods es → AreReceipts es rs
     → AreInOrder 0 seen (filter p rs) → filter p rs ≡ filter p es
 same_passing p periods seen es rs legal are ordered =
@@ -330,7 +330,7 @@ refused-at cs place participants c Memory room inside at next taken order is = r
 
 -- ---- the shares of the participants in the journal
 
--- what of the receipts is from a participant
+-- the receipts that are from a participant
 pub record Share (given : List Command) (other : List ℕ) (one : Bool) (rs : List Entry) : Type 0 where
   pub last : ℕ
   pub in_order : AreInOrder 0 last (filter (of_command (is_from other)) rs)
@@ -397,7 +397,7 @@ nothing_before : (xs : List Command) (c : Command) → xs ++ c ∷ [] ≡ c ∷ 
 nothing_before [] c one = refl
 nothing_before (x ∷ xs) c one = absurd (omega (arith, ap (λ (ys : List Command). length ys) one, length-append xs (c ∷ [])))
 
--- what the operator's pass adds
+-- the receipts that the operator's pass adds
 with_operator : (p : Command → Bool) (ps : List PassState) (op : PassState)
     → filter (of_command p) (receipts_of (ps ++ op ∷ [])) ≡ filter (of_command p) (receipts_of ps) ++ filter (of_command p) op.receipts
 with_operator p ps op =
@@ -460,7 +460,7 @@ day_run periods given participants es ps op before legal are givers served close
       own_order = λ who. own-order periods given participants es ps op who legal are givers served closes;
     }
 
--- ---- what the code keeps
+-- ---- the facts that the code keeps
 
 split-head : (o : Option Command) (all front back : List Command) → all ≡ front ++ back → cons_option o all ≡ cons_option o front ++ back
 split-head None all front back is = is
@@ -600,7 +600,7 @@ held-all own participants olds news new_ones as_long enters =
     ap (λ (ps : List PassState). get_or ps i d) new_ones ∙ new_at participants i d w (omega (arith, within, as_long, many)) in
     (enters i d (omega (arith, within, as_long))).holder ∙ ap (λ (p : PassState). p.holder) at)
 
--- ---- what a pass knows in addition to its account
+-- ---- the knowledge of a pass in addition to its account
 
 abbrev pub accounts : List Knowledge → List PassState
 accounts ks = map (λ (k : Knowledge). k.account) ks

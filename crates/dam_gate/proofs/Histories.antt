@@ -51,7 +51,7 @@ room_left held (Amend who name price volumes) left = omega (arith, leb-false (mo
 room_left held (Cancel who name) left = omega (arith, leb-false (most_entries - 1) held left)
 room_left held Close left = leb-false most_entries held left
 
--- the journal's entries with that of one command more, for which there is room
+-- the journal's entries with the entry of one command more, for which there is room
 pub history-after : (j : JournalState) (c : Command) → IsJournal j → is_full (length j.entries) c ≡ false
     → IsHistory j.book.periods (j.entries ++ next_entry j c ∷ [])
 history-after j c is room =

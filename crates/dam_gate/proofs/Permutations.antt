@@ -1,4 +1,5 @@
--- What passes a test is permuted by a permutation, and a list of at most one element by none.
+-- A permutation permutes the elements that pass a test, and leaves a list of at most one element as
+-- it is.
 use Rattle.std.proofs.Common.{◌≡◌, ℕ, zero, suc, ◌<◌, ◌≤◌, Bool, true, false, cond, List, [], ◌∷◌, length, get_or, set, swap, filter, refl}
 use Rattle.std.proofs.Common.{sym, ap, arith}
 use Rattle.std.specs.List.Sorted.{IsPermutation}
@@ -17,7 +18,7 @@ module _ {X : Type 0} (p : X → Bool) where
   turn false true x y xs = IsPermutation-refl (y ∷ xs)
   turn false false x y xs = IsPermutation-refl xs
 
-  -- what passes of a list, and of the list with two elements exchanged
+  -- the elements that pass of a list, and of the list with two elements exchanged
   abbrev Alike : List X → List X → Type 0
   Alike xs ys = IsPermutation (filter p xs) (filter p ys)
 

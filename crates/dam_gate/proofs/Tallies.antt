@@ -1,4 +1,4 @@
--- What a tally keeps, receipt by receipt, and what it says in the end.
+-- The facts that a tally keeps, receipt by receipt, and its marks in the end.
 use Rattle.std.proofs.Common.{◌≡◌, ◌≢◌, ℕ, zero, suc, ◌+◌, ◌-◌, ◌<◌, ◌≤◌, ◌==◌, ◌⊎◌, inl, inr, Bool, true, false, List, [], ◌∷◌, ◌++◌}
 use Rattle.std.proofs.Common.{length, map, Option, Some, None, MatchOption, MatchBool, min, refl, sym, ap, subst, ◌∙◌, length-append, arith}
 use Rattle.std.specs.List.{slice_get}
@@ -157,7 +157,7 @@ found-length n (e ∷ es) (f ∷ fs) rs are = ap suc (found-length (suc n) es fs
 found-length n [] (f ∷ fs) rs are = absurd are
 found-length n (e ∷ es) [] rs are = absurd are
 
--- ---- what it says
+-- ---- its marks
 
 right-more : (n : ℕ) (all rs : List Entry) → numbered n rs ≡ numbered n all → ((m : ℕ) → m < n → numbered m rs ≡ numbered m all) → (m : ℕ)
     → m < suc n → numbered m rs ≡ numbered m all
@@ -237,7 +237,7 @@ extra-decided periods least es fs extra rs legal is some tally =
           (λ above. own.2 m above below);
     }
 
--- what is received as it should be has no fault
+-- receipts as they should be have no fault
 pub no_fault : (es rs : List Entry) (why : Mismatch) → IsFaultOfReceipts es rs why → AreReceipts es rs → ⊥
 no_fault es rs StillOpen is are = is
 no_fault es rs (Missing n) is are = omega (arith, is.wrong.0, ap (λ (xs : List Entry). length xs) (sym is.wrong.1 ∙ are n))

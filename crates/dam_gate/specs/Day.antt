@@ -74,9 +74,9 @@ pub record IsSettledDay (periods : ℕ) (given : List Command) (d : SettledDay) 
   pub account : IsWholeAccount d.settled d.passes.items
   pub held_by : holders d.passes.items ≡ day_holders given
 
--- what a day of these commands may answer in place of that: that there are too many; if there aren't, the place, from
--- 0, of a command that it doesn't take while it takes those before, a close or one that brings a participant too many;
--- if it takes them all, that it came out unsettled; or, unless there are too many, that memory ran out
+-- the faults of a day of these commands: there are too many of them; if there aren't, the place, from 0, of a command
+-- that it doesn't take while it takes those before, a close or one that brings a participant too many; if it takes them
+-- all, it came out unsettled; or, unless there are too many, memory ran out
 abbrev pub IsDayFault : List Command → DayFault → Type 0
 IsDayFault cs TooManyCommands = most_entries ≤ length cs
 IsDayFault cs (CloseGiven place) =

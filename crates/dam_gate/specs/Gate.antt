@@ -1,4 +1,4 @@
--- What the gate answers.
+-- The answers of the gate.
 use Rattle.std.specs.Prelude.{◌≡◌, ℕ, ◌<◌, ◌≤◌, true, false, List, [], ◌∷◌, ◌++◌, length}
 use mathlib.Core.List.{IsPrefix}
 use Rattle.dam_book.specs.Book.{Key, run, commands_of, is_day, order_at}
@@ -15,12 +15,13 @@ use Rattle.dam_gate.specs.declared.pass.Look.{Look}
 use Rattle.dam_gate.specs.Journal.{IsHistory, is_full}
 use Rattle.dam_gate.specs.Pass.{PassState, Knowledge, after_call, is_own}
 
--- what may be answered in place of a keeper or a gate of a day with this number of periods
+-- the faults that may be answered in place of a keeper or a gate of a day with this number of
+-- periods
 abbrev pub IsBeginFault : ℕ → BeginFault → Type 0
 IsBeginFault periods BadDay = is_day periods ≡ false
 IsBeginFault periods BeginMemory = is_day periods ≡ true
 
--- what a journal of `held` entries may answer to the command in place of its entry
+-- the faults that a journal of `held` entries may answer to the command in place of its entry
 abbrev pub IsKeeperFault : ℕ → Command → KeeperFault → Type 0
 IsKeeperFault held c (KeeperFull n) = (n ≡ held) × (is_full held c ≡ true)
 IsKeeperFault held c KeeperMemory = is_full held c ≡ false
@@ -30,10 +31,10 @@ abbrev pub gate_fault_of : KeeperFault → GateFault
 gate_fault_of (KeeperFull n) = JournalFull n
 gate_fault_of KeeperMemory = Memory
 
--- what a gate may answer to the command of a pass in place of its entry: that the pass may not give it; or, if it may,
--- that a journal of as many entries is full for it, that memory ran out, or that no version could be shown. Other
--- threads may change the journal, so this mentions none, and doesn't say that there was room if one of the last two is
--- the answer
+-- the faults that a gate may answer to the command of a pass in place of its entry: the pass may not give it; or, if it
+-- may, a journal of as many entries is full for it, memory ran out, or no version could be shown. Other threads may
+-- change the journal, so this doesn't mention one, and doesn't say that there was room if one of the last two is the
+-- answer
 abbrev pub IsGateFault : PassState → Command → GateFault → Type 0
 IsGateFault p c NotYours = is_own p.holder c ≡ false
 IsGateFault p c (JournalFull held) = (is_own p.holder c ≡ true) × (held ≤ most_entries) × (is_full held c ≡ true)
@@ -56,8 +57,8 @@ pub record IsCalled (periods : ℕ) (before after : Knowledge) (e : Entry) : Typ
   pub receipt : after ≡ after_call before after.history e
   pub history : IsAnswered periods before after.history e
 
--- the history is one that a journal of a day with this number of periods may hold, and its run shows what was looked
--- for
+-- a journal of a day with this number of periods may hold the history, and the look shows its length, whether the book
+-- of its run is closed, and the book's order under the key
 pub record IsLook (periods : ℕ) (history : List Entry) (key : Key) (look : Look) : Type 0 where
   pub legal : IsHistory periods history
   pub seen : look.seen ≡ length history

@@ -1,4 +1,4 @@
--- What a settled gate shows.
+-- The facts that a settled gate shows.
 use Rattle.std.specs.Prelude.{◌≡◌, ◌⊎◌, true, List, [], ◌∷◌, All}
 use Rattle.std.specs.List.Sorted.{IsPermutation}
 use Rattle.dam_book.specs.Book.{run, commands_of, entries_of}

@@ -15,8 +15,8 @@ abbrev pub FoundRoom : ℕ → List Entry → Type 0
 FoundRoom held [] = Unit {0}
 FoundRoom held (e ∷ es) = (is_full held e.command ≡ false) × FoundRoom (suc held) es
 
--- what a journal of a delivery day may hold: a legal history, no longer than a journal may be, in which an entry of the
--- greatest number is a close
+-- a history that a journal of a delivery day may hold: a legal history, no longer than a journal may be, in which an
+-- entry of the greatest number is a close
 pub record IsHistory (periods : ℕ) (es : List Entry) : Type 0 where
   pub day : is_day periods ≡ true
   pub legal : IsLegalHistory periods es

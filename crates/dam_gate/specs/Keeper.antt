@@ -1,4 +1,4 @@
--- What a keeper holds, and a step of it that is ready to be taken.
+-- The state of a keeper, and a step of it that is ready to be taken.
 use Rattle.std.specs.Prelude.{◌≡◌, ℕ, ◌<◌, false, length}
 use Rattle.dam_book.specs.Book.{BookState, book_after}
 use Rattle.dam_book.specs.declared.command.Command.{Command}

@@ -1,4 +1,4 @@
--- What a gate's name stands for.
+-- The history and the length of the day that a gate's name stands for.
 use Rattle.std.specs.Prelude.{ℕ}
 use Rattle.logbook.specs.Pages.{Book}
 

@@ -42,8 +42,8 @@ AreOwn holder [] = Unit {0}
 AreOwn holder (e ∷ es) =
     (is_own holder e.command ≡ true) × (is_full (e.number - 1) e.command ≡ false) × AreOwn holder es
 
--- what every pass keeps: the numbers of its receipts increase, and none exceeds what it has seen; each is for a command
--- that its holder may give and that found room
+-- the invariant of a pass: the numbers of its receipts increase, and are at most the number that it has seen; each is
+-- for a command that its holder may give and that found room
 pub record IsPass (p : PassState) : Type 0 where
   pub in_order : AreInOrder 0 p.seen p.receipts
   pub own : AreOwn p.holder p.receipts
@@ -64,15 +64,15 @@ with_receipt p e = record { holder = p.holder; seen = e.number; receipts = p.rec
 abbrev pub having_seen : PassState → ℕ → PassState
 having_seen p seen = record { holder = p.holder; seen = seen; receipts = p.receipts }
 
--- what a pass knows: its account; the history of the gate that it has seen; the longest that it has learnt of, of which
--- each other one is a prefix; and the one that its last call made
+-- the knowledge of a pass: its account; the history of the gate that it has seen; the longest that it has learnt of, of
+-- which each other one is a prefix; and the one that its last call made
 pub record Knowledge : Type 0 where
   pub account : PassState
   pub history : List Entry
   pub learnt : List Entry
   pub note : Option (List Entry)
 
--- what a new pass knows
+-- the knowledge of a new pass
 abbrev pub knowing_nothing : Option (List ℕ) → Knowledge
 knowing_nothing holder = record { account = new_pass holder; history = []; learnt = []; note = None }
 

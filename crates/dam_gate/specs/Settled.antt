@@ -17,9 +17,9 @@ pub record IsSettled (j : JournalState) (passes : List PassState) : Type 0 where
   pub closed : j.book.closed ≡ true
   pub each_once : IsPermutation (receipts_of passes) j.entries
 
--- What can be wrong with a number, by the entries and the receipts of it.
+-- The faults of a number, by the entries and the receipts of it.
 
--- those of this number
+-- the entries of this number
 abbrev pub numbered : ℕ → List Entry → List Entry
 numbered n es = filter (λ (e : Entry). e.number == n) es
 
@@ -44,7 +44,7 @@ pub record IsLeastFault (IsWrong : List Entry → List Entry → Type 0) (es rs 
   pub wrong : IsWrong (numbered n es) (numbered n rs)
   pub least : (m : ℕ) → m < n → numbered m rs ≡ numbered m es
 
--- what is wrong with these receipts of these entries
+-- the fault of these receipts of these entries
 abbrev pub IsFaultOfReceipts : List Entry → List Entry → Mismatch → Type 0
 IsFaultOfReceipts es rs StillOpen = ⊥
 IsFaultOfReceipts es rs (Missing n) = IsLeastFault IsMissing es rs n

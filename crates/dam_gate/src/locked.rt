@@ -25,8 +25,8 @@ use std::sync::{Arc, Wait};
 /// The state under the lock: the keeper, and the parts that publish its versions.
 ///
 /// A contract sees the journal, and how many passes were given. Whenever the lock is free, the history of the name `J`
-/// that it has is just the journal's entries, the day is that of the name, and the slot that is shown has the journal's
-/// version in it.
+/// that it has is exactly the journal's entries, the day is the name's day, and the slot that is shown has the
+/// journal's version in it.
 #[derive(Drop)]
 pub(crate) struct Locked<J: GateName, R: Wait + Drop>
 where

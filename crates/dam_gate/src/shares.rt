@@ -7,7 +7,7 @@ use dam_book::{PackedCommand, Participant};
 use std::alloc::{AllocError, Global};
 use std::marker::Model;
 
-/// The places of one participant's commands among those of the day, in their order. A contract sees the places.
+/// The places of one participant's commands among the day's commands, in their order. A contract sees the places.
 #[derive(Debug, Drop)]
 pub(crate) struct Share {
     places: Vec<usize>,

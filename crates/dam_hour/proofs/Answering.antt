@@ -1,4 +1,4 @@
--- What the parts of a clearing answer, from the totals at the least supporting price.
+-- The answers of the parts of a clearing, from the totals at the least supporting price.
 use Rattle.std.proofs.Common.{◌≡◌, ℕ, ◌-◌, ℤ, pos, ◌+ℤ◌, ◌*ℤ◌, Some, None, List, take, ap, ◌∙◌, sym, subst}
 use Rattle.std.specs.List.{slice_get}
 use Rattle.dam_book.specs.declared.order.Side.TheVariants.{Buy, Sell}

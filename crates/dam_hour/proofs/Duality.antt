@@ -82,7 +82,7 @@ supported_from_surplus p (s ∷ ss) (x ∷ xs) e h =
       supported_from_surplus p ss xs e.1 there,
     )
 
--- what a price supports has the greatest welfare of all that balance
+-- an execution that a price supports has the greatest welfare of all that balance
 pub supported_greatest : (p net : ℤ) (ss : List Step) (xs ys : List ℕ) → IsExecution ss xs → Balances ss net xs → Supports p ss xs
     → IsExecution ss ys → Balances ss net ys → welfare_of ss ys ≤ℤ welfare_of ss xs
 supported_greatest p net ss xs ys ex bx sx ey by =
@@ -95,7 +95,7 @@ supported_greatest p net ss xs ys ex bx sx ey by =
       surplus_at_most p ss ys ey,
     )
 
--- and what has that welfare is supported by the price
+-- and the price supports an execution that has that welfare
 pub equals_supported : (p net : ℤ) (ss : List Step) (xs ys : List ℕ) → IsExecution ss xs → Balances ss net xs → Supports p ss xs
     → IsExecution ss ys → Balances ss net ys → welfare_of ss xs ≤ℤ welfare_of ss ys → Supports p ss ys
 equals_supported p net ss xs ys ex bx sx ey by le =
@@ -110,7 +110,8 @@ equals_supported p net ss xs ys ex bx sx ey by le =
     ) in
     supported_from_surplus p ss ys ey m
 
--- a step's part of `supported_between`: what is better than a price between is better than one of the ends
+-- a step's part of `supported_between`: a step that is better than a price between is better than one of
+-- the ends
 better_between : (side : Side) (limit low p high : ℤ) (x q : ℕ) → low ≤ℤ p → p ≤ℤ high → (IsBetter side limit low → x ≡ q)
     → (IsBetter side limit high → x ≡ q) → IsBetter side limit p → x ≡ q
 better_between Buy limit low p high x q l h f g b = f (omega (arith, ints))

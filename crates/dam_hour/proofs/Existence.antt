@@ -89,7 +89,7 @@ best_exists ss net r w =
     let t = totals_at ss net l.0 l.1.enough (least_is_low ss net l.0 r w l.1) in
     (best_at l.0 ss t.0 t.1, best_is_best ss net l.0 t.0 t.1 t.2)
 
--- ---- an execution with given totals, whatever the limits
+-- ---- an execution with given totals, for any limits
 spread : List Step → (Side → ℕ) → List ℕ
 spread [] left = []
 spread (s ∷ ss) left = min s.qty (left s.side) ∷ spread ss (λ side. left side - volume_on side s.side s.qty)

@@ -8,7 +8,7 @@ use Rattle.dam_hour.specs.Best.{welfare_of, greatest_welfare}
 use Rattle.dam_hour.proofs.Enumeration.{greatest_welfare_reached, greatest_welfare_bound, greatest_welfare_some}
 use Rattle.dam_hour.proofs.Joining.{joined_execution, joined_volume, joined_welfare}
 
--- the net volumes of the two parts add up to that of the whole
+-- the net volumes of the two parts add up to the net volume of the whole
 joined_balance : (ss ts : List Step) (net first : ℤ) (xs ys : List ℕ) → IsExecution ss xs → Balances ss first xs
     → Balances ts (net -ℤ first) ys
     → Balances (ss ++ ts) net (xs ++ ys)

@@ -1,5 +1,5 @@
--- The execution that a price supports and that comes last in book order: what is better has its whole volume, and what
--- stands at the price is filled in book order.
+-- The execution that a price supports and that comes last in book order: the better steps have their whole volume, and
+-- the steps at the price are filled in book order.
 use Rattle.std.proofs.Common.{◌≡◌, ℕ, zero, suc, min, ◌+◌, ◌-◌, ◌<◌, ◌≤◌, ℤ, pos, negsuc, ◌<ℤ◌, List, [], ◌∷◌, Some, None, take, ap, ◌∙◌}
 use Rattle.std.proofs.Common.{refl, arith}
 use Rattle.std.specs.List.{slice_get}
@@ -101,7 +101,7 @@ fill_supported p (s ∷ ss) left = (
   fill_supported p ss _,
 )
 
--- what is left pays the shares in turn
+-- the volume that is left pays the shares in turn
 share_total : (m : ℤ) (q left a b e : ℕ) → e ≡ b + min a (left - if_at m q)
     → share m q left + e ≡ (if_better m q + b) + min (if_at m q + a) left
 share_total (pos zero) q left a b e h = omega arith
@@ -125,7 +125,7 @@ fill_total side p (s ∷ ss) left =
     fill_total_step side s.side m s.qty (at_volume side p ss) (better_volume side p ss) (executed_volume side ss (fill p ss next)) left
     (fill_total side p ss next)
 
--- no supported execution that takes at most what is left comes after it in order
+-- no supported execution that takes at most the volume that is left comes after it in order
 share_greatest : (m : ℤ) (x q t left : ℕ) → x ≤ q → (pos 0 <ℤ m → x ≡ q) → (m <ℤ pos 0 → x ≡ 0) → if_at m x + t ≤ left → x ≤ share m q left
 share_greatest (pos zero) x q t left h f g l = omega arith
 share_greatest (pos (suc n)) x q t left h f g l = h
@@ -162,7 +162,7 @@ fill_last p (s ∷ ss) (x ∷ xs) left e h l =
           (λ side. fill_leaves side s.side m x s.qty (taken side p ss xs) left same (l side)),
     )
 
--- a step's share: what the earlier ones of its side at the price leave
+-- a step's share: the volume that the earlier ones of its side at the price leave
 less_twice : (side own : Side) (m : ℤ) (q t : ℕ) (left : Side → ℕ)
     → (left side - volume_on side own (if_at m q)) - t ≡ left side - (volume_on side own (if_at m q) + t)
 less_twice side own m q t left = omega arith

@@ -86,7 +86,7 @@ few_without gone (p ∷ ps) =
       | false ↦ omega (arith, rest)
     ]
 
--- ---- the steps that stay, whatever is added up
+-- ---- the steps that stay, for every number that is added up
 abbrev part : ℕ → (ℕ → Step → ℕ) → ℕ → Step → ℕ
 part gone f order s = cond (place_of order == gone) 0 (f (order_up gone order) s)
 
@@ -203,7 +203,7 @@ still_gone gone i rows row within is same =
     ∙ ap (λ (b : Bool). cond b (still gone (i + 1) rows) (moved_up gone row.placed ∷ still gone (i + 1) rows))
     (eq-eqb (place_of row.placed.order) gone same)
 
--- what is made of the first rows, as many as that
+-- the first rows, as many as that, as they are made
 pub record AreUpTo (gone i : ℕ) (old rows : List Rung) (v : ℕ) (w : ℤ) : Type 0 where
   pub rows_are : rows ++ rungs_from v w (still gone i old) ≡ rungs_from 0 (pos 0) (without_place gone (placed_of old))
   pub volume_is : v + total (λ p. p.step.qty) (still gone i old) ≡ total (λ p. p.step.qty) (without_place gone (placed_of old))

@@ -36,7 +36,7 @@ pub signed_times : (side : Side) (z : ℤ) (x : ℕ) → signed side (z *ℤ pos
 signed_times Buy z x = refl
 signed_times Sell z x = neg_times z x
 
--- what has its whole volume if it is better and none if it is worse gains the most
+-- a step that has its whole volume if it is better and none if it is worse gains the most
 pub full_or_none : (d : ℤ) (x q : ℕ) → (pos 0 <ℤ d → x ≡ q) → (d <ℤ pos 0 → x ≡ 0) → d *ℤ pos x ≡ pos (above_zero d * q)
 full_or_none (pos zero) x q f g = omega (arith, ints)
 full_or_none (pos (suc n)) x q f g = ap (λ (k : ℕ). pos (suc n * k)) (f (omega (arith, ints)))

@@ -1,4 +1,4 @@
--- How large what stands before a step can be, and what the totals leave for it.
+-- The size of the volume before a step, and the volume that the totals leave for it.
 use Rattle.std.proofs.Common.{◌≡◌, ℕ, zero, suc, min, ◌+◌, ◌-◌, ◌*◌, ◌<◌, ◌≤◌, ℤ, pos, negsuc, ◌≤ℤ◌, ◌<ℤ◌, Some, List, [], ◌∷◌, length}
 use Rattle.std.proofs.Common.{take, ap, ◌∙◌, refl, arith}
 use Rattle.std.specs.List.{slice_get}
@@ -89,7 +89,7 @@ margin_less : (side : Side) (k l p : ℤ) → pos 0 <ℤ margin_of side l p → 
 margin_less Buy k l p h = omega (arith, ints, h)
 margin_less Sell k l p h = omega (arith, ints, h)
 
--- what is not worse than a better limit is better than the price
+-- a step that is not worse than a better limit is better than the price
 pub not_worse_is_better : (side : Side) (l p : ℤ) (ss : List Step) → pos 0 <ℤ margin_of side l p
     → better_volume side l ss + at_volume side l ss ≤ better_volume side p ss
 not_worse_is_better side l p [] h = omega arith
@@ -105,7 +105,7 @@ own_part : (side : Side) (l : ℤ) (q : ℕ) → volume_on side side (if_at (mar
 own_part Buy l q = ap (λ (m : ℤ). if_at m q) (let none : margin_of Buy l l ≡ pos 0 = omega (arith, ints) in none)
 own_part Sell l q = ap (λ (m : ℤ). if_at m q) (let none : margin_of Sell l l ≡ pos 0 = omega (arith, ints) in none)
 
--- a step and what has its limit in front of it
+-- a step and the ones with its limit in front of it
 at_with_own : (ss : List Step) (i : ℕ) (s : Step) → slice_get ss i ≡ Some s
     → at_volume s.side s.price (take i ss) + s.qty ≤ at_volume s.side s.price ss
 at_with_own [] i s e = cc
@@ -116,7 +116,7 @@ at_with_own (t ∷ ss) zero s e =
     omega (arith, own)
 at_with_own (t ∷ ss) (suc i) s e = let rest = at_with_own ss i s e in omega (arith, rest)
 
--- ---- a step's share, from what stands before it
+-- ---- a step's share, from the volume before it
 clamped : (m : ℤ) (q t b f b' a' f' : ℕ) → (pos 0 <ℤ m → b + f + q ≤ b') → (m ≡ pos 0 → (b ≡ b') × (f ≡ f')) → (m <ℤ pos 0 → b' + a' ≤ b)
     → b' ≤ t → t ≤ b' + a'
     → min q (t - (b + f)) ≡ share m q ((t - b') - f')

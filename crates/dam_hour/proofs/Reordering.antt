@@ -35,7 +35,7 @@ first_exchanged d (x ∷ xs) (suc k) l =
     (Then (x ∷ d ∷ xs) (x ∷ get_or xs k d ∷ set xs k d) (get_or xs k d ∷ x ∷ set xs k d) (Kept x (d ∷ xs) (get_or xs k d ∷ set xs k d) rest)
     (Exchanged x (get_or xs k d) (set xs k d)))
 
--- what an exchange of two places gives, whatever the default
+-- the list after an exchange of two places, for any default
 exchanged : {X : Type 0} (d : X) (xs : List X) (i j : ℕ) → i < length xs → j < length xs
     → Reordered xs (set (set xs i (get_or xs j d)) j (get_or xs i d))
 exchanged {X = X} d [] i j l m = absurd (omega (arith, l))

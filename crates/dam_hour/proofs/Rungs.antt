@@ -28,7 +28,7 @@ use Rattle.dam_hour.proofs.Edges.{not_worse_offered}
 abbrev pub volume_to : ℕ → List Placed → ℕ
 volume_to k ps = total (λ p. p.step.qty) (take k ps)
 
--- ---- what holds of each step of the side holds of each placed one
+-- ---- a fact of each step of the side is a fact of each placed one
 nothing_on : (side own : Side) (x : ℕ) → x ≡ 0 → volume_on side own x ≡ 0
 nothing_on Buy Buy x e = e
 nothing_on Sell Sell x e = e
@@ -71,7 +71,7 @@ counted_at_most limit order q = at_most (pos limit -ℤ pos order)
     at_most (pos (suc n)) = omega arith
     at_most (negsuc n) = omega arith
 
--- what stands before the limit is no more than the first k, if no later one does
+-- the steps before the limit are no more than the first k, if no later one is
 counted_under : (limit k : ℕ) (ps : List Placed) → ((i : ℕ) (d : Placed) → k ≤ i → i < length ps → limit ≤ (get_or ps i d).order)
     → total (λ q. counted limit q.order q.step.qty) ps ≤ volume_to k ps
 counted_under limit zero [] h = omega arith

@@ -33,7 +33,7 @@ not_worse_rises (pos (suc m)) (pos zero) q h = omega arith
 not_worse_rises (pos (suc m)) (pos (suc k)) q h = omega arith
 not_worse_rises (pos (suc m)) (negsuc k) q h = let no : 0 < 0 = omega (arith, ints) in omega (arith, no)
 
--- what is better by a cent more is not worse
+-- a step that is better by a cent more is not worse
 better_before : (m k : ℤ) (q : ℕ) → m ≤ℤ (k +ℤ pos 1) → if_better m q ≤ if_better k q + if_at k q
 better_before (negsuc m) k q h = omega arith
 better_before (pos zero) k q h = omega arith
@@ -270,7 +270,7 @@ pub below_not_low : (ss : List Step) (net p q : ℤ) → ¬ (IsLowEnough ss net 
 below_not_low ss net p q fails h = by_lt_z (p -ℤ pos 1) q (λ less. absurd (fails (lower ss net p q (omega (arith, ints)) h))) (λ more. more)
 
 -- ---- the exchange law
--- what supports any balanced execution supports the best one, which has its welfare
+-- a price that supports any balanced execution supports the best one, which has its welfare
 pub best_supported_at : (ss : List Step) (net p : ℤ) (xs : List ℕ) → IsSupporting ss net p → IsBest ss net xs → Supports p ss xs
 best_supported_at ss net p xs s best =
     equals_supported p net ss s.volumes xs s.execution s.balance s.support best.execution best.balance

@@ -14,7 +14,7 @@ use Rattle.dam_hour.specs.inside.Volumes.{better_volume, at_volume, full_surplus
 use Rattle.dam_hour.proofs.Duality.{supported_greatest, equals_supported, welfare_balanced, surplus_supported}
 use Rattle.dam_hour.proofs.FilledExecution.{taken, supported_split, taken_at_most, fill_fits, fill_supported, fill_total, fill_last}
 
--- what is left for each side at the price
+-- the volume that is left for each side at the price
 abbrev pub left_at : ℤ → List Step → ℕ → ℕ → Side → ℕ
 left_at p ss bought sold side = total_on side bought sold - better_volume side p ss
 
@@ -51,7 +51,7 @@ bought_at_most : (net : ℤ) (b s bb sb b2 s2 : ℕ) → pos s +ℤ net ≡ pos 
 bought_at_most net b s bb sb b2 s2 e f e2 hb hs =
     elim (cases_lt b bb) [ inl l ↦ (let full = f l in omega (arith, ints)) | inr h ↦ omega arith ]
 
--- a supported execution with the two totals takes just what is left at the price
+-- a supported execution with the two totals takes just the volume that is left at the price
 left_for : (p : ℤ) (ss : List Step) (ys : List ℕ) (bought sold : ℕ) → IsExecution ss ys → Supports p ss ys
     → executed_volume Buy ss ys ≡ bought → executed_volume Sell ss ys ≡ sold → (side : Side)
     → taken side p ss ys ≤ left_at p ss bought sold side

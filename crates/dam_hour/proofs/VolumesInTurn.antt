@@ -30,7 +30,7 @@ left_after : (own : Side) (taken buys sells buys' sells' : ℕ) → buys' ≡ bu
 left_after own taken buys sells buys' sells' b s Buy = b
 left_after own taken buys sells buys' sells' b s Sell = s
 
--- what the totals leave for each side
+-- the volume that the totals leave for each side
 pub fill_from_totals : (p : ℤ) (ss : List Step) (bought sold buys sells : ℕ) (out : List ℕ) → buys ≡ bought - better_volume Buy p ss
     → sells ≡ sold - better_volume Sell p ss
     → out ≡ fill p ss (λ side. total_on side buys sells) → out ≡ best_at p ss bought sold

@@ -52,7 +52,7 @@ pub record AreBestTotals (steps : List Step) (net : ℤ) (bought sold : ℕ) (we
   pub sold_is : sold ≡ executed_volume Sell steps volumes
   pub welfare_is : welfare ≡ welfare_of steps volumes
 
--- volumes and a welfare within what that number of steps can give
+-- bounds on the volumes and the welfare of that number of steps
 pub record AreSmall (steps bought sold : ℕ) (welfare : ℤ) : Type 0 where
   pub bought_at_most : bought ≤ steps * greatest_volume
   pub sold_at_most : sold ≤ steps * greatest_volume

@@ -1,4 +1,4 @@
--- What a period clears at.
+-- The clearing of a period.
 use Rattle.std.specs.Prelude.{◌≡◌, ℤ, List, length}
 use Rattle.dam_hour.specs.declared.hour.Cleared.{Cleared}
 use Rattle.dam_hour.specs.declared.step.Step.{Step}

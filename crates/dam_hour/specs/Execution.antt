@@ -1,4 +1,5 @@
--- The executions of a period's steps, what they buy and sell, and their balance with a net volume.
+-- The executions of a period's steps, their bought and sold volumes, and their balance with a net
+-- volume.
 use Rattle.std.specs.Prelude.{◌≡◌, ℕ, ◌+◌, ◌≤◌, ℤ, pos, neg_ℤ, ◌+ℤ◌, ◌≤ℤ◌, List, [], ◌∷◌, length}
 use Rattle.dam_book.specs.Price.{IsPrice}
 use Rattle.dam_book.specs.Quantity.{IsQuantity}
@@ -17,8 +18,8 @@ pub record IsHour (steps : List Step) : Type 0 where
   pub few : length steps ≤ most_steps
   pub in_range : AreInRange steps
 
--- a net volume that the blocks of a book can have in a period: what the accepted ones sell there less what they buy, in
--- tenths of a MW
+-- a net volume that the blocks of a book can have in a period: the volume of the accepted sell blocks there less the
+-- volume of the accepted buy blocks, in tenths of a MW
 pub record IsNetVolume (net : ℤ) : Type 0 where
   pub at_least : neg_ℤ (pos greatest_net) ≤ℤ net
   pub at_most : net ≤ℤ pos greatest_net

@@ -4,8 +4,8 @@ use Rattle.dam_hour.specs.declared.step.Step.{Step}
 use Rattle.dam_hour.specs.Price.{AreEnds, price_between}
 use Rattle.dam_hour.specs.Best.{signed, IsBest}
 
--- what an order gains at a price if this much of it is executed: limit less price, times volume, if it buys, and the same
--- with the other sign if it sells
+-- the surplus of an order at a price if this much of it is executed: limit less price, times volume, if it buys, and
+-- the same with the other sign if it sells
 abbrev pub order_surplus : ℤ → Step → ℕ → ℤ
 order_surplus price step volume = signed step.side ((step.price -ℤ price) *ℤ pos volume)
 

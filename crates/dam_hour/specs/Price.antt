@@ -19,7 +19,7 @@ abbrev pub IsWorse : Side → ℤ → ℤ → Type 0
 IsWorse Buy limit price = limit <ℤ price
 IsWorse Sell limit price = price <ℤ limit
 
--- what is better than the price has its whole volume, and what is worse has none
+-- a step that is better than the price has its whole volume, and one that is worse has none
 abbrev pub Supports : ℤ → List Step → List ℕ → Type 0
 Supports price (step ∷ steps) (x ∷ xs) =
     (IsBetter step.side step.price price → x ≡ step.qty) × (IsWorse step.side step.price price → x ≡ 0) × Supports price steps xs

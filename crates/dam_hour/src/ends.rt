@@ -33,8 +33,8 @@ pub(crate) fn is_within_offers<A: Allocator>(hour: &Hour<A>, net: i64) -> bool
     -sells <= net && net <= buys
 }
 
-/// Whether a buy is served: what stands before it leaves it some of the net volume, or of the sells
-/// that aren't worse than its limit.
+/// Whether a buy is served: the volume before it is less than the net volume and the sells that
+/// aren't worse than its limit, together.
 fn is_served<A: Allocator>(hour: &Hour<A>, net: i64, limit: Price, before: u64) -> bool
     requires net { IsNetVolume net }
     requires before { before ≤ most_steps * greatest_volume }

@@ -25,7 +25,8 @@ use std::marker::Model;
 /// steps too.
 pub const MOST_STEPS: usize = MOST_HOURLY + MOST_BLOCKS;
 
-/// The greatest net volume of a period, of either sign, in tenths of a MW: that of all blocks of a book.
+/// The greatest net volume of a period, of either sign, in tenths of a MW: the greatest volume of all
+/// blocks of a book.
 pub const GREATEST_NET: i64 = MOST_BLOCKS as i64 * GREATEST_VOLUME as i64;
 
 /// One period, an hour or a quarter of one: its steps in book order, at most `MOST_STEPS`.
@@ -51,7 +52,7 @@ impl<A: Allocator> Model for Hour<A> {
     ghost invariant = { λ h. AreKept h.steps.items h.buys h.sells };
 }
 
-/// The clearing of a period; the volumes and the welfare are those of its steps alone.
+/// The clearing of a period; the volumes and the welfare count its steps alone.
 ///
 /// The price is any that supports the execution, narrowed to one (EUPHEMIA Public Description,
 /// "Price Determination Sub-problem"): if just one of the two ends is the end of the range of
@@ -340,7 +341,7 @@ impl<A: Allocator> Hour<A> {
     }
 
     /// The executed volume of the step at a place, counted from 0 in book order, in tenths of a MW:
-    /// that of the best execution, as `clear` has it.
+    /// its volume in the best execution, as `clear` has it.
     ///
     /// `None` exactly if `clear` is `None` or no step stands there. Takes no memory.
     pub fn executed(&self, net: i64, place: usize) -> Option<u32>

@@ -102,8 +102,10 @@ pub fn surplus()
         → execution_surplus p steps ys ≤ℤ execution_surplus p steps xs }
 {}
 
-/// How large the executed volumes and the welfare of any execution can be: for each step at most the
-/// greatest volume, and the greatest price times the greatest volume.
+/// Bounds on any execution of some steps. The bought and the sold volume, in tenths of a MW, are
+/// each at most the number of steps times the greatest volume. The welfare, in cents per MWh times
+/// tenths of a MW, has at most the size of the number of steps times the greatest price times the
+/// greatest volume, above 0 or below.
 pub fn magnitude()
     ensures { (steps : List Step) (xs : List ℕ) → AreInRange steps → IsExecution steps xs
         → AreSmall (length steps) (executed_volume Buy steps xs) (executed_volume Sell steps xs)
@@ -119,8 +121,8 @@ pub fn lengths()
         → x ≤ step.qty }
 {}
 
-/// The executions of some steps and then others are those of the first and then those of the second;
-/// their executed volumes and their welfare add up.
+/// The executions of some steps followed by others are an execution of the first, followed by an
+/// execution of the others; their executed volumes and their welfare add up.
 pub fn joining()
     ensures joined { (first second : List Step) (xs ys : List ℕ)
         → IsExecution first xs → IsExecution second ys → IsExecution (first ++ second) (xs ++ ys) }
@@ -134,8 +136,9 @@ pub fn joining()
         → welfare_of (first ++ second) (xs ++ ys) ≡ welfare_of first xs +ℤ welfare_of second ys }
 {}
 
-/// With steps after them, the greatest welfare is at least that of the first steps at one net volume
-/// with that of any execution of the others that makes up the difference to the whole's.
+/// With steps after them, the greatest welfare is at least the sum of two: the greatest welfare of
+/// the first steps at one net volume, and the welfare of any execution of the others that makes up
+/// the difference to the whole net volume.
 pub fn extension()
     ensures { (steps others : List Step) (net first u : ℤ) (ys : List ℕ)
         → greatest_welfare steps first ≡ Some u

@@ -1,9 +1,8 @@
 //! One period of the auction: its clearing price and the execution of its hourly orders.
 //!
-//! An [`Hour`] holds the steps of a period in book order. At a net volume of accepted blocks it
-//! gives the price, the totals and the welfare (`clear`), the executed volume of one step
-//! (`executed`) and those of all steps (`execution`). What these words mean stands in `specs/`:
-//! executions and their balance, supporting prices, the best execution.
+//! An [`Hour`] holds the steps of a period in book order. At a net volume of accepted blocks it gives the price, the
+//! totals and the welfare (`clear`), the executed volume of one step (`executed`) and the executed volumes of all steps
+//! (`execution`). `specs/` defines these words: executions and their balance, supporting prices, the best execution.
 //!
 //! ```
 //! let buy = Step { side: Side::Buy, price: Price::new(6000)?, qty: Qty::new(10)? };
@@ -14,8 +13,8 @@
 //! assert_eq!(hour.executed(0, 1), Some(10));
 //! ```
 //!
-//! A contract sees an hour as the list of its steps, in book order. Tests alone show that a call reports out
-//! of memory only if memory was refused.
+//! A contract sees an hour as the list of its steps, in book order. Only tests show that a call reports out of memory
+//! only if memory was refused.
 //!
 //! The crate doesn't know blocks, books or the other periods.
 #![tactic(auto)]

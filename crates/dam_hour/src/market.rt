@@ -32,12 +32,12 @@ pub fn fair_in_a_period()
         → earlier.price ≡ later.price → 0 < y → x ≡ earlier.qty }
 {}
 
-/// Book order decides only ties: in whatever order the hourly orders of a period stand, its greatest
+/// Book order decides only ties: if the hourly orders of a period stand in another order, its greatest
 /// welfare at a net volume, the ends of its supporting prices, and the volume of each side in its best
 /// execution are the same.
 ///
 /// So the price is the same too. An order that is better or worse than it has its whole volume or none,
-/// whatever the order (`fair_in_a_period`). Only orders whose limit is the price, of one side, may get
+/// in any book order (`fair_in_a_period`). Only orders whose limit is the price, of one side, may get
 /// more or less.
 pub fn book_order()
     ensures welfare { (steps others : List Step) (net : ℤ) → IsPermutation steps others

@@ -31,7 +31,8 @@ impl Step {
         }
     }
 
-    /// The step itself, with what its types keep of its limit and its volume.
+    /// The step itself. The contract states the ranges of its limit and its volume, which the types
+    /// keep.
     pub(crate) fn in_range(self) -> Step
         ensures same { result ≡ self }
         ensures limit { IsPrice result.price }
@@ -59,7 +60,7 @@ impl Step {
         i64::from(self.price.get()) * i64::from(self.qty.get())
     }
 
-    /// The step's volume if its limit is the price, and else 0, in tenths of a MW.
+    /// The step's volume in tenths of a MW if its limit is the price, and otherwise 0.
     pub(crate) fn volume_at(&self, price: Price) -> u64
         ensures { result ≡ if_at (margin_at self.now price) self.now.qty }
     {

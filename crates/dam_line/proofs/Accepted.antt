@@ -1,4 +1,4 @@
--- What a parse that has no fault found: each value passes the parser of its argument.
+-- The values that a parse without a fault found: each passes the parser of its argument.
 use Rattle.std.proofs.Common.{◌≡◌, ◌∙◌, ◌<◌, ◌&&◌, ◌⊎◌, ℕ, Bool, cond, true, false, zero, suc, refl, sym, ap, subst, arith, List, [], ◌∷◌}
 use Rattle.std.proofs.Common.{◌++◌, length, drop, ◌||◌, Option, Some, None, inl, inr, is_some, true≢false, option_map}
 use Rattle.std.specs.Prelude.{encode_utf8, find, fold, option_and_then, slice_get}
@@ -53,7 +53,7 @@ each_append : {X : Type 0} (P : X → Type 0) (xs ys : List X) → Each P xs →
 each_append P [] ys first second = second
 each_append P (x ∷ xs) ys first second = (first.0, each_append P xs ys first.1 second)
 
--- what is found is one of them
+-- an element that is found is one of them
 found_one : {X : Type 0} (P : X → Type 0) (p : X → Bool) (xs : List X) (x : X) → Each P xs → find p xs ≡ Some x → P x
 found_one P p [] x each is = absurd (no_value x is)
 found_one P p (y ∷ ys) x each is = go (p y) (found_one P p ys x each.1) is
@@ -434,7 +434,7 @@ defaults_fit c (a ∷ rules) rows usual none each =
     let both = none_of_both _ _ none in
     defaults_fit c rules (with_default rows a) usual.1 both.1 (default_fits c a rows usual.0 both.0 each)
 
--- ---- what the matches say of one rule
+-- ---- one rule in the matches
 
 found_passes : {X : Type 0} (p : X → Bool) (xs : List X) → list_any p xs ≡ true → (x : X) × (find p xs ≡ Some x) × (p x ≡ true)
 found_passes p [] any = absurd (true≢false (sym any))

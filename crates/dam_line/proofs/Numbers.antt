@@ -1,4 +1,5 @@
--- What the number parser answers to an option's text is the number that the definition reads of it.
+-- The answer of the number parser to an option's text is the number that the definition reads of
+-- it.
 use Rattle.std.proofs.Common.{◌≡◌, ◌∙◌, ◌<◌, ◌≤◌, ◌^◌, ◌&&◌, ℕ, Bool, cond, true, false, List, [], ◌∷◌, length, Option, Some, None, Result}
 use Rattle.std.proofs.Common.{Ok, Err, refl, sym, ap, arith, nat_lt, nat_le}
 use Rattle.std.specs.Prelude.{option_and_then, unwrap_or}
@@ -26,7 +27,7 @@ digits_are (d ∷ ds) pass =
     let both = and_parts _ _ pass in
     (ltb-true _ _ both.0, digits_are ds both.1)
 
--- the option's number by what its text is read as
+-- the option's number by the number that its text is read as
 abbrev pub kept : OptionTerms → Option ℕ → ℕ
 kept option None = option.default
 kept option (Some n) = cond (nat_le option.least n && nat_le n option.most) n option.default
@@ -35,7 +36,7 @@ same_choice : (b : Bool) (n d : ℕ) → unwrap_or (cond b (Some n) None) d ≡ 
 same_choice true n d = refl
 same_choice false n d = refl
 
--- what a parse of a `u32` says
+-- the answers of a parse of a `u32`
 abbrev Gives : Text → Result ℕ ParseIntError → Type 0
 Gives text r = ParsesUnsigned 32 10 text r × ExplainsUnsignedError 10 text r × HasUnsignedDigitsIfOk text r
 
@@ -64,7 +65,7 @@ module _ (option : OptionTerms) (small : option.most < 2 ^ 32) where
   read_one text (Some n) reads = read text (Ok n) reads.0
   read_one text None reads = read text (Err reads.0) reads.1.0
 
-  -- the option's number, by what the matches' text is read as
+  -- the option's number, by the number that the matches' text is read as
   pub given : (found : Found) (number : Option ℕ) → (one_text found option.name ≡ None → number ≡ None)
       → ((text : Text) → one_text found option.name ≡ Some text → ReadsOne Gives text number) → number_given option
       (rows_of found) ≡ kept option number

@@ -1,4 +1,4 @@
--- What the program's command is to `clap`, and what follows of its answers.
+-- The program's command as `clap` sees it, and the consequences of its answers.
 use Rattle.std.proofs.Common.{◌≡◌, ◌⊎◌, Bool, cond, true, false, List, [], ◌∷◌, Option, Some, None, refl, ap, inl, inr, subst}
 use Rattle.std.specs.Prelude.{Result, find, option_map, unwrap_or}
 use Rattle.std.specs.declared.alloc.Global.{Global}

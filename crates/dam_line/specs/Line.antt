@@ -155,12 +155,12 @@ pub record AreRefused (words : List Text) (help : Bool) : Type 0 where
   pub no_memory : kind ≢ OutOfMemory
   pub is_help : help ≡ is_help kind
 
--- what an error comes to, by its kind and its text: a refusal, unless memory ran out, in the parse or for the text
+-- the fault for an error, by its kind and its text: a refusal, unless memory ran out, in the parse or for the text
 abbrev pub IsRefusal : {E : Type 0} → ErrorKind → Result (String Global) E → LineFault → Type 0
 IsRefusal kind answer (Refused help text) = (kind ≢ OutOfMemory) × (help ≡ is_help kind) × (answer ≡ Ok text)
 IsRefusal kind answer Memory = (kind ≡ OutOfMemory) ⊎ IsErr answer
 
--- what words can be answered that ask for no job
+-- the faults that words may be answered if they don't ask for a job
 abbrev pub IsLineFault : List Text → LineFault → Type 0
 IsLineFault words (Refused help text) = AreRefused words help
 IsLineFault words Memory = Unit {0}

@@ -1,4 +1,4 @@
--- What a contract sees of an option.
+-- The terms of an option, which contracts see.
 use Rattle.dam_line.specs.Line.{OptionTerms}
 use Rattle.dam_line.specs.declared.options.NumberOption.{NumberOption}
 

@@ -14,7 +14,7 @@ pub const CLEAR: &str = "clear";
 
 pub const DAY: &str = "day";
 
-/// How the program is fed.
+/// How the program gets its journal.
 const USAGE: &str = "dam replay < JOURNAL
        dam clear [OPTIONS] < JOURNAL
        dam day [OPTIONS] < JOURNAL";

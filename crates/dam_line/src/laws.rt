@@ -6,8 +6,8 @@ ghost use Rattle.dam_line.specs.Line.{AreRefused, AsksFor, HasPlan, IsInItsRange
 
 use crate::line::Job;
 
-/// The program's command is simple, and no option has a rule on another: of such a command `clap`
-/// says exactly what it makes of words.
+/// The program's command is simple, and no option has a rule on another. For such a command the
+/// contracts of `clap` state the exact answer to any words.
 pub fn exactness()
     ensures simple { is_simple program ≡ true }
     ensures free { is_simple_and_free program ≡ true }
@@ -22,7 +22,7 @@ pub fn ranges()
         → HasPlan found.0 → IsOption option → IsInItsRange option found.1 }
 {}
 
-/// Some words, and what they ask for.
+/// Some words, and the jobs that they ask for.
 pub fn examples()
     ensures replay { AsksFor (codes "replay" ∷ []) Job.Replay }
     ensures defaults { AsksFor (codes "clear" ∷ []) (Job.Clear (plan_of 2 3 67108864)) }

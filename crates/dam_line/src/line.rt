@@ -14,7 +14,7 @@ use std::alloc::{AllocError, Global};
 use std::convert::AsStr;
 use thiserror::Error;
 
-/// What words ask for.
+/// The job that words ask for.
 #[derive(Clone, Copy, PartialEq, Eq, Debug)]
 pub enum Job {
     /// The book's reply to each command.
@@ -25,13 +25,13 @@ pub enum Job {
     Day(Plan),
 }
 
-/// Why words ask for no job.
+/// Why words don't ask for a job.
 ///
-/// The text is `clap`'s, so no contract says what it is.
+/// The text is `clap`'s, so the contracts don't state it.
 #[derive(PartialEq, Eq, Debug, Drop, Error)]
 pub enum LineFault {
     /// `clap` refuses the words. If they ask for help, `help` is true and `text` is the help. Otherwise
-    /// `text` says what is wrong with them, or is the help if there are no words.
+    /// `text` is the error message, or the help if there are no words.
     #[error("{text}")]
     Refused { help: bool, text: String },
     /// A growth was refused.
@@ -58,7 +58,7 @@ pub fn read_line<'a, S: AsStr>(alloc: Global, words: &'a [S]) -> Result<Job, Lin
     Ok(job_of(name, options))
 }
 
-/// What an error of `clap` comes to, by its kind and its text.
+/// The fault for an error of `clap`, by its kind and its text.
 fn refusal(kind: ErrorKind, text: Result<String, AllocError>) -> LineFault
     ensures { IsRefusal kind text result }
 {

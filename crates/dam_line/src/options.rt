@@ -6,11 +6,11 @@ pub struct NumberOption {
     pub name: &'static str,
     pub least: u32,
     pub most: u32,
-    /// What stands if the words give no number.
+    /// The number if the words give none.
     pub default: u32,
     /// `default`, as it would stand among the words.
     pub default_text: &'static str,
-    /// How the help calls the number.
+    /// The number's name in the help.
     pub letter: &'static str,
     pub help: &'static str,
 }

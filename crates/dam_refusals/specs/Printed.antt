@@ -1,4 +1,4 @@
--- What is printed of a row.
+-- The printed text of a row.
 use Rattle.std.specs.Prelude.{◌≡◌, ℕ, List, ◌++◌, true, false, codes, decimal}
 use Rattle.dam_engines.specs.Fault.{fault_text}
 use Rattle.dam_refusals.specs.declared.answer.Answer.{Answer}
@@ -7,7 +7,7 @@ use Rattle.dam_refusals.specs.declared.answer.Told.{Told}
 use Rattle.dam_refusals.specs.declared.answer.Stop.{Stop}
 use Rattle.dam_refusals.specs.declared.answer.Stop.TheVariants.{Memory, Wrong}
 
--- what the last call answered
+-- the answer of the last call
 abbrev pub answer_text : Answer → List ℕ
 answer_text (Entries count) = decimal count ++ codes " entries"
 answer_text (Commands count) = decimal count ++ codes " commands"

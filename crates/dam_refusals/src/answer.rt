@@ -1,4 +1,4 @@
-//! What is printed of a row.
+//! The printed answer of a row.
 
 use dam_blocks::ProblemFault;
 use dam_engines::RunFault;
@@ -9,15 +9,15 @@ use dam_results::JournalFault;
 use std::alloc::{AllocError, AllocFailed};
 use std::fmt;
 
-/// How often a call is made at most.
+/// The greatest number of tries of a call.
 pub const TRIES: u32 = 10;
 
-/// Why a row came to no end.
+/// Why a row stopped before its end.
 #[derive(Clone, Copy, PartialEq, Eq)]
 pub enum Stop {
-    /// Memory was refused to what stands before the first call of the row.
+    /// Memory was refused before the first call of the row.
     Memory,
-    /// A call was answered what it shouldn't be, or one that was refused changed something.
+    /// A call gave a wrong answer, or a refused call changed something.
     Wrong,
 }
 
@@ -83,7 +83,7 @@ impl fmt::Display for Stop {
     }
 }
 
-/// What the last call of a row answered.
+/// The answer of a row's last call.
 #[derive(Clone, Copy, PartialEq, Eq)]
 pub enum Answer {
     /// A journal of this number of entries.
@@ -103,7 +103,7 @@ pub enum Answer {
 }
 
 impl Answer {
-    /// What a command line asks for.
+    /// The answer for the job of a command line.
     pub fn of_job(job: Job) -> Answer {
         match job {
             Job::Replay => Answer::Replay,
@@ -138,7 +138,7 @@ impl fmt::Display for Answer {
     }
 }
 
-/// What came of a row.
+/// The result of a row.
 #[derive(Clone, Copy, PartialEq, Eq)]
 pub struct Told {
     pub answer: Answer,

@@ -55,7 +55,8 @@ fn answer_of(found: Result<Best, SearchFault>) -> Answer {
     }
 }
 
-/// Searches until memory isn't refused. When a search has ended, no worker is at a piece, and none comes to one later.
+/// Searches until memory isn't refused. When a search has ended, its workers have left their pieces, and don't begin
+/// others.
 fn search_again<R: Threads + Sync>(
     rt: &R,
     alloc: Global,

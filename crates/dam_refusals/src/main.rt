@@ -1,10 +1,10 @@
 //! Calls that are made again if memory was refused to them: `tests/hostile` refuses each of their calls for memory in
 //! turn.
 //!
-//! The first word names a row of calls, as `Row` has them; without a word it is a day at a gate. Standard input is its
-//! journal, if it needs one. What is printed says what the last call answered, and how many calls were refused; or
-//! `memory` if memory was refused to what comes before the row's calls; or `wrong` if a call was answered what it
-//! shouldn't be, or one that was refused changed something.
+//! The first word names a row of calls, as `told` has them; without a word it is a day at a gate. Standard input is its
+//! journal, if it needs one. The program prints the answer of the last call, and how many calls were refused. It prints
+//! `memory` if memory was refused before the row's first call, and `wrong` if a call gave a wrong answer or a refused
+//! call changed something.
 //!
 //! The books of gates hash names with a seed of the system's random bytes.
 #![tactic(auto)]
@@ -49,7 +49,7 @@ fn main(rt: HostRuntime) -> io::Result<()> {
     }
 }
 
-/// What comes of the row of this name, of the further words and of the text.
+/// The result of the row of this name, from the further words and the text.
 fn told<R: Threads + Wait + Sync>(
     rt: &R,
     alloc: Global,

@@ -15,7 +15,7 @@ pub struct Round<J: GateName> {
     pub refused: u32,
 }
 
-/// What a pass shows of itself: how many entries it has seen, how many receipts it has, and whether it has a note.
+/// The visible state of a pass: how many entries it has seen, how many receipts it has, and whether it has a note.
 #[derive(Clone, Copy, PartialEq, Eq)]
 struct Shown {
     seen: u32,
@@ -148,7 +148,7 @@ impl<J: GateName> Round<J> {
         }
     }
 
-    /// What is left of the passes, in room that was made before the first call.
+    /// The accounts of the passes, in room that was made before the first call.
     pub fn into_accounts(self, mut accounts: Vec<Account>) -> Result<Vec<Account>, Stop> {
         let Round {
             passes,
@@ -174,7 +174,7 @@ fn is_entered<J: GateName>(pass: &mut Pass<J>, entry: &Entry) -> Result<(), Stop
     }
 }
 
-/// How many entries the version has that a look finds. It makes that what the pass has seen.
+/// The number of entries of the version that a look finds. The pass has then seen as many.
 fn entries_shown<J: GateName>(pass: &mut Pass<J>) -> Option<u32> {
     let look = pass.look(&Participant::new(b"A")?, &Name::new(b"A")?)?;
     Some(look.seen)

@@ -32,7 +32,7 @@ fn are_equal(
     }
 }
 
-/// What a text was read as.
+/// The answer to the reading of a text.
 fn answer_of(read: &Result<JournalRead, JournalFault>) -> Answer {
     match read {
         Ok(journal) => Answer::Commands(journal.commands.len()),

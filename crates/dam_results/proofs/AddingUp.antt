@@ -1,4 +1,4 @@
--- What is published of each order adds up: to the welfare, and in each period to the bought and the sold volume.
+-- The published lines of the orders add up: to the welfare, and in each period to the bought and the sold volume.
 use Rattle.std.proofs.Common.{◌≡◌, ℕ, zero, suc, ◌+◌, ◌-◌, ◌≤◌, ◌==◌, ℤ, pos, ◌+ℤ◌, Bool, true, false, cond, Option, Some, None, List, []}
 use Rattle.std.proofs.Common.{◌∷◌, ◌++◌, length, length-append, drop, get_or, append_assoc, ap, ap₂, ◌∙◌, sym, subst, refl, arith}
 use Rattle.std.specs.List.{slice_get, cons_option}
@@ -138,7 +138,7 @@ stands_there front key o rest =
     ∙ ap (λ (ss : List Step). steps_in o.period front ++ ss) (own_steps key o rest))
     ∙ seam (steps_in o.period front) (steps_in o.period rest) (step_of o)
 
--- ---- what is published of an hourly order
+-- ---- the published line of an hourly order
 -- its period's orders and best execution, and its volume there
 record StandsExecuted (book : BookState) (executions : List (List ℕ)) (front : List Row) (o : HourTerms) (volume : ℕ) : Type 0 where
   from_one : 1 ≤ o.period
@@ -290,7 +290,7 @@ drop_at [] n x e = absurd (cc)
 drop_at {A = A} (y ∷ xs) zero x e = ap (λ (z : A). z ∷ xs) (same_some y x e)
 drop_at (y ∷ xs) (suc n) x e = drop_at xs n x e
 
--- what is left of a period from the orders in front on
+-- the rest of a period from the orders in front on
 abbrev rest_executed : Side → List Step → List ℕ → ℕ → ℕ
 rest_executed side ss xs n = executed_volume side (drop n ss) (drop n xs)
 
@@ -464,7 +464,8 @@ volume_adds_up laws book welfare periods rows k period is clearing at =
     (laws.balance blocks sel t ss own.0 own.2)
     (result.volume ∙ ap (λ (xs : List ℕ). traded Buy blocks sel t ss xs) (sym same))
 
--- what is traded by the published lines is what the selection and the best execution trade
+-- the traded volume of the published lines is the traded volume of the selection and the best
+-- execution
 pub traded_is : AddingLaws → (book : BookState) (welfare : ℕ) (periods : List PeriodResult) (rows : List RowResult)
     (clearing : IsClearing book welfare periods rows) (k : ℕ) (ss : List Step) (side : Side)
     → slice_get (hours_from 1 book.periods book.rows) k ≡ Some ss

@@ -93,7 +93,7 @@ published-cleared law book problem sel found welfare periods rows closed made is
       published = subst (λ p. ArePublished p sel welfare periods rows) made published;
     }
 
--- what is published of one selection, and the result of one problem
+-- the published results of one selection, and the result of one problem
 pub record AreOne : Type 0 where
   pub best : (problem : ProblemState) (sel : List Bool) (v : ℤ) → IsBestSelection problem sel v → IsResult problem sel v
   pub result : (problem : ProblemState) (xs ys : List Bool) (v w : ℤ) → IsResult problem xs v → IsResult problem ys w → (xs ≡ ys) × (v ≡ w)

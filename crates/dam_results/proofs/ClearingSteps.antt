@@ -125,7 +125,7 @@ cleared_more problem sel place t periods periods' prices prices' executions exec
           (best_push problem.blocks sel 1 t (take place problem.hours) executions one.hour executed number so_far.are_best one.best));
     }
 
--- ---- what is known of a cleared day
+-- ---- facts of a cleared day
 long_as : (ss : List Step) (xs : List ℕ) → IsExecution ss xs → length xs ≡ length ss
 long_as [] [] is = refl
 long_as [] (x ∷ xs) is = absurd is

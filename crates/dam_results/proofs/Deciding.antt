@@ -1,4 +1,4 @@
--- What can be decided: it holds, or it doesn't.
+-- Propositions that can be decided: each holds, or it doesn't.
 use Rattle.std.proofs.Common.{◌≡◌, ◌⊎◌, inl, inr, ℕ, zero, suc, ◌<◌, ◌≤◌, Bool, true, false, List, [], ◌∷◌, ◌++◌, refl, sym, ap₂, subst}
 use Rattle.std.proofs.Common.{arith}
 use Rattle.std.specs.Str.{bytes_eq}
@@ -64,7 +64,7 @@ heads x y xs ys is = cc
 tails : {X : Type 0} (x y : X) (xs ys : List X) → x ∷ xs ≡ y ∷ ys → xs ≡ ys
 tails x y xs ys is = cc
 
--- whether the text begins with this front, and what comes after it is so
+-- whether the text begins with this front, and the rest after it is so
 module _ (Q : List ℕ → Type 0) (decided : (rest : List ℕ) → IsDecided (Q rest)) where
   abbrev Fronted : List ℕ → List ℕ → Type 0
   Fronted front text = (rest : List ℕ) × (text ≡ front ++ rest) × Q rest

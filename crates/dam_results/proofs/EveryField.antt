@@ -52,7 +52,7 @@ decided_price field = decided_as (price-from field) (λ is. price-to field is.0 
 
 -- ---- volumes
 
--- the text is that of pairs, at least one and at most `most`, with periods that increase from above `low`
+-- the text is the text of pairs, at least one and at most `most`, with periods that increase from above `low`
 abbrev HasPairs : ℕ → ℕ → List ℕ → Type 0
 HasPairs most low text = (ps : List Pair) × (0 < length ps) × (length ps ≤ most) × ArePairs ps × (is_increasing low ps ≡ true) ×
     (text ≡ volumes_text ps)

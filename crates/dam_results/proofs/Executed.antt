@@ -1,4 +1,4 @@
--- What is published of an hourly order is its execution at the price of its period.
+-- The published line of an hourly order is its execution at the price of its period.
 use Rattle.std.proofs.Common.{◌≡◌, ℕ, zero, suc, ◌+◌, ◌-◌, pos, Bool, Some, List, [], ◌∷◌, ◌++◌, length, take, get_or, append_assoc, ap, ◌∙◌, sym, subst, refl, arith}
 use Rattle.std.specs.List.{slice_get}
 use Rattle.std.proofs.lemmas.List.{append-nil}
@@ -37,7 +37,7 @@ price_at blocks sel t (suc k) (hour ∷ hours) (r ∷ periods) ss are e =
     subst (λ (n : ℕ). IsClearingPrice ss (net_volume blocks sel n) (get_or (prices_of periods) k (pos 0))) next
     (price_at blocks sel (suc t) k hours periods ss are.1 e)
 
--- what becomes of the order, the rows of `front` standing before it
+-- the execution of the order, the rows of `front` standing before it
 abbrev pub Executed : BookState → List Bool → List PeriodResult → List Row → HourTerms → ℕ → Type 0
 Executed book sel periods front o volume =
     IsExecutedAt (steps_in o.period book.rows) (net_volume (blocks_in book.rows) sel o.period) (price_in periods o.period)

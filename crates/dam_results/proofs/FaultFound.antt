@@ -32,7 +32,7 @@ pub in_first : (rows rest : List Fields) (row : Fields) (fault : JournalFault) �
 in_first rows rest row fault e h = IsFaultOfRecords-has rows fault
     (record { front = []; row = row; rest = rest; parts = e; fine = inl refl; faulty = h })
 
--- what the first record says, or its fault
+-- the value of the first record, or its fault
 pub first_record : {Open : Type 0} (rows rest : List Fields) (row : Fields) (read : Result ℕ JournalFault) → Open → rows ≡ row ∷ rest
     → MatchResult read (λ periods. (is_day periods ≡ true) × (row ≡ day_row periods)) (IsRecordFault 1 row)
     → MatchResult read (λ periods. (is_day periods ≡ true) × Open × (rows ≡ day_row periods ∷ rest)) (IsFaultOfRecords rows)
@@ -143,7 +143,7 @@ ReadsInto-fault MadeOf periods rows rest more row count number made fault day h 
     let place : number ≡ length h.commands + 2 = omega (arith, at, counted) in
     in_later rows periods h.commands rest more row fault day h.reads first (subst (λ (n : ℕ). IsRecordFault n row fault) place faulty)
 
--- at the end of the records, what was made is what the whole journal makes
+-- at the end of the records, the value that was made is the value of the whole journal
 pub ReadsInto-all : {T : Type 0} (MadeOf : ℕ → List Command → T → Type 0) (periods : ℕ) (rows rest : List Fields) (count : ℕ) (made : T)
     → is_day periods ≡ true → ReadsInto MadeOf periods rows rest count made
     → rest ≡ [] → (commands : List Command) × AreRecords (day_row periods ∷ rows) periods commands × MadeOf periods commands made

@@ -119,7 +119,7 @@ IsSound-command number row c later few valid e =
     let test : eqb number 1 ≡ false = grind (arith, nat_tests) in
     rw e (record { few = few; nine = nine_fields c; first = λ one. absurd (omega arith); kept = rw test (ObeyAll-command c valid) })
 
--- each of the written records is that of a command
+-- each of the written records is the record of a command
 record IsWritten (row : Fields) : Type 0 where
   command : Command
   valid : IsCommand command

@@ -1,4 +1,4 @@
--- What a read of one record consumes, and the state that it leaves.
+-- The bytes that a read of one record consumes, and the state that it leaves.
 use Rattle.std.proofs.Common.{◌≡◌, ℕ, ◌<◌, ◌≤◌, Bool, true, false, cond, List, [], ◌∷◌, length, Option, Some, None, refl, ap, subst, arith}
 use Rattle.csv.specs.Reading.{default_config}
 use Rattle.csv.specs.Machine.{Read, step, in_field, start_field, start_record, is_end, ends_at_end, next_record, fields_after, field_after}

@@ -1,4 +1,4 @@
--- What is published of a book with a block less, or with another limit for one.
+-- The published results of a book with a block less, or with another limit for one.
 use Rattle.std.proofs.Common.{◌≡◌, ℕ, zero, suc, ◌-◌, ◌<◌, ◌≤◌, ℤ, pos, ◌+ℤ◌, ◌≤ℤ◌, Bool, true, false, Some, List, []}
 use Rattle.std.proofs.Common.{◌∷◌, ◌++◌, length, length-append, take, drop, set, append_assoc, ap, ap₂, ◌∙◌, sym, subst, refl, arith}
 use Rattle.std.specs.List.{slice_get}
@@ -196,7 +196,7 @@ pub record WorseLaws : Type 0 where
       → IsWithLimit problem other place block limit → IsWorse block.order.side limit block.order.price → IsResult problem sel welfare
       → accepts sel place ≡ false → IsResult other sel welfare
 
--- what reads no limit is the same
+-- a sum that doesn't read limits is the same
 same_sum : (f : BlockTerms → ℤ) (bs cs : List Block) (b c : Block) (sel : List Bool) → f b.order ≡ f c.order
     → over_accepted f (bs ++ b ∷ cs) sel ≡ over_accepted f (bs ++ c ∷ cs) sel
 same_sum f [] cs b c [] e = refl
@@ -355,7 +355,7 @@ rows_behind book other front back key o p sel prices more (r ∷ rest) (x ∷ re
           (sym (append_assoc front ((key, BlockVariant p) ∷ more) (r ∷ []))) done,
     )
 
--- what the block gains with its other limit
+-- the gain of the block with its other limit
 own_line : (book other : BookState) (front back : List Row) (key : Key) (o p : BlockTerms) (sel : List Bool) (prices : List ℤ)
     (done : List Row) (who name : List ℕ) (accepted : Bool) (surplus : ℤ) → AreAlike book other front back key o p → done ≡ front
     → IsRowResult (problem_of book) sel prices (record { who = key.0; name = key.1; at = place_after done (BlockVariant o) })

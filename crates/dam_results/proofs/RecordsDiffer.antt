@@ -20,7 +20,7 @@ use Rattle.dam_results.specs.Records.{Fields, kind_field, day_row, row_of, order
 use Rattle.dam_results.specs.Journal.{AreRecords, IsCommand}
 use Rattle.dam_results.proofs.Rules.{one_volume, short_day}
 
--- what the texts of prices and volumes owe
+-- the facts that are required of the texts of prices and volumes
 pub record TextsDiffer : Type 0 where
   pub prices : (p q : ℤ) → IsPrice p → IsPrice q → price_text p ≡ price_text q → p ≡ q
   pub volumes : (v w : List Pair) → IsVolumes v → IsVolumes w → volumes_text v ≡ volumes_text w → v ≡ w

@@ -83,7 +83,7 @@ here : (s : State) (xs : List ℕ) → Reached default_config s xs [] s xs
 unfolding Reached
 here s xs = (refl, refl)
 
--- what a read takes is the first of the records left, and the reader goes on
+-- a read takes the first of the records left, and the reader goes on
 pub record Takes (a b : RecordReader) (fields : Fields) : Type 0 where
   pub goes_on : IsOpen b
   pub rows : rows_left a ≡ fields ∷ rows_left b
@@ -111,7 +111,7 @@ rows_left-takes a b fields h r ready =
       rows = all ∙ ap (λ (rows : List Fields). fields ∷ rows) (fewer ∙ ap (λ (known : Option (List ℕ)). rows_left_in t known) (sym m.1));
     }
 
--- what a read says of the records left: it took the first of them, or there was none
+-- the answer of a read on the records left: it took the first of them, or there was none
 pub rows_left-next : (a b : RecordReader) (found : Bool) (fields : Fields) → IsOpen a → ReadRecord given a b found fields → Ready b
     → MatchBool found (IsOpen b × (rows_left a ≡ fields ∷ rows_left b)) (rows_left a ≡ [])
 rows_left-next a b true fields h r ready = let takes = rows_left-takes a b fields h r ready in (takes.goes_on, takes.rows)

@@ -45,7 +45,7 @@ unfolding escaped
 escaped_plain [] h = refl
 escaped_plain (b ∷ x) h = let o = first_other b x h in rw o.quote (ap (λ (bytes : List ℕ). b ∷ bytes) (escaped_plain x (rest_plain b x h)))
 
--- what comes after a record, and the state and the text after the record's end
+-- the text after a record, and the state and the text after the record's end
 data Stop : List ℕ → State → List ℕ → Type 0 where
   Over : Stop [] st.StartRecord []
   Feed : (rest : List ℕ) → Stop (10 ∷ rest) st.StartRecord rest

@@ -88,7 +88,7 @@ parted {A = A} (y ∷ xs) zero x e = (let same : y ≡ x = cc in ap (λ (z : A).
 parted {A = A} (y ∷ xs) (suc n) x e =
     let rest = parted xs n x e in (ap (λ (zs : List A). y ∷ zs) rest.0, ap suc rest.1)
 
--- ---- what the rows with the block and without it have in common
+-- ---- the common parts of the rows with the block and without it
 pub blocks_split : (front rest : List Row) → blocks_in (front ++ rest) ≡ blocks_in front ++ blocks_in rest
 blocks_split front rest = filter_map-append (λ (r : Row). block_under r.0.0 r.0.1 r.1) front rest
 

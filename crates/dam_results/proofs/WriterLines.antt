@@ -94,7 +94,7 @@ pub puts_all : {A : Type 0} (first out : Writer (Vec ℕ A)) (entries : List Ent
     (commands_of (take i entries)) → PutsCommands first out (commands_of entries)
 puts_all first out entries i over h = rw (take_all i entries over) at h
 
--- what the writer gives at the end is what it has written
+-- the text that the writer gives at the end is the text that it has written
 pub wrote_text : {A : Type 0} (out : Writer (Vec ℕ A)) (text : Vec ℕ A) (written : List ℕ) → Wrote out written → Keeps
     (text_written (λ (v : Vec ℕ A). Some v.items) out) (Some text.items) → text.items ≡ written
 wrote_text out text written h keeps = subst (λ (known : Option (List ℕ)). Keeps known (Some text.items)) h.bytes keeps

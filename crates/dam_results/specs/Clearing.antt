@@ -1,4 +1,4 @@
--- What is published of a closed book.
+-- The published results of a closed book.
 use Rattle.std.specs.Prelude.{◌≡◌, ◌≢◌, ◌⊎◌, ℕ, ℤ, pos, ◌<ℤ◌, Bool, true, List}
 use Rattle.dam_book.specs.Book.{BookState}
 use Rattle.dam_blocks.specs.Problem.{ProblemState, problem_of}

@@ -1,4 +1,4 @@
--- What is published, added up over the orders of the book.
+-- The published results, added up over the orders of the book.
 use Rattle.std.specs.Prelude.{◌≡◌, ℕ, ◌+◌, ◌-◌, ℤ, pos, ◌+ℤ◌, ◌==◌, if◌then◌else◌, Some, List, ◌∷◌, slice_get, slice_set, slice_index_or, remove}
 use Rattle.dam_book.specs.Terms.{BlockTerms}
 use Rattle.dam_book.specs.Book.{Key, Row, BookState}

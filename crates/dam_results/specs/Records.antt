@@ -19,13 +19,13 @@ Fields = List (List ℕ)
 abbrev pub records_of : List ℕ → List Fields
 records_of text = records default_config text
 
--- what stands in the first field, which says what the record is (never used without a field, as each
--- record has one)
+-- the first field, which is the kind of the record (never used without a field, as each record has
+-- one)
 abbrev pub kind_field : Fields → List ℕ
 kind_field [] = []
 kind_field (f ∷ fs) = f
 
--- what stands in the fourth field, which says what a submit orders
+-- the fourth field, which is the form of the order of a submit
 abbrev pub form_field : Fields → List ℕ
 form_field (kind ∷ who ∷ name ∷ form ∷ fs) = form
 form_field fs = []

@@ -11,7 +11,7 @@ use Rattle.dam_book.specs.Fields.{price_text, volumes_text}
 use Rattle.dam_book.specs.Book.{is_day}
 use Rattle.dam_results.specs.Records.{Fields, kind_field, form_field}
 
--- what a field may hold
+-- the rule of a field
 pub data FieldRule : Type 0 where
   Empty : FieldRule
   OneOf : (words : List (List ℕ)) → FieldRule
@@ -54,13 +54,13 @@ hour_rules =
     word (codes "hour") ∷ OneOf (codes "buy" ∷ codes "sell" ∷ []) ∷ LimitPrice ∷ OneVolume ∷ Empty
     ∷ Empty ∷ []
 
--- the same of a block
+-- the same for a block
 abbrev pub block_rules : List FieldRule
 block_rules =
     word (codes "block") ∷ OneOf (codes "buy" ∷ codes "sell" ∷ []) ∷ LimitPrice ∷ AllVolumes
     ∷ NameOrEmpty ∷ NameOrEmpty ∷ []
 
--- the same by what stands in field 4; if that is no form of an order, it breaks the one rule
+-- the same by the text of field 4; if that isn't the form of an order, it breaks the one rule
 abbrev pub form_rules : List ℕ → List FieldRule
 form_rules form =
     if bytes_eq form (codes "hour") then hour_rules

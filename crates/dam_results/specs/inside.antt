@@ -1,4 +1,4 @@
--- What only contracts inside this crate cite.
+-- Only contracts inside this crate cite these.
 pub mod NineFields
 pub mod Reader
 pub mod Writer

@@ -8,7 +8,7 @@ use std::alloc::{AllocError, Global};
 
 /// A value made of the commands of a journal, one after another.
 pub trait FromJournal: Drop {
-    /// It is what these commands make of a day of this many periods.
+    /// The value is made from these commands in a day of this many periods.
     ghost made_of: { ℕ → List Command → Self → Type 0 };
 
     /// The value of no commands. A book in it hashes names by the seed.

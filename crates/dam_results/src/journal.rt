@@ -262,8 +262,8 @@ fn read_text<T: FromJournal>(alloc: Global, seed: Seed, text: &[u8]) -> Result<T
     read_records(alloc, seed, &mut records)
 }
 
-/// The value that the journal in a text makes, or the first fault of the text. Nothing is kept of the records past the
-/// first faulty one.
+/// The value that the journal in a text makes, or the first fault of the text. The records past the first faulty one
+/// aren't kept.
 pub fn read_into<T: FromJournal>(alloc: Global, seed: Seed, text: &[u8]) -> Result<T, JournalFault>
     ensures ok { IfOk result (IsMadeFrom T.made_of text.now) }
     ensures fault { IfErr result (IsJournalFault text.now) }
@@ -279,8 +279,8 @@ pub fn read_into<T: FromJournal>(alloc: Global, seed: Seed, text: &[u8]) -> Resu
 
 /// The journal that a text says, or the first fault of the text.
 ///
-/// `JournalFault` lists the faults in the order in which they are looked for. Nothing is kept of the
-/// records past the first faulty one. It isn't asked that the last command be a close.
+/// `JournalFault` lists the faults in the order in which they are looked for. The records past the
+/// first faulty one aren't kept. The last command need not be a close.
 pub fn read_journal(alloc: Global, text: &[u8]) -> Result<JournalRead, JournalFault>
     ensures ok { IfOk result (λ journal. ReadsAs text.now journal.periods journal.commands.items) }
     ensures fault { IfErr result (IsJournalFault text.now) }
@@ -291,6 +291,6 @@ pub fn read_journal(alloc: Global, text: &[u8]) -> Result<JournalRead, JournalFa
         (λ journal. (journal.periods ≡ periods) × (journal.commands.items ≡ commands))
         (λ fault. fault ≡ JournalFault.Memory) }
 {
-    // No book is made, and the seed is for nothing.
+    // A book isn't made, so the seed is never used.
     read_into(alloc, Seed::fixed(), text)
 }

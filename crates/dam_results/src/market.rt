@@ -79,8 +79,8 @@ pub fn a_rejected_block_withdrawn()
     dam_blocks::market::a_rejected_block_withdrawn();
 }
 
-/// More blocks, no less welfare: the welfare that is published of a book is at least that of the same book
-/// without one of its blocks.
+/// More blocks, no less welfare: the published welfare of a book is at least the published welfare of the
+/// same book without one of its blocks.
 pub fn a_block_more()
     ensures welfare { (book other : BookState) (place : ℕ) (key : Key) (order : BlockTerms)
         (welfare other_welfare : ℕ) (periods other_periods : List PeriodResult)

@@ -234,8 +234,9 @@ fn text_of(out: Writer<Vec<u8>>) -> Result<Vec<u8>, AllocError>
     }
 }
 
-/// The written journal: the record of the day, and then that of each entry's command, refused ones
-/// too. The fields of a record are joined by commas, with no quotes, and each record ends in one LF.
+/// The written journal: the record of the day, and then the record of each entry's command, also if
+/// it was refused. The fields of a record are joined by commas, with no quotes, and each record ends
+/// in one LF.
 ///
 /// It fails only if memory runs out.
 pub fn journal_text(

@@ -1,4 +1,4 @@
--- What one answer more makes of the least unfinished one and of the highest that was found.
+-- One answer more changes the least unfinished piece, and the highest selection that was found.
 use Rattle.std.proofs.Common.{◌≡◌, ◌≢◌, ℕ, ◌+◌, ◌^◌, ◌<◌, ◌≤◌, ◌⊎◌, inl, inr, Bool, true, false, not, ◌&&◌, nat_lt, cond, ◌==◌, Option}
 use Rattle.std.proofs.Common.{Some, None, List, [], ◌∷◌, ◌++◌, length, take, slice_index_or, slice_set, replicate, ◌∙◌, ap, sym, subst}
 use Rattle.std.proofs.Common.{refl, arith}
@@ -79,7 +79,7 @@ pub long_from : (best next result : Option Best) → IsLong best → IsLong next
 long_from best next result l m (inl e) = subst IsLong (sym e) l
 long_from best next result l m (inr e) = subst IsLong (sym e) m
 
--- what the answers found ranks at or below what is highest
+-- the selections that the answers found rank at or below the highest
 below_highest : (answers : List PieceAnswer) (best : Option Best) → IsHighestFound answers best
     → All (λ (x : PieceAnswer). Rises x.best best) answers
 below_highest answers None h = All-weaker (λ (x : PieceAnswer). x.best ≡ None) (λ (x : PieceAnswer). Rises x.best None)

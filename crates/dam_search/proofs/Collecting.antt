@@ -53,7 +53,7 @@ some_piece choices depth sel few long =
       },
     )
 
--- the result is matched by what the answer about its piece found
+-- the result is matched by the selection that the answer about its piece found
 pub result_matched : (problem : ProblemState) (depth : ℕ) (answers : List PieceAnswer) (sel : List Bool) (w : ℤ) → AreChoices
     → depth ≤ most_blocks → AreAnswered problem depth answers
     → AreReached problem answers → IsResult problem sel w

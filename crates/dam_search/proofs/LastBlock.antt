@@ -1,4 +1,5 @@
--- One block more that a selection accepts: what admits the selection looks at that block alone.
+-- One block more that a selection accepts: only that block decides whether the links and the groups
+-- admit the selection.
 use Rattle.std.proofs.Common.{◌≡◌, ℕ, zero, suc, ◌-◌, ◌<◌, ◌≤◌, inl, inr, Bool, true, false, List, [], ◌∷◌, ◌++◌, length, length-append}
 use Rattle.std.proofs.Common.{replicate, set, take, slice_get, Some, ◌∙◌, ap, sym, subst, refl, arith}
 use Rattle.std.proofs.lemmas.Bool.{cases_eq}
@@ -12,7 +13,7 @@ use Rattle.dam_search.proofs.Prefixes.{padded-accepted, padded-rejected}
 same_block : (blocks : List Block) (i : ℕ) (b other : Block) → slice_get blocks i ≡ Some b → slice_get blocks i ≡ Some other → b ≡ other
 same_block blocks i b other e f = cc
 
--- what the newly accepted selection accepts of another group was accepted before
+-- the blocks of another group that the new selection accepts were accepted before
 was_accepted : (blocks : List Block) (sel : List Bool) (at : ℕ) (b last : Block) → slice_get blocks at ≡ Some last
     → (are_of_one_group b last ≡ true → ⊥) → (j : ℕ) (other : Block) → slice_get blocks j ≡ Some other → are_of_one_group b other ≡ true
     → accepts (set sel at true) j ≡ true → accepts sel j ≡ true
@@ -89,7 +90,7 @@ split_last (x ∷ []) rest zero h = refl
 split_last (x ∷ y ∷ xs) rest zero h = absurd (omega (arith, h))
 split_last (x ∷ xs) rest (suc n) h = ap (λ (ys : List Bool). x ∷ ys) (split_last xs rest n (omega (arith, h)))
 
--- the decisions before the last are admitted, whatever it is
+-- the decisions before the last are admitted, for either last decision
 abbrev pub IsFrontAdmitted : List Block → List Bool → Type 0
 IsFrontAdmitted blocks p = (front : List Bool) (accept : Bool) → p ≡ front ++ accept ∷ [] → IsAdmissible blocks (padded front)
 

@@ -18,7 +18,7 @@ use Rattle.dam_search.specs.Piece.{Rises}
 use Rattle.dam_search.specs.inside.Walk.{Finds}
 use Rattle.dam_search.proofs.Ranks.{ranks_with_itself}
 
--- what says whether some accepted block loses
+-- the Bool is true exactly if some accepted block loses
 abbrev pub TellsLoss : ProblemState → List Bool → Bool → Type 0
 TellsLoss problem prefix loss =
     (prices : List ℤ) → ArePrices problem.blocks (padded prefix) 1 problem.hours prices
@@ -65,7 +65,7 @@ pub bound_stands : (told : Option ℤ) (problem : ProblemState) (prefix : List B
 bound_stands (Some own) problem prefix low trail is stands = stands own refl is
 bound_stands None problem prefix low trail under stands = under
 
--- what is known of a prefix, or what else is known
+-- the day stands in the slots, if the prefix has a bound
 pub if_told : (told : Option ℤ) (total : ℤ) (problem : ProblemState) (prefix : List Bool) (trail : Trail) (low : ℕ) → told ≡ Some total
     → MatchOption told (IsUnder problem prefix low) (IsDayIn problem prefix trail) → IsDayIn problem prefix trail total
 if_told (Some own) total problem prefix trail low e m =

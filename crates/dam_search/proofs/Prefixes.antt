@@ -64,7 +64,7 @@ length-prefix taken n is few =
     let rest = length-replicate (most_blocks - length (take n taken)) false in
     length-take-le n taken (omega (arith, long, parts, rest))
 
--- what a prefix's parts are to the list of its decisions
+-- the length of a prefix, and its decisions padded with rejections
 pub prefix_of : (taken prefix : List Bool) (n : ℕ) → take n taken ≡ prefix → taken ≡ padded (take n taken) → n ≤ most_blocks
     → (length prefix ≡ n) × (taken ≡ padded prefix)
 prefix_of taken prefix n view is few = (ap (λ (xs : List Bool). length xs) (sym view) ∙ length-prefix taken n is few, is ∙ ap padded view)

@@ -1,4 +1,4 @@
--- The order of selections, and what is found as it rises.
+-- The order of selections, and the selection found so far, which rises.
 use Rattle.std.proofs.Common.{◌≡◌, ℕ, ◌≤◌, ◌<◌, ◌⊎◌, inl, inr, ℤ, pos, Bool, true, false, not, Option, Some, None, List, [], ◌∷◌, ◌++◌}
 use Rattle.std.proofs.Common.{length, append_assoc, ◌∙◌, sym, subst, refl, arith}
 use Rattle.std.proofs.lemmas.Int.{ints}
@@ -20,7 +20,7 @@ turned (false ∷ xs) (false ∷ ys) e = turned xs ys e
 turned (true ∷ xs) (false ∷ ys) e = refl
 turned (false ∷ xs) (true ∷ ys) e = absurd (cc)
 
--- what another ranks above ranks below it
+-- a selection that another ranks above ranks below it
 pub above_below : (v : ℤ) (xs : List Bool) (w : ℤ) (ys : List Bool) → RanksAbove v xs w ys → RanksAtOrBelow w ys v xs
 above_below v xs w ys h = record { by_welfare = h.by_welfare; by_order = λ e. turned xs ys (h.by_order (sym e)) }
 
@@ -37,7 +37,7 @@ abbrev pub IsTransitive : Type 0
 IsTransitive = (u v w : ℤ) (xs ys zs : List Bool) → length xs ≡ most_blocks → length ys ≡ most_blocks → length zs ≡ most_blocks
     → RanksAtOrBelow u xs v ys → RanksAtOrBelow v ys w zs → RanksAtOrBelow u xs w zs
 
--- ---- what is found
+-- ---- the selection that is found
 
 pub stays : (best : Option Best) → Rises best best
 stays None = tt
@@ -63,7 +63,7 @@ pub rises_twice : (a b c : Option Best) → IsTransitive → IsLong a → IsLong
 rises_twice None b c through la lb lc h g = tt
 rises_twice (Some a) b c through la lb lc h g = matched_rises (pos a.welfare) a.selection b c through la lb lc h g
 
--- ---- what is found among fewer completions
+-- ---- the selection found among fewer completions
 
 pub shorter : (prefix extra sel : List Bool) → IsCompletion (prefix ++ extra) sel → IsCompletion prefix sel
 shorter prefix extra sel h = record { as_long = h.as_long; rest = extra ++ h.rest; agrees = h.agrees ∙ append_assoc prefix extra h.rest }
@@ -112,7 +112,7 @@ abbrev pub AreExtended : Type 0
 AreExtended = (prefix sel : List Bool) → length prefix < most_blocks → IsCompletion prefix sel
     → IsCompletion (prefix ++ true ∷ []) sel ⊎ IsCompletion (prefix ++ false ∷ []) sel
 
--- what is covered stays so as the value read and what is found rise
+-- covered selections stay so as the value read and the selection found rise
 covers_rises : (problem : ProblemState) (prefix : List Bool) (a b : Option Best) (read next : ℕ) → IsTransitive → IsFind problem [] a
     → IsFind problem [] b
     → Covers problem prefix a read → Rises a b → read ≤ next → Covers problem prefix b next

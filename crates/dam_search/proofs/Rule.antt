@@ -394,7 +394,7 @@ closes n s i v h at all =
       greatest_read = omega (arith, told, top_is);
     }
 
--- the same of the words as they are read one by one
+-- the same for the words as they are read one by one
 pub closed_words : (n claim incumbent : ℕ) (words : List ℕ) (v : View) → IsClosed n words v → get_elem? words 0 ≡ some claim
     → get_elem? words 1 ≡ some incumbent → IsClosed n (claim ∷ incumbent ∷ []) v
 closed_words n claim incumbent [] v h first second = absurd (some-ne-none claim (sym first))

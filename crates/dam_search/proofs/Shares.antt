@@ -180,7 +180,7 @@ whole problem depth nodes first workers pieces words v w answers h going top som
           h.are_answers.greatest_read;
     }
 
--- what was read is no more than some eligible selection has
+-- the value read is at most the welfare of some eligible selection
 pub all_worked : (problem : ProblemState) (depth nodes first : ℕ) (answers : List PieceAnswer) → IsReached problem first
     → AreWhole problem depth nodes first answers → All (λ (a : PieceAnswer). IsWorked problem depth nodes a) answers
 all_worked problem depth nodes first answers reached h =

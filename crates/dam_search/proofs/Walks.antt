@@ -1,4 +1,4 @@
--- What one step of a walk costs, and two walks after one another.
+-- The cost of one step of a walk, and of two walks after one another.
 use Rattle.std.proofs.Common.{◌≡◌, ℕ, zero, suc, ◌+◌, ◌-◌, ◌^◌, ◌<◌, ◌≤◌, ◌⊎◌, inl, inr, ℤ, pos, negsuc, ◌<ℤ◌, Bool, true, false, not, Option, Some, None, List}
 use Rattle.std.proofs.Common.{[], ◌∷◌, ◌++◌, length, if◌then◌else◌, ◌∙◌, ap, sym, subst, refl, arith}
 use Rattle.std.proofs.lemmas.Bool.Decides.{nat_tests}
@@ -21,7 +21,7 @@ doubled n = let e : n + 1 ≡ suc n = omega arith in ap (λ (k : ℕ). 2 ^ k) e 
 pub two_or_more : (n : ℕ) → 2 ≤ 2 ^ (n + 1)
 two_or_more n = omega (arith, doubled n, pow_pos n)
 
--- what reaches a value reaches a lesser one
+-- a welfare that reaches a value reaches a lesser one
 pub reaches_less : (w : Option ℤ) (value less : ℕ) → less ≤ value → reaches w value ≡ true → reaches w less ≡ true
 reaches_less None value less h e = e
 reaches_less (Some (pos n)) value less h e = grind (arith, nat_tests)
@@ -191,7 +191,7 @@ unreached (Some (pos n)) value least under h =
     let u = under (pos n) refl in let less : n < value = omega (arith, ints, u, h) in grind (arith, nat_tests)
 unreached (Some (negsuc n)) value least under h = refl
 
--- what both extensions of a prefix need
+-- the nodes that both extensions of a prefix need
 abbrev further_nodes : ProblemState → (List Bool → Bool) → ℕ → List Bool → ℕ → ℕ
 further_nodes problem admits value prefix left = needed_nodes problem admits value (prefix ++ false ∷ []) left
     + (if admits (padded (prefix ++ true ∷ [])) then needed_nodes problem admits value (prefix ++ true ∷ []) left else 0)
@@ -237,7 +237,8 @@ both_needed problem prefix false admits value next x y total h only rejected a b
     one_and_more (reaches (relaxed_welfare problem prefix) value) (further_nodes problem admits value prefix next) total
     (omega (arith, h, own, other))
 
--- the node alone was visited: it decides every block, or its relaxed welfare is under what was read
+-- the node alone was visited: it decides every block, or its relaxed welfare is under the value
+-- read
 pub enough_one : (problem : ProblemState) (prefix : List Bool) (left read before after : ℕ) → after ≡ before + 1
     → (left ≡ 0) ⊎ ((value : ℕ) → read ≤ value → reaches (relaxed_welfare problem prefix) value ≡ false)
     → AreEnough problem prefix left read (after - before)

@@ -35,7 +35,7 @@ pub record AreConclusive (problem : ProblemState) (depth : ℕ) (answers : List 
   pub answered : AreAnswered problem depth answers
   pub reached : All (λ (a : PieceAnswer). IsReached problem a.read) answers
 
--- the greatest welfare of what the answers found, 0 if they found nothing
+-- the greatest welfare that the answers found, 0 if they found none
 abbrev pub greatest_found : List PieceAnswer → ℕ
 greatest_found [] = 0
 greatest_found (a ∷ answers) = max (welfare_found a.best) (greatest_found answers)

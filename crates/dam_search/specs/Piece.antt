@@ -1,4 +1,4 @@
--- Pieces of a search, what is found in one, and what it may cost.
+-- Pieces of a search, the finds in them, and their costs.
 use Rattle.std.specs.Prelude.{◌≡◌, ℕ, zero, suc, ◌+◌, ◌-◌, ◌*◌, ◌^◌, ◌≤◌, ℤ, pos, ◌<ℤ◌, ◌⊎◌, Bool, true, false, if◌then◌else◌}
 use Rattle.std.specs.Prelude.{Option, Some, None, List, [], ◌∷◌, ◌++◌}
 use Rattle.dam_blocks.specs.declared.selection.Best.{Best}
@@ -10,31 +10,32 @@ use Rattle.dam_bound.specs.Prefix.{IsCompletion}
 use Rattle.dam_bound.specs.Relaxed.{relaxed_welfare, reaches, live_count}
 
 -- A cutting of depth k decides the first k blocks. Its pieces are the completions of the prefixes of
--- that length; that of piece j is `choice depth j`.
+-- that length; the prefix of piece j is `choice depth j`.
 
--- what was found: nothing, or an eligible completion of the prefix with its welfare
+-- a find: none, or an eligible completion of the prefix with its welfare
 abbrev pub IsFind : ProblemState → List Bool → Option Best → Type 0
 IsFind problem prefix None = Unit {0}
 IsFind problem prefix (Some b) =
     IsCompletion prefix b.selection × IsEligible problem b.selection (pos b.welfare)
 
--- the selection ranks at or below what was found
+-- the selection ranks at or below the one that was found
 abbrev pub IsMatched : ℤ → List Bool → Option Best → Type 0
 IsMatched welfare sel None = ⊥
 IsMatched welfare sel (Some b) = RanksAtOrBelow welfare sel (pos b.welfare) b.selection
 
--- nothing was found at first, or it ranks at or below what was found then
+-- the find rises: there was none before, or it ranks at or below the next one
 abbrev pub Rises : Option Best → Option Best → Type 0
 Rises None next = Unit {0}
 Rises (Some b) next = IsMatched (pos b.welfare) b.selection next
 
--- the welfare of what was found, 0 if nothing was
+-- the welfare of the selection that was found, 0 if there was none
 abbrev pub welfare_found : Option Best → ℕ
 welfare_found None = 0
 welfare_found (Some b) = b.welfare
 
--- a sound answer about the completions of this prefix: what was found is one of them, and if the
--- answer is done, each eligible one ranks at or below it or has less welfare than the value read
+-- a sound answer about the completions of this prefix: the selection that was found is one of them,
+-- and if the answer is done, each eligible one ranks at or below it or has less welfare than the
+-- value read
 pub record IsSound (problem : ProblemState) (prefix : List Bool) (best : Option Best) (read : ℕ)
     (done : Bool) : Type 0 where
   pub found : IsFind problem prefix best
@@ -75,7 +76,7 @@ AreEnough problem prefix left read nodes = IsAdmissible problem.blocks (padded p
     → (admits : List Bool → Bool) (value : ℕ) → AdmitsOnly problem admits → read ≤ value
     → needed_nodes problem admits value prefix left ≤ nodes
 
--- what a walk over the completions of this prefix has cost, if the greatest value read before it is
+-- the cost of a walk over the completions of this prefix, if the greatest value read before it is
 -- this, it may visit this number of nodes, and the greatest value read on the way is that one
 pub record IsSpent (problem : ProblemState) (prefix : List Bool)
     (left greatest_read nodes visited read : ℕ) (done : Bool) : Type 0 where

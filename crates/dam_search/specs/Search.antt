@@ -1,4 +1,4 @@
--- What a limit on nodes means for a search.
+-- The meaning of a limit on nodes for a search.
 use Rattle.std.specs.Prelude.{◌≡◌, ℕ, ◌-◌, ◌^◌, ◌<◌, length}
 use Rattle.dam_blocks.specs.Problem.{ProblemState}
 use Rattle.dam_blocks.specs.Selection.{choice}

@@ -38,7 +38,7 @@ most_seats = most_workers + 1
 
 -- ---- the views
 
--- what a seat knows
+-- the view of a seat
 abbrev pub view_of : Seat (Unit {0}) View → View
 view_of seat = seat.me.0
 
@@ -96,7 +96,7 @@ joined v w = record {
   greatest_read = max v.greatest_read w.greatest_read;
 }
 
--- what neither a read nor an offer changes of a view
+-- the parts of a view that neither a read nor an offer changes
 abbrev pub standing : View → View
 standing v = record v { greatest_offer = 0; greatest_read = 0 }
 
@@ -111,7 +111,7 @@ pub record IsFit (pieces : ℕ) (v : View) : Type 0 where
 
 -- the two words, and all views
 pub record AreWordsOf (pieces claim incumbent : ℕ) (views : List View) : Type 0 where
-  -- what was drawn: each piece under the claim word once, and nothing else
+  -- the draws: each piece under the claim word once, and nothing else
   pub once : (x : ℕ)
       → sum_of (λ (v : View). times x v.drawn) views ≡ once_below x (min claim pieces)
   pub as_many : sum_of (λ (v : View). length v.drawn) views ≡ min claim pieces
@@ -134,7 +134,7 @@ pub record AreWords (pieces : ℕ) (s : State (Unit {0}) View) : Type 0 where
   pub words : s.words ≡ claim ∷ incumbent ∷ []
   pub kept : AreWordsOf pieces claim incumbent s.views
 
--- ---- what a seat learns of its own step: its view before, the number found, its view after
+-- ---- a seat's own step: its view before, the number found, its view after
 
 -- the number found is a piece that joins those drawn, or a draw past the last one
 abbrev pub IsDrawn : Me (Unit {0}) View → ℕ → Me (Unit {0}) View → Type 0
@@ -156,9 +156,9 @@ IsOffered step before found after =
 
 -- ---- the close
 
--- what the words hold at the close, if all seats were joined into the one of this view: the
--- claim word counts its draws, which were each piece once if one was past the end; the
--- incumbent word is its greatest offer, and it read no more than that
+-- the words at the close, if all seats were joined into the one of this view: the claim word counts
+-- its draws, which were each piece once if one was past the end; the incumbent word is its greatest
+-- offer, and it never read more than that
 pub record IsClosed (pieces : ℕ) (words : List ℕ) (v : View) : Type 0 where
   pub claim : slice_index words 0 ≡ length v.drawn + v.draws_past_the_end
   pub each : 0 < v.draws_past_the_end → (x : ℕ) → times x v.drawn ≡ once_below x pieces

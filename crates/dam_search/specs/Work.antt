@@ -21,9 +21,9 @@ pub record IsFresh (pieces : ℕ) (v : View) : Type 0 where
   pub going : v.draws_past_the_end ≡ 0
   pub unoffered : v.greatest_offer ≡ 0
 
--- the answers about the pieces that a seat drew, in the order of its draws; it offered the
--- greatest welfare that they found, or what was offered besides, and none of them read more
--- than it did
+-- the answers about the pieces that a seat drew, in the order of its draws; its greatest offer is
+-- the greater of `besides` and the greatest welfare that they found, and the greatest value that it
+-- read is at least the value read by each of them
 pub record AreAnswersOf (problem : ProblemState) (depth nodes besides : ℕ) (v : View)
     (answers : List PieceAnswer) : Type 0 where
   pub pieces : map (λ (a : PieceAnswer). a.piece) answers ≡ v.drawn

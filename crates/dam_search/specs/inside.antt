@@ -1,4 +1,4 @@
--- What only contracts inside this crate cite.
+-- Only contracts inside this crate cite these.
 pub mod Walk
 pub mod Share
 pub mod Collect

@@ -60,8 +60,8 @@ fn concluded(
     Ok(only_best(problem, first, answer))
 }
 
-/// The result of a problem, found on the calling thread alone: no thread is started, and there is no
-/// lock and no shared word. It is for callers that can't start threads.
+/// The result of a problem, found on the calling thread alone, without other threads, locks or shared
+/// words. It is for callers that can't start threads.
 ///
 /// It finds the result of `search`, whose clauses it has for a plan that cuts nothing. The whole search
 /// is piece 0, which visits at most `nodes` nodes; 67,108,864 are enough for any problem. If `nodes` is

@@ -3,7 +3,7 @@ use dam_blocks::Best;
 /// The answer of a walk over one piece.
 ///
 /// If it is `done`, every eligible selection of the piece ranks at or below `best` or has less
-/// welfare than `read`. If not, it says nothing of the other selections.
+/// welfare than `read`. Otherwise it doesn't rule out other selections.
 #[derive(Clone, Copy, PartialEq, Eq, Debug)]
 pub struct PieceAnswer {
     /// The number of the piece, from 0.

@@ -29,8 +29,8 @@ pub fn limits()
 /// found one.
 ///
 /// Sound answers about every piece, all of them done, are conclusive if no value read exceeds the greatest
-/// welfare that they found, or that of another eligible selection, as one that was offered to the workers
-/// before they started.
+/// welfare that they found, or the welfare of another eligible selection, such as one that was offered to
+/// the workers before they started.
 pub fn collecting()
     ensures result { (problem : ProblemState) (depth : ℕ) (answers : List PieceAnswer) (b : Best)
         → AreConclusive problem depth answers

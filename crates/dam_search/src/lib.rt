@@ -13,7 +13,7 @@
 //! turnstile is called with the piece's number; that pieces are explored at the same time, and that one worker reads
 //! the offers of another; and that a search reports out of memory only if memory has run out.
 //!
-//! The crate knows nothing of how prices are found, nor of texts.
+//! The crate doesn't know how prices are found, nor texts.
 #![tactic(auto)]
 
 mod alone;

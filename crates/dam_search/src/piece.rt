@@ -36,8 +36,8 @@ pub(crate) fn surpasses(candidate: &Best, best: &Option<Best>) -> bool
     }
 }
 
-/// The selection with its welfare, if it would be the best so far, were it eligible, and has at least what
-/// was read. An eligible one has no welfare below 0.
+/// The selection with its welfare, if that is at least the value read and the selection, if it is
+/// eligible, is the best so far. The welfare of an eligible selection is never below 0.
 fn candidate(selection: Selection, welfare: i64, found: &Progress) -> Option<Best>
     ensures none { IfNone result
         ((welfare <ℤ pos found.now.read) ⊎ IsMatched welfare selection found.now.best) }
@@ -146,8 +146,8 @@ impl<A: Allocator, B: Allocator> SearchSpace<'_, A, B> {
         incumbent.offer(welfare);
     }
 
-    /// Visits the prefix, which the links and the groups admit, and what extends it, as far as the limit on
-    /// nodes allows; whether no node is left.
+    /// Visits the prefix, which the links and the groups admit, and the prefixes that extend it, as far as the limit on
+    /// nodes allows. Returns whether no node is left.
     ///
     /// A prefix whose bound is less than the value read is passed over after its own visit. 'Rejected' is
     /// explored before 'accepted', which finds good selections sooner. If the bound equals the value read, no
@@ -266,9 +266,9 @@ impl<A: Allocator, B: Allocator> SearchSpace<'_, A, B> {
 /// In piece j the block at place i is accepted if the binary digit of j with weight 2 to the power
 /// `depth` - 1 - i is 0. A node is a prefix that extends the piece's. If the links and the groups admit
 /// it, it is visited when its bound is compared with the value read, or, if it decides every block, when
-/// its welfare is looked at; otherwise it is passed over without a visit. No node is visited twice, and
-/// the answer isn't `done` if it takes more than `nodes` nodes. The search takes no memory but 20 kB of
-/// the stack, for the days of the walk.
+/// its welfare is looked at; otherwise it is passed over without a visit. A node is never visited twice,
+/// and the answer isn't `done` if it takes more than `nodes` nodes. The search takes no memory but 20 kB
+/// of the stack, for the days of the walk.
 pub fn search_piece<A: Allocator, B: Allocator, R: Bounds<B>, I: Incumbent>(
     problem: &Problem<A>,
     relaxed: &R,
@@ -285,7 +285,7 @@ pub fn search_piece<A: Allocator, B: Allocator, R: Bounds<B>, I: Incumbent>(
     ensures spent { IsSpent problem.now (choice depth piece) (length problem.now.blocks - depth)
         (I.greatest_read incumbent.old) nodes result.visited result.read result.done }
 
-    // What becomes of the incumbent.
+    // The incumbent after the call.
     ensures offered { I.greatest_offer incumbent.new
         ≡ max (I.greatest_offer incumbent.old) (welfare_found result.best) }
     ensures greatest_read { I.greatest_read incumbent.new

@@ -114,7 +114,7 @@ impl Prefix {
     }
 
     /// Whether the links and the groups admit the selection that accepts no other block, given that they
-    /// admit that of the prefix without its last decision. Only the last block is looked at.
+    /// admit the selection of the prefix without its last decision. Only the last block is looked at.
     pub(crate) fn is_still_admissible<A: Allocator>(&self, problem: &Problem<A>) -> bool
         requires { (front : List Bool) (accept : Bool) → self.now ≡ front ++ accept ∷ []
             → IsAdmissible problem.now.blocks (padded front) }

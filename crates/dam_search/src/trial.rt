@@ -1,4 +1,4 @@
-//! A trial before the search, which tells whether it is long enough for losses to pay.
+//! A trial before the search, which shows whether it is long enough for losses to pay.
 
 ghost use Rattle.dam_bound.specs.Relaxed.{without_rows};
 ghost use Rattle.dam_bound.specs.Tables.{AreTablesOf};

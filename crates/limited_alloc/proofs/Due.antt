@@ -1,4 +1,4 @@
--- `is_due` at a call: what it takes, and what it leaves. Assumes `Logic`.
+-- `is_due` at a call: the state that it takes, and the state that it leaves. Assumes `Logic`.
 use Rattle.std.proofs.Common.{◌≡◌, ℕ, Bool, List, [], ◌∷◌, refl, ap}
 use seplogic.Ra.Ura.{Ura}
 use mir.Val.{Val, vbool, vptr}

@@ -1,4 +1,5 @@
--- What the two walks share: a handle over an inner allocator B, and where its fields lie. Assumes `Logic`.
+-- The common parts of the two walks: a handle over an inner allocator B, and where its fields lie. Assumes
+-- `Logic`.
 use Rattle.std.proofs.Common.{◌≡◌, ℕ, ◌+◌, [], ◌∷◌}
 use mir.Syntax.{Ty, Args, a_type, dnil, dcons}
 use prog.Memory.{size, align, capped, up}

@@ -45,6 +45,6 @@ unfolding flags bits_of
 same_bits zero bits h = omega (arith, h)
 same_bits (suc n) bits h = whole bits _ _ (digit (bits % 2) (omega arith)) (same_bits n (bits / 2) (halves n bits h))
 
--- and so do those of a selection
+-- and so do the acceptances of a selection
 pub same_flags : (s : Inside) → IsSet s → with_flags (flags_of s) ≡ s
 same_flags s h = ap (λ (n : ℕ). record { accepted = n }) (same_bits most_blocks s.accepted h)

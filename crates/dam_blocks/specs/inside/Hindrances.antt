@@ -25,18 +25,18 @@ accepted_among selection [] = 0
 accepted_among selection (j ∷ places) =
     (if accepts selection j then 1 else 0) + accepted_among selection places
 
--- those of the block
+-- the hindrances of the block
 pub record AreHindrancesOf (block : Block) (blocks : List Block) (own : Hindrances) : Type 0 where
   pub parents : own.parents.items ≡ parents_of block blocks
   pub group : own.group.items ≡ group_of block blocks
 
--- those of the block at place i
+-- the hindrances of the block at place i
 pub record AreHindrances (blocks : List Block) (i : ℕ) (own : Hindrances) : Type 0 where
   pub block : Block
   pub stands : slice_get blocks i ≡ Some block
   pub are : AreHindrancesOf block blocks own
 
--- those of each block
+-- the hindrances of each block
 pub record AreAllHindrances (blocks : List Block) (all : List Hindrances) : Type 0 where
   pub as_many : length all ≡ length blocks
   pub each : (i : ℕ) (own : Hindrances) → slice_get all i ≡ Some own → AreHindrances blocks i own

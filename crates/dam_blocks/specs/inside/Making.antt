@@ -1,4 +1,4 @@
--- What the making of a problem does with an hourly order.
+-- An hourly order as a step, added to its period in the making of a problem.
 use Rattle.std.specs.Prelude.{◌-◌, List, [], ◌∷◌, ◌++◌, slice_index_or, slice_set}
 use Rattle.dam_book.specs.Terms.{HourTerms}
 use Rattle.dam_hour.specs.declared.step.Step.{Step}

@@ -7,7 +7,7 @@ use Rattle.dam_book.specs.Order.{is_parent, parent_of}
 use Rattle.dam_book.specs.Book.{Key, Row, same_key}
 use Rattle.dam_book.specs.declared.order.Order.{Order}
 
--- what a place is found by: its row's key with the number 0, or a filler's
+-- the label by which a place is found: its row's key with the number 0, or a filler's
 abbrev pub Label : Type 0
 Label = Key × ℕ
 

@@ -1,4 +1,4 @@
--- What the tables are made from, block by block.
+-- The making of the tables, block by block.
 use Rattle.std.specs.Prelude.{◌≡◌, ℕ, ◌+◌, ◌*◌, ◌<◌, ◌≤◌, ℤ, pos, neg_ℤ, Bool, false, Some, List, ◌++◌, length, drop, slice_get, slice_index_or}
 use Rattle.dam_book.specs.Limits.{last_period, most_blocks}
 use Rattle.dam_book.specs.Terms.{BlockTerms}
@@ -21,7 +21,7 @@ pub record AreSupplies (problem : ProblemState) (depth : ℕ) (supplies : List (
   pub each : (i : ℕ) (ss d : List Step) → slice_get problem.hours i ≡ Some ss
       → IsSupplyOf (ss ++ as_steps (i + 1) (drop depth problem.blocks)) (slice_index_or supplies i d)
 
--- what a block of a side, with a volume in a period, adds to the net volume there, if it is of the side that is asked for
+-- the net volume of a block with a side and a volume in a period, if it is of the side that is asked for
 abbrev pub side_net : Side → Side → ℕ → ℤ
 side_net side own volume = if_of side own (neg_ℤ (signed own (pos volume)))
 

@@ -1,4 +1,4 @@
--- What becomes of a day if one block is decided, or decided the other way.
+-- The change of a day if one block is decided, or decided the other way.
 use Rattle.std.specs.Prelude.{◌≡◌, ℕ, ◌+◌, ◌*◌, Bool, true, false, ℤ, pos, neg_ℤ, ◌+ℤ◌, ◌≤ℤ◌, ◌<ℤ◌, ◌<◌, Option, Some, MatchOption, List, [], ◌∷◌, ◌++◌, length, drop}
 use Rattle.std.specs.Prelude.{slice_get}
 use Rattle.dam_book.specs.Limits.{last_period, most_blocks}
@@ -18,7 +18,7 @@ use Rattle.dam_bound.specs.declared.day.Change.TheVariants.{Decide, Turn}
 use Rattle.dam_bound.specs.declared.trail.Extensions.{Extensions}
 use Rattle.dam_bound.specs.declared.trail.Trail.{Trail}
 
--- what a change adds, if the block counts for the number and is accepted or rejected
+-- the number that a change adds, if the block counts for this number and is accepted or rejected
 abbrev pub by : Change → Bool → ℤ → ℤ
 by Decide true z = z
 by Decide false z = pos 0
@@ -79,8 +79,8 @@ AreBoundsFrom tables trail place total floor bounds = (problem : ProblemState) (
     → IsDayIn problem before trail total
     → IsBoundFrom problem (before ++ accept ∷ []) floor (bound_by accept bounds)
 
--- the size of a class's welfare, apart from what the accepted blocks are worth; of what a block is worth in a class; and of
--- what a change of the block makes of the total
+-- the sizes of a class's welfare without the value of the accepted blocks, of a block's value in a class, and of the
+-- total after a change of the block
 abbrev pub greatest_position : ℕ
 greatest_position = last_period * (greatest_period_bound + most_blocks * greatest_value)
 

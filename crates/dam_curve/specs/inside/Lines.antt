@@ -1,4 +1,4 @@
--- The lines of one period, from its demand and what stands under each step of its supply.
+-- The lines of one period, from its demand and the supply under each step.
 use Rattle.std.specs.Prelude.{◌≡◌, ◌⊎◌, ℕ, ◌+◌, ◌*◌, ℤ, pos, ◌+ℤ◌, ◌-ℤ◌, ◌*ℤ◌, List, [], ◌∷◌, slice_index_or}
 use Rattle.dam_book.specs.Limits.{highest_price}
 use Rattle.dam_hour.specs.declared.step.Step.{Step}
@@ -20,7 +20,7 @@ lines_from volume worth before cost (step ∷ steps) =
     line_of volume worth step.price before cost
     ∷ lines_from volume worth (before + step.qty) (cost + height_of step.price * step.qty) steps
 
--- the line that two make where they hold both, up to this net volume
+-- the sum of two lines, at the net volumes at which both hold, up to this one
 abbrev pub joined : Line → Line → ℤ → Line
 joined a b most = record { most = most; price = a.price +ℤ b.price; surplus = a.surplus +ℤ b.surplus }
 

@@ -9,7 +9,7 @@ use Rattle.dam_curve.specs.declared.losses.Choice.{Choice}
 use Rattle.dam_curve.specs.Losses.{greatest_loss, IsLossAt}
 use Rattle.dam_curve.specs.inside.Reading.{AreReadAt}
 
--- what a line says of a net volume, if there is a line
+-- the value of a line at a net volume, if there is a line
 abbrev pub line_value : Option Line → ℤ → Option ℤ
 line_value None net = None
 line_value (Some line) net = Some (line_at line net)

@@ -1,4 +1,4 @@
--- What stands under and up to a height in a stack of supply, and what the buys of a period ask for.
+-- The steps under and up to a height in a stack of supply, and the demand of a period's buys.
 use Rattle.std.specs.Prelude.{◌≡◌, ℕ, zero, suc, ◌+◌, ◌-◌, ◌*◌, ◌≤◌, ℤ, pos, ◌+ℤ◌, List}
 use Rattle.dam_book.specs.Limits.{greatest_volume}
 use Rattle.dam_book.specs.Price.{IsPrice}
@@ -25,7 +25,7 @@ units_under h steps = total_of (λ step. if_any (h - height_of step.price) step.
 abbrev pub units_up_to : ℕ → List Step → ℕ
 units_up_to h steps = total_of (λ step. if_any (suc h - height_of step.price) step.qty) steps
 
--- what the steps under the height gain at it as supply
+-- the gain at the height of the steps under it, as supply
 abbrev pub gain_under : ℕ → List Step → ℕ
 gain_under h steps = total_of (λ step. (h - height_of step.price) * step.qty) steps
 

@@ -86,7 +86,7 @@ pub record IsClosedDay (j : JournalState) : Type 0 where
   pub before : List Command
   pub last : commands_of j.entries ≡ before ++ Close ∷ []
 
--- what a day may answer that isn't refused
+-- the faults of a day that isn't refused
 abbrev pub IsLateFault : DayFault → Type 0
 IsLateFault TooManyCommands = ⊥
 IsLateFault (CloseGiven place) = ⊥
@@ -94,7 +94,7 @@ IsLateFault (TooManyParticipants place) = ⊥
 IsLateFault (NotSettled why) = why ≢ MismatchMemory
 IsLateFault Memory = Unit {0}
 
--- what a day may answer if this journal and these passes aren't found settled: why they aren't, or that memory ran out
+-- the faults of a day if this journal and these passes aren't found settled: why they aren't, or that memory ran out
 abbrev pub IsUnsettled : JournalState → List PassState → DayFault → Type 0
 IsUnsettled j passes TooManyCommands = ⊥
 IsUnsettled j passes (CloseGiven place) = ⊥

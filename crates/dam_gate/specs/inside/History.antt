@@ -1,4 +1,4 @@
--- The one history of a gate: the rule of the word that counts it, and what a step does.
+-- The one history of a gate: the rule of the word that counts it, and the effect of a step.
 use Rattle.std.specs.Prelude.{ℕ, ◌≡◌, ◌==◌, true, List, [], ◌∷◌, ◌++◌, length, MatchBool}
 use mathlib.Core.List.{IsPrefix}
 use Rattle.logbook.specs.Pages.{Cell, Step, View, Book, Named}

@@ -1,4 +1,4 @@
--- What lies under the lock, and why it gives no pass and takes no command.
+-- The state under the lock, and why it gives no pass and takes no command.
 use Rattle.std.specs.Prelude.{◌≡◌, ℕ, ◌<◌, ◌≤◌, true, false}
 use Rattle.dam_book.specs.declared.command.Command.{Command}
 use Rattle.dam_book.specs.declared.command.Entry.{Entry}
@@ -16,14 +16,14 @@ pub record LockedState : Type 0 where
   pub journal : JournalState
   pub passes : ℕ
 
--- what may be answered in place of a pass if this number was given
+-- the faults that may be answered in place of a pass if this number was given
 abbrev pub IsPassFault : ℕ → PassFault → Type 0
 IsPassFault given PassesUsed = most_passes ≤ given
 IsPassFault given NoPlace = given < most_passes
 IsPassFault given Memory = given < most_passes
 
--- what is answered to the command of a pass in place of its entry if the journal holds `held`: each fault only if none
--- of those before it is one
+-- the faults that are answered to the command of a pass in place of its entry if the journal holds `held`: each fault
+-- only if the ones before it don't apply
 abbrev pub IsFaultAt : ℕ → PassState → Command → GateFault → Type 0
 IsFaultAt held p c NotYours = is_own p.holder c ≡ false
 IsFaultAt held p c (JournalFull n) = (is_own p.holder c ≡ true) × (n ≡ held) × (is_full held c ≡ true)

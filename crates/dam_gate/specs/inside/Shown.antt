@@ -1,4 +1,4 @@
--- The slots of a gate's versions, and what waits at their writer.
+-- The slots of a gate's versions, and the version that waits at their writer.
 use Rattle.std.specs.Prelude.{◌≡◌, ℕ, List, [], ◌∷◌, Option, None, Some}
 use Rattle.std.specs.declared.sync.Arc.{Arc}
 use Rattle.std.specs.declared.alloc.Global.{Global}

@@ -1,4 +1,4 @@
--- What a tally of receipts says of each entry.
+-- The marks that a tally of receipts gives each entry.
 use Rattle.std.specs.Prelude.{◌≡◌, ◌≢◌, ℕ, suc, ◌<◌, ◌≤◌, Bool, true, false, List, [], ◌∷◌, length, Option, None, Some, MatchOption, min}
 use Rattle.dam_book.specs.declared.command.Entry.{Entry}
 use Rattle.dam_gate.specs.declared.settlement.Mismatch.{Mismatch}
@@ -12,14 +12,14 @@ use Rattle.dam_gate.specs.Settled.{IsFaultOfReceipts, numbered}
 abbrev pub AreReceipts : List Entry → List Entry → Type 0
 AreReceipts es rs = (n : ℕ) → numbered n rs ≡ numbered n es
 
--- what was found of an entry, of whose number these are the receipts
+-- the mark of an entry, of whose number these are the receipts
 abbrev pub IsMark : Mark → Entry → List Entry → Type 0
 IsMark Nothing e rs = rs ≡ []
 IsMark Same e rs = rs ≡ e ∷ []
 IsMark Other e rs = (length rs ≡ 1) × (rs ≢ e ∷ [])
 IsMark Several e rs = 2 ≤ length rs
 
--- what is found with one receipt more, which is the entry or isn't
+-- the mark with one receipt more, which is the entry or isn't
 abbrev pub mark_with : Mark → Bool → Mark
 mark_with Nothing true = Same
 mark_with Nothing false = Other
@@ -27,14 +27,14 @@ mark_with Same same = Several
 mark_with Other same = Several
 mark_with Several same = Several
 
--- what was found of the entries, the first of them having the number `n`
+-- the marks of the entries, the first of them having the number `n`
 abbrev pub AreMarks : ℕ → List Entry → List Mark → List Entry → Type 0
 AreMarks n [] [] rs = Unit {0}
 AreMarks n (e ∷ es) (f ∷ fs) rs = IsMark f e (numbered n rs) × AreMarks (suc n) es fs rs
 AreMarks n [] (f ∷ fs) rs = ⊥
 AreMarks n (e ∷ es) [] rs = ⊥
 
--- the least number above those of the entries of which there is a receipt
+-- the least number of a receipt above the numbers of the entries
 abbrev pub IsLeastExtra : ℕ → List Entry → Option ℕ → Type 0
 IsLeastExtra held rs None = (n : ℕ) → held < n → numbered n rs ≡ []
 IsLeastExtra held rs (Some least) = (held < least) × (0 < length (numbered least rs))

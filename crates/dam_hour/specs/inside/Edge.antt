@@ -13,7 +13,8 @@ use Rattle.dam_hour.specs.inside.Volumes.{better_volume, at_volume}
 abbrev pub not_worse_volume : Side → ℤ → List Step → ℕ
 not_worse_volume side price steps = better_volume side price steps + at_volume side price steps
 
--- what is before it leaves a buy some of the net volume, or of the sells that are not worse than its limit
+-- the volume before a buy is less than the net volume and the sells that are not worse than its limit,
+-- together
 pub record IsServed (steps : List Step) (net limit : ℤ) (before : ℕ) : Type 0 where
   pub left : pos before <ℤ (pos (not_worse_volume Sell limit steps) +ℤ net)
 

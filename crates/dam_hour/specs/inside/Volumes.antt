@@ -1,5 +1,5 @@
--- What a scan of the steps adds up at a price, how they are filled in book order, and the two tests by which the ends
--- of the supporting prices are found.
+-- The sums of a scan of the steps at a price, how the steps are filled in book order, and the two tests by which the
+-- ends of the supporting prices are found.
 use Rattle.std.specs.Prelude.{◌≡◌, ℕ, zero, suc, min, ◌+◌, ◌-◌, ◌*◌, ◌≤◌, ◌<◌, ℤ, pos, negsuc, ◌+ℤ◌, ◌-ℤ◌, ◌≤ℤ◌, List, [], ◌∷◌}
 use Rattle.dam_book.specs.Price.{IsPrice}
 use Rattle.dam_book.specs.declared.order.Side.{Side}
@@ -33,11 +33,11 @@ abbrev pub above_zero : ℤ → ℕ
 above_zero (pos n) = n
 above_zero (negsuc n) = 0
 
--- what a step adds to the volume of one side that is better than the price
+-- the part of a step in the volume of one side that is better than the price
 abbrev pub better_part : Side → ℤ → Step → ℕ
 better_part side price step = volume_on side step.side (if_better (margin_of step.side step.price price) step.qty)
 
--- what a step adds to the volume of one side whose limit is the price
+-- the part of a step in the volume of one side whose limit is the price
 abbrev pub at_part : Side → ℤ → Step → ℕ
 at_part side price step = volume_on side step.side (if_at (margin_of step.side step.price price) step.qty)
 
@@ -51,7 +51,7 @@ abbrev pub at_volume : Side → ℤ → List Step → ℕ
 at_volume side price [] = 0
 at_volume side price (step ∷ steps) = at_part side price step + at_volume side price steps
 
--- what the steps gain at the price if the better ones have their whole volume
+-- the surplus of the steps at the price if the better ones have their whole volume
 abbrev pub full_surplus : ℤ → List Step → ℕ
 full_surplus price [] = 0
 full_surplus price (step ∷ steps) = above_zero (margin_of step.side step.price price) * step.qty + full_surplus price steps
@@ -82,7 +82,7 @@ pub record IsHighEnough (steps : List Step) (net price : ℤ) : Type 0 where
 pub record IsLowEnough (steps : List Step) (net price : ℤ) : Type 0 where
   pub enough : (pos (better_volume Sell price steps) +ℤ net) ≤ℤ pos (better_volume Buy price steps + at_volume Buy price steps)
 
--- the most that is bought at the price, and what is sold with it
+-- the greatest bought volume at the price, and the sold volume that balances it
 pub record AreTotals (steps : List Step) (net price : ℤ) (bought sold : ℕ) : Type 0 where
   pub balance : pos sold +ℤ net ≡ pos bought
   pub buys_at_least : better_volume Buy price steps ≤ bought

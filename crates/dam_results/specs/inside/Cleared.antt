@@ -1,4 +1,4 @@
--- What the publishing of a selection finds out first, period by period.
+-- The periods of a selection, cleared one by one before its results are published.
 use Rattle.std.specs.Prelude.{◌≡◌, ℕ, suc, ◌-◌, ℤ, Bool, Option, Some, List, [], ◌∷◌, slice_get}
 use Rattle.std.specs.Option.{option_and_then}
 use Rattle.dam_hour.specs.Execution.{IsBalanced}

@@ -1,4 +1,4 @@
--- The fields of a record, what its readers answer, and what is taken of it.
+-- The fields of a record, the answers of its readers, and the command that is taken of it.
 use Rattle.std.specs.Prelude.{◌≡◌, ◌≤◌, ℕ, zero, suc, ◌+◌, [], ◌∷◌, ◌++◌, List, length, map, Result, MatchResult}
 use Rattle.dam_book.specs.declared.command.Command.{Command}
 use Rattle.dam_results.specs.Limits.{most_records}

@@ -21,7 +21,7 @@ pub record PutsCommand {A : Type 0} (before after : Writer (Vec ℕ A)) (command
   pub valid : IsCommand command
   pub line : (text : List ℕ) → Wrote before text → Wrote after (text ++ command_line command)
 
--- the same of more commands, one after another
+-- the same for more commands, one after another
 pub record PutsCommands {A : Type 0} (before after : Writer (Vec ℕ A)) (commands : List Command)
     : Type 0 where
   pub valid : AllByRecursion IsCommand commands

@@ -1,4 +1,5 @@
--- The answers of the workers, what is found on the way through them, and the result of it all.
+-- The answers of the workers, the selection found on the way through them, and the result of it
+-- all.
 use Rattle.std.specs.Prelude.{◌≡◌, ◌≢◌, ℕ, ◌-◌, ◌^◌, ◌<◌, ◌≤◌, ◌==◌, Bool, true, false, not, ◌&&◌, nat_lt, Result, Ok, Err}
 use Rattle.std.specs.Prelude.{Option, Some, None, List, length, slice_index_or, All, Contains, count_by}
 use Rattle.dam_book.specs.Limits.{most_blocks}
@@ -45,12 +46,12 @@ abbrev pub is_lesser : PieceAnswer → Option PieceAnswer → Bool
 is_lesser a None = not a.done
 is_lesser a (Some u) = not a.done && nat_lt a.piece u.piece
 
--- what was found is as long as a selection is
+-- a selection that was found is as long as selections are
 abbrev pub IsLong : Option Best → Type 0
 IsLong None = Unit {0}
 IsLong (Some b) = length b.selection ≡ most_blocks
 
--- the highest of what the answers found, nothing if they found nothing
+-- the highest selection that the answers found, or none if they found none
 abbrev pub IsHighestFound : List PieceAnswer → Option Best → Type 0
 IsHighestFound answers None = All (λ (a : PieceAnswer). a.best ≡ None) answers
 IsHighestFound answers (Some b) = IsHighest answers b
@@ -62,7 +63,7 @@ IsLeastUnfinished answers (Some u) =
     Contains answers u × (u.done ≡ false)
     × All (λ (a : PieceAnswer). a.done ≡ false → u.piece ≤ a.piece) answers
 
--- what is made of answers about the pieces of a cutting of this depth: the first piece that lacks one
+-- the result of answers about the pieces of a cutting of this depth: the first piece that lacks one
 -- or has several, else the least unfinished one, else the highest selection that was found
 abbrev pub IsCollected : ℕ → List PieceAnswer → Result Best SearchFault → Type 0
 IsCollected depth answers (Err Memory) = ⊥

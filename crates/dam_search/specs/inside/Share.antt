@@ -17,7 +17,7 @@ pub record IsNewSeat (table : TableId) (pieces : ℕ) (s : Shared) : Type 0 wher
   pub table_is : s.seat.table_id ≡ table
   pub new : view_of s.seat ≡ new_view pieces 0
 
--- what a worker leaves: its seat stopped at its first draw past the end, and has the answers
+-- the share of a worker: its seat stopped at its first draw past the end, and has the answers
 pub record IsShare (problem : ProblemState) (depth nodes : ℕ) (table : TableId) (s : Share)
     : Type 0 where
   pub table_is : s.seat.seat.table_id ≡ table

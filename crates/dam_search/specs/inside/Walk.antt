@@ -1,4 +1,4 @@
--- The account of a walk from a prefix: what it finds, what it costs, and what it does to the
+-- The account of a walk from a prefix: the selection that it finds, its cost, and its effect on the
 -- incumbent.
 use Rattle.std.specs.Prelude.{◌≡◌, ℕ, ◌+◌, ◌-◌, ◌*◌, ◌^◌, ◌<◌, ◌≤◌, max, ℤ, pos, ◌<ℤ◌, ◌⊎◌, Bool, true, false, not, Option, Some, None}
 use Rattle.std.specs.Prelude.{List, [], length, slice_set, slice_index_or, MatchOption}
@@ -14,14 +14,14 @@ use Rattle.dam_bound.specs.declared.trail.Trail.{Trail}
 use Rattle.dam_search.specs.declared.piece.Progress.{Progress}
 use Rattle.dam_search.specs.Piece.{IsFind, IsMatched, Rises, welfare_found, AreEnough}
 
--- what is found changes to an eligible completion of the prefix, or not at all, and only rises
+-- the find changes to an eligible completion of the prefix, or not at all, and only rises
 pub record Finds (problem : ProblemState) (prefix : List Bool) (before after : Option Best)
     : Type 0 where
   pub found : (after ≡ before) ⊎ IsFind problem prefix after
   pub rises : Rises before after
 
 -- once the walk is done, each eligible completion has less welfare than the value read or ranks at
--- or below what was found
+-- or below the selection that was found
 abbrev pub Covers : ProblemState → List Bool → Option Best → ℕ → Type 0
 Covers problem prefix best read =
     (sel : List Bool) (w : ℤ) → IsCompletion prefix sel → IsEligible problem sel w
@@ -40,7 +40,8 @@ pub record Spends (problem : ProblemState) (prefix : List Bool)
   pub over_live : done ≡ false → (v : ℕ) → v ≤ greatest_read
       → nodes < before + 1 + 2 * live_count problem v prefix left
 
--- the greatest value read by the walk before and after, compared with that of its incumbent
+-- the greatest value read by the walk before and after, compared with the greatest value read of
+-- its incumbent
 pub record Reads (left visited_before visited_after read_before read_after greatest_read_before
     greatest_read_after : ℕ) : Type 0 where
   pub grows : read_before ≤ read_after
@@ -58,8 +59,8 @@ pub record IsGoing (problem : ProblemState) (nodes greatest_read greatest_offer 
   pub best : IsFind problem [] found.best
   pub offered : welfare_found found.best ≤ greatest_offer
 
--- a walk from the prefix, and whether it is done: what it found, read and visited before and after,
--- and the greatest value read of its incumbent and offered to it before and after
+-- a walk from the prefix, and whether it is done: its find, value read and visited nodes before and
+-- after, and the greatest value read of its incumbent and offered to it before and after
 pub record IsWalked (problem : ProblemState) (prefix : List Bool)
     (nodes greatest_read_before greatest_offer_before greatest_read_after greatest_offer_after : ℕ)
     (before after : Progress) (done : Bool) : Type 0 where

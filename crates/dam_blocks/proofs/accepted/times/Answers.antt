@@ -1,4 +1,4 @@
--- The product is that of the arguments, and in range.
+-- The product is the product of the arguments, and in range.
 use Rattle.std.proofs.Common.{◌≡◌, ℤ, pos, neg_ℤ, ◌*ℤ◌, ◌≤ℤ◌, FitsSigned, to_z, of_z, w64, ap, ap₂, ◌∙◌, sym, subst, arith}
 use Rattle.std.proofs.lemmas.Int.{ints}
 use Rattle.dam_blocks.specs.Magnitude.{IsWithin, greatest_gain}
@@ -8,7 +8,7 @@ use Rattle.dam_blocks.proofs.accepted.times.Goals as goal
 within : (c : goal.After-from-2) → IsWithin greatest_gain (c.args.cents *ℤ pos c.args.volume)
 within c = product_within c.args.cents c.args.volume c.requires.at_least c.requires.at_most c.requires.volume
 
--- what the casts give, and the product again
+-- the results of the casts, and the product again
 same : (c : goal.After-from-2)
     → (to_z w64 (of_z w64 c.from.result) *ℤ to_z w64 (of_z w64 c.from-2.result)) ≡ (c.args.cents *ℤ pos c.args.volume)
 same c =

@@ -1,4 +1,4 @@
--- What is left of the pairs has the same volume in the period as all of them.
+-- The pairs that are left have the same volume in the period as all of them.
 use Rattle.std.proofs.Common.{◌≡◌, drop}
 use Rattle.dam_blocks.specs.Selection.{volume_in}
 use Rattle.dam_blocks.proofs.accepted.volume_in.Given as goal

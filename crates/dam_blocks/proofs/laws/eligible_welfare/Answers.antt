@@ -1,4 +1,4 @@
--- The laws of one period say what its price gives.
+-- The laws of one period on its price.
 use Rattle.dam_blocks.proofs.WelfareAtLeastZero.{welfare_at_least_zero}
 use Rattle.dam_blocks.proofs.laws.eligible_welfare.Goals as goal
 

@@ -1,4 +1,4 @@
--- The greatest welfare of a period is that of some execution.
+-- The greatest welfare of a period is the welfare of some execution.
 use Rattle.dam_blocks.proofs.Magnitudes.{welfare_size}
 use Rattle.dam_blocks.proofs.laws.magnitude.Goals as goal
 

@@ -1,4 +1,5 @@
--- The better limit raises what accepts the block, and nothing else; at each limit there is a result.
+-- The better limit raises the welfare of the selections that accept the block, and no other; at each
+-- limit there is a result.
 use Rattle.dam_blocks.proofs.EmptySelection.{ExistenceLaws}
 use Rattle.dam_blocks.proofs.Repricing.{kept, same_outcome}
 use Rattle.dam_blocks.proofs.WorstLimit.{worst_limit}

@@ -1,4 +1,5 @@
--- The rows before the block and after it stay as they are; an exchange of two rows exchanges what they give, or nothing.
+-- The rows before the block and after it stay as they are; an exchange of two rows exchanges their parts of the
+-- problem, or nothing.
 use Rattle.dam_blocks.proofs.ChangedBooks.{limit_changed, block_gone}
 use Rattle.dam_blocks.proofs.ReorderedBooks.{hours_reordered, blocks_reordered}
 use Rattle.dam_blocks.proofs.market.a_changed_book_is_a_changed_problem.Goals as goal

@@ -1,4 +1,4 @@
--- What hourly orders buy more than they sell, the accepted blocks sell.
+-- The accepted blocks sell the volume that hourly orders buy more than they sell.
 use Rattle.dam_blocks.proofs.Sharing.{volume_balances, money_in_period, money_balances}
 use Rattle.dam_blocks.proofs.market.money_balances.Goals as goal
 

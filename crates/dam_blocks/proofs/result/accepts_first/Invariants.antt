@@ -1,4 +1,4 @@
--- What is left of the two is ordered as they are.
+-- The rests of the two are ordered as they are.
 use Rattle.std.proofs.Common.{◌≡◌, drop}
 use Rattle.dam_blocks.specs.Result.{accepts_first}
 use Rattle.dam_blocks.proofs.result.accepts_first.Given as goal

@@ -1,4 +1,4 @@
--- What is left of the digits, after the number so far, says the whole number; and it has as many digits as were read.
+-- The digits that are left, after the number so far, say the whole number; and it has as many digits as were read.
 use Rattle.std.proofs.Common.{◌≡◌, ◌<◌, ◌^◌, drop}
 use Rattle.std.specs.Str.{all_ascii_digits}
 use Rattle.dam_book.specs.inside.Digits.{value_from}

@@ -1,4 +1,4 @@
--- What the block gains in the periods of the pairs so far.
+-- The gain of the block in the periods of the pairs so far.
 use Rattle.std.proofs.Common.{◌≡◌, ◌*◌, ℤ, pos, neg_ℤ, ◌+ℤ◌, ◌≤ℤ◌, Bool, List, length, drop}
 use Rattle.dam_blocks.specs.Selection.{padded}
 use Rattle.dam_blocks.specs.Eligible.{ArePrices, surplus_of, surplus_at}

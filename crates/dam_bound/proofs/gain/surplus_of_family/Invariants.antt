@@ -1,4 +1,4 @@
--- What the members so far gain.
+-- The gain of the members so far.
 use Rattle.std.proofs.Common.{◌≡◌, ℕ, ◌*◌, ◌<◌, ℤ, pos, neg_ℤ, ◌+ℤ◌, ◌≤ℤ◌, Bool, ◌&&◌, List, length, drop}
 use Rattle.dam_blocks.specs.Selection.{accepts, padded, over_accepted}
 use Rattle.dam_blocks.specs.Eligible.{ArePrices, surplus_of}

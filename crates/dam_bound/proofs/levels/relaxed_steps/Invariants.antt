@@ -1,4 +1,4 @@
--- The steps so far, and what is left of the blocks.
+-- The steps so far, and the blocks that are left.
 use Rattle.std.proofs.Common.{◌≡◌, ◌++◌, drop}
 use Rattle.dam_bound.specs.Relaxed.{as_steps}
 use Rattle.dam_bound.proofs.levels.relaxed_steps.Given as goal

@@ -1,4 +1,4 @@
--- The classes so far, and the sum of what they are worth.
+-- The classes so far, and the sum of their worths.
 use Rattle.std.proofs.Common.{◌≤◌, ◌*◌, length}
 use Rattle.dam_book.specs.Limits.{last_period}
 use Rattle.dam_curve.specs.Curve.{greatest_joint_welfare}

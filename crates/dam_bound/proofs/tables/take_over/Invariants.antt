@@ -1,4 +1,4 @@
--- What is written so far, and what is still to be written.
+-- The values written so far, and the values still to be written.
 use Rattle.std.proofs.Common.{◌≡◌, length, drop}
 use Rattle.dam_book.specs.Limits.{last_period}
 use Rattle.dam_bound.specs.declared.touch.Touch.{Touch}

@@ -1,4 +1,4 @@
--- What is left of the total for either decision, with the exact losses of the touches so far.
+-- The rest of the total for either decision, with the exact losses of the touches so far.
 use Rattle.std.proofs.Common.{◌≡◌, ℤ, [], ◌∷◌, ◌++◌, List, Bool, Some, drop}
 use Rattle.std.specs.List.{slice_get}
 use Rattle.dam_blocks.specs.declared.problem.Block.{Block}

@@ -1,5 +1,5 @@
--- The classes of the touches so far have the net volume after the decision in the block's row; what is below the row is as
--- it was.
+-- The classes of the touches so far have the net volume after the decision in the block's row; the slots below the row
+-- are as they were.
 use Rattle.std.proofs.Common.{◌≡◌, ℕ, ◌+◌, ◌*◌, ◌<◌, Bool, ℤ, Some, [], ◌∷◌, ◌++◌, List, length, drop, get_or}
 use Rattle.std.specs.List.{slice_get}
 use Rattle.dam_book.specs.Limits.{last_period}

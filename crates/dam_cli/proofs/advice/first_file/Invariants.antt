@@ -1,4 +1,4 @@
--- What is found among all words is found among the rest.
+-- The word found among all words is the word found among the rest.
 use Rattle.std.proofs.Common.{◌≡◌, drop, false, map}
 use Rattle.std.specs.String.{string_bytes}
 use Rattle.dam_cli.specs.Advice.{first_file}

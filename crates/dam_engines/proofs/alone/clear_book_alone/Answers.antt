@@ -1,4 +1,4 @@
--- What is published of the problem's result is what the closed book is cleared by.
+-- The published results of the problem's result are the clearing of the closed book.
 use Rattle.std.proofs.Common.{subst}
 use Rattle.dam_blocks.specs.Problem.{ProblemState}
 use Rattle.dam_engines.specs.Clear.{PlanHasNeeded, terms_alone}

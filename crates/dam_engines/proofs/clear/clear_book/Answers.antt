@@ -1,4 +1,4 @@
--- What the search of the book's problem answers, the book is answered.
+-- The answer of the search of the book's problem is the answer for the book.
 use Rattle.std.proofs.Common.{Err, ap, subst}
 use Rattle.std.proofs.lemmas.Result.{err_from_is_err_and}
 use Rattle.dam_blocks.specs.Problem.{ProblemState}

@@ -1,4 +1,4 @@
--- What the text's journal or its book is answered, the text is answered.
+-- The answer for the text's journal or its book is the answer for the text.
 use Rattle.std.proofs.Common.{subst}
 use Rattle.std.proofs.lemmas.Result.{err_from_is_err_and, IfErr-weaker, IfOk-weaker, on_ok_weaker}
 use Rattle.dam_book.specs.Book.{BookState}

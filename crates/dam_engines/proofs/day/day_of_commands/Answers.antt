@@ -1,4 +1,4 @@
--- What the book of the settled journal is answered, its commands are answered.
+-- The answer for the book of the settled journal is the answer for its commands.
 use Rattle.std.proofs.Common.{subst, IfErr}
 use Rattle.std.proofs.lemmas.Result.{err_from_is_err_and, on_ok_weaker}
 use Rattle.dam_gate.specs.Journal.{JournalState}

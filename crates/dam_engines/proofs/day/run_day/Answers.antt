@@ -1,4 +1,4 @@
--- What is answered to the text that was read is answered to the given one.
+-- The answer for the text that was read is the answer for the given one.
 use Rattle.std.proofs.Common.{refl}
 use Rattle.std.proofs.lemmas.Result.{err_from_is_err_and}
 use Rattle.dam_results.specs.Journal.{IsMadeFrom}

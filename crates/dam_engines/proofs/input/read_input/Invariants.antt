@@ -1,4 +1,5 @@
--- The text so far is within the bound, and is what the reader's bytes have lost; each turn so far gave it a byte or more.
+-- The text so far is within the bound, and is the bytes that the reader has lost; each turn so far gave it a byte or
+-- more.
 use Rattle.std.proofs.Common.{◌≡◌, ◌≤◌, ◌+◌, ◌-◌, false, length}
 use Rattle.std.specs.Io.KnownBytes.{Consumes}
 use Rattle.dam_engines.specs.declared.input.TheConstants.{CHUNK}

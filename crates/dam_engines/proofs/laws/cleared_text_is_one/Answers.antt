@@ -1,4 +1,4 @@
--- The law of what is published of a closed book.
+-- The law of the published results of a closed book.
 use Rattle.dam_engines.proofs.Results.{cleared-one}
 use Rattle.dam_engines.proofs.laws.cleared_text_is_one.Goals as goal
 

@@ -1,4 +1,4 @@
--- The laws of what a text reads as.
+-- The laws of the journal that a text reads as.
 use Rattle.dam_engines.proofs.Exact.{replay-exact}
 use Rattle.dam_engines.proofs.laws.replay_is_exact.Goals as goal
 

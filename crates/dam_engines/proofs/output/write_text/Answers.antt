@@ -1,4 +1,4 @@
--- What a write took comes after what the writer had taken before it.
+-- The bytes that a write took come after the bytes that the writer had taken before it.
 use Rattle.std.proofs.Common.{◌-◌, ◌++◌, length, take, drop, sym, ap, subst, ◌∙◌, arith, length-take}
 use Rattle.std.proofs.Math.Seq.{take-add, take-take}
 use Rattle.std.specs.Io.KnownBytes.{Appends}

@@ -1,4 +1,4 @@
--- What is published of the result is what the closed book is cleared by.
+-- The published results of the result are the clearing of the closed book.
 use Rattle.dam_example.proofs.clearing.clear.Goals as goal
 
 pub returns : goal.returns

@@ -1,4 +1,4 @@
--- What is left has the first fault of all.
+-- The entries that are left have the first fault of all.
 use Rattle.std.proofs.Common.{◌≡◌, ◌+◌, drop}
 use Rattle.dam_gate.specs.inside.Tally.{first_fault}
 use Rattle.dam_gate.proofs.tally.first_fault.Given as goal

@@ -1,4 +1,4 @@
--- What balances is within the offers, and within them something balances.
+-- A net volume that balances is within the offers, and each one within them balances.
 use Rattle.dam_hour.proofs.Supporting.{balance_within}
 use Rattle.dam_hour.proofs.Existence.{balance_exists}
 use Rattle.dam_hour.proofs.laws.balance.Goals as goal

@@ -1,4 +1,4 @@
--- An execution is as long as its steps, and no volume is above its step's own.
+-- An execution is as long as its steps, and its volumes are at most its steps' own.
 use Rattle.dam_hour.proofs.Joining.{execution_length, volume_at_most}
 use Rattle.dam_hour.proofs.laws.lengths.Goals as goal
 

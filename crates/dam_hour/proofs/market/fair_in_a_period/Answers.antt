@@ -1,4 +1,4 @@
--- What the supporting price and the best execution say of one order.
+-- One order at the supporting price and in the best execution.
 use Rattle.dam_hour.proofs.Fairness.{filled_at, none_loses, no_better, in_turn}
 use Rattle.dam_hour.proofs.market.fair_in_a_period.Goals as goal
 

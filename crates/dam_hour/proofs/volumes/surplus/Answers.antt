@@ -1,4 +1,4 @@
--- What the buyers and the sellers gain fits, and its sum is the surplus.
+-- The gains of the buyers and the sellers fit, and their sum is the surplus.
 use Rattle.std.proofs.Common.{◌≡◌, ℕ, ◌*◌, ◌≤◌, ℤ, pos, neg_ℤ, ◌-ℤ◌, ◌≤ℤ◌, nat_abs, ap₂, ◌∙◌, refl, arith}
 use Rattle.std.proofs.lemmas.Int.{ints}
 use mir.Syntax.{w64}

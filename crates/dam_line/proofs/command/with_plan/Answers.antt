@@ -1,4 +1,4 @@
--- Each default's text is that of its number, and each argument adds its rule.
+-- Each default's text is the text of its number, and each argument adds its rule.
 use Rattle.std.proofs.Common.{◌∙◌, refl, ap, ap₂}
 use Rattle.std.proofs.lemmas.Result.{IfOk-weaker}
 use Rattle.std.specs.Fmt.{digits}

@@ -1,4 +1,4 @@
--- What `clap` answers of a simple command is exact.
+-- The answer of `clap` for a simple command is exact.
 use Rattle.std.proofs.Common.{◌≡◌, ◌∙◌, List, Option, Some, None, map, sym, ap, subst}
 use Rattle.std.specs.Prelude.{option_and_then, option_map}
 use Rattle.std.specs.Box.{box_value}

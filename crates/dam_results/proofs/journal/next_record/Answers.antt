@@ -1,4 +1,5 @@
--- What the reader of comma-separated values reads next is the first of the records that are left.
+-- The record that the reader of comma-separated values reads next is the first of the records that
+-- are left.
 use Rattle.std.proofs.Common.{inl}
 use Rattle.csv.specs.Records.{fields_of}
 use Rattle.dam_results.proofs.RecordsLeft.{rows_left-next}

@@ -1,4 +1,4 @@
--- What all the records make, from what the first of them and the others make.
+-- The value made from all the records, from the first of them and the others.
 use Rattle.std.proofs.lemmas.Result.{err_from_is_err_and}
 use Rattle.dam_results.proofs.journal.read_records.Goals as goal
 

@@ -1,4 +1,4 @@
--- Each line says what the selection does with its block.
+-- Each line says whether the selection accepts its block.
 use Rattle.dam_results.proofs.OtherLimits.{LimitLaws, still_accepted}
 use Rattle.dam_results.proofs.market.a_better_limit_keeps_a_block.Goals as goal
 

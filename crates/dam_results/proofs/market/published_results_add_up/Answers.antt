@@ -1,4 +1,4 @@
--- What is published of each order is what the market's laws are about.
+-- The market's laws are about the published line of each order.
 use Rattle.dam_results.proofs.AddingUp.{AddingLaws, welfare_adds_up, volume_adds_up, traded_is}
 use Rattle.dam_results.proofs.market.published_results_add_up.Goals as goal
 

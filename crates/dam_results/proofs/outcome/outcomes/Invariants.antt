@@ -1,4 +1,4 @@
--- What becomes of the orders so far.
+-- The outcomes of the orders so far.
 use Rattle.std.proofs.Common.{take}
 use Rattle.dam_results.specs.Published.{AreRowResults}
 use Rattle.dam_results.proofs.outcome.outcomes.Given as goal

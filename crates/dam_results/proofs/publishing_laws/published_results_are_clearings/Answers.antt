@@ -1,4 +1,4 @@
--- The published welfare is that of the result.
+-- The published welfare is the welfare of the result.
 use Rattle.dam_results.proofs.BestSelections.{published-cleared}
 use Rattle.dam_results.proofs.publishing_laws.published_results_are_clearings.Goals as goal
 

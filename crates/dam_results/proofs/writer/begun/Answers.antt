@@ -1,4 +1,4 @@
--- What a new writer has written is the line of the day.
+-- The text that a new writer has written is the line of the day.
 use Rattle.std.proofs.Common.{[], ◌∙◌, ap}
 use Rattle.dam_results.proofs.WriterLines.{wrote_none}
 use Rattle.dam_results.proofs.writer.begun.Goals as goal

@@ -1,4 +1,4 @@
--- What is written is the text of a journal, and it reads back as its commands.
+-- The written text is the text of a journal, and it reads back as its commands.
 use Rattle.std.proofs.lemmas.Result.{IfOk-weaker}
 use Rattle.dam_results.specs.Records.{day_row}
 use Rattle.dam_results.specs.Written.{row_line, journal_text}

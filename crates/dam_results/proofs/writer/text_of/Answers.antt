@@ -1,4 +1,4 @@
--- The writer gives what it has written.
+-- The writer gives the text that it has written.
 use Rattle.dam_results.proofs.WriterLines.{wrote_text}
 use Rattle.dam_results.proofs.writer.text_of.Goals as goal
 

@@ -1,4 +1,4 @@
--- What was found stays, or the answer's own takes its place.
+-- The selection found before stays, or the answer's own takes its place.
 use Rattle.std.proofs.Common.{Option, Some, sym, subst}
 use Rattle.dam_blocks.specs.declared.selection.Best.{Best}
 use Rattle.dam_search.specs.Piece.{Rises}

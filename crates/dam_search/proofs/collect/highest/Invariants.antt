@@ -1,4 +1,4 @@
--- The highest of what the answers so far found.
+-- The highest selection that the answers so far found.
 use Rattle.std.proofs.Common.{take}
 use Rattle.dam_search.specs.inside.Collect.{IsLong, IsHighestFound}
 use Rattle.dam_search.proofs.collect.highest.Given as goal

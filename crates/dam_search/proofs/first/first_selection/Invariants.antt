@@ -1,4 +1,4 @@
--- What was found so far is eligible, and has no less welfare than the empty selection.
+-- The selection found so far is eligible, and has no less welfare than the empty selection.
 use Rattle.std.proofs.Common.{◌≡◌, ℤ, pos, ◌≤ℤ◌, Some}
 use Rattle.dam_blocks.specs.Selection.{empty_selection}
 use Rattle.dam_blocks.specs.Eligible.{IsEligible, selection_welfare}

@@ -1,4 +1,4 @@
--- It refuses the allocation that is due, and else answers what the inner allocator answers. Assumes `Logic`.
+-- It refuses the allocation that is due, and otherwise gives the inner allocator's answer. Assumes `Logic`.
 use Rattle.std.proofs.Common.{◌≡◌, ℕ, ◌^◌, ◌<◌, Bool, true, false, [], ◌∷◌, Ok, Err, refl, w64, Bor}
 use seplogic.Ra.Ura.{Ura}
 use mir.Syntax.{Ty, Fn}

@@ -78,7 +78,7 @@ module _ (B : Al) {M : Type 1} {𝓤 : Ura M} (𝓛 : Logic 𝓤) (at_mem : Memo
       τ,
     )
 
-    -- what a call begins with, but for the `requires`
+    -- the state in which a call begins, but for the `requires`
     abbrev Lent : Ptr → Item 𝓤
     Lent x = (‵ (flft κ₁ q₁) ⊛ ‵ (flft κ₂ q₂) ⊛ ‵ ftrue)
         ⊛ ‵ (owns (types_at (ended B).signature.params (entry x).0.0) (entry x).0.3 (entry x).0.4)

@@ -1,4 +1,4 @@
--- The problem of a book keeps what every book keeps.
+-- The book invariant, carried over to the problem of the book.
 use Rattle.std.proofs.Common.{Vec, List, length, map, ap, sym, ◌∙◌, subst, rules, arith}
 use Rattle.dam_hour.specs.declared.step.Step.{Step}
 use Rattle.dam_blocks.specs.declared.problem.Block.{Block}

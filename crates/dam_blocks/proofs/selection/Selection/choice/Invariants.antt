@@ -1,4 +1,4 @@
--- The places so far are chosen, and what is left of the number chooses the rest.
+-- The places so far are chosen, and the rest of the number chooses the rest.
 use Rattle.std.proofs.Common.{◌-◌, ◌<◌, ◌^◌}
 use Rattle.dam_blocks.proofs.Choices.{IsChosen}
 use Rattle.dam_blocks.proofs.selection.Selection.choice.Given as goal

@@ -1,4 +1,4 @@
--- What an amend does.
+-- The effect of an amend.
 use Rattle.std.proofs.Common.{sym, ◌∙◌}
 use Rattle.dam_book.proofs.StepFacts.{after_done}
 use Rattle.dam_book.proofs.book.Book.carry_out.Goals as goal

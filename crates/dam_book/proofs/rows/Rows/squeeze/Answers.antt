@@ -1,4 +1,4 @@
--- What stays are the places with an order.
+-- The places that stay are the places with an order.
 use Rattle.std.proofs.Common.{List, is_some, sym, ap, ◌∙◌, subst, rules}
 use Rattle.std.proofs.lemmas.Map.Made.{filter_same_pairs}
 use Rattle.dam_book.specs.inside.Gaps.{Place, held, gap_count, AreNumbered}

@@ -1,4 +1,4 @@
--- The range after the block, without what it adds.
+-- The range after the block, without its net volume.
 use Rattle.std.proofs.Common.{◌∙◌, sym, subst, pos}
 use Rattle.std.proofs.lemmas.Int.{to_z-of_z}
 use mir.Syntax.{w64}

@@ -1,4 +1,4 @@
--- What the block is worth in one period, in all of them.
+-- The value of the block in one period, in all of them.
 use Rattle.std.proofs.Common.{◌+◌, ◌∙◌, sym, subst, arith}
 use Rattle.std.proofs.lemmas.Int.{ints, to_z-of_z}
 use mir.Syntax.{w64}

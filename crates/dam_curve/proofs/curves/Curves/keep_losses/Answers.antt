@@ -1,4 +1,4 @@
--- The losses that are written are those of the choice, and what stood there stays.
+-- The written losses are the losses of the choice, and the losses that stood there stay.
 use Rattle.std.proofs.Common.{◌≡◌, ◌<◌, pos, List, [], length, take, ap, subst, to_z, of_z, w64, rules, arith}
 use Rattle.std.proofs.lemmas.Int.{ints}
 use Rattle.dam_curve.specs.declared.losses.Loss.{Loss}

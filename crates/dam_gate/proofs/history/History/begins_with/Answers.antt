@@ -1,4 +1,5 @@
--- Both are prefixes of what the two together have seen, so the one that is no longer is a prefix of the other.
+-- Both are prefixes of the history that the two together have seen, so the one that is no longer is a prefix of the
+-- other.
 use Rattle.std.proofs.Common.{◌≤◌, ap, subst, arith, length, List}
 use mathlib.Core.List.{IsPrefix}
 use Rattle.dam_book.specs.declared.command.Entry.{Entry}

@@ -1,4 +1,5 @@
--- Both are prefixes of what the two together have seen, so the shorter is a prefix of the longer.
+-- Both are prefixes of the history that the two together have seen, so the shorter is a prefix of
+-- the longer.
 use Rattle.std.proofs.Common.{◌≤◌, ap, subst, arith, length, List}
 use mathlib.Core.List.{IsPrefix}
 use Rattle.dam_book.specs.declared.command.Entry.{Entry}

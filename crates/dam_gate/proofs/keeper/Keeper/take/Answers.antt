@@ -32,7 +32,7 @@ returns-clause-day g c =
     ∙ ap (λ (k : KeeperState). next_entry k.journal command) (sym c.self.view_is)) in
     rw (c.follow.ensures.book, entry) (book_after-periods j.book command ∙ ap (λ (k : KeeperState). k.journal.book.periods) c.self.view_is)
 
--- the entry's reply is of what was decided
+-- the entry's reply is of the decision
 pub follow-requires-clause-outcome : goal.follow-requires-clause-outcome
 follow-requires-clause-outcome g c =
     let b = c.self.inside.books.book in

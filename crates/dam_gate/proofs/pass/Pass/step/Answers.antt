@@ -1,4 +1,4 @@
--- The receipt of a call, and what the pass then knows.
+-- The receipt of a call, and the knowledge of the pass after it.
 use Rattle.std.proofs.Common.{◌≡◌, ◌-◌, ◌++◌, ◌∷◌, [], ℕ, List, Option, true, false, length, refl, sym, ap, subst, ◌∙◌, arith, length-append}
 use Rattle.std.specs.Prelude.{is_some, nat_le, if◌then◌else◌}
 use mathlib.Core.List.{IsPrefix}

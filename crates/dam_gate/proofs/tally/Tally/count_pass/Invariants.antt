@@ -1,4 +1,4 @@
--- What was counted before the pass, with its receipts so far, is what is counted now.
+-- The receipts counted before the pass, with its receipts so far, are the receipts counted now.
 use Rattle.std.proofs.Common.{◌≡◌, ◌++◌, List, length, take}
 use Rattle.dam_book.specs.declared.command.Entry.{Entry}
 use Rattle.dam_gate.specs.inside.Tally.{IsTally}

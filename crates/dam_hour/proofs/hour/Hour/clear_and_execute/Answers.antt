@@ -1,4 +1,4 @@
--- What is cleared and what is executed go with the same volumes.
+-- The clearing and the execution go with the same volumes.
 use Rattle.std.proofs.Common.{ℤ, subst}
 use Rattle.std.proofs.lemmas.Int.{to_z-of_z}
 use mir.Syntax.{w64}

@@ -1,4 +1,4 @@
--- The welfare is that of the best execution, which has these totals.
+-- The welfare is the welfare of the best execution, which has these totals.
 use Rattle.std.proofs.Common.{◌≡◌, ℤ, pos, ◌+ℤ◌, ◌*ℤ◌, ap, ◌∙◌, rules}
 use Rattle.std.proofs.lemmas.Int.{to_z-of_z}
 use mir.Syntax.{w64}

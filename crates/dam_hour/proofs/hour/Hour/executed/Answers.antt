@@ -1,4 +1,5 @@
--- The volume is the best execution's at the place: what is traded less what stands before the step.
+-- The volume is the best execution's at the place: the traded volume less the volume before the
+-- step.
 use Rattle.std.proofs.Common.{◌≡◌, ℕ, ℤ, min, ◌-◌, Some, List, sym, subst, ◌∙◌, ap, ap₂}
 use Rattle.std.specs.List.{slice_get}
 use Rattle.std.proofs.lemmas.Int.{to_z-of_z}

@@ -1,4 +1,5 @@
--- What is left after the better steps fills the steps at the price in book order: the best execution.
+-- The volume that is left after the better steps fills the steps at the price in book order: the best
+-- execution.
 use Rattle.std.proofs.Common.{List, ap, ◌∙◌}
 use Rattle.std.proofs.lemmas.Result.{IfOk-weaker}
 use Rattle.dam_hour.specs.declared.step.Step.{Step}

@@ -1,4 +1,4 @@
--- Outside what is offered nothing balances.
+-- Outside the offers nothing balances.
 use Rattle.std.proofs.Common.{ℤ, subst, sym}
 use Rattle.std.proofs.lemmas.Int.{to_z-of_z}
 use mir.Syntax.{w64}

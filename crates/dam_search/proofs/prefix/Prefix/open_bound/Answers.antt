@@ -12,7 +12,7 @@ use Rattle.dam_bound.specs.Trail.{IsDayIn}
 use Rattle.dam_search.proofs.Leaf.{as_passed, if_told, unless_told}
 use Rattle.dam_search.proofs.prefix.Prefix.open_bound.Goals as goal
 
--- what is at most a bound that doesn't reach the value is less than the value
+-- a welfare that is at most a bound that doesn't reach the value is less than the value
 less : (w bound : ℤ) (value : ℕ) → w ≤ℤ bound → reaches (Some bound) value ≡ false → w <ℤ pos value
 less w (pos n) value h e = let under : n < value = grind (arith, nat_tests) in omega (arith, ints)
 less w (negsuc n) value h e = omega (arith, ints)

@@ -1,4 +1,5 @@
--- One decision more; and if a bound of some of the decisions is under 0, so is that of all of them.
+-- One decision more; and if a bound of some of the decisions is under 0, so is the bound of all of
+-- them.
 use Rattle.std.proofs.Common.{◌≡◌, ◌+◌, List, Bool, [], ◌∷◌, ◌++◌, take, drop, take-append-drop, ap, ◌∙◌, sym, subst, rules, arith}
 use Rattle.std.proofs.lemmas.Int.{ints}
 use Rattle.dam_bound.specs.Trail.{IsDayIn, bound_by}

@@ -46,7 +46,7 @@ next_bound : (problem : ProblemState) (next prefix : List Bool) (accept : Bool) 
 next_bound problem next prefix accept low total trail e is =
     subst (λ (xs : List Bool). IsBoundIn problem xs low trail total) (sym e) is
 
--- a rejected block changes nothing of what the links and the groups admit
+-- a rejected block doesn't change which selections the links and the groups admit
 rejected_here : (blocks : List Block) (next prefix : List Bool) (accept : Bool) → next ≡ prefix ++ accept ∷ [] → accept ≡ false
     → length prefix < most_blocks → IsAdmissible blocks (padded prefix) → IsAdmissible blocks (padded next)
 rejected_here blocks next prefix accept e f few admissible =
