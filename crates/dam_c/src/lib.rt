@@ -14,7 +14,7 @@ mod given;
 ghost use Rattle.dam_results.specs.Journal.{IsMadeFrom};
 ghost use Rattle.dam_results.specs.Replies.{AreReplies};
 ghost use Rattle.dam_engines.specs.Engine.{IsRunFault, IsTextFault};
-ghost use Rattle.dam_engines.specs.Clear.{IsClearFault, IsClearedWithin, terms_alone};
+ghost use Rattle.dam_engines.specs.Clear.{AreResultsWithin, IsClearFault, terms_alone};
 ghost use Rattle.dam_c.specs.Answer.{IsReturned};
 
 pub use answer::DamAnswer;
@@ -52,7 +52,7 @@ pub extern "C" fn dam_replay_seeded(
 /// than the limit, there are no results.
 #[unsafe(no_mangle)]
 pub extern "C" fn dam_clear(alloc: Global, text: &[u8], nodes: u32, buffer: &mut [u8]) -> DamAnswer
-    ensures { IsReturned (IsClearedWithin (terms_alone nodes) text.now)
+    ensures { IsReturned (IsMadeFrom (AreResultsWithin (terms_alone nodes)) text.now)
         (IsRunFault (IsClearFault (terms_alone nodes)) text.now)
         result buffer.old buffer.new }
 {
@@ -68,7 +68,7 @@ pub extern "C" fn dam_clear_seeded(
     nodes: u32,
     buffer: &mut [u8],
 ) -> DamAnswer
-    ensures { IsReturned (IsClearedWithin (terms_alone nodes) text.now)
+    ensures { IsReturned (IsMadeFrom (AreResultsWithin (terms_alone nodes)) text.now)
         (IsRunFault (IsClearFault (terms_alone nodes)) text.now)
         result buffer.old buffer.new }
 {

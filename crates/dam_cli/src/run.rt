@@ -1,6 +1,6 @@
-ghost use Rattle.std.specs.Prelude.{◌≡◌, ◌≤◌, ◌+◌, ◌-◌, false, IfSome, OnOk};
+ghost use Rattle.std.specs.Prelude.{◌≡◌, ◌≤◌, ◌+◌, ◌-◌, false, IfSome};
 ghost use Rattle.dam_engines.specs.Device.{AreDevicesAfter, most_asked};
-ghost use Rattle.dam_cli.specs.Run.{EndsAs, JobHasNeeded};
+ghost use Rattle.dam_cli.specs.Run.{EndsAs};
 
 use dam_book::Seed;
 use dam_engines::{RunFault, Sink, Source, Watch, run_clear, run_day, run_replay};
@@ -29,7 +29,6 @@ pub fn run_job<H: Threads + Wait + Sync, R: Read, W: Write, T: Watch + Sync>(
         writer.old.taken writer.new.taken (writer.new.asked - writer.old.asked) result) }
     ensures devices { AreDevicesAfter reader.old reader.new writer.old writer.new result }
     ensures asked { reader.new.asked ≤ reader.old.asked + most_asked reader.old.unread }
-    ensures needed { OnOk result (IfSome reader.old.unread (JobHasNeeded job)) }
 {
     match job {
         Job::Replay => run_replay(alloc, seed, reader, writer),

@@ -11,9 +11,8 @@ use Rattle.dam_plan.specs.Plan.{PlanTerms}
 use Rattle.dam_engines.specs.declared.fault.RunFault.{RunFault}
 use Rattle.dam_engines.specs.declared.fault.RunFault.TheVariants.{Read, Input, TooManyCommands, CloseGiven, TooManyParticipants, StillOpen}
 use Rattle.dam_engines.specs.declared.fault.RunFault.TheVariants.{Mismatch, Unfinished, Collected, Memory, Write}
-use Rattle.dam_blocks.specs.Problem.{problem_of}
-use Rattle.dam_engines.specs.Clear.{IsBookFault, PlanHasNeeded}
-use Rattle.dam_engines.specs.Day.{DayHasNeeded, IsCommandsFault}
+use Rattle.dam_engines.specs.Clear.{IsBookFault}
+use Rattle.dam_engines.specs.Day.{IsCommandsFault}
 
 -- a close closes any book
 closed-behind : (periods : ℕ) (rows : _) (closed : Bool) →
@@ -56,15 +55,3 @@ journal_fault-day plan periods commands j result taken day journal same told =
     let book : j.book ≡ run periods (commands_of j.entries) = journal.book_is ∙ ap (λ n. run n (commands_of j.entries)) same in
     IfErr-weaker result _ _ (λ fault is. book_fault-day plan periods commands j.entries fault taken day
     (subst (λ b. IsBookFault plan b fault) book is)) told
-
--- what clearing the book of a day run needs, its commands need
-pub journal_needed-day : (plan : PlanTerms) (periods : ℕ) (commands : List Command) (j : JournalState)
-    → IsDayRun periods commands j.entries → IsJournal j → j.book.periods ≡ periods
-    → PlanHasNeeded plan (problem_of j.book) → DayHasNeeded plan periods commands
-journal_needed-day plan periods commands j day journal same needed =
-    let book : j.book ≡ run periods (commands_of j.entries) = journal.book_is ∙ ap (λ n. run n (commands_of j.entries)) same in
-    record {
-      entries = j.entries;
-      day_run = day;
-      needed = subst (λ (b : BookState). PlanHasNeeded plan (problem_of b)) book needed;
-    }

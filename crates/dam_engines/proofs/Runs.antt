@@ -70,13 +70,6 @@ result-weaker IsPrinted IsText IsFault IsOther old new asked text other (Ok done
 result-weaker IsPrinted IsText IsFault IsOther old new asked text other (Err fault) is =
     ends-weaker IsPrinted IsText IsFault IsOther old new asked text other fault is
 
--- what the text that was read needs, the given bytes need
-pub known-needed : (Needs : List ℕ → Type 0) (known : Option (List ℕ)) (text : List ℕ) (result : Result (Unit {0}) RunFault)
-    → ((given : List ℕ) → Needs (take most_read given) → Needs given) → IsFrontOf known text → Needs text
-    → OnOk result (IfSome known Needs)
-known-needed Needs known text (Ok done) carries front holds = known-front Needs Needs known text carries front holds
-known-needed Needs known text (Err fault) carries front holds = tt
-
 -- as often asked as a bound on the count says
 pub asked-within : (old new most : ℕ) → new ≤ old + most → new - old ≤ most
 asked-within old new most few = omega (arith, few)

@@ -6,7 +6,6 @@ use Rattle.dam_blocks.specs.Problem.{ProblemState, problem_of}
 use Rattle.dam_blocks.specs.Result.{IsResult}
 use Rattle.dam_plan.specs.Plan.{PlanTerms}
 use Rattle.dam_search.specs.Search.{IsUnfinished, LimitHasNeeded}
-use Rattle.dam_results.specs.Journal.{IsMadeFrom, ReadsAs}
 use Rattle.dam_results.specs.Clearing.{IsResultsText}
 use Rattle.dam_engines.specs.declared.fault.RunFault.{RunFault}
 use Rattle.dam_engines.specs.declared.fault.RunFault.TheVariants.{StillOpen, Unfinished, Memory}
@@ -27,16 +26,14 @@ pub record PlanHasNeeded (plan : PlanTerms) (problem : ProblemState) : Type 0 wh
   pub best : IsResult problem selection (pos welfare)
   pub needed : LimitHasNeeded problem (min plan.cut (length problem.blocks)) plan.nodes welfare
 
--- the text is a journal, and the plan's limit on nodes is at least the number needed to clear the book that its commands make
-pub record HasNeededToClear (plan : PlanTerms) (text : List ℕ) : Type 0 where
-  pub periods : ℕ
-  pub commands : List Command
-  pub reads : ReadsAs text periods commands
-  pub needed : PlanHasNeeded plan (problem_of (run periods commands))
+-- the text is the results text of the book, and the plan's limit on nodes is at least the number needed to clear it; a lesser limit
+-- gives no results
+abbrev pub IsClearedWithin : PlanTerms → BookState → List ℕ → Type 0
+IsClearedWithin plan book text = IsResultsText book text × PlanHasNeeded plan (problem_of book)
 
--- the text is printed for the journal of this text, and the plan's limit on nodes is at least the number needed
-abbrev pub IsClearedWithin : PlanTerms → List ℕ → List ℕ → Type 0
-IsClearedWithin plan text printed = IsMadeFrom AreResults text printed × HasNeededToClear plan text
+-- the text is the results text of the book that these commands make, within the plan's limit on nodes
+abbrev pub AreResultsWithin : PlanTerms → ℕ → List Command → List ℕ → Type 0
+AreResultsWithin plan periods commands text = IsClearedWithin plan (run periods commands) text
 
 -- the terms of a search by one worker that cuts nothing; they are those of a plan only if a plan may have this limit on nodes
 abbrev pub terms_alone : ℕ → PlanTerms

@@ -3,18 +3,15 @@ use Rattle.std.specs.Prelude.{◌≡◌, ◌+◌, ◌++◌, ℕ, List, codes}
 use Rattle.dam_book.specs.Book.{run, commands_of}
 use Rattle.dam_book.specs.declared.command.Command.{Command}
 use Rattle.dam_book.specs.declared.command.Entry.{Entry}
-use Rattle.dam_blocks.specs.Problem.{problem_of}
 use Rattle.dam_gate.specs.Day.{AreTaken, IsDayFault, IsDayRun}
 use Rattle.dam_gate.specs.declared.day.DayFault.TheVariants.{TooManyCommands as ManyCommands, CloseGiven as CloseAt}
 use Rattle.dam_gate.specs.declared.day.DayFault.TheVariants.{TooManyParticipants as ManyAt, NotSettled}
 use Rattle.dam_plan.specs.Plan.{PlanTerms}
-use Rattle.dam_results.specs.Journal.{ReadsAs}
 use Rattle.dam_results.specs.Written.{journal_text}
-use Rattle.dam_results.specs.Clearing.{IsResultsText}
 use Rattle.dam_engines.specs.declared.fault.RunFault.{RunFault}
 use Rattle.dam_engines.specs.declared.fault.RunFault.TheVariants.{TooManyCommands, CloseGiven, TooManyParticipants, Mismatch, Unfinished}
 use Rattle.dam_engines.specs.declared.fault.RunFault.TheVariants.{Memory}
-use Rattle.dam_engines.specs.Clear.{IsCutShort, PlanHasNeeded}
+use Rattle.dam_engines.specs.Clear.{IsClearedWithin, IsCutShort}
 
 -- the written journal, the line `results`, and this text of results
 abbrev pub with_results : ℕ → List Entry → List ℕ → List ℕ
@@ -22,13 +19,13 @@ with_results periods entries results =
     journal_text periods entries ++ (codes "results\n" ++ results)
 
 -- a day takes the commands, and this is printed of some day run of them: its written journal, the line `results`,
--- and the results text of its book
-pub record IsDayText (periods : ℕ) (commands : List Command) (text : List ℕ) : Type 0 where
+-- and the results text of its book, within the plan's limit on nodes
+pub record IsDayText (plan : PlanTerms) (periods : ℕ) (commands : List Command) (text : List ℕ) : Type 0 where
   pub taken : AreTaken commands
   pub entries : List Entry
   pub day_run : IsDayRun periods commands entries
   pub results : List ℕ
-  pub cleared : IsResultsText (run periods (commands_of entries)) results
+  pub cleared : IsClearedWithin plan (run periods (commands_of entries)) results
   pub text_is : text ≡ with_results periods entries results
 
 -- a day takes the commands, and of the book that some day run of them makes the search by this plan could not
@@ -39,19 +36,6 @@ pub record IsDayCutShort (plan : PlanTerms) (periods : ℕ) (commands : List Com
   pub entries : List Entry
   pub day_run : IsDayRun periods commands entries
   pub cut : IsCutShort plan (run periods (commands_of entries)) piece visited
-
--- the plan's limit on nodes is at least the number needed to clear the book of some day run of the commands
-pub record DayHasNeeded (plan : PlanTerms) (periods : ℕ) (commands : List Command) : Type 0 where
-  pub entries : List Entry
-  pub day_run : IsDayRun periods commands entries
-  pub needed : PlanHasNeeded plan (problem_of (run periods (commands_of entries)))
-
--- the text is a journal, and the plan's limit on nodes is at least the number needed for some day run of its commands
-pub record HasNeededForDay (plan : PlanTerms) (text : List ℕ) : Type 0 where
-  pub periods : ℕ
-  pub commands : List Command
-  pub reads : ReadsAs text periods commands
-  pub needed : DayHasNeeded plan periods commands
 
 -- the number of the record of the command at this place: places are counted from 0, records from 1, and the first is the day
 abbrev pub record_number : ℕ → ℕ

@@ -1,10 +1,8 @@
-ghost use Rattle.std.specs.Prelude.{◌≡◌, ◌↔◌, false, IfOk, IfErr, IsErrOf, OnOk};
-ghost use Rattle.dam_blocks.specs.Problem.{problem_of};
+ghost use Rattle.std.specs.Prelude.{◌≡◌, ◌↔◌, false, IfOk, IfErr, IsErrOf};
 ghost use Rattle.dam_results.specs.Journal.{IsMadeFrom};
-ghost use Rattle.dam_results.specs.Clearing.{IsResultsText};
 ghost use Rattle.dam_engines.specs.Engine.{IsRunFault};
-ghost use Rattle.dam_engines.specs.Clear.{AreResults, IsBookFault, IsClearFault, terms_alone};
-ghost use Rattle.dam_engines.specs.Clear.{HasNeededToClear, PlanHasNeeded};
+ghost use Rattle.dam_engines.specs.Clear.{AreResultsWithin, IsBookFault, IsClearFault, IsClearedWithin};
+ghost use Rattle.dam_engines.specs.Clear.{terms_alone};
 
 use crate::fault::RunFault;
 use dam_blocks::Problem;
@@ -17,10 +15,10 @@ use std::alloc::Global;
 /// The results text of a closed book, found on the calling thread alone. The answer to an open one is `StillOpen`, before
 /// any memory is asked for.
 fn clear_book_alone(alloc: Global, book: &Book, nodes: u32) -> Result<Vec<u8>, RunFault>
-    ensures done { IfOk result (λ results. IsResultsText book.now results.items) }
+    ensures done { IfOk result (λ results.
+        IsClearedWithin (terms_alone nodes) book.now results.items) }
     ensures fault { IfErr result (IsBookFault (terms_alone nodes) book.now) }
     ensures still_open { IsErrOf result RunFault.StillOpen ↔ (book.now.closed ≡ false) }
-    ensures needed { OnOk result (PlanHasNeeded (terms_alone nodes) (problem_of book.now)) }
 {
     published_results_are_clearings();
     let problem = Problem::of_book(alloc, book)?;
@@ -41,11 +39,9 @@ pub fn clear_text_alone(
     text: &[u8],
     nodes: u32,
 ) -> Result<Vec<u8>, RunFault>
-    ensures done { IfOk result (λ results. IsMadeFrom AreResults text.now results.items) }
+    ensures done { IfOk result (λ results.
+        IsMadeFrom (AreResultsWithin (terms_alone nodes)) text.now results.items) }
     ensures fault { IfErr result (IsRunFault (IsClearFault (terms_alone nodes)) text.now) }
-
-    // A limit below the number of nodes that the search must visit gives no results.
-    ensures needed { OnOk result (HasNeededToClear (terms_alone nodes) text.now) }
 {
     let book = book_of_text(alloc, seed, text)?;
     clear_book_alone(alloc, &book, nodes)

@@ -1,12 +1,10 @@
-ghost use Rattle.std.specs.Prelude.{◌≡◌, ◌≤◌, ◌+◌, ◌-◌, ◌↔◌, ℕ, List, false, IfOk, IfErr, IfSome, IsErrOf, OnOk};
+ghost use Rattle.std.specs.Prelude.{◌≡◌, ◌≤◌, ◌+◌, ◌-◌, ◌↔◌, ℕ, List, false, IfOk, IfErr, IfSome, IsErrOf};
 ghost use Rattle.dam_book.specs.Book.{run};
 ghost use Rattle.dam_book.specs.declared.command.Command.{Command};
-ghost use Rattle.dam_blocks.specs.Problem.{problem_of};
 ghost use Rattle.dam_results.specs.Journal.{IsMadeFrom, ReadsAs};
-ghost use Rattle.dam_results.specs.Clearing.{IsResultsText};
 ghost use Rattle.dam_engines.specs.Device.{AreDevicesAfter, most_asked};
 ghost use Rattle.dam_engines.specs.Engine.{Ends, IsRunFault, IsTextFault};
-ghost use Rattle.dam_engines.specs.Clear.{AreResults, IsBookFault, IsClearFault, HasNeededToClear, PlanHasNeeded};
+ghost use Rattle.dam_engines.specs.Clear.{AreResultsWithin, IsBookFault, IsClearFault, IsClearedWithin};
 
 use crate::device::{Sink, Source};
 use crate::fault::RunFault;
@@ -44,13 +42,10 @@ pub fn run_clear<H: Threads + Sync, R: Read, W: Write, T: Watch + Sync>(
     requires reads { reader.old.failed ≡ false }
     requires writes { writer.old.failed ≡ false }
     ensures ends { IfSome reader.old.unread (λ given.
-        Ends (IsMadeFrom AreResults given) (IsRunFault (IsClearFault plan) given)
+        Ends (IsMadeFrom (AreResultsWithin plan) given) (IsRunFault (IsClearFault plan) given)
         writer.old.taken writer.new.taken (writer.new.asked - writer.old.asked) result) }
     ensures devices { AreDevicesAfter reader.old reader.new writer.old writer.new result }
     ensures asked { reader.new.asked ≤ reader.old.asked + most_asked reader.old.unread }
-
-    // A limit below the number of nodes that some piece must visit gives no results.
-    ensures needed { OnOk result (IfSome reader.old.unread (HasNeededToClear plan)) }
 {
     let text = read_input(alloc, reader)?;
     let results = clear_text(rt, alloc, seed, text, plan, watch)?;
@@ -66,9 +61,8 @@ fn clear_text<H: Threads + Sync, T: Watch + Sync>(
     plan: Plan,
     watch: &T,
 ) -> Result<Vec<u8>, RunFault>
-    ensures done { IfOk result (λ results. IsMadeFrom AreResults text.items results.items) }
+    ensures done { IfOk result (λ results. IsMadeFrom (AreResultsWithin plan) text.items results.items) }
     ensures fault { IfErr result (IsRunFault (IsClearFault plan) text.items) }
-    ensures needed { OnOk result (HasNeededToClear plan text.items) }
 {
     let run = run_journal(alloc, seed, text.as_slice())?;
     drop(text);
@@ -93,10 +87,9 @@ pub fn clear_book<H: Threads + Sync, T: Watch + Sync>(
     plan: Plan,
     watch: &T,
 ) -> Result<Vec<u8>, RunFault>
-    ensures done { IfOk result (λ results. IsResultsText book.now results.items) }
+    ensures done { IfOk result (λ results. IsClearedWithin plan book.now results.items) }
     ensures fault { IfErr result (IsBookFault plan book.now) }
     ensures still_open { IsErrOf result RunFault.StillOpen ↔ (book.now.closed ≡ false) }
-    ensures needed { OnOk result (PlanHasNeeded plan (problem_of book.now)) }
 {
     published_results_are_clearings();
     let problem = Problem::of_book(alloc, book)?;

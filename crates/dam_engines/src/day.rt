@@ -1,14 +1,12 @@
 ghost use Rattle.std.specs.Prelude.{◌≡◌, ◌≤◌, ◌+◌, ◌-◌, ℕ, List, None, true, false, IfOk, IfErr, IfSome, OnOk};
 ghost use Rattle.dam_gate.specs.Day.{AreTaken, IsDayRun};
-ghost use Rattle.dam_blocks.specs.Problem.{problem_of};
 ghost use Rattle.dam_gate.specs.Journal.{IsJournal};
 ghost use Rattle.dam_plan.specs.Plan.{PlanTerms};
 ghost use Rattle.dam_results.specs.Journal.{IsMadeFrom};
-ghost use Rattle.dam_results.specs.Clearing.{IsResultsText};
 ghost use Rattle.dam_engines.specs.Device.{AreDevicesAfter, most_asked};
 ghost use Rattle.dam_engines.specs.Engine.{Ends, IsRunFault};
-ghost use Rattle.dam_engines.specs.Clear.{IsBookFault, PlanHasNeeded};
-ghost use Rattle.dam_engines.specs.Day.{IsCommandsFault, IsDayText, DayHasNeeded, HasNeededForDay, with_results};
+ghost use Rattle.dam_engines.specs.Clear.{IsBookFault, IsClearedWithin};
+ghost use Rattle.dam_engines.specs.Day.{IsCommandsFault, IsDayText, with_results};
 
 use crate::clear::clear_book;
 use crate::device::{Sink, Source};
@@ -52,13 +50,10 @@ pub fn run_day<H: Threads + Wait + Sync, R: Read, W: Write, T: Watch + Sync, U: 
     requires reads { reader.old.failed ≡ false }
     requires writes { writer.old.failed ≡ false }
     ensures ends { IfSome reader.old.unread (λ given.
-        Ends (IsMadeFrom IsDayText given) (IsRunFault (IsCommandsFault plan) given)
+        Ends (IsMadeFrom (IsDayText plan) given) (IsRunFault (IsCommandsFault plan) given)
         writer.old.taken writer.new.taken (writer.new.asked - writer.old.asked) result) }
     ensures devices { AreDevicesAfter reader.old reader.new writer.old writer.new result }
     ensures asked { reader.new.asked ≤ reader.old.asked + most_asked reader.old.unread }
-
-    // A limit below the number of nodes that some piece must visit gives no results.
-    ensures needed { OnOk result (IfSome reader.old.unread (HasNeededForDay plan)) }
 {
     let text = read_input(alloc, reader)?;
     let day = day_text(rt, alloc, seed, text, plan, turnstile, entrance)?;
@@ -75,9 +70,8 @@ fn day_text<H: Threads + Wait + Sync, T: Watch + Sync, U: Turnstile + Sync>(
     turnstile: &T,
     entrance: &U,
 ) -> Result<Vec<u8>, RunFault>
-    ensures done { IfOk result (λ day. IsMadeFrom IsDayText text.items day.items) }
+    ensures done { IfOk result (λ day. IsMadeFrom (IsDayText plan) text.items day.items) }
     ensures fault { IfErr result (IsRunFault (IsCommandsFault plan) text.items) }
-    ensures needed { OnOk result (HasNeededForDay plan text.items) }
 {
     // A book isn't made of it here, so this seed is never used.
     let journal: PackedJournal = read_into(alloc, Seed::fixed(), text.as_slice())?;
@@ -106,9 +100,8 @@ fn day_of_commands<H: Threads + Wait + Sync, T: Watch + Sync, U: Turnstile + Syn
     turnstile: &T,
     entrance: &U,
 ) -> Result<Vec<u8>, RunFault>
-    ensures done { IfOk result (λ day. IsDayText periods commands.now day.items) }
+    ensures done { IfOk result (λ day. IsDayText plan periods commands.now day.items) }
     ensures fault { IfErr result (IsCommandsFault plan periods commands.now) }
-    ensures needed { OnOk result (DayHasNeeded plan periods commands.now) }
 {
     let settled = settled_day(rt, alloc, seed, periods, commands, entrance)?;
     print_day(rt, alloc, settled.journal(), plan, turnstile)
@@ -150,10 +143,9 @@ fn print_day<H: Threads + Sync, T: Watch + Sync>(
     turnstile: &T,
 ) -> Result<Vec<u8>, RunFault>
     ensures done { IfOk result (λ text. (results : List ℕ)
-        × IsResultsText journal.now.book results
+        × IsClearedWithin plan journal.now.book results
         × (text.items ≡ with_results journal.now.book.periods journal.now.entries results)) }
     ensures fault { IfErr result (IsBookFault plan journal.now.book) }
-    ensures needed { OnOk result (PlanHasNeeded plan (problem_of journal.now.book)) }
 {
     let results = clear_book(rt, alloc, journal.book(), plan, turnstile)?;
     let mut text = packed_journal_text(alloc, journal.periods(), journal.entries())?;

@@ -12,7 +12,7 @@ ghost use Rattle.dam_results.specs.Clearing.{IsResultsText};
 ghost use Rattle.dam_engines.specs.declared.fault.RunFault.{RunFault};
 ghost use Rattle.dam_engines.specs.declared.fault.RunFault.TheVariants.{Memory};
 ghost use Rattle.dam_engines.specs.Engine.{Ends, IsRunFault, IsTextFault};
-ghost use Rattle.dam_engines.specs.Clear.{AreResults, IsClearFault, IsCutShort};
+ghost use Rattle.dam_engines.specs.Clear.{AreResultsWithin, IsClearFault, IsCutShort};
 ghost use Rattle.dam_engines.specs.Day.{IsCommandsFault, IsDayText};
 
 use dam_results::laws::{fault_is_no_journal, text_is_one_journal};
@@ -44,9 +44,9 @@ pub fn clearing_is_exact()
     ensures { (plan : PlanTerms) (text : List ℕ) (periods : ℕ) (commands : List Command)
         (old new : Option (List ℕ)) (asked : ℕ) (result : Result (Unit {0}) RunFault)
         → ReadsAs text periods commands
-        → Ends (IsMadeFrom AreResults text) (IsRunFault (IsClearFault plan) text)
+        → Ends (IsMadeFrom (AreResultsWithin plan) text) (IsRunFault (IsClearFault plan) text)
         old new asked result
-        → Ends (AreResults periods commands) (IsClearFault plan periods commands)
+        → Ends (AreResultsWithin plan periods commands) (IsClearFault plan periods commands)
         old new asked result }
 {
     text_is_one_journal();
@@ -59,9 +59,9 @@ pub fn day_is_exact()
     ensures { (plan : PlanTerms) (text : List ℕ) (periods : ℕ) (commands : List Command)
         (old new : Option (List ℕ)) (asked : ℕ) (result : Result (Unit {0}) RunFault)
         → ReadsAs text periods commands
-        → Ends (IsMadeFrom IsDayText text) (IsRunFault (IsCommandsFault plan) text)
+        → Ends (IsMadeFrom (IsDayText plan) text) (IsRunFault (IsCommandsFault plan) text)
         old new asked result
-        → Ends (IsDayText periods commands) (IsCommandsFault plan periods commands)
+        → Ends (IsDayText plan periods commands) (IsCommandsFault plan periods commands)
         old new asked result }
 {
     text_is_one_journal();

@@ -10,15 +10,13 @@ returns-clause-done c =
     let clearing = c.published_results_are_clearings.ensures c.args.book.now _ _ _ _ _ _ made.0 made.1 c.in_ok-best.ensures.ok
     c.in_ok-published.ensures in
     let found = c.in_ok-published.published in
-    (found.welfare, found.periods.items, found.rows.items, clearing, c.in_ok-results_text.ensures)
-
-pub returns-clause-needed : goal.returns-clause-needed
-returns-clause-needed c =
     let best = c.in_ok-best.best in
     let needed : PlanHasNeeded (terms_alone c.args.nodes) c.in_ok-problem.problem = record {
       selection = best.selection;
       welfare = best.welfare;
       best = c.in_ok-best.ensures.ok;
       needed = c.in_ok-best.ensures.needed;
-    } in
-    subst (λ (problem : ProblemState). PlanHasNeeded (terms_alone c.args.nodes) problem) c.in_ok-problem.ensures.ok.1 needed
+    } in (
+      (found.welfare, found.periods.items, found.rows.items, clearing, c.in_ok-results_text.ensures),
+      subst (λ (problem : ProblemState). PlanHasNeeded (terms_alone c.args.nodes) problem) made.1 needed,
+    )

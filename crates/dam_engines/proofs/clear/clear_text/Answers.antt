@@ -1,10 +1,8 @@
 -- The answer for the text's journal or its book is the answer for the text.
 use Rattle.std.proofs.Common.{subst}
-use Rattle.std.proofs.lemmas.Result.{err_from_is_err_and, IfErr-weaker, IfOk-weaker, on_ok_weaker}
+use Rattle.std.proofs.lemmas.Result.{err_from_is_err_and, IfErr-weaker, IfOk-weaker}
 use Rattle.dam_book.specs.Book.{BookState}
-use Rattle.dam_results.specs.Clearing.{IsResultsText}
-use Rattle.dam_blocks.specs.Problem.{problem_of}
-use Rattle.dam_engines.specs.Clear.{IsBookFault, IsClearFault, PlanHasNeeded}
+use Rattle.dam_engines.specs.Clear.{IsBookFault, IsClearFault, IsClearedWithin}
 use Rattle.dam_engines.proofs.Fronts.{made_fault-run, text_fault-run}
 use Rattle.dam_engines.proofs.clear.clear_text.Goals as goal
 
@@ -18,7 +16,7 @@ pub returns-clause-done : goal.returns-clause-done
 returns-clause-done g c =
     let made = rw c.as_slice.ensures.value at c.in_ok-run.ensures.done in
     IfOk-weaker c.clear_book.result _ _
-    (λ results is. (made.0, made.1, made.2, subst (λ (b : BookState). IsResultsText b results.items) made.3 is))
+    (λ results is. (made.0, made.1, made.2, subst (λ (b : BookState). IsClearedWithin c.args.plan b results.items) made.3 is))
     c.clear_book.ensures.done
 
 pub returns-clause-fault : goal.returns-clause-fault
@@ -27,14 +25,3 @@ returns-clause-fault g c =
     IfErr-weaker c.clear_book.result _ _
     (λ fault is. made_fault-run (IsClearFault c.args.plan) c.args.text.items (λ periods commands why no. no) fault
     (made.0, made.1, made.2, subst (λ (b : BookState). IsBookFault c.args.plan b fault) made.3 is)) c.clear_book.ensures.fault
-
-pub returns-clause-needed : goal.returns-clause-needed
-returns-clause-needed g c =
-    let made = rw c.as_slice.ensures.value at c.in_ok-run.ensures.done in
-    on_ok_weaker c.clear_book.result
-    (λ is. record {
-      periods = made.0;
-      commands = made.1;
-      reads = made.2;
-      needed = subst (λ (b : BookState). PlanHasNeeded c.args.plan (problem_of b)) made.3 is;
-    }) c.clear_book.ensures.needed

@@ -3,10 +3,10 @@ use Rattle.std.proofs.Common.{refl}
 use Rattle.std.proofs.lemmas.Result.{err_from_is_err_and}
 use Rattle.dam_results.specs.Journal.{IsMadeFrom}
 use Rattle.dam_engines.specs.Engine.{IsRunFault}
-use Rattle.dam_engines.specs.Clear.{AreResults, HasNeededToClear, IsClearFault}
-use Rattle.dam_engines.proofs.Fronts.{reads-given, run_fault-given}
+use Rattle.dam_engines.specs.Clear.{AreResultsWithin, IsClearFault}
+use Rattle.dam_engines.proofs.Fronts.{run_fault-given}
 use Rattle.dam_engines.specs.Device.{IsWriterAfter}
-use Rattle.dam_engines.proofs.Runs.{asked-within, known-fault, known-needed, known-unread, known-written}
+use Rattle.dam_engines.proofs.Runs.{asked-within, known-fault, known-unread, known-written}
 use Rattle.dam_engines.proofs.Devices.{neither-failed, written-devices}
 use Rattle.dam_engines.proofs.Cuts.{reading-told}
 use Rattle.dam_engines.proofs.clear.run_clear.Goals as goal
@@ -14,20 +14,20 @@ use Rattle.dam_engines.proofs.clear.run_clear.Goals as goal
 pub returns-in_err-text-clause-ends : goal.returns-in_err-text-clause-ends
 returns-in_err-text-clause-ends g c =
     let p = err_from_is_err_and c.from_residual.result c.from_residual.ensures.1 in
-    rw (p.1, p.2) (known-unread (IsMadeFrom AreResults) (IsRunFault (IsClearFault c.args.plan)) _ _ _ _ _
+    rw (p.1, p.2) (known-unread (IsMadeFrom (AreResultsWithin c.args.plan)) (IsRunFault (IsClearFault c.args.plan)) _ _ _ _ _
     (λ given. tt) c.in_err-text.ensures.fault)
 
 pub returns-in_err-results-clause-ends : goal.returns-in_err-results-clause-ends
 returns-in_err-results-clause-ends g c =
     let p = err_from_is_err_and c.from_residual-in_err-results.result c.from_residual-in_err-results.ensures.1 in
     let fault = c.in_err-results.ensures.fault in
-    rw (p.1, p.2) (known-fault (IsMadeFrom AreResults) (IsRunFault (IsClearFault c.args.plan)) _ _ _ _ _ _ (λ given written is. is.3)
+    rw (p.1, p.2) (known-fault (IsMadeFrom (AreResultsWithin c.args.plan)) (IsRunFault (IsClearFault c.args.plan)) _ _ _ _ _ _ (λ given written is. is.3)
     (run_fault-given (IsClearFault c.args.plan)) c.in_ok-text.ensures.text fault)
 
 pub returns-clause-ends : goal.returns-clause-ends
 returns-clause-ends g c =
     let done = c.in_ok-results.ensures.done in
-    known-written AreResults (IsRunFault (IsClearFault c.args.plan)) _ _ _ _ _ _ _ _ c.in_ok-text.ensures.text c.as_slice.ensures.value
+    known-written (AreResultsWithin c.args.plan) (IsRunFault (IsClearFault c.args.plan)) _ _ _ _ _ _ _ _ c.in_ok-text.ensures.text c.as_slice.ensures.value
     c.write_text.ensures.done c.write_text.ensures.fault (asked-within _ _ _ c.write_text.ensures.asked) done
 
 pub returns-in_err-text-clause-devices : goal.returns-in_err-text-clause-devices
@@ -50,13 +50,3 @@ returns-clause-devices g c =
     written-devices c.args.reader.now c.read_input.new.reader c.args.writer.now c.write_text.new.writer _ _ _ _
     c.in_ok-text.ensures.cause c.write_text.ensures.fault c.write_text.ensures.flushed c.write_text.ensures.flushes
     c.write_text.ensures.cause
-
-pub returns-clause-needed : goal.returns-clause-needed
-returns-clause-needed g c =
-    known-needed (HasNeededToClear c.args.plan) c.args.reader.now.unread _ c.write_text.result
-    (λ given is. record {
-      periods = is.periods;
-      commands = is.commands;
-      reads = reads-given given is.periods is.commands is.reads;
-      needed = is.needed;
-    }) c.in_ok-text.ensures.text c.in_ok-results.ensures.needed

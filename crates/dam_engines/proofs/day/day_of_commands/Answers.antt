@@ -1,10 +1,9 @@
 -- The answer for the book of the settled journal is the answer for its commands.
 use Rattle.std.proofs.Common.{subst, IfErr}
-use Rattle.std.proofs.lemmas.Result.{err_from_is_err_and, on_ok_weaker}
+use Rattle.std.proofs.lemmas.Result.{err_from_is_err_and}
 use Rattle.dam_gate.specs.Journal.{JournalState}
-use Rattle.dam_blocks.specs.Problem.{problem_of}
-use Rattle.dam_engines.specs.Clear.{IsBookFault, PlanHasNeeded}
-use Rattle.dam_engines.proofs.DayFaults.{journal_fault-day, journal_needed-day}
+use Rattle.dam_engines.specs.Clear.{IsBookFault}
+use Rattle.dam_engines.proofs.DayFaults.{journal_fault-day}
 use Rattle.dam_engines.proofs.day.day_of_commands.Goals as goal
 
 pub returns-in_err-settled-clause-fault : goal.returns-in_err-settled-clause-fault
@@ -19,12 +18,3 @@ returns-clause-fault g c =
     day.ensures.taken day.ensures.day day.ensures.journal day.ensures.periods
     (subst (λ (j : JournalState). IfErr c.print_day.result (IsBookFault c.args.plan j.book)) c.journal.ensures.value
     c.print_day.ensures.fault)
-
-pub returns-clause-needed : goal.returns-clause-needed
-returns-clause-needed g c =
-    let day = c.in_ok-settled in
-    on_ok_weaker c.print_day.result
-    (λ is. journal_needed-day c.args.plan c.args.periods c.args.commands.now day.settled
-    day.ensures.day day.ensures.journal day.ensures.periods
-    (subst (λ (j : JournalState). PlanHasNeeded c.args.plan (problem_of j.book)) c.journal.ensures.value is))
-    c.print_day.ensures.needed
