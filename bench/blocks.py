@@ -1,7 +1,7 @@
 #!/usr/bin/env python3
-"""The search on books with blocks as users have them, 24 of them with 3,800 hourly orders: base (baseload), peaks (base, peak and night),
-shaped (by the hour), odd (one odd profile among baseload) and random (a random volume in each period), on days of 24 and of 96 periods. The
-limits are within 5 to 1,000 cents of the mean price.
+"""The search on books with 24 realistic blocks and 3,800 hourly orders: base (baseload), peaks (base, peak and night), shaped (an hourly
+profile), odd (one odd profile among baseload) and random (a random volume in each period), on days of 24 and of 96 periods. The limits are
+within 5 to 1,000 cents of the mean price.
 
 `dam clear` by the default plan takes turns with the whole run of the twin, with two workers and cut 3 as in the default plan, and with an
 enumeration of all selections with numpy, `tools/audit --best` by four threads, which also checks the results. For one seed a node of one

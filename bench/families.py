@@ -1,6 +1,6 @@
 #!/usr/bin/env python3
-"""The search on books that are hard for it, with 24 blocks and 500 or 4,000 hourly orders on days of 24 periods, under three plans,
-compared with a plain twin of the walk, and with HiGHS, which finds the same selection with cuts against losing ones.
+"""The search on hard books, with 24 blocks and 500 or 4,000 hourly orders on days of 24 periods, under three plans, compared with a plain
+twin of the walk, and with HiGHS, which finds the same selection by adding cuts that exclude losing selections.
 
 A plan is a number of workers and a cut; `2 3` is the default. In the twin a bound is a sum of look-ups in
 tables, one for each class of periods in which every block has the same volume; links and groups are sets of bits in the twin, and lists

@@ -40,12 +40,12 @@ PICTURES = {"growth": "![Nodes of each family by the number of blocks, compared 
 UNITS = {"ns": 1e-9, "us": 1e-6, "ms": 1e-3}  # of a second
 HEAD = """# Measured figures
 
-`bench/run` measures, and `bench/page.py` writes this page. A figure is the median of several runs; runs that are compared take turns. `A
-compared with B` is A's time divided by B's. The head of each part's script says how it measures. On a busy machine, as the load of the
-minute before shows, a figure says little.
+`bench/run` runs the benchmarks, and `bench/page.py` writes this page. A figure is the median of several runs; compared programs run
+alternately. `A compared with B` is A's time divided by B's. The docstring of each part's script describes its method. The load is the load
+average of the minute before. On a busy machine, figures are unreliable.
 
-Every figure is in a CSV file, with its target and, for a comparison, both figures; some stand here too. Missed targets stand here by kind:
-how many of a kind are missed, their figures, and the worst. `grep MISSED bench/measured/*.csv` prints each.
+A CSV file has every figure of a part, with its target and, for a comparison, both figures; this page shows some. It groups the missed
+targets by kind: how many were missed, the range of their figures, and the worst. `grep MISSED bench/measured/*.csv` prints each.
 """
 
 
