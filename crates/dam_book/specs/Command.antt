@@ -1,5 +1,5 @@
 -- Who gives a command, and whether it is a small one.
-use Rattle.std.specs.Prelude.{ℕ, Bool, true, false, List, Option, None, Some}
+use Rattle.std.specs.Prelude.{ℕ, Bool, true, false, List, [], ◌∷◌, Option, None, Some}
 use Rattle.dam_book.specs.declared.command.Command.{Command}
 use Rattle.dam_book.specs.declared.command.Command.TheVariants.{Submit, Amend, Cancel, Close}
 use Rattle.dam_book.specs.declared.order.Order.TheVariants.{Hour, Block}
@@ -11,10 +11,11 @@ giver (Amend who name price volumes) = Some who
 giver (Cancel who name) = Some who
 giver Close = None
 
--- whether the command has no list of volumes: a submit of an hourly order, a cancel or a close
+-- whether the command has at most one volume: a submit of an hourly order, an amend of one period, a cancel or a close
 abbrev pub is_small : Command → Bool
 is_small (Submit who name (Hour order)) = true
 is_small (Submit who name (Block order)) = false
+is_small (Amend who name price (pair ∷ [])) = true
 is_small (Amend who name price volumes) = false
 is_small (Cancel who name) = true
 is_small Close = true

@@ -1,4 +1,4 @@
-ghost use Rattle.std.specs.Prelude.{◌≡◌, ◌≢◌, true, IfOk, IsOk, MatchBool};
+ghost use Rattle.std.specs.Prelude.{◌≡◌, ◌≢◌, ◌∷◌, [], true, IfOk, IsOk, MatchBool};
 ghost use Rattle.std.specs.Option.{option_copied};
 ghost use Rattle.dam_book.specs.Command.{giver, is_small};
 ghost use Rattle.dam_book.specs.inside.Packed.{command_of};
@@ -7,11 +7,16 @@ use crate::command::{Command, Entry, Reply};
 use crate::laws::equality;
 use crate::name::{Name, Participant};
 use crate::order::{HourOrder, Order};
+use crate::period::Period;
+use crate::price::Price;
+use crate::quantity::Qty;
+use crate::volumes::Volumes;
 use std::alloc::{AllocError, Allocator, Global};
 use std::marker::Model;
+use std::sync::Arc;
 
-/// A command without the room that a `Command` has for the volumes of a block: 40 bytes for a submit of an hourly
-/// order, a cancel or a close. Any other command is in an allocation of its own.
+/// A command without the room that a `Command` has for the volumes of a block: 40 bytes for a submit or an amend of an
+/// hourly order, a cancel or a close. Any other command is in an allocation of its own, which its clones share.
 ///
 /// A contract sees the command.
 #[derive(Debug, Drop)]
@@ -28,13 +33,21 @@ enum Form<A: Allocator> {
         name: Name,
         order: HourOrder,
     },
+    /// An amend with one pair of a period and a volume.
+    Amend {
+        who: Participant,
+        name: Name,
+        price: Price,
+        period: Period,
+        volume: Qty,
+    },
     Cancel {
         who: Participant,
         name: Name,
     },
     Close,
     /// Any other command.
-    Whole(Box<Command, A>),
+    Whole(Arc<Command, A>),
 }
 
 impl<A: Allocator> Model for PackedCommand<A> {
@@ -47,7 +60,7 @@ impl<A: Allocator> Model for PackedCommand<A> {
 }
 
 impl<A: Allocator> PackedCommand<A> {
-    /// The command, packed. Only a block or an amend takes memory.
+    /// The command, packed. Only a block, or an amend of more than one period, takes memory.
     pub fn of(alloc: A, command: &Command) -> Result<PackedCommand<A>, AllocError>
         ensures command { IfOk result (λ packed. packed ≡ command.now) }
         ensures small { is_small command.now ≡ true → IsOk result }
@@ -58,9 +71,18 @@ impl<A: Allocator> PackedCommand<A> {
                 name,
                 order: Order::Hour(order),
             } => hour(who, name, order),
+            Command::Amend {
+                who,
+                name,
+                price,
+                volumes,
+            } => match volumes.pairs() {
+                [(period, volume)] => amend(who, name, *price, *period, *volume),
+                _ => whole(alloc, command)?,
+            },
             Command::Cancel { who, name } => cancel(who, name),
             Command::Close => Form::Close,
-            Command::Submit { .. } | Command::Amend { .. } => whole(alloc, command)?,
+            Command::Submit { .. } => whole(alloc, command)?,
         };
         Ok(PackedCommand { form })
     }
@@ -74,6 +96,18 @@ impl<A: Allocator> PackedCommand<A> {
                 who: who.copy(),
                 name: name.copy(),
                 order: Order::Hour(*order),
+            },
+            Form::Amend {
+                who,
+                name,
+                price,
+                period,
+                volume,
+            } => Command::Amend {
+                who: who.copy(),
+                name: name.copy(),
+                price: *price,
+                volumes: Volumes::of_one(*period, *volume),
             },
             Form::Cancel { who, name } => Command::Cancel {
                 who: who.copy(),
@@ -89,7 +123,7 @@ impl<A: Allocator> PackedCommand<A> {
         ensures { option_copied result ≡ giver self.now }
     {
         match &self.form {
-            Form::Hour { who, .. } | Form::Cancel { who, .. } => Some(who),
+            Form::Hour { who, .. } | Form::Amend { who, .. } | Form::Cancel { who, .. } => Some(who),
             Form::Close => None,
             Form::Whole(command) => command.participant(),
         }
@@ -109,6 +143,28 @@ impl<A: Allocator> PackedCommand<A> {
                     order: other_order,
                 },
             ) => *who == *other_who && *name == *other_name && *order == *other_order,
+            (
+                Form::Amend {
+                    who,
+                    name,
+                    price,
+                    period,
+                    volume,
+                },
+                Form::Amend {
+                    who: other_who,
+                    name: other_name,
+                    price: other_price,
+                    period: other_period,
+                    volume: other_volume,
+                },
+            ) => {
+                *who == *other_who
+                    && *name == *other_name
+                    && *price == *other_price
+                    && *period == *other_period
+                    && *volume == *other_volume
+            }
             (
                 Form::Cancel { who, name },
                 Form::Cancel {
@@ -133,6 +189,25 @@ fn hour<A: Allocator>(who: &Participant, name: &Name, order: &HourOrder) -> Form
     }
 }
 
+fn amend<A: Allocator>(
+    who: &Participant,
+    name: &Name,
+    price: Price,
+    period: Period,
+    volume: Qty,
+) -> Form<A>
+    ensures { command_of result
+        ≡ Command.Amend who.now name.now price ((period, volume) ∷ []) }
+{
+    Form::Amend {
+        who: who.copy(),
+        name: name.copy(),
+        price,
+        period,
+        volume,
+    }
+}
+
 fn cancel<A: Allocator>(who: &Participant, name: &Name) -> Form<A>
     ensures { command_of result ≡ Command.Cancel who.now name.now }
 {
@@ -145,7 +220,10 @@ fn cancel<A: Allocator>(who: &Participant, name: &Name) -> Form<A>
 fn whole<A: Allocator>(alloc: A, command: &Command) -> Result<Form<A>, AllocError>
     ensures { IfOk result (λ form. command_of form ≡ command.now) }
 {
-    Ok(Form::Whole(Box::new(alloc, command.copy())?))
+    match Arc::new(alloc, command.copy()) {
+        Ok(shared) => Ok(Form::Whole(shared)),
+        Err(_) => Err(AllocError),
+    }
 }
 
 impl<A: Allocator + Copy> Clone for PackedCommand<A> {
@@ -154,9 +232,16 @@ impl<A: Allocator + Copy> Clone for PackedCommand<A> {
     fn clone(&self) -> Result<PackedCommand<A>, AllocError> {
         let form = match &self.form {
             Form::Hour { who, name, order } => hour(who, name, order),
+            Form::Amend {
+                who,
+                name,
+                price,
+                period,
+                volume,
+            } => amend(who, name, *price, *period, *volume),
             Form::Cancel { who, name } => cancel(who, name),
             Form::Close => Form::Close,
-            Form::Whole(command) => whole(*Box::allocator(command), command)?,
+            Form::Whole(command) => Form::Whole(Arc::try_clone(command)?),
         };
         Ok(PackedCommand { form })
     }
