@@ -1,5 +1,5 @@
 -- What only contracts inside this crate cite.
 pub mod Supply
-pub mod Lines
+pub mod Segments
 pub mod Reading
 pub mod Ramp

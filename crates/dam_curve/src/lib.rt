@@ -1,9 +1,9 @@
-//! The greatest welfare of periods as a function of the net volume, as straight lines; and by how much either side of a
-//! choice lowers it, at each net volume.
+//! The greatest welfare of periods as a function of the net volume, in straight segments; and by how much either side
+//! of a choice lowers it, at each net volume.
 //!
 //! The price of a period changes only where the volume of an order ends. Between two such net volumes the greatest
-//! welfare is a straight line: the price times the net volume, and what all orders gain at that price. Several
-//! periods at the same net volume add up to straight lines, too: their prices and what is gained at them, added up.
+//! welfare is a straight segment: the price times the net volume, and what all orders gain at that price. Several
+//! periods at the same net volume add up to segments, too: their prices and what is gained at them, added up.
 //!
 //! ```
 //! let mut supply = Supply::of(alloc, &steps)?; // the steps of a period, by one sort
@@ -23,18 +23,18 @@
 //! let loss = curves.loss(offset, 120); // how far the welfare falls if it is left, and if it is taken
 //! ```
 //!
-//! A contract sees the lines of all curves and all losses. It asks of a curve which periods it is of, and between
+//! A contract sees the segments of all curves and all losses. It asks of a curve which periods it is of, and between
 //! which net volumes. Tests alone show that a call reports out of memory only if memory was refused, or if more than
-//! 2^32 - 1 lines, hints or losses would be held.
+//! 2^32 - 1 segments, hints or losses would be held.
 //!
 //! The crate doesn't know blocks or books.
 #![tactic(auto)]
 
 mod curves;
-mod line;
 mod losses;
 mod ramp;
 mod row;
+mod segment;
 mod stretch;
 mod sum;
 mod supply;
