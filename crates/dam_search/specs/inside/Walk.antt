@@ -12,7 +12,7 @@ use Rattle.dam_bound.specs.Day.{IsDay, IsUnder}
 use Rattle.dam_bound.specs.Trail.{IsDayIn}
 use Rattle.dam_bound.specs.declared.trail.Trail.{Trail}
 use Rattle.dam_search.specs.declared.piece.Progress.{Progress}
-use Rattle.dam_search.specs.Piece.{IsFind, IsMatched, Rises, welfare_found, AreEnough}
+use Rattle.dam_search.specs.Piece.{IsFind, IsMatched, Rises, welfare_found, HasNeeded}
 
 -- what is found changes to an eligible completion of the prefix, or not at all, and only rises
 pub record Finds (problem : ProblemState) (prefix : List Bool) (before after : Option Best)
@@ -67,7 +67,7 @@ pub record IsWalked (problem : ProblemState) (prefix : List Bool)
   pub covers : done ≡ true → Covers problem prefix after.best after.read
   pub spends : Spends problem prefix (length problem.blocks - length prefix) greatest_read_before
       nodes before.visited after.visited done
-  pub enough : done ≡ true → AreEnough problem prefix (length problem.blocks - length prefix)
+  pub needed : done ≡ true → HasNeeded problem prefix (length problem.blocks - length prefix)
       after.read (after.visited - before.visited)
   pub reads : Reads (length problem.blocks - length prefix) before.visited after.visited
       before.read after.read greatest_read_before greatest_read_after

@@ -17,7 +17,7 @@ use Rattle.dam_search.proofs.Ranks.{found_after, finds_nothing, finds_shorter, f
 use Rattle.dam_search.proofs.Leaf.{read_more}
 use Rattle.dam_search.proofs.LastBlock.{still_rejected}
 use Rattle.dam_search.proofs.Walks.{spends_none, spends_nothing, spends_one, spends_first, spends_both, reads_nothing, reads_asked}
-use Rattle.dam_search.proofs.Walks.{unreached, enough_one, enough_both}
+use Rattle.dam_search.proofs.Walks.{unreached, needed_one, needed_both}
 use Rattle.dam_search.proofs.space.SearchSpace.+explore.Goals.{decide-else-accept-via-then-accept+else-not-is_still_admissible}
 use Rattle.dam_search.proofs.space.SearchSpace.+explore.Goals.{decide-else-accept-via-else-accept}
 use Rattle.dam_search.proofs.space.SearchSpace.+explore.Goals as goal
@@ -67,7 +67,7 @@ decide-returns-then-not-is_still_admissible-clause-walked g t c =
       finds = finds_nothing problem prefix found.best;
       covers = λ done sel w whole e. absurd (passed sel whole e.admissible);
       spends = spends_nothing problem prefix left told c.args.nodes found.visited going.room;
-      enough = λ done admissible. absurd
+      needed = λ done admissible. absurd
           (not_admitted c.is_still_admissible.result c.if-not-is_still_admissible.true
           (c.is_still_admissible.ensures.value.1
           (subst (λ (xs : List Bool). IsAdmissible problem.blocks (padded xs)) (sym c.extended-extended.ensures) admissible)));
@@ -118,7 +118,7 @@ explore-returns-then-found-nodes-clause-walked g t c =
       finds = finds_nothing problem prefix found.best;
       covers = λ done. absurd (cc);
       spends = spends_none problem prefix left told c.args.nodes found.visited c.if-found-nodes.true;
-      enough = λ done. absurd (cc);
+      needed = λ done. absurd (cc);
       reads = reads_nothing left found.visited found.visited found.read told told going.read refl (inl refl);
       offered = let offered = going.offered in omega (arith, offered);
     }
@@ -137,7 +137,7 @@ explore-returns-then-depth-block_count-clause-walked g t c =
       spends =
           subst (λ (n : ℕ). Spends problem prefix left (told c.args.incumbent.now) c.args.nodes found.visited n true) (sym visited)
           (spends_one problem prefix left (told c.args.incumbent.now) c.args.nodes found.visited room);
-      enough = λ done. enough_one problem prefix left after.read found.visited after.visited visited (inl full);
+      needed = λ done. needed_one problem prefix left after.read found.visited after.visited visited (inl full);
       reads =
           subst (λ (n : ℕ). Reads left found.visited after.visited found.read n (told c.args.incumbent.now)
           (told c.try_selection.new.incumbent))
@@ -169,7 +169,7 @@ explore-returns-in_default-clause-walked g t c =
       spends =
           spends_one problem prefix left (told c.args.incumbent.now) c.args.nodes found.visited
           (unmet found.visited c.args.nodes going.room c.if-found-nodes.false);
-      enough = λ done. enough_one problem prefix left c.read-found.result found.visited (found.visited + 1) refl
+      needed = λ done. needed_one problem prefix left c.read-found.result found.visited (found.visited + 1) refl
           (inr (λ value le. unreached (relaxed_welfare problem prefix) value c.read-found.result under le));
       reads =
           reads_asked left found.visited (found.visited + 1) found.read c.read-found.result (told c.args.incumbent.now)
@@ -241,7 +241,7 @@ explore-returns-then-not-decide-clause-walked g t c =
       spends =
           spends_first problem prefix first n (told c.args.incumbent.now) least nodes before after inside c.read-found.ensures.rises
           (alive_here problem c.args.self.now.walk.now prefix least c.args.self.now.same is.0) unfinished;
-      enough = λ done. absurd (cc);
+      needed = λ done. absurd (cc);
       reads =
           reads_asked (n - length prefix) before after c.args.found.now.read c.decide.new.found.read (told c.args.incumbent.now)
           (told c.decide.new.incumbent) (omega (arith, inside)) (omega (arith, more)) c.requires.going.read
@@ -316,8 +316,8 @@ explore-returns-clause-walked g t c =
           spends_both problem prefix first n (told c.args.incumbent.now) least later nodes before middle after c.decide-2.result inside
           c.read-found.ensures.rises (omega (arith, asked, raised))
           (alive_here problem c.args.self.now.walk.now prefix least c.args.self.now.same is.0) one other;
-      enough = λ done. enough_both problem prefix first n c.decide.new.found.read c.decide-2.new.found.read before middle after
-          inside few more more' grows' (w.enough c.if-not-decide.false) (v.enough done);
+      needed = λ done. needed_both problem prefix first n c.decide.new.found.read c.decide-2.new.found.read before middle after
+          inside few more more' grows' (w.needed c.if-not-decide.false) (v.needed done);
       reads =
           reads_asked (n - length prefix) before after c.args.found.now.read c.decide-2.new.found.read (told c.args.incumbent.now)
           (told c.decide-2.new.incumbent) (omega (arith, inside)) (omega (arith, more, more')) c.requires.going.read
