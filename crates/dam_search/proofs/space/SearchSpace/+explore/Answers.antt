@@ -9,9 +9,9 @@ use Rattle.dam_blocks.specs.declared.problem.Block.{Block}
 use Rattle.dam_blocks.specs.Selection.{padded, IsAdmissible}
 use Rattle.dam_blocks.specs.Eligible.{selection_welfare}
 use Rattle.dam_bound.specs.Prefix.{IsCompletion}
-use Rattle.dam_bound.specs.Trail.{IsDayIn, IsBoundOf}
+use Rattle.dam_bound.specs.Trail.{ArePositionsIn, IsBoundOf}
 use Rattle.dam_bound.specs.Relaxed.{without_rows, relaxed_welfare, reaches}
-use Rattle.dam_bound.specs.Day.{IsUnder}
+use Rattle.dam_bound.specs.Positions.{IsUnder}
 use Rattle.dam_search.specs.inside.Walk.{IsBoundIn, Spends, Reads, IsGoing, IsWalked}
 use Rattle.dam_search.proofs.Ranks.{found_after, finds_nothing, finds_shorter, finds_twice, covers_both, welfare_rises}
 use Rattle.dam_search.proofs.Leaf.{read_more}
@@ -85,7 +85,7 @@ decide-explore-requires g t c =
     let few : length prefix < most_blocks = omega (arith, c.requires.depth, c.kept.ensures.few_blocks) in
     let is_bound : IsBoundIn relaxed next read trail total =
     next_bound relaxed next prefix c.args.accept read total trail is
-    (c.enter.ensures.stands c.requires.day.0 read c.requires.day.1 c.requires.bound) in
+    (c.enter.ensures.stands c.requires.positions.0 read c.requires.positions.1 c.requires.bound) in
     let admissible : IsAdmissible blocks (padded next) = elim c.else-accept.branch [
       | decide-else-accept-via-then-accept+else-not-is_still_admissible w ↦ w.is_still_admissible.ensures.value.0 (search rules)
       | decide-else-accept-via-else-accept w ↦
@@ -101,11 +101,11 @@ decide-returns-clause-walked g t c =
     (top after) c.args.found.now
     c.explore.new.found c.explore.result) c.extended-extended.ensures c.explore.ensures.walked
 
-pub decide-returns-clause-days : goal.decide-returns-clause-days
-decide-returns-clause-days g t c prefix total few day =
+pub decide-returns-clause-positions : goal.decide-returns-clause-positions
+decide-returns-clause-positions g t c prefix total few positions =
     let long = ap (λ (xs : List Bool). length xs) c.extended-extended.ensures in
     let more = length-append c.args.prefix.now (c.args.accept ∷ []) in
-    c.explore.ensures.days prefix total (omega (arith, few, long, more)) (c.enter.ensures.kept prefix total few day)
+    c.explore.ensures.positions prefix total (omega (arith, few, long, more)) (c.enter.ensures.kept prefix total few positions)
 
 -- ---- the node
 
@@ -158,7 +158,7 @@ explore-returns-in_default-clause-walked g t c =
     let inside =
     undecided prefix c.depth.result c.block_count.result (length problem.blocks) c.depth.ensures.value c.block_count.ensures.value
     c.requires.depth c.if-depth-block_count.false in
-    let none = c.in_default.ensures relaxed c.args.trail.now found.read low c.requires.day in
+    let none = c.in_default.ensures relaxed c.args.trail.now found.read low c.requires.positions in
     let under : IsUnder problem prefix c.read-found.result =
     subst (λ (p : ProblemState). IsUnder p prefix c.read-found.result) c.args.self.now.same none.0 in
     record {
@@ -180,22 +180,22 @@ explore-returns-in_default-clause-walked g t c =
 
 -- ---- its two extensions
 
-pub explore-extensions-next-requires-clause-day : goal.explore-extensions-next-requires-clause-day
-explore-extensions-next-requires-clause-day g t c =
+pub explore-extensions-next-requires-clause-positions : goal.explore-extensions-next-requires-clause-positions
+explore-extensions-next-requires-clause-positions g t c =
     let relaxed = c.args.self.now.walk.now in let prefix = c.args.prefix.now in
     let low : c.args.found.now.read ≤ c.read-found.result = omega (arith, c.requires.going.read, c.read-found.ensures.rises) in
-    let is = c.in-Some.ensures relaxed c.args.trail.now c.args.found.now.read low c.requires.day in
+    let is = c.in-Some.ensures relaxed c.args.trail.now c.args.found.now.read low c.requires.positions in
     (prefix, search rules, search (rules, is.1))
 
 pub explore-decide-requires : goal.explore-decide-requires
 explore-decide-requires g t c =
     let problem = c.args.self.now.problem.now in let relaxed = c.args.self.now.walk.now in let prefix = c.args.prefix.now in
     let low : c.args.found.now.read ≤ c.read-found.result = omega (arith, c.requires.going.read, c.read-found.ensures.rises) in
-    let is = c.in-Some.ensures relaxed c.args.trail.now c.args.found.now.read low c.requires.day in
+    let is = c.in-Some.ensures relaxed c.args.trail.now c.args.found.now.read low c.requires.positions in
     let depth : length prefix < length problem.blocks =
     undecided prefix c.depth.result c.block_count.result (length problem.blocks) c.depth.ensures.value c.block_count.ensures.value
     c.requires.depth c.if-depth-block_count.false in
-    let day : IsDayIn relaxed prefix c.args.trail.now c.in-Some.bound = is.1 in
+    let positions : ArePositionsIn relaxed prefix c.args.trail.now c.in-Some.bound = is.1 in
     let first = c.equals-accept.result in
     let bound : IsBoundOf relaxed (prefix ++ first ∷ []) c.read-found.result c.by.result =
     subst (IsBoundOf relaxed (prefix ++ first ∷ []) c.read-found.result) (sym c.by.ensures)
@@ -219,7 +219,7 @@ explore-returns-then-not-decide-clause-walked g t c =
     let first = c.equals-accept.result in
     let nodes = c.args.nodes in let told = g.I.Incumbent.greatest_read in
     let low : c.args.found.now.read ≤ c.read-found.result = omega (arith, c.requires.going.read, c.read-found.ensures.rises) in
-    let is = c.in-Some.ensures c.args.self.now.walk.now c.args.trail.now c.args.found.now.read low c.requires.day in
+    let is = c.in-Some.ensures c.args.self.now.walk.now c.args.trail.now c.args.found.now.read low c.requires.positions in
     let inside =
     undecided prefix c.depth.result c.block_count.result n c.depth.ensures.value c.block_count.ensures.value
     c.requires.depth c.if-depth-block_count.false in
@@ -253,11 +253,12 @@ pub explore-decide-requires-2 : goal.explore-decide-requires-2
 explore-decide-requires-2 g t c =
     let problem = c.args.self.now.problem.now in let relaxed = c.args.self.now.walk.now in let prefix = c.args.prefix.now in
     let low : c.args.found.now.read ≤ c.read-found.result = omega (arith, c.requires.going.read, c.read-found.ensures.rises) in
-    let is = c.in-Some.ensures relaxed c.args.trail.now c.args.found.now.read low c.requires.day in
+    let is = c.in-Some.ensures relaxed c.args.trail.now c.args.found.now.read low c.requires.positions in
     let depth : length prefix < length problem.blocks =
     undecided prefix c.depth.result c.block_count.result (length problem.blocks) c.depth.ensures.value c.block_count.ensures.value
     c.requires.depth c.if-depth-block_count.false in
-    let day : IsDayIn relaxed prefix c.decide.new.trail c.in-Some.bound = c.decide.ensures.days prefix c.in-Some.bound (omega arith) is.1 in
+    let positions : ArePositionsIn relaxed prefix c.decide.new.trail c.in-Some.bound =
+    c.decide.ensures.positions prefix c.in-Some.bound (omega arith) is.1 in
     let now = c.decide.new.found in let incumbent = c.decide.new.incumbent in
     let walked = c.decide.ensures.walked in let told = walked.reads.greatest_read in let top = walked.offered in
     let first = c.equals-accept.result in
@@ -280,7 +281,7 @@ explore-returns-clause-walked g t c =
     let first = c.equals-accept.result in
     let nodes = c.args.nodes in let told = g.I.Incumbent.greatest_read in
     let low : c.args.found.now.read ≤ c.read-found.result = omega (arith, c.requires.going.read, c.read-found.ensures.rises) in
-    let is = c.in-Some.ensures c.args.self.now.walk.now c.args.trail.now c.args.found.now.read low c.requires.day in
+    let is = c.in-Some.ensures c.args.self.now.walk.now c.args.trail.now c.args.found.now.read low c.requires.positions in
     let inside =
     undecided prefix c.depth.result c.block_count.result n c.depth.ensures.value c.block_count.ensures.value
     c.requires.depth c.if-depth-block_count.false in
@@ -327,6 +328,6 @@ explore-returns-clause-walked g t c =
           omega (arith, rises, top, top', c.requires.going.offered, c.read-found.ensures.greatest_offer);
     }
 
-pub explore-returns-clause-days : goal.explore-returns-clause-days
-explore-returns-clause-days g t c prefix total few day =
-    c.decide-2.ensures.days prefix total few (c.decide.ensures.days prefix total few day)
+pub explore-returns-clause-positions : goal.explore-returns-clause-positions
+explore-returns-clause-positions g t c prefix total few positions =
+    c.decide-2.ensures.positions prefix total few (c.decide.ensures.positions prefix total few positions)
