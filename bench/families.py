@@ -6,7 +6,7 @@ A plan is a number of workers and a cut; `2 3` is the default. In the twin a bou
 tables, one for each class of periods in which every block has the same volume; links and groups are sets of bits in the twin, and lists
 of places in `dam`. HiGHS is asked only for the greatest welfare, and not for the tie rule, for which every node of `ties` has to be
 visited. A run ends after 60 s, and HiGHS after 20 s, or after the seconds of LIMIT and HIGHS_LIMIT in the environment. A piece begins
-with slots that are filled once, 40 kB, which counts if a walk ends after some hundred nodes, as the walk of `links` does."""
+with net volumes that are filled once, 40 kB, which counts if a walk ends after some hundred nodes, as the walk of `links` does."""
 
 # families.py [ORDERS [FAMILY..]]: only with this number of orders, and only these families. `bench/run families` builds the files.
 

@@ -27,8 +27,8 @@ def net_volumes(day, number):
     return tuple(sign * sum(volume for of, volume in orders if of == side) for side, sign in (("buy", -1), ("sell", 1)))
 
 
-def lines(orders, least, most):
-    """The straight lines of a period between two net volumes, from the greatest down: the net volume at which each ends, and its
+def segments(orders, least, most):
+    """The straight segments of a period between two net volumes, from the greatest down: the net volume at which each ends, and its
     slope. Sells and buys stand in one list by rising limit; the volume taken of it, from the bottom up, is all buys less the net
     volume, so that the price is the limit of the order in which that ends."""
     top = sum(volume for side, _, volume in orders if side == "buy")
@@ -42,20 +42,20 @@ def lines(orders, least, most):
 
 
 def ends(day, number, least, most):
-    """The net volumes at which the lines of a period end, and the welfare there."""
-    found = lines(day.orders[number], least, most)
+    """The net volumes at which the segments of a period end, and the welfare there."""
+    found = segments(day.orders[number], least, most)
     nets = [found[0][0], *(end for _, end, _ in found)]
     return nets, [period.clear(day.orders[number], net).welfare for net in nets]
 
 
 def joint(day, least, most):
-    """The same of all periods: the sum ends a line wherever one of them does."""
+    """The same of all periods: the sum ends a segment wherever one of them does."""
     nets = sorted({net for number in PERIODS for net in ends(day, number, least, most)[0]}, reverse=True)
     return nets, [sum(period.clear(day.orders[number], net).welfare for number in PERIODS) for net in nets]
 
 
 def draw(axes, pictures, nets, welfares, name):
-    """A curve, with a dot where a line ends, and at the middle of each line its slope, in EUR/MWh."""
+    """A curve, with a dot where a segment ends, and at the middle of each its slope, in EUR/MWh."""
     across, up = [pictures.mw(net) for net in nets], [welfare / 1_000_000 for welfare in welfares]
     axes.plot(across, up, color=pictures.COLOURS["sell"], marker="o", markersize=4, linewidth=1.4)
     for at in range(len(nets) - 1):

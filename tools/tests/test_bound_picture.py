@@ -1,4 +1,4 @@
-"""The picture of the bound: that its periods are a class, and that its lines are the greatest welfare at each net volume."""
+"""The picture of the bound: that its periods are a class, and that its segments are the greatest welfare at each net volume."""
 
 import sys
 import unittest
@@ -19,7 +19,7 @@ class BoundPicture(unittest.TestCase):
     def welfare(self, numbers, net):
         return sum(period.clear(self.day.orders[number], net).welfare for number in numbers)
 
-    def check_lines(self, nets, welfares, numbers):
+    def check_segments(self, nets, welfares, numbers):
         """Each net volume has the welfare that the line between the two ends around it gives."""
         self.assertEqual((nets[-1], nets[0]), self.range)
         for at in range(len(nets) - 1):
@@ -33,16 +33,16 @@ class BoundPicture(unittest.TestCase):
         self.assertEqual([number for number, of in volumes.items() if of == first], [*draw_bound.PERIODS])
         self.assertTrue(any(first))
 
-    def test_the_lines_of_a_period(self):
+    def test_the_segments_of_a_period(self):
         for number in draw_bound.PERIODS:
             with self.subTest(number):
-                self.check_lines(*draw_bound.ends(self.day, number, *self.range), [number])
-                for start, end, price in draw_bound.lines(self.day.orders[number], *self.range):
+                self.check_segments(*draw_bound.ends(self.day, number, *self.range), [number])
+                for start, end, price in draw_bound.segments(self.day.orders[number], *self.range):
                     risen = self.welfare([number], start) - self.welfare([number], end)
                     self.assertEqual(risen, price * (start - end))
 
-    def test_the_lines_of_the_sum(self):
-        self.check_lines(*draw_bound.joint(self.day, *self.range), draw_bound.PERIODS)
+    def test_the_segments_of_the_sum(self):
+        self.check_segments(*draw_bound.joint(self.day, *self.range), draw_bound.PERIODS)
 
     @unittest.skipUnless(command.has("matplotlib"), "matplotlib is missing (Debian's python3-matplotlib)")
     def test_what_the_picture_says(self):

@@ -9,7 +9,7 @@ use Rattle.dam_book.specs.Limits.{last_period}
 use Rattle.dam_hour.specs.declared.step.Step.{Step}
 use Rattle.dam_curve.specs.Supply.{IsSupplyOf}
 use Rattle.dam_curve.specs.Curve.{IsCurve}
-use Rattle.dam_curve.specs.declared.line.Line.{Line}
+use Rattle.dam_curve.specs.declared.segment.Segment.{Segment}
 use Rattle.dam_blocks.specs.declared.problem.Block.{Block}
 use Rattle.dam_blocks.specs.Problem.{ProblemState}
 use Rattle.dam_bound.specs.Classes.{first_of, members, over_class}
@@ -106,9 +106,9 @@ few_from problem depth c at l short =
     omega (arith, few, long, rest, l, short)
 
 -- ---- the curve, period by period
-abbrev pub IsCurveSoFar : ProblemState → ℕ → ℕ → ℕ → List Line → Type 0
-IsCurveSoFar problem depth c at lines =
-    IsCurve (members_from problem depth c at) (least_net problem.blocks depth c) (most_net problem.blocks depth c) lines
+abbrev pub IsCurveSoFar : ProblemState → ℕ → ℕ → ℕ → List Segment → Type 0
+IsCurveSoFar problem depth c at segments =
+    IsCurve (members_from problem depth c at) (least_net problem.blocks depth c) (most_net problem.blocks depth c) segments
 
 -- the period before: its steps, its supply, and those of the class after it
 pub record IsPeriodBefore (problem : ProblemState) (depth c at : ℕ) (supplies : List (List Step)) : Type 0 where
@@ -129,28 +129,28 @@ period_before problem depth c at supplies l short are =
       few = few_from problem depth c at (omega (arith, l, long)) short;
     }
 
-pub curve_begun : (problem : ProblemState) (depth c at : ℕ) (least most : ℤ) (lines : List Line) → length problem.hours ≤ at
-    → AreEndsOf problem depth c least most → IsCurve [] least most lines → IsCurveSoFar problem depth c at lines
-curve_begun problem depth c at least most lines all ends is =
-    subst (λ (hs : List (List Step)). IsCurve hs (least_net problem.blocks depth c) (most_net problem.blocks depth c) lines)
+pub curve_begun : (problem : ProblemState) (depth c at : ℕ) (least most : ℤ) (segments : List Segment) → length problem.hours ≤ at
+    → AreEndsOf problem depth c least most → IsCurve [] least most segments → IsCurveSoFar problem depth c at segments
+curve_begun problem depth c at least most segments all ends is =
+    subst (λ (hs : List (List Step)). IsCurve hs (least_net problem.blocks depth c) (most_net problem.blocks depth c) segments)
     (sym (none_from problem depth c at all))
-    (subst (λ (z : ℤ). IsCurve [] (least_net problem.blocks depth c) z lines) ends.most_is
-    (subst (λ (z : ℤ). IsCurve [] z most lines) ends.least_is is))
+    (subst (λ (z : ℤ). IsCurve [] (least_net problem.blocks depth c) z segments) ends.most_is
+    (subst (λ (z : ℤ). IsCurve [] z most segments) ends.least_is is))
 
-pub curve_kept : (problem : ProblemState) (depth c at : ℕ) (lines : List Line) (supplies : List (List Step))
+pub curve_kept : (problem : ProblemState) (depth c at : ℕ) (segments : List Segment) (supplies : List (List Step))
     → IsPeriodBefore problem depth c at supplies → first_of problem.blocks at ≢ c
-    → IsCurveSoFar problem depth c (at + 1) lines → IsCurveSoFar problem depth c at lines
-curve_kept problem depth c at lines supplies before apart is =
-    subst (λ (hs : List (List Step)). IsCurve hs (least_net problem.blocks depth c) (most_net problem.blocks depth c) lines)
+    → IsCurveSoFar problem depth c (at + 1) segments → IsCurveSoFar problem depth c at segments
+curve_kept problem depth c at segments supplies before apart is =
+    subst (λ (hs : List (List Step)). IsCurve hs (least_net problem.blocks depth c) (most_net problem.blocks depth c) segments)
     (sym (member_elsewhere problem depth c at before.steps before.there apart)) is
 
-pub curve_more : (problem : ProblemState) (depth c at : ℕ) (lines : List Line) (supplies : List (List Step))
+pub curve_more : (problem : ProblemState) (depth c at : ℕ) (segments : List Segment) (supplies : List (List Step))
     → (p : IsPeriodBefore problem depth c at supplies) → first_of problem.blocks at ≡ c
     → IsCurve ((p.steps ++ as_steps (at + 1) (drop depth problem.blocks)) ∷ members_from problem depth c (at + 1))
-    (least_net problem.blocks depth c) (most_net problem.blocks depth c) lines
-    → IsCurveSoFar problem depth c at lines
-curve_more problem depth c at lines supplies before same is =
-    subst (λ (hs : List (List Step)). IsCurve hs (least_net problem.blocks depth c) (most_net problem.blocks depth c) lines)
+    (least_net problem.blocks depth c) (most_net problem.blocks depth c) segments
+    → IsCurveSoFar problem depth c at segments
+curve_more problem depth c at segments supplies before same is =
+    subst (λ (hs : List (List Step)). IsCurve hs (least_net problem.blocks depth c) (most_net problem.blocks depth c) segments)
     (sym (member_here problem depth c at before.steps before.there same)) is
 
 -- ---- the number of periods

@@ -180,8 +180,8 @@ total_ended law problem at total all so_far =
     ∙ ap (λ (n : ℕ). Some (sum_from (own_worth problem) (suc 0) n)) (relaxed_long problem.blocks 1 problem.hours))
 
 -- the curve of nothing
-abbrev pub no_line : Curve
-no_line = record { first = 0; count = 0; bottom = pos 0; top = pos 0; hints = record { first = 0; shift = 0 } }
+abbrev pub no_segment : Curve
+no_segment = record { first = 0; count = 0; bottom = pos 0; top = pos 0; hints = record { first = 0; shift = 0 } }
 
 -- how large the sum is
 pub total_within : (at : ℕ) (total total' w : ℤ) → total' ≡ total +ℤ w → IsWithin greatest_joint_welfare w

@@ -18,7 +18,7 @@ use Rattle.dam_bound.proofs.DayLevels.{of_pushed}
 use Rattle.dam_bound.proofs.BuildingSupplies.{some_same}
 use Rattle.dam_bound.proofs.BuildingTouches.{curves_stay, lots_stay, in_any_order}
 
--- the lots of the blocks so far, and the curves and the slots after them
+-- the lots of the blocks so far, and the curves and the places of the net volumes after them
 pub record IsBuiltSoFar (problem : ProblemState) (all : CurvesState) (kept k : ℕ) (ends : List Curve) (places : List ℕ)
     (lots : List (List Touch)) : Type 0 where
   pub ends_are : AreCurves problem all k ends
@@ -27,9 +27,9 @@ pub record IsBuiltSoFar (problem : ProblemState) (all : CurvesState) (kept k : �
 
 pub none_built : (problem : ProblemState) (all : CurvesState) (kept : ℕ) (ends : List Curve) (places : List ℕ) (lots : List (List Touch))
     → lots ≡ [] → AreCurves problem all 0 ends → ArePlaces problem 0 places → IsBuiltSoFar problem all kept 0 ends places lots
-none_built problem all kept ends places lots none curves slots = record {
+none_built problem all kept ends places lots none curves placed = record {
   ends_are = curves;
-  places_are = slots;
+  places_are = placed;
   lots_are = subst (AreLots problem all kept 0) (sym none) (record { as_many = refl; each = λ k b touches at there. absurd (cc) });
 }
 
@@ -57,9 +57,9 @@ pub built_more : (problem : ProblemState) (old new : CurvesState) (kept k : ℕ)
     → IsPermutation touches others → lots' ≡ lots ++ others ∷ []
     → (AreCurves problem new k ends → AreCurves problem new (k + 1) ends') → (ArePlaces problem k places → ArePlaces problem (k + 1) places')
     → IsBuiltSoFar problem old kept k ends places lots → IsBuiltSoFar problem new kept (k + 1) ends' places' lots'
-built_more problem old new kept k b ends ends' places places' lots lots' touches others keeps at are order same curves slots so_far = record {
+built_more problem old new kept k b ends ends' places places' lots lots' touches others keeps at are order same curves own so_far = record {
   ends_are = curves (curves_stay problem old new k ends keeps so_far.ends_are);
-  places_are = slots so_far.places_are;
+  places_are = own so_far.places_are;
   lots_are = lot_more problem new kept k b lots lots' others at (in_any_order problem new k b kept touches others order are) same
       (lots_stay problem old new kept k lots keeps so_far.lots_are);
 }

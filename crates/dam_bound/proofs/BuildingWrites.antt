@@ -1,4 +1,4 @@
--- The values written for each touch, and the curves and slots that a block leaves.
+-- The values written for each touch, and the curves and places that a block leaves.
 use Rattle.std.proofs.Common.{◌≡◌, ◌≢◌, ℕ, zero, suc, ◌+◌, ◌*◌, ◌<◌, ◌≤◌, ◌==◌, cond, Bool, true, false, Some, List, [], ◌∷◌}
 use Rattle.std.proofs.Common.{◌++◌, length, drop, get_or, slice_set, inl, inr, ap, ap₂, ◌∙◌, sym, subst, refl, arith, ℤ, pos}
 use Rattle.std.specs.List.{slice_get}
@@ -18,11 +18,11 @@ use Rattle.dam_blocks.specs.Selection.{volume_in}
 use Rattle.dam_bound.specs.Classes.{first_of, members, class_hours}
 use Rattle.dam_bound.specs.Relaxed.{as_steps, relaxed_hours}
 use Rattle.dam_bound.specs.Tables.{IsClassCurve, AreCurves, touches_at, AreTouches, ArePlaces, least_net, most_net}
-use Rattle.dam_bound.specs.Trail.{slot_count, slot_at}
+use Rattle.dam_bound.specs.Trail.{net_count, net_place}
 use Rattle.dam_bound.specs.inside.Building.{side_net}
 use Rattle.dam_bound.specs.declared.touch.Touch.{Touch}
 use Rattle.dam_bound.proofs.Classing.{class_volume}
-use Rattle.dam_bound.proofs.Slots.{slot_first, slot_kept, slot_own}
+use Rattle.dam_bound.proofs.Nets.{net_place_first, net_place_kept, net_place_own}
 use Rattle.dam_bound.proofs.BuildingSupplies.{same_steps}
 use Rattle.dam_bound.proofs.BuildingRanges.{side_none, one_of_side}
 use Rattle.dam_bound.proofs.BuildingTouches.{touched_some, touched_none, at_first}
@@ -115,11 +115,11 @@ pub all_places : (problem : ProblemState) (count : ℕ) (places : List ℕ) → 
     → AreFirstPlaces count places → ArePlaces problem 0 places
 all_places problem count places all short so_far = record {
   long = so_far.long;
-  each = λ c d l first. so_far.each c d (omega (arith, l, all, short)) ∙ sym (slot_first problem.blocks c);
+  each = λ c d l first. so_far.each c d (omega (arith, l, all, short)) ∙ sym (net_place_first problem.blocks c);
   within = λ c d l. (let here = so_far.each c d (omega (arith, l, all)) in omega (arith, here, l));
 }
 
--- ---- the slots after a block
+-- ---- the places of the net volumes after a block
 volume_cases : {X : Type 0} (n : ℕ) → (n ≡ 0 → X) → (0 < n → X) → X
 volume_cases zero f g = f refl
 volume_cases (suc n) f g = g (omega arith)
@@ -145,13 +145,13 @@ places_after problem all kept k b touches places places' at few short are same b
       long = written_long (λ (t : Touch). t.to) places touches ∙ before.long;
       each = λ c d l first. volume_cases (volume_in b.order.volumes (c + 1))
           (λ none. written_other (λ (t : Touch). t.to) places touches c d (count_none problem all kept k c b touches are none)
-          ∙ before.each c d l first ∙ sym (slot_kept problem.blocks c k b at none))
+          ∙ before.each c d l first ∙ sym (net_place_kept problem.blocks c k b at none))
           (λ some. (let one = count_one problem all kept k c b touches are l first some in
-          written_own (λ (n : ℕ). n ≡ slot_at problem.blocks c (k + 1)) (λ (t : Touch). t.to) places touches c d
+          written_own (λ (n : ℕ). n ≡ net_place problem.blocks c (k + 1)) (λ (t : Touch). t.to) places touches c d
           (omega (arith, l, short, long)) (omega (arith, one))
           (λ j touch there here. (are.each j touch there).to_is ∙ ap (λ (n : ℕ). (k + 1) * last_period + n) here
-          ∙ sym (slot_own problem.blocks c k b at some))));
-      within = λ c d l. written_all (λ (n : ℕ). n < slot_count) (λ (t : Touch). t.to) places touches c d (omega (arith, l, long))
+          ∙ sym (net_place_own problem.blocks c k b at some))));
+      within = λ c d l. written_all (λ (n : ℕ). n < net_count) (λ (t : Touch). t.to) places touches c d (omega (arith, l, long))
           (before.within c d l)
           (λ j touch there. (let is = are.each j touch there in let to = is.to_is in let inside = is.inside in
           omega (arith, to, inside, short, few)));

@@ -18,13 +18,13 @@ use Rattle.dam_blocks.specs.Problem.{ProblemState, AreBlocks, AreHours, hourly_o
 use Rattle.dam_blocks.specs.Selection.{volume_in, value_of, net_volume, block_value}
 use Rattle.dam_blocks.specs.Eligible.{period_welfare, welfare_from}
 use Rattle.dam_blocks.specs.Magnitude.{IsWithin}
-use Rattle.dam_bound.specs.declared.day.Change.{Change}
-use Rattle.dam_bound.specs.declared.day.Change.TheVariants.{Decide, Turn}
-use Rattle.dam_bound.specs.declared.day.Position.{Position}
+use Rattle.dam_bound.specs.declared.positions.Change.{Change}
+use Rattle.dam_bound.specs.declared.positions.Change.TheVariants.{Decide, Turn}
+use Rattle.dam_bound.specs.declared.positions.Position.{Position}
 use Rattle.dam_bound.specs.declared.touch.Touch.{Touch}
 use Rattle.dam_bound.specs.Relaxed.{as_steps, relaxed_hours, relaxed_welfare}
 use Rattle.dam_bound.specs.Classes.{first_of, members, over_class, class_welfare}
-use Rattle.dam_bound.specs.Day.{IsPosition}
+use Rattle.dam_bound.specs.Positions.{IsPosition}
 use Rattle.dam_bound.specs.Tables.{class_value, touches_at}
 use Rattle.dam_bound.specs.inside.Change.{by, IsChange, NeverRises}
 use Rattle.dam_bound.specs.inside.Levels.{greatest_period_bound}

@@ -10,8 +10,8 @@ use Rattle.dam_book.specs.Terms.{BlockTerms}
 use Rattle.dam_hour.specs.Best.{signed}
 use Rattle.dam_blocks.specs.declared.problem.Block.{Block}
 use Rattle.dam_blocks.specs.Selection.{volume_in, over_accepted, net_volume_of, value_of, net_volume, block_value}
-use Rattle.dam_bound.specs.declared.day.Change.{Change}
-use Rattle.dam_bound.specs.declared.day.Change.TheVariants.{Decide, Turn}
+use Rattle.dam_bound.specs.declared.positions.Change.{Change}
+use Rattle.dam_bound.specs.declared.positions.Change.TheVariants.{Decide, Turn}
 use Rattle.dam_bound.specs.Relaxed.{as_steps}
 use Rattle.dam_bound.specs.inside.Change.{by, IsChange}
 use Rattle.dam_bound.proofs.Covering.{SumLaws}

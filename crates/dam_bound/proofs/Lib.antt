@@ -10,7 +10,7 @@ pub mod Sizes
 pub mod Worth
 pub mod Classing
 pub mod Changing
-pub mod Slots
+pub mod Nets
 pub mod Walking
 pub mod Losing
 pub mod Reading

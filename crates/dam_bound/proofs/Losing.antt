@@ -18,13 +18,13 @@ use Rattle.dam_blocks.specs.declared.problem.Block.{Block}
 use Rattle.dam_blocks.specs.Problem.{ProblemState}
 use Rattle.dam_blocks.specs.Selection.{net_volume}
 use Rattle.dam_blocks.specs.Magnitude.{IsWithin}
-use Rattle.dam_bound.specs.declared.day.Change.TheVariants.{Decide}
-use Rattle.dam_bound.specs.declared.day.Position.{Position}
+use Rattle.dam_bound.specs.declared.positions.Change.TheVariants.{Decide}
+use Rattle.dam_bound.specs.declared.positions.Position.{Position}
 use Rattle.dam_bound.specs.declared.touch.Touch.{Touch}
 use Rattle.dam_bound.specs.declared.trail.Extensions.{Extensions}
 use Rattle.dam_bound.specs.Relaxed.{relaxed_welfare}
 use Rattle.dam_bound.specs.Classes.{class_hours, class_welfare}
-use Rattle.dam_bound.specs.Day.{IsPosition}
+use Rattle.dam_bound.specs.Positions.{IsPosition}
 use Rattle.dam_bound.specs.Tables.{AreTouches, IsTouch}
 use Rattle.dam_bound.specs.Trail.{IsBoundOf, bound_by}
 use Rattle.dam_bound.specs.inside.Change.{by, IsDecision, IsBelow, IsBoundFrom}

@@ -1,4 +1,4 @@
--- The price of a period of a day on which every block is decided, cleared at the net volume of its class.
+-- The price of a period under a prefix that decides every block, cleared at the net volume of its class.
 use Rattle.std.proofs.Common.{◌≡◌, ℕ, zero, suc, ◌+◌, ◌*◌, ◌<◌, ◌≤◌, ◌==◌, ◌||◌, cond, ℤ, pos, neg_ℤ, Bool, true, false, Option}
 use Rattle.std.proofs.Common.{Some, None, List, [], ◌∷◌, ◌++◌, length, drop, ap, ◌∙◌, sym, subst, refl, arith}
 use Rattle.std.specs.List.{slice_get, slice_index_or}
@@ -23,10 +23,10 @@ use Rattle.dam_blocks.specs.Eligible.{period_welfare, welfare_from}
 use Rattle.dam_blocks.specs.Magnitude.{IsWithin}
 use Rattle.dam_bound.specs.Relaxed.{as_steps, relaxed_hours, relaxed_welfare}
 use Rattle.dam_bound.specs.Classes.{first_of}
-use Rattle.dam_bound.specs.Day.{IsDay}
+use Rattle.dam_bound.specs.Positions.{ArePositions}
 use Rattle.dam_bound.specs.Tables.{TablesState, AreTablesOf}
-use Rattle.dam_bound.specs.declared.day.Day.{Day}
-use Rattle.dam_bound.specs.declared.day.Position.{Position}
+use Rattle.dam_bound.specs.declared.positions.Positions.{Positions}
+use Rattle.dam_bound.specs.declared.positions.Position.{Position}
 use Rattle.dam_bound.proofs.Classing.{first_most, first_first, class_net}
 use Rattle.dam_bound.proofs.Covering.{added_some, raised_some}
 
@@ -103,10 +103,10 @@ class_inside problem tables firsts i c same are inside is =
     (first, omega (arith, most, first, inside), omega (arith, most, first, inside, few))
 
 -- the net volume of the class is the period's own
-pub net_there : (problem : ProblemState) (prefix : List Bool) (day : Day) (i c : ℕ) (d : Position) → IsDay problem prefix day
-    → i < length problem.hours → first_of problem.blocks i ≡ c
-    → (slice_index_or day.classes c d).net ≡ net_volume problem.blocks prefix (1 + i)
-net_there problem prefix day i c d is inside first =
+pub net_there : (problem : ProblemState) (prefix : List Bool) (positions : Positions) (i c : ℕ) (d : Position)
+    → ArePositions problem prefix positions → i < length problem.hours → first_of problem.blocks i ≡ c
+    → (slice_index_or positions.classes c d).net ≡ net_volume problem.blocks prefix (1 + i)
+net_there problem prefix positions i c d is inside first =
     let most = first_most problem.blocks i in
     let own = is.each c d (omega (arith, most, first, inside))
     (ap (first_of problem.blocks) (sym first) ∙ first_first problem.blocks i ∙ first) in
@@ -128,12 +128,13 @@ some_of f None g e = absurd (cc)
 some_of f (Some x) g e = refl
 
 -- so the period is cleared
-pub is_cleared : {X : Type 0} (f : X → ℤ) (problem : ProblemState) (prefix : List Bool) (day : Day) (i : ℕ) (ss : List Step) (net shown : ℤ)
-    (cleared : Option X) → length prefix ≡ length problem.blocks → IsDay problem prefix day → slice_get problem.hours i ≡ Some ss
+pub is_cleared : {X : Type 0} (f : X → ℤ) (problem : ProblemState) (prefix : List Bool) (positions : Positions) (i : ℕ) (ss : List Step)
+    (net shown : ℤ) (cleared : Option X) → length prefix ≡ length problem.blocks → ArePositions problem prefix positions
+    → slice_get problem.hours i ≡ Some ss
     → net ≡ net_volume problem.blocks prefix (1 + i) → shown ≡ net
     → greatest_welfare ss shown ≡ option_map f cleared → IsSome cleared
-is_cleared f problem prefix day i ss net shown cleared long is at e same great =
-    let there = great_there problem prefix i ss day.total long (sym is.total_is) at in
+is_cleared f problem prefix positions i ss net shown cleared long is at e same great =
+    let there = great_there problem prefix i ss positions.total long (sym is.total_is) at in
     some_of f cleared there.0 (sym great ∙ ap (greatest_welfare ss) (same ∙ e) ∙ there.1)
 
 -- ---- the periods of a block

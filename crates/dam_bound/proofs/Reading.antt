@@ -1,4 +1,4 @@
--- The day that is read out of the slots, with every block decided.
+-- The positions that are read out of the trail, with every block decided.
 use Rattle.std.proofs.Common.{◌≡◌, ◌≢◌, ℕ, ◌+◌, ◌<◌, ℤ, pos, ◌≤ℤ◌, Bool, Some, List, length, get_or, slice_set, inl, inr, ap, ◌∙◌, sym, subst, arith}
 use Rattle.std.proofs.lemmas.Bool.{cases_lt}
 use Rattle.std.proofs.lemmas.Int.{to_z-of_z}
@@ -9,12 +9,12 @@ use Rattle.dam_curve.specs.declared.curves.Curve.{Curve}
 use Rattle.dam_curve.specs.Curve.{CurvesState, joint_welfare}
 use Rattle.dam_blocks.specs.Problem.{ProblemState}
 use Rattle.dam_blocks.specs.Selection.{net_volume}
-use Rattle.dam_bound.specs.declared.day.Position.{Position}
+use Rattle.dam_bound.specs.declared.positions.Position.{Position}
 use Rattle.dam_bound.specs.declared.trail.Trail.{Trail}
 use Rattle.dam_bound.specs.Classes.{first_of, class_hours}
-use Rattle.dam_bound.specs.Day.{IsPosition}
+use Rattle.dam_bound.specs.Positions.{IsPosition}
 use Rattle.dam_bound.specs.Tables.{TablesState, AreTablesOf, IsClassCurve, least_net, most_net}
-use Rattle.dam_bound.specs.Trail.{IsDayIn, slot_at}
+use Rattle.dam_bound.specs.Trail.{ArePositionsIn, net_place}
 use Rattle.dam_bound.proofs.Changing.{standing, stands}
 use Rattle.dam_bound.proofs.Walking.{net_in_range, curve_fits}
 
@@ -29,22 +29,22 @@ pub record IsRead (problem : ProblemState) (all : CurvesState) (prefix : List Bo
   pub welfare_is : joint_welfare (class_hours problem (length problem.blocks) c) net ≡ Some welfare
 
 pub read_at : (problem : ProblemState) (tables : TablesState) (prefix : List Bool) (trail : Trail) (total : ℤ) (c : ℕ) (curve : Curve)
-    → AreTablesOf problem tables → length prefix ≡ length problem.blocks → IsDayIn problem prefix trail total → c < tables.count
+    → AreTablesOf problem tables → length prefix ≡ length problem.blocks → ArePositionsIn problem prefix trail total → c < tables.count
     → get_or tables.firsts c 0 ≡ c → curve ≡ get_or tables.ends c curve
-    → IsRead problem tables.curves prefix c curve (to_z w64 (of_z w64 (get_or trail.slots (get_or tables.places c 0) (pos 0))))
+    → IsRead problem tables.curves prefix c curve (to_z w64 (of_z w64 (get_or trail.nets (get_or tables.places c 0) (pos 0))))
 read_at problem tables prefix trail total c curve are long is low first at =
     let n = length problem.blocks in
     let count = are.count_is in
     let inside : c < length problem.hours = omega (arith, low, count) in
     let own : first_of problem.blocks c ≡ c = sym (are.firsts_are.each c 0 inside) ∙ first in
     let net = net_volume problem.blocks prefix (c + 1) in
-    let slot : get_or trail.slots (get_or tables.places c 0) (pos 0) ≡ net =
-    ap (λ (k : ℕ). get_or trail.slots k (pos 0)) (are.places_are.each c 0 inside own ∙ ap (slot_at problem.blocks c) (sym long))
+    let held : get_or trail.nets (get_or tables.places c 0) (pos 0) ≡ net =
+    ap (λ (k : ℕ). get_or trail.nets k (pos 0)) (are.places_are.each c 0 inside own ∙ ap (net_place problem.blocks c) (sym long))
     ∙ is.nets_are c (pos 0) inside own in
     let found = subst (IsClassCurve problem tables.curves n c) (sym at) (are.ends_are.each c curve inside own) in
     let within = net_in_range problem prefix c n long in
-    let passed : to_z w64 (of_z w64 (get_or trail.slots (get_or tables.places c 0) (pos 0))) ≡ net =
-    ap (λ (z : ℤ). to_z w64 (of_z w64 z)) slot
+    let passed : to_z w64 (of_z w64 (get_or trail.nets (get_or tables.places c 0) (pos 0))) ≡ net =
+    ap (λ (z : ℤ). to_z w64 (of_z w64 z)) held
     ∙ to_z-of_z w64 net (curve_fits tables.curves curve (class_hours problem n c) (least_net problem.blocks n c) (most_net problem.blocks n c) net
     found within.0 within.1) in
     let position = stands problem prefix c total is.total_is in

@@ -7,9 +7,9 @@ use Rattle.dam_blocks.specs.declared.problem.Block.{Block}
 use Rattle.dam_blocks.specs.Problem.{ProblemState}
 use Rattle.dam_blocks.specs.Eligible.{period_welfare}
 use Rattle.dam_bound.specs.Relaxed.{as_steps, relaxed_welfare}
-use Rattle.dam_bound.specs.Day.{IsDay}
-use Rattle.dam_bound.specs.Trail.{IsDayIn}
-use Rattle.dam_bound.specs.declared.day.Day.{Day}
+use Rattle.dam_bound.specs.Positions.{ArePositions}
+use Rattle.dam_bound.specs.Trail.{ArePositionsIn}
+use Rattle.dam_bound.specs.declared.positions.Positions.{Positions}
 use Rattle.dam_bound.specs.declared.trail.Trail.{Trail}
 use Rattle.dam_bound.specs.inside.Change.{NeverRises, IsDecision}
 use Rattle.dam_bound.proofs.Covering.{Laws, period_extended, drop_more}
@@ -28,15 +28,15 @@ is_decision laws problem prefix place accept is = record {
   never = never_rises laws problem.blocks prefix (accept ∷ []);
 }
 
-pub turned_answer : (result : Bool) (p q : ProblemState) (after : List Bool) (day : Day) → p ≡ q
-    → MatchBool result (IsDay p after day) (relaxed_welfare p after ≡ None)
-    → MatchBool result (IsDay q after day) (relaxed_welfare q after ≡ None)
-turned_answer result p q after day e m =
-    subst (λ (r : ProblemState). MatchBool result (IsDay r after day) (relaxed_welfare r after ≡ None)) e m
+pub turned_answer : (result : Bool) (p q : ProblemState) (after : List Bool) (positions : Positions) → p ≡ q
+    → MatchBool result (ArePositions p after positions) (relaxed_welfare p after ≡ None)
+    → MatchBool result (ArePositions q after positions) (relaxed_welfare q after ≡ None)
+turned_answer result p q after positions e m =
+    subst (λ (r : ProblemState). MatchBool result (ArePositions r after positions) (relaxed_welfare r after ≡ None)) e m
 
--- the day, with the total as it is passed on
-pub as_passed : (p q : ProblemState) (prefix : List Bool) (trail : Trail) (total : ℤ) → p ≡ q → SFits w64 total → IsDayIn q prefix trail total
-    → IsDayIn p prefix trail (to_z w64 (of_z w64 total))
+-- the positions, with the total as it is passed on
+pub as_passed : (p q : ProblemState) (prefix : List Bool) (trail : Trail) (total : ℤ) → p ≡ q → SFits w64 total
+    → ArePositionsIn q prefix trail total → ArePositionsIn p prefix trail (to_z w64 (of_z w64 total))
 as_passed p q prefix trail total same fits is =
-    subst (λ (z : ℤ). IsDayIn p prefix trail z) (sym (to_z-of_z w64 total fits))
-    (subst (λ (r : ProblemState). IsDayIn r prefix trail total) (sym same) is)
+    subst (λ (z : ℤ). ArePositionsIn p prefix trail z) (sym (to_z-of_z w64 total fits))
+    (subst (λ (r : ProblemState). ArePositionsIn r prefix trail total) (sym same) is)

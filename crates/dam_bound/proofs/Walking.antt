@@ -1,4 +1,4 @@
--- A decision in the slots, and one turned round on a day, touch by touch.
+-- A decision in the trail, and one turned round in positions, touch by touch.
 use Rattle.std.proofs.Common.{◌≡◌, ◌≢◌, ℕ, zero, suc, ◌+◌, ◌*◌, ◌<◌, ◌≤◌, ◌==◌, ◌&&◌, not, nat_lt, cond, ℤ, pos, neg_ℤ, ◌+ℤ◌, ◌-ℤ◌, ◌≤ℤ◌, Bool, true, false}
 use Rattle.std.proofs.Common.{Some, None, List, [], ◌∷◌, ◌++◌, length, take, drop, get_or, slice_set, inl, inr, ap, ap₂, ◌∙◌, sym, subst, refl, arith}
 use Rattle.std.specs.List.{slice_get}
@@ -25,19 +25,19 @@ use Rattle.dam_blocks.specs.declared.problem.Block.{Block}
 use Rattle.dam_blocks.specs.Problem.{ProblemState, AreBlocks, IsBlock}
 use Rattle.dam_blocks.specs.Selection.{volume_in, net_volume_of, value_of, net_volume, block_value}
 use Rattle.dam_blocks.specs.Magnitude.{IsWithin}
-use Rattle.dam_bound.specs.declared.day.Day.{Day}
-use Rattle.dam_bound.specs.declared.day.Position.{Position}
+use Rattle.dam_bound.specs.declared.positions.Positions.{Positions}
+use Rattle.dam_bound.specs.declared.positions.Position.{Position}
 use Rattle.dam_bound.specs.declared.touch.Touch.{Touch}
 use Rattle.dam_bound.specs.declared.trail.Trail.{Trail}
 use Rattle.dam_bound.specs.Relaxed.{relaxed_welfare}
 use Rattle.dam_bound.specs.Classes.{first_of, over_class, class_hours, class_welfare}
-use Rattle.dam_bound.specs.Day.{IsPosition, IsDay}
+use Rattle.dam_bound.specs.Positions.{IsPosition, ArePositions}
 use Rattle.dam_bound.specs.Tables.{AreTablesOf, AreTouches, IsTouch, is_touched, touches_at, if_of, net_of_side, least_net, most_net, class_value, IsClassCurve}
-use Rattle.dam_bound.specs.Trail.{slot_count, slot_at, IsDayIn}
+use Rattle.dam_bound.specs.Trail.{net_count, net_place, ArePositionsIn}
 use Rattle.dam_bound.specs.inside.Change.{by, IsChange, greatest_position, greatest_class_value}
 use Rattle.dam_bound.specs.inside.Levels.{greatest_period_bound}
-use Rattle.dam_bound.specs.declared.day.Change.{Change}
-use Rattle.dam_bound.specs.declared.day.Change.TheVariants.{Decide, Turn}
+use Rattle.dam_bound.specs.declared.positions.Change.{Change}
+use Rattle.dam_bound.specs.declared.positions.Change.TheVariants.{Decide, Turn}
 use Rattle.dam_bound.proofs.Changing.{IsClassOf, IsChangedSoFar, IsSized, chosen, chosen_before, chosen_after, position_part}
 use Rattle.dam_bound.proofs.Changing.{class_within, over_within, class_gain, class_unbalanced, nothing_changed, touches_here, touches_elsewhere}
 use Rattle.dam_bound.proofs.Changing.{touch_changed, all_changed, equal_or}
@@ -47,7 +47,7 @@ use Rattle.dam_bound.proofs.Covering.{Laws}
 use Rattle.dam_bound.proofs.Sizes.{value_small}
 use Rattle.dam_blocks.proofs.Magnitudes.{value_within}
 use Rattle.dam_bound.proofs.Levelling.{drop_at}
-use Rattle.dam_bound.proofs.Slots.{slot_kept, slot_own, slot_below, slot_within, slot_apart}
+use Rattle.dam_bound.proofs.Nets.{net_place_kept, net_place_own, net_place_below, net_place_within, net_place_apart}
 
 -- ---- the facts of all tables
 pub sized : {problem : ProblemState} {tables : _} → AreTablesOf problem tables → IsSized problem
@@ -222,130 +222,132 @@ untouched problem all place b kept touches c are of none =
     let one : suc c ≡ c + 1 = omega arith in
     ap (volume_in b.order.volumes) one ∙ zero
 
--- ---- on a day
+-- ---- in positions
 abbrev pub no_position : Position
 no_position = record { net = pos 0; welfare = pos 0 }
 
--- ---- in the slots
+-- ---- in the trail
 -- the net volume of a class: it is in the block's own row once its touch is done, or if it has none
-abbrev pub in_slots : List Block → ℕ → List ℤ → List Touch → ℕ → ℤ
-in_slots blocks place slots rest c = get_or slots (cond (touches_at c rest == 0) (slot_at blocks c (place + 1)) (slot_at blocks c place)) (pos 0)
+abbrev pub in_nets : List Block → ℕ → List ℤ → List Touch → ℕ → ℤ
+in_nets blocks place nets rest c =
+    get_or nets (cond (touches_at c rest == 0) (net_place blocks c (place + 1)) (net_place blocks c place)) (pos 0)
 
--- the slot of a class that is still to be touched, and of one that isn't
-slot_still : (blocks : List Block) (place : ℕ) (slots : List ℤ) (rest : List Touch) (c : ℕ) → 0 < touches_at c rest
-    → in_slots blocks place slots rest c ≡ get_or slots (slot_at blocks c place) (pos 0)
-slot_still blocks place slots rest c some =
+-- the net volume of a class that is still to be touched, and of one that isn't
+net_still : (blocks : List Block) (place : ℕ) (nets : List ℤ) (rest : List Touch) (c : ℕ) → 0 < touches_at c rest
+    → in_nets blocks place nets rest c ≡ get_or nets (net_place blocks c place) (pos 0)
+net_still blocks place nets rest c some =
     let no : (touches_at c rest == 0) ≡ false = grind (arith, nat_tests) in
-    ap (λ (t : Bool). get_or slots (cond t (slot_at blocks c (place + 1)) (slot_at blocks c place)) (pos 0)) no
+    ap (λ (t : Bool). get_or nets (cond t (net_place blocks c (place + 1)) (net_place blocks c place)) (pos 0)) no
 
-slot_done : (blocks : List Block) (place : ℕ) (slots : List ℤ) (rest : List Touch) (c : ℕ) → touches_at c rest ≡ 0
-    → in_slots blocks place slots rest c ≡ get_or slots (slot_at blocks c (place + 1)) (pos 0)
-slot_done blocks place slots rest c none =
+net_done : (blocks : List Block) (place : ℕ) (nets : List ℤ) (rest : List Touch) (c : ℕ) → touches_at c rest ≡ 0
+    → in_nets blocks place nets rest c ≡ get_or nets (net_place blocks c (place + 1)) (pos 0)
+net_done blocks place nets rest c none =
     let yes : (touches_at c rest == 0) ≡ true = grind (arith, nat_tests) in
-    ap (λ (t : Bool). get_or slots (cond t (slot_at blocks c (place + 1)) (slot_at blocks c place)) (pos 0)) yes
+    ap (λ (t : Bool). get_or nets (cond t (net_place blocks c (place + 1)) (net_place blocks c place)) (pos 0)) yes
 
 -- each class has the net volume of the decisions that count for it
 abbrev pub AreNetsSoFar : ProblemState → ℕ → List Bool → List Bool → List ℤ → List Touch → Type 0
-AreNetsSoFar problem place before after slots rest = (c : ℕ) → IsClassOf problem c
-    → in_slots problem.blocks place slots rest c ≡ net_volume problem.blocks (chosen rest before after c) (c + 1)
+AreNetsSoFar problem place before after nets rest = (c : ℕ) → IsClassOf problem c
+    → in_nets problem.blocks place nets rest c ≡ net_volume problem.blocks (chosen rest before after c) (c + 1)
 
 -- with no touch done all classes have those of the prefix
 pub first_nets : {problem : ProblemState} {all : CurvesState} {place depth : ℕ} {b : Block} {kept : ℕ} {touches : List Touch} {accept : Bool}
     {before after : List Bool} {trail : Trail} {total : ℤ} → AreTouches problem all place b kept touches
     → slice_get problem.blocks place ≡ Some b → IsChange problem.blocks place Decide accept depth before after
-    → IsDayIn problem before trail total → AreNetsSoFar problem place before after trail.slots touches
+    → ArePositionsIn problem before trail total → AreNetsSoFar problem place before after trail.nets touches
 first_nets {problem} {all} {place} {depth} {b} {kept} {touches} {accept} {before} {after} {trail} {total} are at change is c of =
-    let own = ap (λ (n : ℕ). get_or trail.slots (slot_at problem.blocks c n) (pos 0)) (sym change.kind.0)
+    let own = ap (λ (n : ℕ). get_or trail.nets (net_place problem.blocks c n) (pos 0)) (sym change.kind.0)
     ∙ is.nets_are c (pos 0) of.inside of.first in
     elim (cases_lt 0 (touches_at c touches)) [
       | inl some ↦
-          slot_still problem.blocks place trail.slots touches c some
+          net_still problem.blocks place trail.nets touches c some
           ∙ own
           ∙ ap (λ (p : List Bool). net_volume problem.blocks p (c + 1)) (sym (chosen_before touches before after c some))
       | inr none ↦
           (let zero : touches_at c touches ≡ 0 = omega (arith, none) in
           let one : suc c ≡ c + 1 = omega arith in
           let empty = ap (volume_in b.order.volumes) (sym one) ∙ untouched problem all place b kept touches c are of zero in
-          slot_done problem.blocks place trail.slots touches c zero
-          ∙ ap (λ (n : ℕ). get_or trail.slots n (pos 0)) (slot_kept problem.blocks c place b at empty)
+          net_done problem.blocks place trail.nets touches c zero
+          ∙ ap (λ (n : ℕ). get_or trail.nets n (pos 0)) (net_place_kept problem.blocks c place b at empty)
           ∙ own
           ∙ sym (same_net problem.blocks place depth Decide accept before after (c + 1) b change at empty)
           ∙ ap (λ (p : List Bool). net_volume problem.blocks p (c + 1)) (sym (chosen_after touches before after c zero)))
     ]
 
--- the slot that a touch reads, of the prefix's day
+-- the net volume that a touch reads, of the prefix's positions
 pub net_read : {problem : ProblemState} {all : CurvesState} {place : ℕ} {b : Block} {kept : ℕ} {touch : Touch} {before : List Bool}
-    {trail : Trail} {total : ℤ} (d : ℤ) → IsTouch problem all place b kept touch → length before ≡ place → IsDayIn problem before trail total
-    → get_or trail.slots touch.from d ≡ net_volume problem.blocks before (touch.at + 1)
+    {trail : Trail} {total : ℤ} (d : ℤ) → IsTouch problem all place b kept touch → length before ≡ place
+    → ArePositionsIn problem before trail total
+    → get_or trail.nets touch.from d ≡ net_volume problem.blocks before (touch.at + 1)
 net_read {problem} {all} {place} {b} {kept} {touch} {before} {trail} {total} d t depth is =
-    ap (λ (n : ℕ). get_or trail.slots n d) (t.from_is ∙ ap (slot_at problem.blocks touch.at) (sym depth))
+    ap (λ (n : ℕ). get_or trail.nets n d) (t.from_is ∙ ap (net_place problem.blocks touch.at) (sym depth))
     ∙ is.nets_are touch.at d t.inside t.first
 
 -- and the one that it reads when the touches before it are done
 pub own_net : {problem : ProblemState} {all : CurvesState} {place j : ℕ} {b : Block} {kept : ℕ} {touches : List Touch} {touch : Touch}
-    (before after : List Bool) (slots : List ℤ) (d : ℤ) → Touched problem all place b kept touches j touch → touch.from < length slots
-    → AreNetsSoFar problem place before after slots (drop j touches)
-    → get_or slots touch.from d ≡ net_volume problem.blocks before (touch.at + 1)
-own_net {problem} {all} {place} {j} {b} {kept} {touches} {touch} before after slots d t inside so_far =
+    (before after : List Bool) (nets : List ℤ) (d : ℤ) → Touched problem all place b kept touches j touch → touch.from < length nets
+    → AreNetsSoFar problem place before after nets (drop j touches)
+    → get_or nets touch.from d ≡ net_volume problem.blocks before (touch.at + 1)
+own_net {problem} {all} {place} {j} {b} {kept} {touches} {touch} before after nets d t inside so_far =
     let here = ap (touches_at touch.at) t.rest_is ∙ touches_here touch (drop (j + 1) touches) in
     let some : 0 < touches_at touch.at (drop j touches) = omega (arith, here) in
-    get_or_default slots touch.from d (pos 0) inside
-    ∙ ap (λ (n : ℕ). get_or slots n (pos 0)) t.is.from_is
-    ∙ sym (slot_still problem.blocks place slots (drop j touches) touch.at some)
+    get_or_default nets touch.from d (pos 0) inside
+    ∙ ap (λ (n : ℕ). get_or nets n (pos 0)) t.is.from_is
+    ∙ sym (net_still problem.blocks place nets (drop j touches) touch.at some)
     ∙ so_far touch.at (record { inside = t.is.inside; first = t.is.first })
     ∙ ap (λ (p : List Bool). net_volume problem.blocks p (touch.at + 1)) (chosen_before (drop j touches) before after touch.at some)
 
 -- one touch more leaves the other classes as they are
 other_net : {problem : ProblemState} {all : CurvesState} {place j : ℕ} {b : Block} {kept : ℕ} {touches : List Touch} {touch : Touch}
-    (slots : List ℤ) (next : ℤ) (c : ℕ) → Touched problem all place b kept touches j touch → slice_get problem.blocks place ≡ Some b
+    (nets : List ℤ) (next : ℤ) (c : ℕ) → Touched problem all place b kept touches j touch → slice_get problem.blocks place ≡ Some b
     → length problem.hours ≤ last_period → c ≢ touch.at → c < length problem.hours
-    → in_slots problem.blocks place (slice_set slots touch.to next) (drop (j + 1) touches) c
-    ≡ in_slots problem.blocks place slots (touch ∷ drop (j + 1) touches) c
-other_net {problem} {all} {place} {j} {b} {kept} {touches} {touch} slots next c t at few apart inside =
+    → in_nets problem.blocks place (slice_set nets touch.to next) (drop (j + 1) touches) c
+    ≡ in_nets problem.blocks place nets (touch ∷ drop (j + 1) touches) c
+other_net {problem} {all} {place} {j} {b} {kept} {touches} {touch} nets next c t at few apart inside =
     let same = touches_elsewhere touch (drop (j + 1) touches) c apart in
     let to = t.is.to_is in
-    let low = slot_below problem.blocks c place (omega (arith, inside, few)) in
-    let clear = slot_apart problem.blocks c touch.at place b at (omega (arith, inside, few)) apart in
+    let low = net_place_below problem.blocks c place (omega (arith, inside, few)) in
+    let clear = net_place_apart problem.blocks c touch.at place b at (omega (arith, inside, few)) apart in
     elim (cases_lt 0 (touches_at c (drop (j + 1) touches))) [
       | inl some ↦
-          slot_still problem.blocks place (slice_set slots touch.to next) (drop (j + 1) touches) c some
-          ∙ get_or-set_other slots touch.to (slot_at problem.blocks c place) next (pos 0) (omega (arith, low, to))
-          ∙ sym (slot_still problem.blocks place slots (touch ∷ drop (j + 1) touches) c (omega (arith, same, some)))
+          net_still problem.blocks place (slice_set nets touch.to next) (drop (j + 1) touches) c some
+          ∙ get_or-set_other nets touch.to (net_place problem.blocks c place) next (pos 0) (omega (arith, low, to))
+          ∙ sym (net_still problem.blocks place nets (touch ∷ drop (j + 1) touches) c (omega (arith, same, some)))
       | inr none ↦
-          slot_done problem.blocks place (slice_set slots touch.to next) (drop (j + 1) touches) c (omega (arith, none))
-          ∙ get_or-set_other slots touch.to (slot_at problem.blocks c (place + 1)) next (pos 0) (omega (arith, clear, to))
-          ∙ sym (slot_done problem.blocks place slots (touch ∷ drop (j + 1) touches) c (omega (arith, same, none)))
+          net_done problem.blocks place (slice_set nets touch.to next) (drop (j + 1) touches) c (omega (arith, none))
+          ∙ get_or-set_other nets touch.to (net_place problem.blocks c (place + 1)) next (pos 0) (omega (arith, clear, to))
+          ∙ sym (net_done problem.blocks place nets (touch ∷ drop (j + 1) touches) c (omega (arith, same, none)))
     ]
 
 -- and puts its own where it was written
 next_net : {problem : ProblemState} {all : CurvesState} {place j : ℕ} {b : Block} {kept : ℕ} {touches : List Touch} {touch : Touch}
-    (slots : List ℤ) (next : ℤ) → Touched problem all place b kept touches j touch → slice_get problem.blocks place ≡ Some b
-    → touch.to < length slots
-    → in_slots problem.blocks place (slice_set slots touch.to next) (drop (j + 1) touches) touch.at ≡ next
-next_net {problem} {all} {place} {j} {b} {kept} {touches} {touch} slots next t at inside =
-    slot_done problem.blocks place (slice_set slots touch.to next) (drop (j + 1) touches) touch.at t.past
-    ∙ ap (λ (n : ℕ). get_or (slice_set slots touch.to next) n (pos 0))
-    (slot_own problem.blocks touch.at place b at t.is.some ∙ sym t.is.to_is)
-    ∙ get_or-set_same slots touch.to next (pos 0) inside
+    (nets : List ℤ) (next : ℤ) → Touched problem all place b kept touches j touch → slice_get problem.blocks place ≡ Some b
+    → touch.to < length nets
+    → in_nets problem.blocks place (slice_set nets touch.to next) (drop (j + 1) touches) touch.at ≡ next
+next_net {problem} {all} {place} {j} {b} {kept} {touches} {touch} nets next t at inside =
+    net_done problem.blocks place (slice_set nets touch.to next) (drop (j + 1) touches) touch.at t.past
+    ∙ ap (λ (n : ℕ). get_or (slice_set nets touch.to next) n (pos 0))
+    (net_place_own problem.blocks touch.at place b at t.is.some ∙ sym t.is.to_is)
+    ∙ get_or-set_same nets touch.to next (pos 0) inside
 
 -- a touch more
 pub more_nets : {problem : ProblemState} {all : CurvesState} {place j : ℕ} {b : Block} {kept : ℕ} {touches : List Touch} {touch : Touch}
-    (before after : List Bool) (slots : List ℤ) (next : ℤ) → Touched problem all place b kept touches j touch
-    → slice_get problem.blocks place ≡ Some b → length problem.hours ≤ last_period → touch.to < length slots
-    → next ≡ net_volume problem.blocks after (touch.at + 1) → AreNetsSoFar problem place before after slots (drop j touches)
-    → AreNetsSoFar problem place before after (slice_set slots touch.to next) (drop (j + 1) touches)
-more_nets {problem} {all} {place} {j} {b} {kept} {touches} {touch} before after slots next t at few inside is so_far c of =
+    (before after : List Bool) (nets : List ℤ) (next : ℤ) → Touched problem all place b kept touches j touch
+    → slice_get problem.blocks place ≡ Some b → length problem.hours ≤ last_period → touch.to < length nets
+    → next ≡ net_volume problem.blocks after (touch.at + 1) → AreNetsSoFar problem place before after nets (drop j touches)
+    → AreNetsSoFar problem place before after (slice_set nets touch.to next) (drop (j + 1) touches)
+more_nets {problem} {all} {place} {j} {b} {kept} {touches} {touch} before after nets next t at few inside is so_far c of =
     elim (equal_or c touch.at) [
       | inl own ↦
-          ap (in_slots problem.blocks place (slice_set slots touch.to next) (drop (j + 1) touches)) own
-          ∙ next_net slots next t at inside
+          ap (in_nets problem.blocks place (slice_set nets touch.to next) (drop (j + 1) touches)) own
+          ∙ next_net nets next t at inside
           ∙ is
           ∙ ap (λ (n : ℕ). net_volume problem.blocks after (n + 1)) (sym own)
           ∙ ap (λ (p : List Bool). net_volume problem.blocks p (c + 1))
           (sym (chosen_after (drop (j + 1) touches) before after c (ap (λ (n : ℕ). touches_at n (drop (j + 1) touches)) own ∙ t.past)))
       | inr apart ↦
-          other_net slots next c t at few apart of.inside
-          ∙ ap (λ (ts : List Touch). in_slots problem.blocks place slots ts c) (sym t.rest_is)
+          other_net nets next c t at few apart of.inside
+          ∙ ap (λ (ts : List Touch). in_nets problem.blocks place nets ts c) (sym t.rest_is)
           ∙ so_far c of
           ∙ ap (λ (ts : List Touch). net_volume problem.blocks (chosen ts before after c) (c + 1)) t.rest_is
           ∙ ap (λ (n : ℕ). net_volume problem.blocks (cond (n == 0) after before) (c + 1)) (touches_elsewhere touch (drop (j + 1) touches) c apart)
@@ -353,37 +355,38 @@ more_nets {problem} {all} {place} {j} {b} {kept} {touches} {touch} before after 
 
 -- all touches
 pub all_nets : (problem : ProblemState) (place : ℕ) (before after : List Bool) (rest : List Touch) (trail : Trail) (left : ℤ)
-    → length trail.slots ≡ slot_count → length after ≡ place + 1 → rest ≡ [] → length problem.hours ≤ last_period → place < most_blocks
-    → Some left ≡ relaxed_welfare problem after → AreNetsSoFar problem place before after trail.slots rest → IsDayIn problem after trail left
+    → length trail.nets ≡ net_count → length after ≡ place + 1 → rest ≡ [] → length problem.hours ≤ last_period → place < most_blocks
+    → Some left ≡ relaxed_welfare problem after → AreNetsSoFar problem place before after trail.nets rest
+    → ArePositionsIn problem after trail left
 all_nets problem place before after rest trail left room depth none few many total so_far = record {
   room = room;
   total_is = total;
   nets_are = λ c d inside first.
-      (let h = slot_within problem.blocks c (length after) (omega (arith, inside, few)) (omega (arith, depth, many)) in
-      get_or_default trail.slots (slot_at problem.blocks c (length after)) d (pos 0) (omega (arith, h, room))
-      ∙ ap (λ (n : ℕ). get_or trail.slots (slot_at problem.blocks c n) (pos 0)) depth
-      ∙ sym (slot_done problem.blocks place trail.slots rest c (ap (touches_at c) none))
+      (let h = net_place_within problem.blocks c (length after) (omega (arith, inside, few)) (omega (arith, depth, many)) in
+      get_or_default trail.nets (net_place problem.blocks c (length after)) d (pos 0) (omega (arith, h, room))
+      ∙ ap (λ (n : ℕ). get_or trail.nets (net_place problem.blocks c n) (pos 0)) depth
+      ∙ sym (net_done problem.blocks place trail.nets rest c (ap (touches_at c) none))
       ∙ so_far c (record { inside = inside; first = first })
       ∙ ap (λ (p : List Bool). net_volume problem.blocks p (c + 1)) (chosen_after rest before after c (ap (touches_at c) none)));
 }
 
--- both slots of a touch are there
+-- both places of a touch are in the trail
 pub from_within : {problem : ProblemState} {all : CurvesState} {place : ℕ} {b : Block} {kept : ℕ} {touch : Touch}
-    → length problem.hours ≤ last_period → place < most_blocks → IsTouch problem all place b kept touch → touch.from < slot_count
+    → length problem.hours ≤ last_period → place < most_blocks → IsTouch problem all place b kept touch → touch.from < net_count
 from_within {problem} {all} {place} {b} {kept} {touch} few many t =
     let inside = t.inside in let from = t.from_is in
-    let low = slot_below problem.blocks touch.at place (omega (arith, inside, few)) in
+    let low = net_place_below problem.blocks touch.at place (omega (arith, inside, few)) in
     omega (arith, low, many, from)
 
 pub to_within : {problem : ProblemState} {all : CurvesState} {place : ℕ} {b : Block} {kept : ℕ} {touch : Touch}
-    → length problem.hours ≤ last_period → place < most_blocks → IsTouch problem all place b kept touch → touch.to < slot_count
+    → length problem.hours ≤ last_period → place < most_blocks → IsTouch problem all place b kept touch → touch.to < net_count
 to_within {problem} {all} {place} {b} {kept} {touch} few many t =
     let inside = t.inside in let to = t.to_is in omega (arith, inside, few, many, to)
 
--- one touch more leaves the slots below the block's row
-pub below_more : (place to i : ℕ) (slots : List ℤ) (next d : ℤ) → (place + 1) * last_period ≤ to → i < (place + 1) * last_period
-    → get_or (slice_set slots to next) i d ≡ get_or slots i d
-below_more place to i slots next d high low = get_or-set_other slots to i next d (omega (arith, high, low))
+-- one touch more leaves the net volumes below the block's row
+pub below_more : (place to i : ℕ) (nets : List ℤ) (next d : ℤ) → (place + 1) * last_period ≤ to → i < (place + 1) * last_period
+    → get_or (slice_set nets to next) i d ≡ get_or nets i d
+below_more place to i nets next d high low = get_or-set_other nets to i next d (omega (arith, high, low))
 
 -- ---- the numbers looked up at a touch
 abbrev no_curve : Curve
@@ -406,7 +409,7 @@ pub touch_now : (problem : ProblemState) (all : CurvesState) (place : ℕ) (b : 
 touch_now problem all place b kept touches j are inside =
     touched problem all place b kept touches j (get_or touches j no_touch) are (slice_get-get_or touches j no_touch inside)
 
--- where its class stands on a day
+-- where its class stands in positions
 pub own_class : {problem : ProblemState} {all : CurvesState} {place j : ℕ} {b : Block} {kept : ℕ} {touches : List Touch} {touch : Touch}
     {before after : List Bool} {total : ℤ} (classes : List Position) (d : Position) → Touched problem all place b kept touches j touch
     → touch.at < length classes
@@ -510,7 +513,7 @@ looked_none problem place depth change accept before after c b own net is at was
     (moved_net problem place depth change accept before after c b own net is at was e ∙ ap (net_volume problem.blocks after) one)
     (ap (λ (k : ℕ). class_welfare problem k c (own.net +ℤ net)) is.long ∙ none)
 
--- a touch more on a day
+-- a touch more in positions
 pub class_turned : {problem : ProblemState} {all : CurvesState} {place j depth : ℕ} {b : Block} {change : Change} {accept : Bool} {kept : ℕ}
     {touches : List Touch} {touch : Touch} {before after : List Bool} {total : ℤ} (classes : List Position) (own next : Position)
     (net value gained : ℤ) → IsChange problem.blocks place change accept depth before after → slice_get problem.blocks place ≡ Some b
@@ -531,27 +534,29 @@ class_turned {problem} {all} {place} {j} {depth} {b} {change} {accept} {kept} {t
     (gain ∙ ap (λ (z : ℤ). (next.welfare -ℤ own.welfare) +ℤ z) f))
     (subst (λ (ts : List Touch). IsChangedSoFar problem before after ts (λ c. get_or classes c no_position) total) t.rest_is so_far)
 
--- all touches, on a day
-pub all_turned : (problem : ProblemState) (before after : List Bool) (rest : List Touch) (day : Day) → length day.classes ≡ last_period
-    → rest ≡ [] → length problem.hours ≤ last_period
-    → IsChangedSoFar problem before after rest (λ c. get_or day.classes c no_position) day.total → IsDay problem after day
-all_turned problem before after rest day long none few so_far =
-    let all = all_changed problem before after rest (λ c. get_or day.classes c no_position) day.total none so_far in
+-- all touches, in positions
+pub all_turned : (problem : ProblemState) (before after : List Bool) (rest : List Touch) (positions : Positions)
+    → length positions.classes ≡ last_period → rest ≡ [] → length problem.hours ≤ last_period
+    → IsChangedSoFar problem before after rest (λ c. get_or positions.classes c no_position) positions.total
+    → ArePositions problem after positions
+all_turned problem before after rest positions long none few so_far =
+    let all = all_changed problem before after rest (λ c. get_or positions.classes c no_position) positions.total none so_far in
     record {
       long = long;
       each = λ c d inside first.
           subst (λ (p : Position). IsPosition problem after c p)
-          (get_or_default day.classes c no_position d (omega (arith, inside, few, long)))
+          (get_or_default positions.classes c no_position d (omega (arith, inside, few, long)))
           (all.0 c (record { inside = inside; first = first }));
       total_is = all.1;
     }
 
--- no touch yet, on a day
+-- no touch yet, in positions
 pub unturned : (problem : ProblemState) (all : CurvesState) (place depth : ℕ) (change : Change) (accept : Bool) (kept : ℕ) (before after : List Bool)
-    (b : Block) (touches : List Touch) (day : Day) → IsChange problem.blocks place change accept depth before after
-    → slice_get problem.blocks place ≡ Some b → AreTouches problem all place b kept touches → IsDay problem before day
-    → IsChangedSoFar problem before after touches (λ c. get_or day.classes c no_position) day.total
-unturned problem all place depth change accept kept before after b touches day is at are of =
-    nothing_changed problem place depth change accept before after b touches (λ c. get_or day.classes c no_position) day.total is at
+    (b : Block) (touches : List Touch) (positions : Positions) → IsChange problem.blocks place change accept depth before after
+    → slice_get problem.blocks place ≡ Some b → AreTouches problem all place b kept touches → ArePositions problem before positions
+    → IsChangedSoFar problem before after touches (λ c. get_or positions.classes c no_position) positions.total
+unturned problem all place depth change accept kept before after b touches positions is at are of =
+    nothing_changed problem place depth change accept before after b touches
+    (λ c. get_or positions.classes c no_position) positions.total is at
     (λ c inside none. untouched problem all place b kept touches c are inside none)
     (λ c inside. of.each c no_position inside.inside inside.first) of.total_is

@@ -1,7 +1,7 @@
 pub mod Prefix
 pub mod Relaxed
 pub mod Classes
-pub mod Day
+pub mod Positions
 pub mod Trail
 pub mod Tables
 pub mod inside

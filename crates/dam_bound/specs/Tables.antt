@@ -14,7 +14,7 @@ use Rattle.dam_blocks.specs.Problem.{ProblemState, AreBlocks, AreHours, hourly_o
 use Rattle.dam_blocks.specs.Selection.{volume_in, net_volume_of, value_of}
 use Rattle.dam_bound.specs.Classes.{first_of, over_class, class_hours}
 use Rattle.dam_bound.specs.Relaxed.{relaxed_welfare}
-use Rattle.dam_bound.specs.Trail.{slot_count, slot_at}
+use Rattle.dam_bound.specs.Trail.{net_count, net_place}
 use Rattle.dam_bound.specs.inside.Families.{AreFamilies}
 use Rattle.dam_bound.specs.declared.touch.Touch.{Touch}
 
@@ -68,7 +68,7 @@ pub record IsTouch (problem : ProblemState) (all : CurvesState) (place : ℕ) (b
   pub inside : touch.at < length problem.hours
   pub first : first_of problem.blocks touch.at ≡ touch.at
   pub some : 0 < volume_in b.order.volumes (touch.at + 1)
-  pub from_is : touch.from ≡ slot_at problem.blocks touch.at place
+  pub from_is : touch.from ≡ net_place problem.blocks touch.at place
   pub to_is : touch.to ≡ (place + 1) * last_period + touch.at
   pub net_is : touch.choice.net ≡ net_volume_of (touch.at + 1) b.order
   pub value_is : touch.choice.value ≡ class_value problem b.order touch.at
@@ -98,12 +98,12 @@ pub record AreLots (problem : ProblemState) (all : CurvesState) (kept count : �
   pub each : (k : ℕ) (b : Block) (touches : List Touch) → slice_get problem.blocks k ≡ Some b → slice_get lots k ≡ Some touches
       → AreTouches problem all k b kept touches
 
--- the slot in which each class stands once that many blocks are decided
+-- the place of each class's net volume in the trail once that many blocks are decided
 pub record ArePlaces (problem : ProblemState) (depth : ℕ) (places : List ℕ) : Type 0 where
   pub long : length places ≡ last_period
   pub each : (c d : ℕ) → c < length problem.hours → first_of problem.blocks c ≡ c
-      → slice_index_or places c d ≡ slot_at problem.blocks c depth
-  pub within : (c d : ℕ) → c < last_period → slice_index_or places c d < slot_count
+      → slice_index_or places c d ≡ net_place problem.blocks c depth
+  pub within : (c d : ℕ) → c < last_period → slice_index_or places c d < net_count
 
 -- the first period of each class
 pub record AreFirsts (problem : ProblemState) (firsts : List ℕ) : Type 0 where

@@ -1,4 +1,4 @@
--- The days of a walk, in slots: the slots that a decision writes are read only by the prefixes that
+-- The positions of a walk, as net volumes: those that a decision writes are read only by the prefixes that
 -- extend it.
 use Rattle.std.specs.Prelude.{◌≡◌, ℕ, zero, suc, ◌+◌, ◌*◌, ◌<◌, ◌≤◌, ◌==◌, if◌then◌else◌, Bool, true, false, ℤ, Option, Some, None, List, length, MatchOption}
 use Rattle.std.specs.Prelude.{slice_get, slice_index_or}
@@ -9,34 +9,34 @@ use Rattle.dam_blocks.specs.Selection.{volume_in, net_volume}
 use Rattle.dam_bound.specs.declared.trail.Trail.{Trail}
 use Rattle.dam_bound.specs.declared.trail.Extensions.{Extensions}
 use Rattle.dam_bound.specs.Classes.{first_of}
-use Rattle.dam_bound.specs.Day.{IsUnder}
+use Rattle.dam_bound.specs.Positions.{IsUnder}
 use Rattle.dam_bound.specs.Relaxed.{relaxed_welfare}
 
--- a row of slots for the root, and one for each block
-abbrev pub slot_count : ℕ
-slot_count = (most_blocks + 1) * last_period
+-- a row of net volumes for the root, and one for each block
+abbrev pub net_count : ℕ
+net_count = (most_blocks + 1) * last_period
 
 -- a block writes its own row, in its own classes alone
-abbrev pub slot_after : Option Block → ℕ → ℕ → ℕ → ℕ
-slot_after None i k before = before
-slot_after (Some b) i k before = if volume_in b.order.volumes (i + 1) == 0 then before else suc k * last_period + i
+abbrev pub net_place_after : Option Block → ℕ → ℕ → ℕ → ℕ
+net_place_after None i k before = before
+net_place_after (Some b) i k before = if volume_in b.order.volumes (i + 1) == 0 then before else suc k * last_period + i
 
--- the slot in which the class that begins at the place stands once that many blocks are decided
-unfoldable pub slot_at : List Block → ℕ → ℕ → ℕ
-slot_at blocks i zero = i
-slot_at blocks i (suc k) = slot_after (slice_get blocks k) i k (slot_at blocks i k)
+-- where the net volume of the class that begins at the place stands in the trail, once that many blocks are decided
+unfoldable pub net_place : List Block → ℕ → ℕ → ℕ
+net_place blocks i zero = i
+net_place blocks i (suc k) = net_place_after (slice_get blocks k) i k (net_place blocks i k)
 
--- the slots hold the day of the prefix: the net volume of each class, and the prefix has this relaxed welfare
-pub record IsDayIn (problem : ProblemState) (prefix : List Bool) (trail : Trail) (total : ℤ) : Type 0 where
-  pub room : length trail.slots ≡ slot_count
+-- the trail holds the positions of the prefix: the net volume of each class, and the prefix has this relaxed welfare
+pub record ArePositionsIn (problem : ProblemState) (prefix : List Bool) (trail : Trail) (total : ℤ) : Type 0 where
+  pub room : length trail.nets ≡ net_count
   pub total_is : Some total ≡ relaxed_welfare problem prefix
   pub nets_are : (c : ℕ) (d : ℤ) → c < length problem.hours → first_of problem.blocks c ≡ c
-      → slice_index_or trail.slots (slot_at problem.blocks c (length prefix)) d ≡ net_volume problem.blocks prefix (c + 1)
+      → slice_index_or trail.nets (net_place problem.blocks c (length prefix)) d ≡ net_volume problem.blocks prefix (c + 1)
 
--- the day of each prefix of at most this length is still there
-abbrev pub KeepsDays : ProblemState → ℕ → Trail → Trail → Type 0
-KeepsDays problem depth before after = (prefix : List Bool) (total : ℤ) → length prefix ≤ depth
-    → IsDayIn problem prefix before total → IsDayIn problem prefix after total
+-- the positions of each prefix of at most this length are still there
+abbrev pub KeepsPositions : ProblemState → ℕ → Trail → Trail → Type 0
+KeepsPositions problem depth before after = (prefix : List Bool) (total : ℤ) → length prefix ≤ depth
+    → ArePositionsIn problem prefix before total → ArePositionsIn problem prefix after total
 
 -- the total is the prefix's relaxed welfare; or there is none, and the prefix has no relaxed welfare or one that is less
 -- than the value

@@ -23,8 +23,7 @@ fn family_of(blocks: &[Block], place: usize) -> Option<Selection>
     if is_empty { None } else { Some(family) }
 }
 
-/// For each block those that descend from it. They are asked for once, so that a day's gains compare
-/// no names.
+/// For each block those that descend from it. They are asked for once, so that gains compare no names.
 pub(crate) fn families_of<A: Allocator>(
     alloc: A,
     blocks: &[Block],

@@ -10,7 +10,7 @@ ghost use Rattle.dam_bound.specs.Classes.{first_of};
 ghost use Rattle.dam_bound.specs.Tables.{AreTablesOf, AreTouches, IsClassCurve};
 ghost use Rattle.dam_bound.specs.inside.Change.{greatest_position, greatest_class_value, greatest_move};
 
-use crate::day::Position;
+use crate::positions::Position;
 use crate::tables::Tables;
 use crate::touch::Touch;
 use dam_curve::Curve;

@@ -5,8 +5,8 @@ ghost use Rattle.dam_blocks.specs.Selection.{padded};
 ghost use Rattle.dam_blocks.specs.Eligible.{period_welfare, ArePrices, family_surplus};
 ghost use Rattle.dam_blocks.specs.Magnitude.{IsWithin};
 ghost use Rattle.dam_bound.specs.Relaxed.{as_steps, relaxed_welfare, without_rows};
-ghost use Rattle.dam_bound.specs.Day.{IsDay, IsUnder};
-ghost use Rattle.dam_bound.specs.Trail.{IsDayIn, KeepsDays};
+ghost use Rattle.dam_bound.specs.Positions.{ArePositions, IsUnder};
+ghost use Rattle.dam_bound.specs.Trail.{ArePositionsIn, KeepsPositions};
 ghost use Rattle.dam_bound.specs.inside.Levels.{AreLevels, AreLevelsAt, last_steps, AreDayLevels};
 ghost use Rattle.dam_bound.specs.inside.Levels.{greatest_period_bound};
 

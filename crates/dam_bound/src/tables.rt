@@ -43,7 +43,7 @@ pub struct Tables<A: Allocator = Global> {
     pub(crate) lots: Vec<Lot<A>, A>,
     /// From which block on the losses are kept.
     pub(crate) kept: usize,
-    /// The slot in which each class stands with every block decided.
+    /// The place of each class's net volume in the trail with every block decided.
     pub(crate) places: [u32; MOST_PERIODS],
     /// The relaxed welfare with no block decided.
     pub(crate) root: i64,
@@ -102,14 +102,14 @@ fn stake_of(order: &BlockOrder, qty: Qty, worth: i64, price: i64) -> i64 {
     }
 }
 
-/// A block that is decided in the periods, and its slots.
+/// A block that is decided in the periods, and its places in the trail.
 #[derive(Drop)]
 struct Deciding<'a, A: Allocator> {
     periods: &'a Periods<A>,
     order: &'a BlockOrder,
-    /// The slot of each class before the block is decided.
+    /// The place of each class's net volume before the block is decided.
     places: &'a [u32; MOST_PERIODS],
-    /// The first slot of the block's row.
+    /// The first place of the block's row.
     row: u32,
     /// The curve of each class before the block is decided.
     ends: &'a [Curve],
@@ -244,7 +244,8 @@ fn by_stake<A: Allocator>(touches: Vec<Touch, A>) -> Lot<A>
     Lot { touches }
 }
 
-/// Puts the block's own slots and curves in the place of those that its classes have before it.
+/// Puts the places of the block's own net volumes, and its own curves, instead of those that its classes have before
+/// it.
 fn take_over(places: &mut [u32; MOST_PERIODS], ends: &mut [Curve], touches: &[Touch])
     requires { (problem : ProblemState) × (all : CurvesState) × (kept : ℕ) × (k : ℕ) × (b : Block)
         × (slice_get problem.blocks k ≡ Some b) × (k < most_blocks)
@@ -313,7 +314,7 @@ fn root_of<A: Allocator>(curves: &Curves<A>, firsts: &[u32], ends: &[Curve]) -> 
     total
 }
 
-/// The slots in which the classes stand with no block decided.
+/// The places of the classes' net volumes with no block decided.
 fn first_places() -> [u32; MOST_PERIODS]
     ensures { (problem : ProblemState) → length problem.hours ≤ last_period
         → ArePlaces problem 0 result }
@@ -325,7 +326,8 @@ fn first_places() -> [u32; MOST_PERIODS]
     places
 }
 
-/// The lots of the blocks, and the slot and the curve of each class after them in the place of those before them.
+/// The lots of the blocks; and for each class the place of its net volume and its curve after them, instead of those
+/// before them.
 fn lots_of<A: Allocator, B: Allocator, C: Allocator + Copy>(
     alloc: C,
     periods: &mut Periods<A>,

@@ -9,9 +9,9 @@ pub(crate) struct Touch {
     pub(crate) offset: i64,
     /// The class: the place of its first period.
     pub(crate) at: u32,
-    /// The slot in which the class stands before the block is decided.
+    /// The place of the class's net volume in the trail before the block is decided.
     pub(crate) from: u32,
-    /// The slot in which it stands afterwards.
+    /// Its place afterwards.
     pub(crate) to: u32,
     /// Taking the choice is accepting the block. The curve `before` is the class's table with this block and the later
     /// ones undecided; `after`, with only the later ones undecided. Neither counts the value of accepted blocks. The

@@ -1,53 +1,56 @@
-//! The days of a walk, in slots that are neither copied nor undone, and the bounds of the prefixes that extend them.
+//! The positions of a walk, as net volumes that are neither copied nor undone, and the bounds of the prefixes that
+//! extend its prefixes.
 
 ghost use Rattle.std.specs.Prelude.{◌≡◌, ◌*◌, ◌+◌, ◌-◌, ◌<◌, ◌≤◌, ℕ, ℤ, pos, neg_ℤ, ◌+ℤ◌, ◌-ℤ◌, ◌^◌, ◌<ℤ◌, ◌≤ℤ◌, ◌↔◌, [], ◌∷◌, ◌++◌, List, Bool, Option, Some, None, length, slice_index_or, IsTrue, IfSome, MatchOption};
 ghost use Rattle.dam_book.specs.Limits.{last_period};
 ghost use Rattle.dam_blocks.specs.Problem.{ProblemState};
 ghost use Rattle.dam_blocks.specs.Magnitude.{IsWithin};
-ghost use Rattle.dam_bound.specs.Day.{IsDay};
+ghost use Rattle.dam_bound.specs.Positions.{ArePositions};
 ghost use Rattle.dam_bound.specs.Relaxed.{relaxed_welfare};
 ghost use Rattle.dam_bound.specs.inside.Levels.{greatest_period_bound};
-ghost use Rattle.dam_bound.specs.Trail.{slot_count, IsDayIn, IsBoundOf, bound_by};
+ghost use Rattle.dam_bound.specs.Trail.{net_count, ArePositionsIn, IsBoundOf, bound_by};
 ghost use Rattle.dam_curve.specs.Losses.{greatest_loss};
 ghost use Rattle.dam_bound.specs.inside.Change.{IsDecision, IsAtBlock, AreBoundsFrom};
 ghost use Rattle.dam_bound.specs.Tables.{AreTablesOf};
 
-use crate::day::{Day, Position};
 use crate::lookup::touches_of;
+use crate::positions::{Position, Positions};
 use crate::tables::Tables;
 use dam_blocks::MOST_PERIODS;
 use dam_book::MOST_BLOCKS;
 use std::alloc::Allocator;
 
-/// A row of slots for the root, and one for each block.
-const SLOTS: usize = (MOST_BLOCKS + 1) * MOST_PERIODS;
+/// A row of net volumes for the root, and one for each block.
+const NETS: usize = (MOST_BLOCKS + 1) * MOST_PERIODS;
 
-/// The days of the prefixes on a walk's way, from the one that decides nothing to the one that it is at.
+/// The positions of the prefixes on a walk's way, from the one that decides nothing to the one that it is at: the net
+/// volumes alone.
 ///
-/// The net volume of a class after a decision is written to a slot of its own, and read if a later block
-/// has a volume there. So the days of the shorter prefixes stay, and the other decision on the same
-/// block begins from the same day.
+/// The net volume of a class after a decision is written to a place of its own, and read if a later block
+/// has a volume there. So the positions of the shorter prefixes stay, and the other decision on the same
+/// block begins from the same ones.
 #[derive(Drop)]
 pub struct Trail {
-    pub(crate) slots: [i64; SLOTS],
+    /// The net volumes of the classes, in a row for the root and one for each block.
+    pub(crate) nets: [i64; NETS],
 }
 
 impl Trail {
-    /// Slots with nothing accepted, to be written over; they need not hold the day of any prefix.
+    /// A trail with nothing accepted, to be written over; it need not hold the positions of any prefix.
     pub fn empty() -> Trail
-        ensures { length result.slots ≡ slot_count }
+        ensures { length result.nets ≡ net_count }
     {
-        Trail { slots: [0; SLOTS] }
+        Trail { nets: [0; NETS] }
     }
 }
 
 /// Writes the net volumes of the root, on a day of `count` periods.
 pub(crate) fn write_root(trail: &mut Trail, count: usize)
     requires { count ≤ last_period }
-    ensures nets { (i : ℕ) (d : ℤ) → i < count → slice_index_or trail.new.slots i d ≡ pos 0 }
-    ensures room { length trail.new.slots ≡ slot_count }
+    ensures nets { (i : ℕ) (d : ℤ) → i < count → slice_index_or trail.new.nets i d ≡ pos 0 }
+    ensures room { length trail.new.nets ≡ net_count }
 {
-    trail.slots[..count].fill(0);
+    trail.nets[..count].fill(0);
 }
 
 /// The bounds of the two extensions of a prefix by a decision on its next block, in cents per MWh times tenths of a MW:
@@ -146,7 +149,7 @@ fn exact_bounds<A: Allocator>(
     total: i64,
     floor: i64,
 ) -> Extensions
-    requires day { IsAtBlock tables.now trail.now place total }
+    requires positions { IsAtBlock tables.now trail.now place total }
     requires floor { pos 0 ≤ℤ floor }
     ensures bounds { AreBoundsFrom tables.now trail.now place total floor result }
 {
@@ -157,7 +160,7 @@ fn exact_bounds<A: Allocator>(
     let mut rejected = total;
     let mut accepted = total;
     for touch in touches_of(tables, place) {
-        let net = trail.slots[touch.from as usize];
+        let net = trail.nets[touch.from as usize];
         let loss = tables.curves.exact_loss(&touch.choice, net);
         rejected = lowered(rejected, loss.left, floor);
         accepted = lowered(accepted, loss.taken, floor);
@@ -178,7 +181,7 @@ fn kept_bounds<A: Allocator>(
     total: i64,
     floor: i64,
 ) -> Extensions
-    requires day { IsAtBlock tables.now trail.now place total }
+    requires positions { IsAtBlock tables.now trail.now place total }
     requires kept { tables.now.kept ≤ place }
     requires near { (total -ℤ pos greatest_loss) <ℤ floor }
     requires size { IsWithin (last_period * greatest_period_bound) total }
@@ -187,7 +190,7 @@ fn kept_bounds<A: Allocator>(
     let mut rejected = total;
     let mut accepted = total;
     for touch in touches_of(tables, place) {
-        let net = trail.slots[touch.from as usize];
+        let net = trail.nets[touch.from as usize];
         let loss = tables.curves.loss(touch.offset, net);
         rejected -= i64::from(loss.left);
         accepted -= i64::from(loss.taken);
@@ -214,7 +217,7 @@ pub(crate) fn bounds_of<A: Allocator>(
     ensures bounds { (problem : ProblemState) (before : List Bool) (accept : Bool)
         → AreTablesOf problem tables.now → place < length problem.blocks
         → ((choice : Bool) → IsDecision problem place choice before)
-        → IsDayIn problem before trail.now total
+        → ArePositionsIn problem before trail.now total
         → IsBoundOf problem (before ++ accept ∷ []) least (bound_by accept result) }
     ensures reached { (accept : Bool)
         → IfSome (bound_by accept result) (λ left. pos least ≤ℤ left) }
@@ -230,8 +233,8 @@ pub(crate) fn bounds_of<A: Allocator>(
     kept_bounds(tables, trail, place, total, floor)
 }
 
-/// Writes the net volumes of the extension of a prefix by the decision on the block at the place to the block's row of
-/// slots. The slots below stay as they are.
+/// Writes the net volumes of the extension of a prefix by the decision on the block at the place to the block's row.
+/// The rows below stay as they are.
 pub(crate) fn write_block<A: Allocator>(
     tables: &Tables<A>,
     trail: &mut Trail,
@@ -241,45 +244,45 @@ pub(crate) fn write_block<A: Allocator>(
     requires { (problem : ProblemState) × (before : List Bool) × (total : ℤ)
         × AreTablesOf problem tables.now × (place < length problem.blocks)
         × IsDecision problem place accept before
-        × IsDayIn problem before trail.old total }
-    ensures day { (problem : ProblemState) (before : List Bool) (total left : ℤ)
+        × ArePositionsIn problem before trail.old total }
+    ensures positions { (problem : ProblemState) (before : List Bool) (total left : ℤ)
         → AreTablesOf problem tables.now → place < length problem.blocks
         → IsDecision problem place accept before
-        → IsDayIn problem before trail.old total
+        → ArePositionsIn problem before trail.old total
         → Some left ≡ relaxed_welfare problem (before ++ accept ∷ [])
-        → IsDayIn problem (before ++ accept ∷ []) trail.new left }
+        → ArePositionsIn problem (before ++ accept ∷ []) trail.new left }
     ensures below { (i : ℕ) (d : ℤ) → i < (place + 1) * last_period
-        → slice_index_or trail.new.slots i d ≡ slice_index_or trail.old.slots i d }
-    ensures room { length trail.new.slots ≡ slot_count }
+        → slice_index_or trail.new.nets i d ≡ slice_index_or trail.old.nets i d }
+    ensures room { length trail.new.nets ≡ net_count }
 {
     for touch in touches_of(tables, place) {
-        let before = trail.slots[touch.from as usize];
+        let before = trail.nets[touch.from as usize];
         let after = if accept {
             before + i64::from(touch.choice.net)
         } else {
             before
         };
-        trail.slots[touch.to as usize] = after;
+        trail.nets[touch.to as usize] = after;
     }
 }
 
-/// The day of a prefix that decides every block: where each class stands. `total` is the prefix's relaxed welfare; each
-/// class has a welfare there, since the prefix has one.
-pub(crate) fn day_of<A: Allocator>(tables: &Tables<A>, trail: &Trail, total: i64) -> Day
+/// The positions of a prefix that decides every block. `total` is the prefix's relaxed welfare; each class has a
+/// welfare there, since the prefix has one.
+pub(crate) fn positions_of<A: Allocator>(tables: &Tables<A>, trail: &Trail, total: i64) -> Positions
     requires { (problem : ProblemState) × (prefix : List Bool) × AreTablesOf problem tables.now
-        × (length prefix ≡ length problem.blocks) × IsDayIn problem prefix trail.now total }
+        × (length prefix ≡ length problem.blocks) × ArePositionsIn problem prefix trail.now total }
     ensures { (problem : ProblemState) (prefix : List Bool) → AreTablesOf problem tables.now
-        → length prefix ≡ length problem.blocks → IsDayIn problem prefix trail.now total
-        → IsDay problem prefix result }
+        → length prefix ≡ length problem.blocks → ArePositionsIn problem prefix trail.now total
+        → ArePositions problem prefix result }
 {
-    let mut day = Day::empty();
+    let mut positions = Positions::empty();
     for at in 0..tables.count {
         if tables.firsts[at] as usize == at {
-            let net = trail.slots[tables.places[at] as usize];
+            let net = trail.nets[tables.places[at] as usize];
             let welfare = tables.curves.welfare(tables.ends[at], net).unwrap();
-            day.classes[at] = Position { net, welfare };
+            positions.classes[at] = Position { net, welfare };
         }
     }
-    day.total = total;
-    day
+    positions.total = total;
+    positions
 }

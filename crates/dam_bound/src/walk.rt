@@ -5,14 +5,14 @@ ghost use Rattle.dam_blocks.specs.Problem.{ProblemState};
 ghost use Rattle.dam_blocks.specs.Selection.{padded};
 ghost use Rattle.dam_blocks.specs.Eligible.{ArePrices, family_surplus};
 ghost use Rattle.dam_bound.specs.Relaxed.{relaxed_welfare, without_rows};
-ghost use Rattle.dam_bound.specs.Day.{IsDay};
-ghost use Rattle.dam_bound.specs.Trail.{IsDayIn, KeepsDays, IsBoundOf, bound_by};
+ghost use Rattle.dam_bound.specs.Positions.{ArePositions};
+ghost use Rattle.dam_bound.specs.Trail.{ArePositionsIn, KeepsPositions, IsBoundOf, bound_by};
 ghost use Rattle.dam_bound.specs.Tables.{AreTablesOf};
 
-use crate::day::{Day, copy_classes, turn_block};
 use crate::gain::gain_of;
+use crate::positions::{Positions, copy_classes, turn_block};
 use crate::tables::Tables;
-use crate::trail::{Extensions, Trail, bounds_of, day_of, write_block, write_root};
+use crate::trail::{Extensions, Trail, bounds_of, positions_of, write_block, write_root};
 use dam_blocks::{Problem, Selection, laws};
 use std::alloc::Allocator;
 use std::marker::Model;
@@ -59,10 +59,10 @@ impl<'a, A: Allocator, B: Allocator> Walk<'a, A, B> {
         Walk { problem, tables }
     }
 
-    /// Begins a walk: makes the day of the prefix that decides nothing, and returns its relaxed welfare, in cents per
-    /// MWh times tenths of a MW. The days of other prefixes may be lost.
+    /// Begins a walk: makes the positions of the prefix that decides nothing, and returns its relaxed welfare, in cents
+    /// per MWh times tenths of a MW. The positions of other prefixes may be lost.
     pub fn begin(&self, trail: &mut Trail) -> i64
-        ensures { IsDayIn self.now [] trail.new result }
+        ensures { ArePositionsIn self.now [] trail.new result }
     {
         let tables = self.tables;
         write_root(trail, tables.count);
@@ -77,10 +77,10 @@ impl<'a, A: Allocator, B: Allocator> Walk<'a, A, B> {
     /// welfares are seen to be under `least`. Takes no memory.
     pub fn extensions(&self, trail: &Trail, depth: usize, total: i64, least: u64) -> Extensions
         requires depth { depth < length self.now.blocks }
-        requires day { (prefix : List Bool) × (length prefix ≡ depth)
-            × IsDayIn self.now prefix trail.now total }
+        requires positions { (prefix : List Bool) × (length prefix ≡ depth)
+            × ArePositionsIn self.now prefix trail.now total }
         ensures bounds { (prefix : List Bool) (accept : Bool) → length prefix ≡ depth
-            → IsDayIn self.now prefix trail.now total
+            → ArePositionsIn self.now prefix trail.now total
             → IsBoundOf self.now (prefix ++ accept ∷ []) least (bound_by accept result) }
         ensures reached { (accept : Bool)
             → IfSome (bound_by accept result) (λ welfare. pos least ≤ℤ welfare) }
@@ -92,18 +92,18 @@ impl<'a, A: Allocator, B: Allocator> Walk<'a, A, B> {
         bounds_of(self.tables, trail, depth, total, least)
     }
 
-    /// Makes the day of the extension of a prefix by the decision on the block at the depth, if the extension has a
-    /// relaxed welfare. The days of the prefix and of shorter ones stay, so that the other decision can be made
+    /// Makes the positions of the extension of a prefix by the decision on the block at the depth, if the extension has
+    /// a relaxed welfare. The positions of the prefix and of shorter ones stay, so that the other decision can be made
     /// afterwards. Takes no memory.
     pub fn enter(&self, trail: &mut Trail, depth: usize, accept: bool)
         requires depth { depth < length self.now.blocks }
-        requires day { (prefix : List Bool) × (total : ℤ) × (length prefix ≡ depth)
-            × IsDayIn self.now prefix trail.old total }
-        ensures kept { KeepsDays self.now depth trail.old trail.new }
-        ensures day { (prefix : List Bool) (total left : ℤ) → length prefix ≡ depth
-            → IsDayIn self.now prefix trail.old total
+        requires positions { (prefix : List Bool) × (total : ℤ) × (length prefix ≡ depth)
+            × ArePositionsIn self.now prefix trail.old total }
+        ensures kept { KeepsPositions self.now depth trail.old trail.new }
+        ensures positions { (prefix : List Bool) (total left : ℤ) → length prefix ≡ depth
+            → ArePositionsIn self.now prefix trail.old total
             → Some left ≡ relaxed_welfare self.now (prefix ++ accept ∷ [])
-            → IsDayIn self.now (prefix ++ accept ∷ []) trail.new left }
+            → ArePositionsIn self.now (prefix ++ accept ∷ []) trail.new left }
     {
         dam_hour::laws::joining();
         dam_hour::laws::welfare();
@@ -112,61 +112,63 @@ impl<'a, A: Allocator, B: Allocator> Walk<'a, A, B> {
         write_block(self.tables, trail, depth, accept);
     }
 
-    /// The day of a prefix that decides every block, which is in the slots with this relaxed welfare.
+    /// The positions of a prefix that decides every block, which the trail holds with this relaxed welfare.
     /// Takes no memory.
-    pub fn day_at(&self, trail: &Trail, total: i64) -> Day
+    pub fn positions_at(&self, trail: &Trail, total: i64) -> Positions
         requires { (prefix : List Bool) × (length prefix ≡ length self.now.blocks)
-            × IsDayIn self.now prefix trail.now total }
+            × ArePositionsIn self.now prefix trail.now total }
         ensures { (prefix : List Bool) → length prefix ≡ length self.now.blocks
-            → IsDayIn self.now prefix trail.now total → IsDay self.now prefix result }
+            → ArePositionsIn self.now prefix trail.now total → ArePositions self.now prefix result }
     {
-        day_of(self.tables, trail, total)
+        positions_of(self.tables, trail, total)
     }
 
-    /// Copies `from` to `to`, which then is the day of the same prefixes. Only the classes of the
+    /// Copies `from` to `to`, which then has the positions of the same prefixes. Only the classes of the
     /// problem's periods are copied. Takes no memory.
-    pub fn copy_day(&self, from: &Day, to: &mut Day)
-        ensures { (prefix : List Bool) → IsDay self.now prefix from.now
-            → IsDay self.now prefix to.new }
+    pub fn copy_positions(&self, from: &Positions, to: &mut Positions)
+        ensures { (prefix : List Bool) → ArePositions self.now prefix from.now
+            → ArePositions self.now prefix to.new }
     {
         let tables = self.tables;
         copy_classes(from, to, tables.count);
     }
 
-    /// Reverses the decision on the block at the place, to `accept`, on a day on which every block is
-    /// decided, and returns `true`. Returns `false` if some period doesn't balance with the new decision;
-    /// the day is then unspecified.
+    /// Reverses the decision on the block at the place, to `accept`, in the positions of a prefix that decides
+    /// every block, and returns `true`. Returns `false` if some period doesn't balance with the new decision;
+    /// the positions are then unspecified.
     ///
     /// Only the classes of periods in which the block has a volume are changed. Takes no memory.
-    pub fn turn(&self, day: &mut Day, place: usize, accept: bool) -> bool
+    pub fn turn(&self, positions: &mut Positions, place: usize, accept: bool) -> bool
         requires place { place < length self.now.blocks }
-        requires day { (prefix : List Bool) × (length prefix ≡ length self.now.blocks)
-            × (slice_get prefix place ≡ Some (not accept)) × IsDay self.now prefix day.old }
+        requires positions { (prefix : List Bool) × (length prefix ≡ length self.now.blocks)
+            × (slice_get prefix place ≡ Some (not accept))
+            × ArePositions self.now prefix positions.old }
         ensures { (prefix : List Bool) → length prefix ≡ length self.now.blocks
-            → slice_get prefix place ≡ Some (not accept) → IsDay self.now prefix day.old
-            → MatchBool result (IsDay self.now (slice_set prefix place accept) day.new)
+            → slice_get prefix place ≡ Some (not accept)
+            → ArePositions self.now prefix positions.old
+            → MatchBool result (ArePositions self.now (slice_set prefix place accept) positions.new)
             (relaxed_welfare self.now (slice_set prefix place accept) ≡ None) }
     {
-        turn_block(self.tables, day, place, accept)
+        turn_block(self.tables, positions, place, accept)
     }
 
-    /// The gain of the block at a place at the prices of a day on which every block is decided, with
-    /// those blocks of the selection that descend from it; in cents per MWh times tenths of a MW, and
-    /// below 0 if they lose together. The selection is the day's.
+    /// The gain of the block at a place with those blocks of the selection that descend from it, at the prices of a
+    /// prefix that decides every block, whose positions these are; in cents per MWh times tenths of a MW, and below 0
+    /// if they lose together. The selection is the prefix's.
     ///
     /// Only the prices of these blocks' own periods are asked for, each found by clearing the period's hourly
     /// orders at the net volume of its class. Takes no memory.
-    pub fn gain(&self, day: &Day, selection: Selection, place: usize) -> i64
+    pub fn gain(&self, positions: &Positions, selection: Selection, place: usize) -> i64
         requires place { place < length self.now.blocks }
-        requires day { (prefix : List Bool) × (length prefix ≡ length self.now.blocks)
-            × IsDay self.now prefix day.now }
+        requires positions { (prefix : List Bool) × (length prefix ≡ length self.now.blocks)
+            × ArePositions self.now prefix positions.now }
         ensures { (prefix : List Bool) (prices : List ℤ)
             → length prefix ≡ length self.now.blocks → selection ≡ padded prefix
-            → IsDay self.now prefix day.now
+            → ArePositions self.now prefix positions.now
             → ArePrices self.now.blocks (padded prefix) 1 self.now.hours prices
             → result ≡ family_surplus self.now.blocks (padded prefix) prices place }
     {
-        gain_of(self.problem, self.tables, day, selection, place)
+        gain_of(self.problem, self.tables, positions, selection, place)
     }
 }
 

@@ -1,38 +1,39 @@
--- The sum of two lists of lines, line by line.
+-- The sum of two lists of segments, segment by segment.
 use Rattle.std.proofs.Common.{◌≡◌, ℕ, zero, suc, ◌+◌, ◌<◌, ◌-◌, ℤ, pos, ◌≤ℤ◌, ◌<ℤ◌, ◌⊎◌, Option, List, [], ◌∷◌, ◌++◌, length, get_or, ap, ◌∙◌, sym, subst}
 use Rattle.std.proofs.Common.{inl, inr, refl, arith}
 use Rattle.std.specs.Int.{int_min, int_max}
 use Rattle.std.proofs.lemmas.Int.{ints, by_lt_z, int_min_is, int_max_is}
 use Rattle.std.proofs.lemmas.Bool.{cases_lt}
 use Rattle.std.proofs.lemmas.List.{get_or_default}
-use Rattle.dam_curve.specs.declared.line.Line.{Line}
-use Rattle.dam_curve.specs.Curve.{both, IsLine, end_of, AreLines, bottom_of, AreWithin, IsOutside, AreSmallLines}
-use Rattle.dam_curve.specs.inside.Lines.{joined, IsPast}
-use Rattle.dam_curve.proofs.ListsOfLines.{end_more, lines_more, bottom_more, small_more, line_inside, line_last, bottom_at, small_at, joined_is}
-use Rattle.dam_curve.proofs.ListsOfLines.{joined_small}
+use Rattle.dam_curve.specs.declared.segment.Segment.{Segment}
+use Rattle.dam_curve.specs.Curve.{both, IsSegment, end_of, AreSegments, bottom_of, AreWithin, IsOutside, AreSmallSegments}
+use Rattle.dam_curve.specs.inside.Segments.{joined, IsPast}
+use Rattle.dam_curve.proofs.ListsOfSegments.{end_more, segments_more, bottom_more, small_more, segment_inside, segment_last, bottom_at, small_at, joined_is}
+use Rattle.dam_curve.proofs.ListsOfSegments.{joined_small}
 
--- ---- the place of a line
--- a place among the lines; if it is the last one, they hold down to no more than the net volume
-pub record IsPlace (ls : List Line) (at : ℤ) (place : ℕ) : Type 0 where
+-- ---- the place of a segment
+-- a place among the segments; if it is the last one, they hold down to no more than the net volume
+pub record IsPlace (ls : List Segment) (at : ℤ) (place : ℕ) : Type 0 where
   pub inside : place < length ls
   pub last : suc place ≡ length ls → bottom_of ls ≤ℤ at
 
--- the line there holds up to at least the net volume, and the next one up to no more
-pub record StandsAt (ls : List Line) (at : ℤ) (place : ℕ) : Type 0 where
-  pub holds : (d : Line) → at ≤ℤ (get_or ls place d).most
-  pub next : (d : Line) → suc place < length ls → (get_or ls (suc place) d).most ≤ℤ at
+-- the segment there holds up to at least the net volume, and the next one up to no more
+pub record StandsAt (ls : List Segment) (at : ℤ) (place : ℕ) : Type 0 where
+  pub holds : (d : Segment) → at ≤ℤ (get_or ls place d).most
+  pub next : (d : Segment) → suc place < length ls → (get_or ls (suc place) d).most ≤ℤ at
 
-pub line_here : (f : ℤ → Option ℤ) (ls : List Line) (at : ℤ) (place : ℕ) (d : Line) → AreLines f ls (bottom_of ls) → IsPlace ls at place
-    → StandsAt ls at place → (x : ℤ) × IsLine f (get_or ls place d) x × (x ≤ℤ at)
-line_here f ls at place d are p s = elim (cases_lt (suc place) (length ls)) [
-  | inl l ↦ ((get_or ls (suc place) d).most, line_inside f ls (bottom_of ls) place d are l, s.next d l)
+pub segment_here : (f : ℤ → Option ℤ) (ls : List Segment) (at : ℤ) (place : ℕ) (d : Segment) → AreSegments f ls (bottom_of ls)
+    → IsPlace ls at place → StandsAt ls at place → (x : ℤ) × IsSegment f (get_or ls place d) x × (x ≤ℤ at)
+segment_here f ls at place d are p s = elim (cases_lt (suc place) (length ls)) [
+  | inl l ↦ ((get_or ls (suc place) d).most, segment_inside f ls (bottom_of ls) place d are l, s.next d l)
   | inr m ↦
       (let inside = p.inside in let e : suc place ≡ length ls = omega (arith, m, inside) in
-      (bottom_of ls, line_last f ls (bottom_of ls) place d are e, p.last e))
+      (bottom_of ls, segment_last f ls (bottom_of ls) place d are e, p.last e))
 ]
 
 -- in the forms of the code
-pub place_from : (ls : List Line) (at : ℤ) (place : ℕ) (d : Line) → place < length ls → (get_or ls (length ls - 1) d).most ≤ℤ at → IsPlace ls at place
+pub place_from : (ls : List Segment) (at : ℤ) (place : ℕ) (d : Segment) → place < length ls → (get_or ls (length ls - 1) d).most ≤ℤ at
+    → IsPlace ls at place
 place_from ls at place d l most = record {
   inside = l;
   last = λ e.
@@ -40,13 +41,13 @@ place_from ls at place d l most = record {
       let bottom = bottom_at ls (length ls - 1) d last in omega (arith, ints, bottom, most));
 }
 
-pub bottom_over : (ls : List Line) (at : ℤ) (d : Line) → 0 < length ls → (get_or ls (length ls - 1) d).most ≤ℤ at → bottom_of ls ≤ℤ at
+pub bottom_over : (ls : List Segment) (at : ℤ) (d : Segment) → 0 < length ls → (get_or ls (length ls - 1) d).most ≤ℤ at → bottom_of ls ≤ℤ at
 bottom_over ls at d l most =
     let last : suc (length ls - 1) ≡ length ls = omega (arith, l) in
     let bottom = bottom_at ls (length ls - 1) d last in omega (arith, ints, bottom, most)
 
-pub stands_from : (ls : List Line) (at : ℤ) (place : ℕ) → ((d : Line) → at ≤ℤ (get_or ls place d).most)
-    → ((d : Line) → place + 1 < length ls → (get_or ls (place + 1) d).most ≤ℤ at) → StandsAt ls at place
+pub stands_from : (ls : List Segment) (at : ℤ) (place : ℕ) → ((d : Segment) → at ≤ℤ (get_or ls place d).most)
+    → ((d : Segment) → place + 1 < length ls → (get_or ls (place + 1) d).most ≤ℤ at) → StandsAt ls at place
 stands_from ls at place holds under = record {
   holds = holds;
   next = λ d l.
@@ -55,23 +56,26 @@ stands_from ls at place holds under = record {
       let less = under d (omega (arith, l)) in omega (arith, ints, same, less));
 }
 
-most_at : (ls : List Line) (place next : ℕ) (d e : Line) → place < length ls → next ≡ place
+most_at : (ls : List Segment) (place next : ℕ) (d e : Segment) → place < length ls → next ≡ place
     → (get_or ls next e).most ≡ (get_or ls place d).most
 most_at ls place next d e l same =
-    ap (λ (n : ℕ). (get_or ls n e).most) same ∙ ap (λ (line : Line). line.most) (get_or_default ls place e d l)
+    ap (λ (n : ℕ). (get_or ls n e).most) same ∙ ap (λ (segment : Segment). segment.most) (get_or_default ls place e d l)
 
-past_place : (ls : List Line) (at : ℤ) (place next : ℕ) (d : Line) → suc place < length ls → IsPast ls place at next → IsPlace ls at next
+past_place : (ls : List Segment) (at : ℤ) (place next : ℕ) (d : Segment) → suc place < length ls → IsPast ls place at next
+    → IsPlace ls at next
 past_place ls at place next d l (inl (e, is)) = record {
   inside = omega (arith, e, l);
   last = λ whole. (let bottom = bottom_at ls next d whole in let own = is d in omega (arith, ints, bottom, own));
 }
 past_place ls at place next d l (inr (e, differs)) = record { inside = omega (arith, e, l); last = λ whole. absurd (omega (arith, e, l, whole)) }
 
-past_stands : (f : ℤ → Option ℤ) (ls : List Line) (at lower : ℤ) (place next : ℕ) → AreLines f ls (bottom_of ls) → StandsAt ls at place
-    → lower ≤ℤ at → ((d : Line) → (get_or ls (suc place) d).most ≤ℤ lower) → IsPast ls place lower next → StandsAt ls lower next
+past_stands : (f : ℤ → Option ℤ) (ls : List Segment) (at lower : ℤ) (place next : ℕ) → AreSegments f ls (bottom_of ls)
+    → StandsAt ls at place
+    → lower ≤ℤ at → ((d : Segment) → (get_or ls (suc place) d).most ≤ℤ lower) → IsPast ls place lower next → StandsAt ls lower next
 past_stands f ls at lower place next are s l under (inl (e, is)) = record {
   holds = λ d. (let own = is d in omega (arith, ints, own));
-  next = λ d more. (let own = is d in let order = (line_inside f ls (bottom_of ls) next d are more).ordered in omega (arith, ints, own, order));
+  next = λ d more.
+      (let own = is d in let order = (segment_inside f ls (bottom_of ls) next d are more).ordered in omega (arith, ints, own, order));
 }
 past_stands f ls at lower place next are s l under (inr (e, differs)) = record {
   holds = λ d. (let own = s.holds d in let same = ap (λ (n : ℕ). (get_or ls n d).most) e in omega (arith, ints, own, same, l));
@@ -80,16 +84,16 @@ past_stands f ls at lower place next are s l under (inr (e, differs)) = record {
 
 -- ---- the sum so far
 -- from this net volume on down to that one
-pub record IsAdded (a b sum : List Line) (start at : ℤ) (left right : ℕ) : Type 0 where
+pub record IsAdded (a b sum : List Segment) (start at : ℤ) (left right : ℕ) : Type 0 where
   pub left_is : IsPlace a at left
   pub right_is : IsPlace b at right
   pub begins : end_of sum at ≡ start
-  pub over : (f : ℤ → Option ℤ) → AreLines f b (bottom_of b) → bottom_of b ≤ℤ at
-  pub small : (n m : ℕ) → AreSmallLines n a → AreSmallLines m b → AreSmallLines (n + m) sum
-  pub are_lines : (f g : ℤ → Option ℤ) → AreLines f a (bottom_of a) → AreLines g b (bottom_of b)
-      → StandsAt a at left × StandsAt b at right × AreLines (λ net. both (f net) (g net)) sum at
+  pub over : (f : ℤ → Option ℤ) → AreSegments f b (bottom_of b) → bottom_of b ≤ℤ at
+  pub small : (n m : ℕ) → AreSmallSegments n a → AreSmallSegments m b → AreSmallSegments (n + m) sum
+  pub are_segments : (f g : ℤ → Option ℤ) → AreSegments f a (bottom_of a) → AreSegments g b (bottom_of b)
+      → StandsAt a at left × StandsAt b at right × AreSegments (λ net. both (f net) (g net)) sum at
 
-bottom_under : (f : ℤ → Option ℤ) (ls : List Line) (i : ℕ) (d : Line) → AreLines f ls (bottom_of ls) → i < length ls
+bottom_under : (f : ℤ → Option ℤ) (ls : List Segment) (i : ℕ) (d : Segment) → AreSegments f ls (bottom_of ls) → i < length ls
     → bottom_of ls ≤ℤ (get_or ls i d).most
 bottom_under f [] i d are l = absurd (omega (arith, l))
 bottom_under f (a ∷ []) zero d are l = omega (arith, ints)
@@ -98,32 +102,33 @@ bottom_under f (a ∷ b ∷ ls) zero d are l =
     let rest = bottom_under f (b ∷ ls) zero d are.1 (omega arith) in let order = are.0.ordered in omega (arith, ints, rest, order)
 bottom_under f (a ∷ b ∷ ls) (suc i) d are l = bottom_under f (b ∷ ls) i d are.1 (omega (arith, l))
 
-pub none_added : (a b : List Line) (at : ℤ) (left right : ℕ) → IsPlace a at left → IsPlace b at right → bottom_of b ≤ℤ at → StandsAt a at left
-    → StandsAt b at right → IsAdded a b [] at at left right
+pub none_added : (a b : List Segment) (at : ℤ) (left right : ℕ) → IsPlace a at left → IsPlace b at right → bottom_of b ≤ℤ at
+    → StandsAt a at left → StandsAt b at right → IsAdded a b [] at at left right
 none_added a b at left right la lb over sa sb = record {
   over = λ f t. over;
   left_is = la;
   right_is = lb;
   begins = refl;
   small = λ n m s t. tt;
-  are_lines = λ f g s t. (sa, sb, tt);
+  are_segments = λ f g s t. (sa, sb, tt);
 }
 
--- the two lines that hold at the net volume, in the sum
-pub small_added : (n m : ℕ) (a b sum : List Line) (start at : ℤ) (left right : ℕ) (d : Line) → IsAdded a b sum start at left right
-    → AreSmallLines n a → AreSmallLines m b
-    → AreSmallLines (n + m) (sum ++ joined (get_or a left d) (get_or b right d) at ∷ [])
+-- the two segments that hold at the net volume, in the sum
+pub small_added : (n m : ℕ) (a b sum : List Segment) (start at : ℤ) (left right : ℕ) (d : Segment) → IsAdded a b sum start at left right
+    → AreSmallSegments n a → AreSmallSegments m b
+    → AreSmallSegments (n + m) (sum ++ joined (get_or a left d) (get_or b right d) at ∷ [])
 small_added n m a b sum start at left right d is s t =
     small_more (n + m) sum (joined (get_or a left d) (get_or b right d) at) (is.small n m s t)
     (joined_small n m (get_or a left d) (get_or b right d) at (small_at n a left d s is.left_is.inside) (small_at m b right d t is.right_is.inside))
 
-begins_added : (sum : List Line) (line : Line) (start at next : ℤ) → end_of sum at ≡ start → line.most ≡ at → end_of (sum ++ line ∷ []) next ≡ start
-begins_added sum line start at next e own = end_more sum line next ∙ ap (end_of sum) own ∙ e
+begins_added : (sum : List Segment) (segment : Segment) (start at next : ℤ) → end_of sum at ≡ start → segment.most ≡ at
+    → end_of (sum ++ segment ∷ []) next ≡ start
+begins_added sum segment start at next e own = end_more sum segment next ∙ ap (end_of sum) own ∙ e
 
 max_least : (x y low at : ℤ) → low ≡ int_max x y → x ≤ℤ at → y ≤ℤ at → (x ≤ℤ low) × (y ≤ℤ low) × (low ≤ℤ at)
 max_least x y low at e l m = let is = int_max_is x y in (omega (arith, ints, e, is), omega (arith, ints, e, is), omega (arith, ints, e, is, l, m))
 
-pub next_added : (a b sum : List Line) (start at lower : ℤ) (left right next_left next_right : ℕ) (d : Line)
+pub next_added : (a b sum : List Segment) (start at lower : ℤ) (left right next_left next_right : ℕ) (d : Segment)
     → IsAdded a b sum start at left right → left + 1 < length a → right + 1 < length b
     → lower ≡ int_max (get_or a (left + 1) d).most (get_or b (right + 1) d).most
     → IsPast a left lower next_left → IsPast b right lower next_right
@@ -140,10 +145,10 @@ next_added a b sum start at lower left right next_left next_right d is la lb top
           let greatest = int_max_is (get_or a (left + 1) d).most (get_or b (right + 1) d).most in
           omega (arith, ints, under, top, greatest));
       small = λ n m s t. small_added n m a b sum start at left right d is s t;
-      are_lines = λ f g s t.
-          (let was = is.are_lines f g s t in
-          let first = line_inside f a (bottom_of a) left d s sa in
-          let second = line_inside g b (bottom_of b) right d t sb in
+      are_segments = λ f g s t.
+          (let was = is.are_segments f g s t in
+          let first = segment_inside f a (bottom_of a) left d s sa in
+          let second = segment_inside g b (bottom_of b) right d t sb in
           let x = most_at a (left + 1) (suc left) d d la (omega arith) in
           let y = most_at b (right + 1) (suc right) d d lb (omega arith) in
           let under_a = was.0.next d sa in let under_b = was.1.next d sb in
@@ -153,16 +158,16 @@ next_added a b sum start at lower left right next_left next_right d is la lb top
                 (λ e. (let m = most_at a (left + 1) (suc left) d e la (omega arith) in omega (arith, ints, m, falls.0))) pa,
             past_stands g b at lower right next_right t was.1 falls.2
                 (λ e. (let m = most_at b (right + 1) (suc right) d e lb (omega arith) in omega (arith, ints, m, falls.1))) pb,
-            lines_more (λ net. both (f net) (g net)) sum (joined (get_or a left d) (get_or b right d) at) lower was.2
+            segments_more (λ net. both (f net) (g net)) sum (joined (get_or a left d) (get_or b right d) at) lower was.2
                 (joined_is f g (get_or a left d) (get_or b right d) (get_or a (suc left) d).most (get_or b (suc right) d).most at lower first
                 second
                 (omega (arith, ints, x, falls.0)) (omega (arith, ints, y, falls.1)) falls.2 (was.0.holds d) (was.1.holds d)),
           ));
     }
 
--- fewer lines are left
-pub shorter : (a b : List Line) (lower : ℤ) (left right next_left next_right : ℕ) (d : Line) → left + 1 < length a → right + 1 < length b
-    → lower ≡ int_max (get_or a (left + 1) d).most (get_or b (right + 1) d).most
+-- fewer segments are left
+pub shorter : (a b : List Segment) (lower : ℤ) (left right next_left next_right : ℕ) (d : Segment) → left + 1 < length a
+    → right + 1 < length b → lower ≡ int_max (get_or a (left + 1) d).most (get_or b (right + 1) d).most
     → IsPast a left lower next_left → IsPast b right lower next_right
     → (length a - next_left) + (length b - next_right) < (length a - left) + (length b - right)
 shorter a b lower left right next_left next_right d la lb top (inl (e, is)) (inl (k, are)) = omega (arith, la, lb, e, k)
@@ -175,39 +180,39 @@ shorter a b lower left right next_left next_right d la lb top (inr (e, differs))
     (λ more. differs d (omega (arith, ints, top, is, more))))
 
 -- ---- the whole sum
-pub all_lines : (f g : ℤ → Option ℤ) (a b sum : List Line) (start at : ℤ) (left right : ℕ) (d : Line) → IsAdded a b sum start at left right
-    → AreLines f a (bottom_of a) → AreLines g b (bottom_of b)
-    → AreLines (λ net. both (f net) (g net)) (sum ++ joined (get_or a left d) (get_or b right d) at ∷ [])
+pub all_segments : (f g : ℤ → Option ℤ) (a b sum : List Segment) (start at : ℤ) (left right : ℕ) (d : Segment)
+    → IsAdded a b sum start at left right → AreSegments f a (bottom_of a) → AreSegments g b (bottom_of b)
+    → AreSegments (λ net. both (f net) (g net)) (sum ++ joined (get_or a left d) (get_or b right d) at ∷ [])
     (bottom_of (sum ++ joined (get_or a left d) (get_or b right d) at ∷ []))
-all_lines f g a b sum start at left right d is s t =
-    let line = joined (get_or a left d) (get_or b right d) at in
-    let was = is.are_lines f g s t in
-    let first = line_here f a at left d s is.left_is was.0 in
-    let second = line_here g b at right d t is.right_is was.1 in
-    subst (AreLines (λ net. both (f net) (g net)) (sum ++ line ∷ [])) (sym (bottom_more sum line))
-    (lines_more (λ net. both (f net) (g net)) sum line at was.2
+all_segments f g a b sum start at left right d is s t =
+    let segment = joined (get_or a left d) (get_or b right d) at in
+    let was = is.are_segments f g s t in
+    let first = segment_here f a at left d s is.left_is was.0 in
+    let second = segment_here g b at right d t is.right_is was.1 in
+    subst (AreSegments (λ net. both (f net) (g net)) (sum ++ segment ∷ [])) (sym (bottom_more sum segment))
+    (segments_more (λ net. both (f net) (g net)) sum segment at was.2
     (joined_is f g (get_or a left d) (get_or b right d) first.0 second.0 at at first.1 second.1 first.2 second.2 (omega (arith, ints))
     (was.0.holds d) (was.1.holds d)))
 
-outside_parts : (ls : List Line) (net : ℤ) → 0 < length ls → IsOutside ls net → (net <ℤ bottom_of ls) ⊎ (end_of ls (pos 0) <ℤ net)
+outside_parts : (ls : List Segment) (net : ℤ) → 0 < length ls → IsOutside ls net → (net <ℤ bottom_of ls) ⊎ (end_of ls (pos 0) <ℤ net)
 outside_parts [] net l o = absurd (omega (arith, l))
-outside_parts (line ∷ ls) net l o = o
+outside_parts (segment ∷ ls) net l o = o
 
-pub outside_from : (ls : List Line) (net : ℤ) → 0 < length ls → (net <ℤ bottom_of ls) ⊎ (end_of ls (pos 0) <ℤ net) → IsOutside ls net
+pub outside_from : (ls : List Segment) (net : ℤ) → 0 < length ls → (net <ℤ bottom_of ls) ⊎ (end_of ls (pos 0) <ℤ net) → IsOutside ls net
 outside_from [] net l o = absurd (omega (arith, l))
-outside_from (line ∷ ls) net l o = o
+outside_from (segment ∷ ls) net l o = o
 
-some_more : (ls : List Line) (line : Line) → 0 < length (ls ++ line ∷ [])
-some_more [] line = omega arith
-some_more (l ∷ ls) line = omega arith
+some_more : (ls : List Segment) (segment : Segment) → 0 < length (ls ++ segment ∷ [])
+some_more [] segment = omega arith
+some_more (l ∷ ls) segment = omega arith
 
 -- above the lesser of two greatest net volumes one of the two lists doesn't hold
-pub end_at : (ls : List Line) (d : Line) → 0 < length ls → end_of ls (pos 0) ≡ (get_or ls 0 d).most
+pub end_at : (ls : List Segment) (d : Segment) → 0 < length ls → end_of ls (pos 0) ≡ (get_or ls 0 d).most
 end_at [] d l = absurd (omega (arith, l))
-end_at (line ∷ ls) d l = refl
+end_at (segment ∷ ls) d l = refl
 
-pub above : (a b : List Line) (start net : ℤ) (d : Line) → 0 < length a → 0 < length b → start ≡ int_min (get_or a 0 d).most (get_or b 0 d).most
-    → start <ℤ net
+pub above : (a b : List Segment) (start net : ℤ) (d : Segment) → 0 < length a → 0 < length b
+    → start ≡ int_min (get_or a 0 d).most (get_or b 0 d).most → start <ℤ net
     → IsOutside a net ⊎ IsOutside b net
 above a b start net d la lb e l =
     let x = end_at a d la in let y = end_at b d lb in let is = int_min_is (get_or a 0 d).most (get_or b 0 d).most in
@@ -215,7 +220,7 @@ above a b start net d la lb e l =
     (λ more. inr (outside_from b net lb (inr (omega (arith, ints, e, l, more, x, y, is)))))
 
 -- the lesser of two greatest net volumes is no greater than either
-pub under_first : (a b : List Line) (start : ℤ) (d e : Line) → 0 < length a → 0 < length b
+pub under_first : (a b : List Segment) (start : ℤ) (d e : Segment) → 0 < length a → 0 < length b
     → start ≡ int_min (get_or a 0 d).most (get_or b 0 d).most
     → (start ≤ℤ (get_or a 0 e).most) × (start ≤ℤ (get_or b 0 e).most)
 under_first a b start d e la lb s =
@@ -224,23 +229,23 @@ under_first a b start d e la lb s =
     (omega (arith, ints, s, x, is), omega (arith, ints, s, y, is))
 
 -- the sum goes no further than the second list
-pub all_within : (g : ℤ → Option ℤ) (a b sum : List Line) (start at least most : ℤ) (left right : ℕ) (d : Line)
-    → IsAdded a b sum start at left right → AreLines g b (bottom_of b) → start ≡ int_min (get_or a 0 d).most (get_or b 0 d).most
+pub all_within : (g : ℤ → Option ℤ) (a b sum : List Segment) (start at least most : ℤ) (left right : ℕ) (d : Segment)
+    → IsAdded a b sum start at left right → AreSegments g b (bottom_of b) → start ≡ int_min (get_or a 0 d).most (get_or b 0 d).most
     → AreWithin b least most → AreWithin (sum ++ joined (get_or a left d) (get_or b right d) at ∷ []) least most
 all_within g a b sum start at least most left right d is t e within some =
-    let line = joined (get_or a left d) (get_or b right d) at in
+    let segment = joined (get_or a left d) (get_or b right d) at in
     let inside = is.right_is.inside in
     let any : 0 < length b = omega (arith, inside) in
     let ends = within any in
     let over = is.over g t in
-    let bottom = bottom_more sum line in
-    let top = begins_added sum line start at (pos 0) is.begins refl in
+    let bottom = bottom_more sum segment in
+    let top = begins_added sum segment start at (pos 0) is.begins refl in
     let first = end_at b d any in
     let is_least = int_min_is (get_or a 0 d).most (get_or b 0 d).most in
     (omega (arith, ints, ends.0, over, bottom), omega (arith, ints, ends.1, top, first, e, is_least))
 
 -- where the one list ends above the greatest net volume of the other, one of the two holds nowhere
-pub apart_outside : (a b : List Line) (start net : ℤ) (d : Line) → 0 < length a → 0 < length b
+pub apart_outside : (a b : List Segment) (start net : ℤ) (d : Segment) → 0 < length a → 0 < length b
     → start ≡ int_min (get_or a 0 d).most (get_or b 0 d).most
     → (start <ℤ (get_or a (length a - 1) d).most) ⊎ (start <ℤ (get_or b (length b - 1) d).most) → IsOutside a net ⊎ IsOutside b net
 apart_outside a b start net d la lb e (inl less) =
@@ -252,28 +257,30 @@ apart_outside a b start net d la lb e (inr less) =
     by_lt_z start net (λ over. above a b start net d la lb e over)
     (λ under. inr (outside_from b net lb (inl (omega (arith, ints, bottom, less, under)))))
 
-below_last : (ls : List Line) (at net : ℤ) (place : ℕ) (d : Line) → StandsAt ls at place → suc place ≡ length ls → net <ℤ at → IsOutside ls net
+below_last : (ls : List Segment) (at net : ℤ) (place : ℕ) (d : Segment) → StandsAt ls at place → suc place ≡ length ls → net <ℤ at
+    → IsOutside ls net
 below_last ls at net place d s e l =
     let bottom = bottom_at ls place d e in let own = s.holds d in
     outside_from ls net (omega (arith, e)) (inl (omega (arith, ints, bottom, own, l)))
 
-pub all_outside : (f g : ℤ → Option ℤ) (a b sum : List Line) (start at net : ℤ) (left right : ℕ) (d : Line) → IsAdded a b sum start at left right
-    → AreLines f a (bottom_of a) → AreLines g b (bottom_of b) → (suc left ≡ length a) ⊎ (suc right ≡ length b)
+pub all_outside : (f g : ℤ → Option ℤ) (a b sum : List Segment) (start at net : ℤ) (left right : ℕ) (d : Segment)
+    → IsAdded a b sum start at left right
+    → AreSegments f a (bottom_of a) → AreSegments g b (bottom_of b) → (suc left ≡ length a) ⊎ (suc right ≡ length b)
     → start ≡ int_min (get_or a 0 d).most (get_or b 0 d).most
     → IsOutside (sum ++ joined (get_or a left d) (get_or b right d) at ∷ []) net → IsOutside a net ⊎ IsOutside b net
 all_outside f g a b sum start at net left right d is s t whole least o =
-    parted (outside_parts (sum ++ line ∷ []) net (some_more sum line) o)
+    parted (outside_parts (sum ++ segment ∷ []) net (some_more sum segment) o)
   where
-    line : Line
-    line = joined (get_or a left d) (get_or b right d) at
+    segment : Segment
+    segment = joined (get_or a left d) (get_or b right d) at
 
     under : (suc left ≡ length a) ⊎ (suc right ≡ length b) → net <ℤ at → IsOutside a net ⊎ IsOutside b net
-    under (inl e) l = inl (below_last a at net left d (is.are_lines f g s t).0 e l)
-    under (inr e) l = inr (below_last b at net right d (is.are_lines f g s t).1 e l)
+    under (inl e) l = inl (below_last a at net left d (is.are_segments f g s t).0 e l)
+    under (inr e) l = inr (below_last b at net right d (is.are_segments f g s t).1 e l)
 
-    parted : (net <ℤ bottom_of (sum ++ line ∷ [])) ⊎ (end_of (sum ++ line ∷ []) (pos 0) <ℤ net) → IsOutside a net ⊎ IsOutside b net
-    parted (inl less) = under whole (let e = bottom_more sum line in omega (arith, ints, less, e))
+    parted : (net <ℤ bottom_of (sum ++ segment ∷ [])) ⊎ (end_of (sum ++ segment ∷ []) (pos 0) <ℤ net) → IsOutside a net ⊎ IsOutside b net
+    parted (inl less) = under whole (let e = bottom_more sum segment in omega (arith, ints, less, e))
     parted (inr more) =
-        let e = begins_added sum line start at (pos 0) is.begins refl in
+        let e = begins_added sum segment start at (pos 0) is.begins refl in
         let la = is.left_is.inside in let lb = is.right_is.inside in
         above a b start net d (omega (arith, la)) (omega (arith, lb)) least (omega (arith, ints, more, e))

@@ -8,18 +8,18 @@ use Rattle.dam_hour.specs.declared.step.Step.{Step}
 use Rattle.dam_hour.specs.Limits.{most_steps, greatest_value}
 use Rattle.dam_hour.specs.Execution.{AreInRange, IsExecution, Balances, IsHour, IsNetVolume, executed_volume}
 use Rattle.dam_hour.specs.Best.{greatest_welfare, welfare_of, AreSmall}
-use Rattle.dam_curve.specs.declared.line.Line.{Line}
-use Rattle.dam_curve.specs.Curve.{both, joint_welfare, IsLine, AreLines, bottom_of, IsOutside, AreHours, IsSmallLine, AreSmallLines, IsCurve, AreWithin}
-use Rattle.dam_curve.proofs.PeriodLines.{IsPeriodCurve}
+use Rattle.dam_curve.specs.declared.segment.Segment.{Segment}
+use Rattle.dam_curve.specs.Curve.{both, joint_welfare, IsSegment, AreSegments, bottom_of, IsOutside, AreHours, IsSmallSegment, AreSmallSegments, IsCurve, AreWithin}
+use Rattle.dam_curve.proofs.PeriodSegments.{IsPeriodCurve}
 
 -- ---- no period
-flat_is : (most least : ℤ) → least ≤ℤ most → IsLine (joint_welfare []) (record { most = most; price = pos 0; surplus = pos 0 }) least
+flat_is : (most least : ℤ) → least ≤ℤ most → IsSegment (joint_welfare []) (record { most = most; price = pos 0; surplus = pos 0 }) least
 flat_is most least l = record {
   ordered = l;
   each = λ net low high. ap (λ (z : ℤ). Some z) (let same : pos 0 ≡ pos 0 +ℤ pos 0 *ℤ net = omega (arith, ints) in same);
 }
 
-flat_small : (most : ℤ) → IsSmallLine 0 (record { most = most; price = pos 0; surplus = pos 0 })
+flat_small : (most : ℤ) → IsSmallSegment 0 (record { most = most; price = pos 0; surplus = pos 0 })
 flat_small most = record {
   price_at_least = omega (arith, ints);
   price_at_most = omega (arith, ints);
@@ -35,7 +35,7 @@ flat_curve least most a b l = record {
   are_hours = tt;
   least_is = a;
   most_is = b;
-  are_lines = (flat_is most least l, (flat_is least least (omega (arith, ints)), tt));
+  are_segments = (flat_is most least l, (flat_is least least (omega (arith, ints)), tt));
   within = λ some. (omega (arith, ints), omega (arith, ints));
   small = (flat_small most, (flat_small least, tt));
   outside = λ net low high o. absurd (beyond net low high o);
@@ -56,19 +56,19 @@ no_right (Some x) None e = refl
 no_right None (Some y) e = refl
 no_right (Some x) (Some y) e = absurd (cc)
 
-pub curve_more : (ss : List Step) (ps : List (List Step)) (least most : ℤ) (own old new : List Line) → IsHour ss → IsPeriodCurve ss own
+pub curve_more : (ss : List Step) (ps : List (List Step)) (least most : ℤ) (own old new : List Segment) → IsHour ss → IsPeriodCurve ss own
     → IsCurve ps least most old → length ps < last_period
-    → AreLines (λ net. both (greatest_welfare ss net) (joint_welfare ps net)) new (bottom_of new)
+    → AreSegments (λ net. both (greatest_welfare ss net) (joint_welfare ps net)) new (bottom_of new)
     → AreWithin new least most → ((net : ℤ) → IsOutside new net → IsOutside own net ⊎ IsOutside old net)
-    → AreSmallLines (1 + length ps) new → IsCurve (ss ∷ ps) least most new
-curve_more ss ps least most own old new hour period curve few lines within outside small = record {
+    → AreSmallSegments (1 + length ps) new → IsCurve (ss ∷ ps) least most new
+curve_more ss ps least most own old new hour period curve few segments within outside small = record {
   within = within;
   few = omega (arith, few);
   are_hours = (hour, curve.are_hours);
   least_is = curve.least_is;
   most_is = curve.most_is;
-  are_lines = lines;
-  small = subst (λ n. AreSmallLines n new) (let same : 1 + length ps ≡ suc (length ps) = omega arith in same) small;
+  are_segments = segments;
+  small = subst (λ n. AreSmallSegments n new) (let same : 1 + length ps ≡ suc (length ps) = omega arith in same) small;
   outside = λ net low high o. none net low high (outside net o);
 }
   where

@@ -3,8 +3,8 @@ pub mod Parts
 pub mod Supplying
 pub mod Clearing
 pub mod Removing
-pub mod PeriodLines
-pub mod ListsOfLines
+pub mod PeriodSegments
+pub mod ListsOfSegments
 pub mod Adding
 pub mod JointWelfare
 pub mod LookingUp

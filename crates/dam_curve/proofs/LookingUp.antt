@@ -1,4 +1,4 @@
--- The lines of one curve among those of many, and the one that holds at a net volume.
+-- The segments of one curve among those of many, and the one that holds at a net volume.
 use Rattle.std.proofs.Common.{◌≡◌, ℕ, suc, ◌+◌, ◌-◌, ◌*◌, ◌<◌, ◌≤◌, ℤ, pos, negsuc, neg_ℤ, ◌+ℤ◌, ◌*ℤ◌, ◌≤ℤ◌, ◌<ℤ◌, ◌⊎◌, Option, Some, None}
 use Rattle.std.proofs.Common.{FitsSigned, to_z, of_z, w32, w64, List, [], ◌∷◌, ◌++◌, length, length-append, length-drop, take, drop, get_or, ap, ◌∙◌, sym, subst, inl, inr, arith}
 use Rattle.std.specs.List.{slice_range}
@@ -8,25 +8,25 @@ use Rattle.std.proofs.lemmas.List.{take_all, drop_at, length-take-le, take-appen
 use Rattle.dam_book.specs.Limits.{last_period}
 use Rattle.dam_hour.specs.declared.step.Step.{Step}
 use Rattle.dam_hour.specs.Limits.{greatest_price}
-use Rattle.dam_curve.specs.declared.line.Line.{Line}
+use Rattle.dam_curve.specs.declared.segment.Segment.{Segment}
 use Rattle.dam_curve.specs.declared.curves.Curve.{Curve}
-use Rattle.dam_curve.specs.Curve.{joint_welfare, line_at, end_of, AreLines, bottom_of, IsOutside, greatest_line_surplus, IsCurve, lines_at}
-use Rattle.dam_curve.specs.Curve.{IsSmallLine, CurvesState, IsCurveAt}
+use Rattle.dam_curve.specs.Curve.{joint_welfare, segment_at, end_of, AreSegments, bottom_of, IsOutside, greatest_segment_surplus, IsCurve, segments_at}
+use Rattle.dam_curve.specs.Curve.{IsSmallSegment, CurvesState, IsCurveAt}
 use Rattle.dam_curve.specs.Losses.{Keeps}
-use Rattle.dam_curve.proofs.ListsOfLines.{bottom_at, small_at}
-use Rattle.dam_curve.proofs.PeriodLines.{times_small}
-use Rattle.dam_curve.proofs.Adding.{line_here, place_from, stands_from, end_at, outside_from}
+use Rattle.dam_curve.proofs.ListsOfSegments.{bottom_at, small_at}
+use Rattle.dam_curve.proofs.PeriodSegments.{times_small}
+use Rattle.dam_curve.proofs.Adding.{segment_here, place_from, stands_from, end_at, outside_from}
 
--- ---- the lines of one curve
-part_behind : (xs ys : List Line) (n m : ℕ) → n ≡ length xs → m ≡ n + length ys → slice_range (xs ++ ys) n m ≡ ys
+-- ---- the segments of one curve
+part_behind : (xs ys : List Segment) (n m : ℕ) → n ≡ length xs → m ≡ n + length ys → slice_range (xs ++ ys) n m ≡ ys
 part_behind xs ys n m e f = ap (take (m - n)) (drop_at xs ys n (sym e)) ∙ take_all (m - n) ys (omega (arith, f))
 
-pub curve_added : (old ls : List Line) (all : CurvesState) (curve : Curve) (ps : List (List Step)) (least most : ℤ) (d : Line)
-    → all.lines ≡ old ++ ls → curve.first ≡ length old → curve.count ≡ length ls → 0 < length ls
+pub curve_added : (old ls : List Segment) (all : CurvesState) (curve : Curve) (ps : List (List Step)) (least most : ℤ) (d : Segment)
+    → all.segments ≡ old ++ ls → curve.first ≡ length old → curve.count ≡ length ls → 0 < length ls
     → curve.bottom ≡ (get_or ls (length ls - 1) d).most → curve.top ≡ (get_or ls 0 d).most
     → IsCurve ps least most ls → IsCurveAt all curve ps least most
 curve_added old ls all curve ps least most d e first count some bottom top is =
-    let at : lines_at all.lines curve ≡ ls = ap (λ ws. lines_at ws curve) e
+    let at : segments_at all.segments curve ≡ ls = ap (λ ws. segments_at ws curve) e
     ∙ part_behind old ls curve.first (curve.first + curve.count) first (omega (arith, count)) in
     let long = ap length e ∙ length-append old ls in
     record {
@@ -40,39 +40,40 @@ curve_added old ls all curve ps least most d e first count some bottom top is =
     }
 
 -- ---- a curve among more of them
-range_kept : (xs ys : List Line) (n m : ℕ) → n ≤ m → m ≤ length xs → slice_range (xs ++ ys) n m ≡ slice_range xs n m
+range_kept : (xs ys : List Segment) (n m : ℕ) → n ≤ m → m ≤ length xs → slice_range (xs ++ ys) n m ≡ slice_range xs n m
 range_kept xs ys n m o l =
     ap (take (m - n)) (drop-append-le n xs ys (omega (arith, o, l)))
     ∙ take-append-le (m - n) (drop n xs) ys (let long = length-drop n xs in omega (arith, long, o, l))
 
-curve_kept : (old new : CurvesState) (ls : List Line) → new.lines ≡ old.lines ++ ls → (curve : Curve) (ps : List (List Step)) (least most : ℤ)
-    → IsCurveAt old curve ps least most → IsCurveAt new curve ps least most
-curve_kept old new ls lines curve ps least most is =
-    let same : lines_at new.lines curve ≡ lines_at old.lines curve = ap (λ (ws : List Line). lines_at ws curve) lines
-    ∙ range_kept old.lines ls curve.first (curve.first + curve.count) (omega arith) is.within in
-    let long = ap length lines ∙ length-append old.lines ls in
+curve_kept : (old new : CurvesState) (ls : List Segment) → new.segments ≡ old.segments ++ ls
+    → (curve : Curve) (ps : List (List Step)) (least most : ℤ) → IsCurveAt old curve ps least most → IsCurveAt new curve ps least most
+curve_kept old new ls segments curve ps least most is =
+    let same : segments_at new.segments curve ≡ segments_at old.segments curve = ap (λ (ws : List Segment). segments_at ws curve) segments
+    ∙ range_kept old.segments ls curve.first (curve.first + curve.count) (omega arith) is.within in
+    let long = ap length segments ∙ length-append old.segments ls in
     let within = is.within in
     record {
       within = omega (arith, long, within);
       is_curve = subst (IsCurve ps least most) (sym same) is.is_curve;
       ends = λ some. (let ends = is.ends some in
-          (ends.0 ∙ ap bottom_of (sym same), ends.1 ∙ ap (λ (ws : List Line). end_of ws (pos 0)) (sym same)));
+          (ends.0 ∙ ap bottom_of (sym same), ends.1 ∙ ap (λ (ws : List Segment). end_of ws (pos 0)) (sym same)));
       none = is.none;
     }
 
-pub keeps_more : (old new : CurvesState) (ls : List Line) → new.lines ≡ old.lines ++ ls
+pub keeps_more : (old new : CurvesState) (ls : List Segment) → new.segments ≡ old.segments ++ ls
     → take (length old.losses) new.losses ≡ old.losses → Keeps old new
-keeps_more old new ls lines losses = record { curves = curve_kept old new ls lines; losses = losses }
+keeps_more old new ls segments losses = record { curves = curve_kept old new ls segments; losses = losses }
 
-count_is : (lines : List Line) (curve : Curve) → curve.first + curve.count ≤ length lines → length (lines_at lines curve) ≡ curve.count
-count_is lines curve l =
-    let long = length-drop curve.first lines in
-    let part = length-take-le (curve.first + curve.count - curve.first) (drop curve.first lines) (omega (arith, long, l)) in
+count_is : (segments : List Segment) (curve : Curve) → curve.first + curve.count ≤ length segments
+    → length (segments_at segments curve) ≡ curve.count
+count_is segments curve l =
+    let long = length-drop curve.first segments in
+    let part = length-take-le (curve.first + curve.count - curve.first) (drop curve.first segments) (omega (arith, long, l)) in
     omega (arith, part)
 
-pub no_line : (ls : List Line) (net : ℤ) → length ls ≡ 0 → IsOutside ls net
-no_line [] net e = tt
-no_line (line ∷ ls) net e = absurd (omega (arith, e))
+pub no_segment : (ls : List Segment) (net : ℤ) → length ls ≡ 0 → IsOutside ls net
+no_segment [] net e = tt
+no_segment (segment ∷ ls) net e = absurd (omega (arith, e))
 
 -- ---- outside of the curve
 pub none_there : (curves : CurvesState) (curve : Curve) (ps : List (List Step)) (least most net : ℤ) → IsCurveAt curves curve ps least most
@@ -80,41 +81,44 @@ pub none_there : (curves : CurvesState) (curve : Curve) (ps : List (List Step)) 
 none_there curves curve ps least most net is low high o =
     sym (is.is_curve.outside net low high (elim (cases_lt 0 curve.count) [
       | inl some ↦
-          (let ends = is.ends some in let long = count_is curves.lines curve is.within in
-          outside_from (lines_at curves.lines curve) net (omega (arith, some, long)) (moved curve.bottom curve.top _ _ o ends.0 ends.1))
-      | inr none ↦ (let long = count_is curves.lines curve is.within in no_line (lines_at curves.lines curve) net (omega (arith, none, long)))
+          (let ends = is.ends some in let long = count_is curves.segments curve is.within in
+          outside_from (segments_at curves.segments curve) net (omega (arith, some, long))
+          (moved curve.bottom curve.top _ _ o ends.0 ends.1))
+      | inr none ↦ (let long = count_is curves.segments curve is.within in
+          no_segment (segments_at curves.segments curve) net (omega (arith, none, long)))
     ]))
   where
     moved : (b t x y : ℤ) → (net <ℤ b) ⊎ (t <ℤ net) → b ≡ x → t ≡ y → (net <ℤ x) ⊎ (y <ℤ net)
     moved b t x y (inl less) e k = inl (omega (arith, ints, less, e))
     moved b t x y (inr more) e k = inr (omega (arith, ints, more, k))
 
--- ---- the line at a net volume
-pub record IsWithin (ls : List Line) (net : ℤ) : Type 0 where
+-- ---- the segment at a net volume
+pub record IsWithin (ls : List Segment) (net : ℤ) : Type 0 where
   pub some : 0 < length ls
-  pub first : (d : Line) → net ≤ℤ (get_or ls 0 d).most
-  pub last : (d : Line) → (get_or ls (length ls - 1) d).most ≤ℤ net
+  pub first : (d : Segment) → net ≤ℤ (get_or ls 0 d).most
+  pub last : (d : Segment) → (get_or ls (length ls - 1) d).most ≤ℤ net
 
-pub within_lines : (ls : List Line) (net at : ℤ) → at ≡ net → 0 < length ls → bottom_of ls ≤ℤ net → net ≤ℤ end_of ls (pos 0) → IsWithin ls at
-within_lines ls net at same some low high = record {
+pub within_segments : (ls : List Segment) (net at : ℤ) → at ≡ net → 0 < length ls → bottom_of ls ≤ℤ net → net ≤ℤ end_of ls (pos 0)
+    → IsWithin ls at
+within_segments ls net at same some low high = record {
   some = some;
   first = λ d. (let top = end_at ls d some in omega (arith, ints, top, high, same));
   last = λ d. (let bottom = bottom_at ls (length ls - 1) d (omega (arith, some)) in omega (arith, ints, bottom, low, same));
 }
 
-pub value_from : (f : ℤ → Option ℤ) (ls : List Line) (net : ℤ) (place : ℕ) (d : Line) → AreLines f ls (bottom_of ls)
-    → (get_or ls (length ls - 1) d).most ≤ℤ net → place < length ls → ((e : Line) → net ≤ℤ (get_or ls place e).most)
-    → ((e : Line) → place + 1 < length ls → (get_or ls (place + 1) e).most ≤ℤ net)
-    → Some (line_at (get_or ls place d) net) ≡ f net
+pub value_from : (f : ℤ → Option ℤ) (ls : List Segment) (net : ℤ) (place : ℕ) (d : Segment) → AreSegments f ls (bottom_of ls)
+    → (get_or ls (length ls - 1) d).most ≤ℤ net → place < length ls → ((e : Segment) → net ≤ℤ (get_or ls place e).most)
+    → ((e : Segment) → place + 1 < length ls → (get_or ls (place + 1) e).most ≤ℤ net)
+    → Some (segment_at (get_or ls place d) net) ≡ f net
 value_from f ls net place d are last l holds next =
     let stands = stands_from ls net place holds next in
-    let here = line_here f ls net place d are (place_from ls net place d l last) stands in
+    let here = segment_here f ls net place d are (place_from ls net place d l last) stands in
     sym (here.1.each net here.2 (holds d))
 
-pub value_at : (f : ℤ → Option ℤ) (ls : List Line) (net : ℤ) (place : ℕ) (d : Line) → AreLines f ls (bottom_of ls) → IsWithin ls net
-    → place < length ls → ((e : Line) → net ≤ℤ (get_or ls place e).most)
-    → ((e : Line) → place + 1 < length ls → (get_or ls (place + 1) e).most ≤ℤ net)
-    → Some (line_at (get_or ls place d) net) ≡ f net
+pub value_at : (f : ℤ → Option ℤ) (ls : List Segment) (net : ℤ) (place : ℕ) (d : Segment) → AreSegments f ls (bottom_of ls)
+    → IsWithin ls net → place < length ls → ((e : Segment) → net ≤ℤ (get_or ls place e).most)
+    → ((e : Segment) → place + 1 < length ls → (get_or ls (place + 1) e).most ≤ℤ net)
+    → Some (segment_at (get_or ls place d) net) ≡ f net
 value_at f ls net place d are within l holds next = value_from f ls net place d are (within.last d) l holds next
 
 -- ---- how large the numbers are
@@ -126,19 +130,20 @@ product_small (negsuc h) y n m a b c e =
     let turned : negsuc h *ℤ y ≡ neg_ℤ (pos (suc h) *ℤ y) = omega (arith, ints) in
     (omega (arith, ints, t.0, t.1, turned), omega (arith, ints, t.0, t.1, turned))
 
--- a line at a net volume of 32 bits
-pub record AreSmallAt (line : Line) (net : ℤ) : Type 0 where
-  pub price_at_least : neg_ℤ (pos (last_period * greatest_price)) ≤ℤ line.price
-  pub price_at_most : line.price ≤ℤ pos (last_period * greatest_price)
-  pub product_at_least : neg_ℤ (pos ((last_period * greatest_price) * 2147483648)) ≤ℤ (line.price *ℤ net)
-  pub product_at_most : (line.price *ℤ net) ≤ℤ pos ((last_period * greatest_price) * 2147483648)
-  pub surplus_at_least : neg_ℤ (pos (last_period * greatest_line_surplus)) ≤ℤ line.surplus
-  pub surplus_at_most : line.surplus ≤ℤ pos (last_period * greatest_line_surplus)
+-- a segment at a net volume of 32 bits
+pub record AreSmallAt (segment : Segment) (net : ℤ) : Type 0 where
+  pub price_at_least : neg_ℤ (pos (last_period * greatest_price)) ≤ℤ segment.price
+  pub price_at_most : segment.price ≤ℤ pos (last_period * greatest_price)
+  pub product_at_least : neg_ℤ (pos ((last_period * greatest_price) * 2147483648)) ≤ℤ (segment.price *ℤ net)
+  pub product_at_most : (segment.price *ℤ net) ≤ℤ pos ((last_period * greatest_price) * 2147483648)
+  pub surplus_at_least : neg_ℤ (pos (last_period * greatest_segment_surplus)) ≤ℤ segment.surplus
+  pub surplus_at_most : segment.surplus ≤ℤ pos (last_period * greatest_segment_surplus)
 
-pub small_at_net : (line : Line) (net : ℤ) → IsSmallLine last_period line → neg_ℤ (pos 2147483648) ≤ℤ net → net ≤ℤ pos 2147483648
-    → AreSmallAt line net
-small_at_net line net small low high =
-    let product = product_small line.price net (last_period * greatest_price) 2147483648 small.price_at_least small.price_at_most low high in
+pub small_at_net : (segment : Segment) (net : ℤ) → IsSmallSegment last_period segment → neg_ℤ (pos 2147483648) ≤ℤ net
+    → net ≤ℤ pos 2147483648 → AreSmallAt segment net
+small_at_net segment net small low high =
+    let product = product_small segment.price net (last_period * greatest_price) 2147483648 small.price_at_least small.price_at_most
+    low high in
     record {
       price_at_least = small.price_at_least;
       price_at_most = small.price_at_most;
@@ -148,8 +153,8 @@ small_at_net line net small low high =
       surplus_at_most = small.surplus_at_most;
     }
 
-pub small_wide : (ps : List (List Step)) (least most : ℤ) (ls : List Line) (place : ℕ) (d : Line) → IsCurve ps least most ls
-    → place < length ls → IsSmallLine last_period (get_or ls place d)
+pub small_wide : (ps : List (List Step)) (least most : ℤ) (ls : List Segment) (place : ℕ) (d : Segment) → IsCurve ps least most ls
+    → place < length ls → IsSmallSegment last_period (get_or ls place d)
 small_wide ps least most ls place d is l =
     let small = small_at (length ps) ls place d is.small l in
     let few = is.few in
@@ -162,28 +167,29 @@ small_wide ps least most ls place d is l =
     }
 
 -- in the numbers of the machine
-pub record FitsAt (line : Line) (price net : ℤ) : Type 0 where
+pub record FitsAt (segment : Segment) (price net : ℤ) : Type 0 where
   pub product : FitsSigned w64 (price *ℤ net)
-  pub sum : FitsSigned w64 (to_z w64 (of_z w64 line.surplus) +ℤ to_z w64 (of_z w64 (price *ℤ net)))
-  pub value : to_z w64 (of_z w64 (to_z w64 (of_z w64 line.surplus) +ℤ to_z w64 (of_z w64 (price *ℤ net)))) ≡ line_at line net
+  pub sum : FitsSigned w64 (to_z w64 (of_z w64 segment.surplus) +ℤ to_z w64 (of_z w64 (price *ℤ net)))
+  pub value : to_z w64 (of_z w64 (to_z w64 (of_z w64 segment.surplus) +ℤ to_z w64 (of_z w64 (price *ℤ net)))) ≡ segment_at segment net
 
-fits_at : (line : Line) (price net wide : ℤ) → AreSmallAt line net → wide ≡ to_z w32 (of_z w32 line.price) → price ≡ to_z w64 (of_z w64 wide)
-    → FitsAt line price net
-fits_at line price net wide small e k =
+fits_at : (segment : Segment) (price net wide : ℤ) → AreSmallAt segment net → wide ≡ to_z w32 (of_z w32 segment.price)
+    → price ≡ to_z w64 (of_z w64 wide) → FitsAt segment price net
+fits_at segment price net wide small e k =
     let p = small.price_at_least in let q = small.price_at_most in
     let a = small.product_at_least in let b = small.product_at_most in
     let s = small.surplus_at_least in let t = small.surplus_at_most in
-    let is : price ≡ line.price = omega (arith, ints, p, q, e, k) in
+    let is : price ≡ segment.price = omega (arith, ints, p, q, e, k) in
     let same = ap (λ (z : ℤ). z *ℤ net) is in
-    let surplus : to_z w64 (of_z w64 line.surplus) ≡ line.surplus = omega (arith, ints, s, t) in
-    let product : to_z w64 (of_z w64 (price *ℤ net)) ≡ line.price *ℤ net = omega (arith, ints, a, b, same) in
+    let surplus : to_z w64 (of_z w64 segment.surplus) ≡ segment.surplus = omega (arith, ints, s, t) in
+    let product : to_z w64 (of_z w64 (price *ℤ net)) ≡ segment.price *ℤ net = omega (arith, ints, a, b, same) in
     record {
       product = omega (arith, ints, a, b, same);
       sum = omega (arith, ints, a, b, s, t, surplus, product);
       value = omega (arith, ints, a, b, s, t, surplus, product);
     }
 
-pub valued : (line : Line) (price wide net at : ℤ) → IsSmallLine last_period line → neg_ℤ (pos 2147483648) ≤ℤ net
-    → net ≤ℤ pos 2147483648 → at ≡ net → wide ≡ to_z w32 (of_z w32 line.price) → price ≡ to_z w64 (of_z w64 wide) → FitsAt line price at
-valued line price wide net at small low high same e k =
-    fits_at line price at wide (small_at_net line at small (omega (arith, ints, low, same)) (omega (arith, ints, high, same))) e k
+pub valued : (segment : Segment) (price wide net at : ℤ) → IsSmallSegment last_period segment → neg_ℤ (pos 2147483648) ≤ℤ net
+    → net ≤ℤ pos 2147483648 → at ≡ net → wide ≡ to_z w32 (of_z w32 segment.price) → price ≡ to_z w64 (of_z w64 wide)
+    → FitsAt segment price at
+valued segment price wide net at small low high same e k =
+    fits_at segment price at wide (small_at_net segment at small (omega (arith, ints, low, same)) (omega (arith, ints, high, same))) e k

@@ -5,7 +5,7 @@ use Rattle.std.proofs.lemmas.Bool.{cases_lt}
 use Rattle.std.proofs.lemmas.List.{take_all, take-take, get_or_append_left}
 use Rattle.dam_hour.specs.declared.step.Step.{Step}
 use Rattle.dam_hour.specs.Execution.{IsNetVolume}
-use Rattle.dam_curve.specs.declared.line.Line.{Line}
+use Rattle.dam_curve.specs.declared.segment.Segment.{Segment}
 use Rattle.dam_curve.specs.declared.losses.Choice.{Choice}
 use Rattle.dam_curve.specs.declared.losses.Loss.{Loss}
 use Rattle.dam_curve.specs.Losses.{IsLoss, IsLossAt}
@@ -20,7 +20,7 @@ loss_stays xs ys before after choice net place is = record {
 }
 
 -- the losses of the net volumes from the least to this one stand after those that were there
-pub record AreLossesSoFar (earlier later : List Line) (choice : Choice) (old losses : List Loss) (least net : ℤ) : Type 0 where
+pub record AreLossesSoFar (earlier later : List Segment) (choice : Choice) (old losses : List Loss) (least net : ℤ) : Type 0 where
   pub at_least : least ≤ℤ net
   pub long : pos (length losses) +ℤ least ≡ pos (length old) +ℤ net
   pub kept : take (length old) losses ≡ old
@@ -28,7 +28,7 @@ pub record AreLossesSoFar (earlier later : List Line) (choice : Choice) (old los
       → AreReadAt earlier later later choice before after at → pos place +ℤ least ≡ pos (length old) +ℤ at
       → IsLossAt losses before after choice at place
 
-pub losses_none : (earlier later : List Line) (choice : Choice) (old losses : List Loss) (least : ℤ) → losses ≡ old
+pub losses_none : (earlier later : List Segment) (choice : Choice) (old losses : List Loss) (least : ℤ) → losses ≡ old
     → AreLossesSoFar earlier later choice old losses least least
 losses_none earlier later choice old losses least e =
     let long = ap (λ (xs : List Loss). length xs) e in
@@ -39,7 +39,7 @@ losses_none earlier later choice old losses least e =
       each = λ before after at place low to read f. absurd (let no : 0 < 0 = omega (arith, ints, low, to) in omega (arith, no));
     }
 
-pub losses_more : (earlier later : List Line) (choice : Choice) (old losses more : List Loss) (least net last next : ℤ)
+pub losses_more : (earlier later : List Segment) (choice : Choice) (old losses more : List Loss) (least net last next : ℤ)
     → AreLossesFrom earlier later later choice losses more net last → net ≤ℤ last → next ≡ last +ℤ pos 1
     → AreLossesSoFar earlier later choice old losses least net → AreLossesSoFar earlier later choice old more least next
 losses_more earlier later choice old losses more least net last next from ordered step so_far =

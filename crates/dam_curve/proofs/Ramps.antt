@@ -1,4 +1,4 @@
--- The losses between two straight lines change evenly, and the numbers kept of them.
+-- The losses between two segments change evenly, and the numbers kept of them.
 use Rattle.std.proofs.Common.{◌≡◌, ℕ, ◌+◌, ◌*◌, ℤ, pos, negsuc, neg_ℤ, ◌+ℤ◌, ◌-ℤ◌, ◌*ℤ◌, ◌≤ℤ◌, ◌<ℤ◌, Option, Some, List, [], ◌∷◌, ◌++◌, length, length-append}
 use Rattle.std.proofs.Common.{to_z, of_z, w32, w64, ap, ap₂, ◌∙◌, sym, subst, inl, inr, arith}
 use Rattle.std.proofs.lemmas.Int.{ints}
@@ -6,15 +6,15 @@ use borrow.Author.Differences.{up, down}
 use Rattle.std.proofs.lemmas.Bool.{cases_lt}
 use Rattle.std.proofs.lemmas.List.{take-append-le, get_or_append_left, get_or_push}
 use Rattle.dam_book.specs.Limits.{last_period}
-use Rattle.dam_curve.specs.declared.line.Line.{Line}
+use Rattle.dam_curve.specs.declared.segment.Segment.{Segment}
 use Rattle.dam_curve.specs.declared.losses.Loss.{Loss}
 use Rattle.dam_curve.specs.declared.ramp.Ramp.{Ramp}
-use Rattle.dam_curve.specs.Curve.{both, line_at, IsSmallLine}
+use Rattle.dam_curve.specs.Curve.{both, segment_at, IsSmallSegment}
 use Rattle.dam_curve.specs.Losses.{greatest_loss, IsKept}
-use Rattle.dam_curve.specs.inside.Ramp.{kept_number, line_value, ramp_at, FitsIn64Bits, loss_on, AreWritten}
+use Rattle.dam_curve.specs.inside.Ramp.{kept_number, segment_value, ramp_at, FitsIn64Bits, loss_on, AreWritten}
 use Rattle.dam_curve.proofs.LookingUp.{small_at_net}
 
--- ---- along two lines
+-- ---- along two segments
 times_further : (p net : ℤ) (i : ℕ) → p *ℤ (net +ℤ pos i) ≡ p *ℤ net +ℤ p *ℤ pos i
 times_further p net i =
     let k : up (net +ℤ pos i) + down net ≡ (down (net +ℤ pos i) + up net) + i = omega (arith, ints) in
@@ -28,17 +28,18 @@ minus_times a b x =
     let m = ap (λ (n : ℕ). n * x) e in
     omega (arith, ints, m)
 
-further : (l : Line) (net : ℤ) (i : ℕ) → line_at l (net +ℤ pos i) ≡ line_at l net +ℤ l.price *ℤ pos i
+further : (l : Segment) (net : ℤ) (i : ℕ) → segment_at l (net +ℤ pos i) ≡ segment_at l net +ℤ l.price *ℤ pos i
 further l net i = let product = times_further l.price net i in omega (arith, ints, product)
 
-pub ramp_is : (b a : Line) (ramp : Ramp) (net added value : ℤ) (i : ℕ) → ramp.loss ≡ line_at b net -ℤ (value +ℤ line_at a (net +ℤ added))
-    → ramp.step ≡ b.price -ℤ a.price
-    → ramp_at ramp i ≡ line_at b (net +ℤ pos i) -ℤ (value +ℤ line_at a ((net +ℤ pos i) +ℤ added))
+pub ramp_is : (b a : Segment) (ramp : Ramp) (net added value : ℤ) (i : ℕ)
+    → ramp.loss ≡ segment_at b net -ℤ (value +ℤ segment_at a (net +ℤ added)) → ramp.step ≡ b.price -ℤ a.price
+    → ramp_at ramp i ≡ segment_at b (net +ℤ pos i) -ℤ (value +ℤ segment_at a ((net +ℤ pos i) +ℤ added))
 ramp_is b a ramp net added value i e f =
     let here = further b net i in
     let there = further a (net +ℤ added) i in
     let same : (net +ℤ added) +ℤ pos i ≡ (net +ℤ pos i) +ℤ added = omega (arith, ints) in
-    let moved : line_at a ((net +ℤ pos i) +ℤ added) ≡ line_at a (net +ℤ added) +ℤ a.price *ℤ pos i = ap (line_at a) (sym same) ∙ there in
+    let moved : segment_at a ((net +ℤ pos i) +ℤ added) ≡ segment_at a (net +ℤ added) +ℤ a.price *ℤ pos i =
+    ap (segment_at a) (sym same) ∙ there in
     let step = ap (λ (z : ℤ). z *ℤ pos i) f in
     let apart = minus_times b.price a.price i in
     omega (arith, ints, e, step, apart, here, moved)
@@ -51,40 +52,43 @@ kept_is (pos n) w after e below = elim (cases_lt n greatest_loss) [
 ]
 kept_is (negsuc n) w after e below = absurd (omega (arith, ints, e, below))
 
-same_value : (b : Line) (x w : ℤ) → Some (line_at b x) ≡ Some w → line_at b x ≡ w
+same_value : (b : Segment) (x w : ℤ) → Some (segment_at b x) ≡ Some w → segment_at b x ≡ w
 same_value b x w e = cc
 
-between_lines : (b a : Line) (ramp : Ramp) (net added value : ℤ) → ramp.loss ≡ line_at b net -ℤ (value +ℤ line_at a (net +ℤ added))
-    → ramp.step ≡ b.price -ℤ a.price → (i : ℕ) (w : ℤ) → line_value (Some b) (net +ℤ pos i) ≡ Some w
-    → IsKept (kept_number (ramp_at ramp i)) w (both (Some value) (line_value (Some a) ((net +ℤ pos i) +ℤ added)))
-between_lines b a ramp net added value e f i w is =
-    kept_is (ramp_at ramp i) w (value +ℤ line_at a ((net +ℤ pos i) +ℤ added))
-    (ramp_is b a ramp net added value i e f ∙ ap (λ (z : ℤ). z -ℤ (value +ℤ line_at a ((net +ℤ pos i) +ℤ added))) (same_value b (net +ℤ pos i) w is))
+between_segments : (b a : Segment) (ramp : Ramp) (net added value : ℤ)
+    → ramp.loss ≡ segment_at b net -ℤ (value +ℤ segment_at a (net +ℤ added))
+    → ramp.step ≡ b.price -ℤ a.price → (i : ℕ) (w : ℤ) → segment_value (Some b) (net +ℤ pos i) ≡ Some w
+    → IsKept (kept_number (ramp_at ramp i)) w (both (Some value) (segment_value (Some a) ((net +ℤ pos i) +ℤ added)))
+between_segments b a ramp net added value e f i w is =
+    kept_is (ramp_at ramp i) w (value +ℤ segment_at a ((net +ℤ pos i) +ℤ added))
+    (ramp_is b a ramp net added value i e f
+    ∙ ap (λ (z : ℤ). z -ℤ (value +ℤ segment_at a ((net +ℤ pos i) +ℤ added))) (same_value b (net +ℤ pos i) w is))
 
-pub kept_between_lines : (before after : Option Line) (b a : Line) (loss step net added value : ℤ) → before ≡ Some b → after ≡ Some a
-    → loss ≡ line_at b net -ℤ (value +ℤ line_at a (net +ℤ added)) → step ≡ b.price -ℤ a.price → (i : ℕ) (w : ℤ)
-    → line_value before (net +ℤ pos i) ≡ Some w
-    → IsKept (kept_number (loss +ℤ step *ℤ pos i)) w (both (Some value) (line_value after ((net +ℤ pos i) +ℤ added)))
-kept_between_lines before after b a loss step net added value own other e f i w is =
-    subst (λ (o : Option Line). IsKept (kept_number (loss +ℤ step *ℤ pos i)) w (both (Some value) (line_value o ((net +ℤ pos i) +ℤ added))))
+pub kept_between_segments : (before after : Option Segment) (b a : Segment) (loss step net added value : ℤ) → before ≡ Some b
+    → after ≡ Some a → loss ≡ segment_at b net -ℤ (value +ℤ segment_at a (net +ℤ added)) → step ≡ b.price -ℤ a.price → (i : ℕ) (w : ℤ)
+    → segment_value before (net +ℤ pos i) ≡ Some w
+    → IsKept (kept_number (loss +ℤ step *ℤ pos i)) w (both (Some value) (segment_value after ((net +ℤ pos i) +ℤ added)))
+kept_between_segments before after b a loss step net added value own other e f i w is =
+    subst (λ (o : Option Segment). IsKept (kept_number (loss +ℤ step *ℤ pos i)) w
+    (both (Some value) (segment_value o ((net +ℤ pos i) +ℤ added))))
     (sym other)
-    (between_lines b a (record { loss = loss; step = step }) net added value e f i w
-    (subst (λ (o : Option Line). line_value o (net +ℤ pos i) ≡ Some w) own is))
+    (between_segments b a (record { loss = loss; step = step }) net added value e f i w
+    (subst (λ (o : Option Segment). segment_value o (net +ℤ pos i) ≡ Some w) own is))
 
 -- ---- how large the losses are
 pub record IsSmallValue (z : ℤ) : Type 0 where
   pub at_least : neg_ℤ (pos 288230376151711744) ≤ℤ z
   pub at_most : z ≤ℤ pos 288230376151711744
 
-pub small_value : (l : Line) (net : ℤ) → IsSmallLine last_period l → neg_ℤ (pos 2147483648) ≤ℤ net → net ≤ℤ pos 2147483648
-    → IsSmallValue (line_at l net)
+pub small_value : (l : Segment) (net : ℤ) → IsSmallSegment last_period l → neg_ℤ (pos 2147483648) ≤ℤ net → net ≤ℤ pos 2147483648
+    → IsSmallValue (segment_at l net)
 small_value l net small low high =
     let at = small_at_net l net small low high in
     let a = at.product_at_least in let b = at.product_at_most in let s = at.surplus_at_least in let t = at.surplus_at_most in
     record { at_least = omega (arith, ints, a, s); at_most = omega (arith, ints, b, t) }
 
-pub fits_between : (b a : Line) (loss step net added value : ℤ) → loss ≡ line_at b net -ℤ (value +ℤ line_at a (net +ℤ added))
-    → step ≡ b.price -ℤ a.price → IsSmallLine last_period b → IsSmallLine last_period a
+pub fits_between : (b a : Segment) (loss step net added value : ℤ) → loss ≡ segment_at b net -ℤ (value +ℤ segment_at a (net +ℤ added))
+    → step ≡ b.price -ℤ a.price → IsSmallSegment last_period b → IsSmallSegment last_period a
     → neg_ℤ (pos 4611686018427387904) ≤ℤ value → value ≤ℤ pos 4611686018427387904 → neg_ℤ (pos 2147483648) ≤ℤ net
     → neg_ℤ (pos 2147483648) ≤ℤ (net +ℤ added) → (i : ℕ) → (net +ℤ pos i) ≤ℤ pos 2147483648
     → ((net +ℤ pos i) +ℤ added) ≤ℤ pos 2147483648 → FitsIn64Bits (loss +ℤ step *ℤ pos i)
@@ -144,8 +148,9 @@ narrow b x e low high =
     let same : to_z w32 (of_z w32 b) ≡ b = omega (arith, ints, low, high) in
     omega (arith, ints, e, same, low, high)
 
-pub step_in_machine : (b a : Line) (x y : ℤ) → x ≡ to_z w32 (of_z w32 b.price) → y ≡ to_z w32 (of_z w32 a.price) → IsSmallLine last_period b
-    → IsSmallLine last_period a → to_z w64 (of_z w64 (to_z w64 (of_z w64 x) -ℤ to_z w64 (of_z w64 y))) ≡ b.price -ℤ a.price
+pub step_in_machine : (b a : Segment) (x y : ℤ) → x ≡ to_z w32 (of_z w32 b.price) → y ≡ to_z w32 (of_z w32 a.price)
+    → IsSmallSegment last_period b
+    → IsSmallSegment last_period a → to_z w64 (of_z w64 (to_z w64 (of_z w64 x) -ℤ to_z w64 (of_z w64 y))) ≡ b.price -ℤ a.price
 step_in_machine b a x y e f small small2 =
     let p = small.price_at_least in let q = small.price_at_most in let r = small2.price_at_least in let s = small2.price_at_most in
     let own = narrow b.price x e (omega (arith, ints, p)) (omega (arith, ints, q)) in

@@ -1,33 +1,36 @@
--- The lines of a curve at a net volume, and the welfare that is read from them.
+-- The segments of a curve at a net volume, and the welfare that is read from them.
 use Rattle.std.proofs.Common.{◌≡◌, ◌-◌, ◌<◌, ℤ, pos, neg_ℤ, ◌≤ℤ◌, ◌<ℤ◌, ◌+ℤ◌, None, List, length, get_or, to_z, of_z, w32, w64, sym, subst, inl, inr, refl, arith}
 use Rattle.std.proofs.lemmas.Int.{ints}
 use Rattle.dam_hour.specs.declared.step.Step.{Step}
 use Rattle.dam_hour.specs.Execution.{IsNetVolume}
-use Rattle.dam_curve.specs.declared.line.Line.{Line}
+use Rattle.dam_curve.specs.declared.segment.Segment.{Segment}
 use Rattle.dam_curve.specs.declared.curves.Curve.{Curve}
 use Rattle.dam_curve.specs.declared.losses.Choice.{Choice}
-use Rattle.dam_curve.specs.Curve.{joint_welfare, end_of, bottom_of, IsOutside, IsCurve, CurvesState, lines_at, greatest_joint_welfare}
+use Rattle.dam_curve.specs.Curve.{joint_welfare, end_of, bottom_of, IsOutside, IsCurve, CurvesState, segments_at, greatest_joint_welfare}
 use Rattle.dam_curve.specs.Losses.{IsOnCurve, IsChoiceAt}
-use Rattle.dam_curve.specs.inside.Reading.{IsOnLines, AreReadAt}
-use Rattle.dam_curve.proofs.ListsOfLines.{bottom_at}
+use Rattle.dam_curve.specs.inside.Reading.{IsOnSegments, AreReadAt}
+use Rattle.dam_curve.proofs.ListsOfSegments.{bottom_at}
 use Rattle.dam_curve.proofs.Adding.{end_at, outside_from}
 
--- ---- beyond the lines
-pub under_lines : (ls : List Line) (net : ℤ) → 0 < length ls → (d : Line) → net <ℤ (get_or ls (length ls - 1) d).most → IsOutside ls net
-under_lines ls net some d less =
+-- ---- beyond the segments
+pub under_segments : (ls : List Segment) (net : ℤ) → 0 < length ls → (d : Segment) → net <ℤ (get_or ls (length ls - 1) d).most
+    → IsOutside ls net
+under_segments ls net some d less =
     let bottom = bottom_at ls (length ls - 1) d (omega (arith, some)) in outside_from ls net some (inl (omega (arith, ints, bottom, less)))
 
-pub over_lines : (ls : List Line) (net : ℤ) → 0 < length ls → (d : Line) → (get_or ls 0 d).most <ℤ net → IsOutside ls net
-over_lines ls net some d more = let top = end_at ls d some in outside_from ls net some (inr (omega (arith, ints, top, more)))
+pub over_segments : (ls : List Segment) (net : ℤ) → 0 < length ls → (d : Segment) → (get_or ls 0 d).most <ℤ net → IsOutside ls net
+over_segments ls net some d more = let top = end_at ls d some in outside_from ls net some (inr (omega (arith, ints, top, more)))
 
 -- ---- between their ends
-pub over_bottom : (ls : List Line) (net : ℤ) → 0 < length ls → (d : Line) → (get_or ls (length ls - 1) d).most ≤ℤ net → bottom_of ls ≤ℤ net
+pub over_bottom : (ls : List Segment) (net : ℤ) → 0 < length ls → (d : Segment) → (get_or ls (length ls - 1) d).most ≤ℤ net
+    → bottom_of ls ≤ℤ net
 over_bottom ls net some d more = let bottom = bottom_at ls (length ls - 1) d (omega (arith, some)) in omega (arith, ints, bottom, more)
 
-pub under_top : (ls : List Line) (net : ℤ) → 0 < length ls → (d : Line) → net ≤ℤ (get_or ls 0 d).most → net ≤ℤ end_of ls (pos 0)
+pub under_top : (ls : List Segment) (net : ℤ) → 0 < length ls → (d : Segment) → net ≤ℤ (get_or ls 0 d).most → net ≤ℤ end_of ls (pos 0)
 under_top ls net some d less = let top = end_at ls d some in omega (arith, ints, top, less)
 
-pub none_beyond : (ls : List Line) (ps : List (List Step)) (net : ℤ) → IsOnLines ls ps net → IsOutside ls net → None ≡ joint_welfare ps net
+pub none_beyond : (ls : List Segment) (ps : List (List Step)) (net : ℤ) → IsOnSegments ls ps net → IsOutside ls net
+    → None ≡ joint_welfare ps net
 none_beyond ls ps net on o = sym (on.curve_is.outside net on.at_least on.at_most o)
 
 -- ---- how large the welfare is
@@ -36,7 +39,7 @@ pub record IsSmallWelfare (w : ℤ) : Type 0 where
   pub at_most : w ≤ℤ pos greatest_joint_welfare
 
 -- ---- in the numbers of the machine
-pub net_volume : (ls : List Line) (ps : List (List Step)) (net : ℤ) → IsOnLines ls ps net → IsNetVolume net
+pub net_volume : (ls : List Segment) (ps : List (List Step)) (net : ℤ) → IsOnSegments ls ps net → IsNetVolume net
 net_volume ls ps net on =
     let least = on.curve_is.least_is.at_least in let most = on.curve_is.most_is.at_most in
     let low = on.at_least in let high = on.at_most in
@@ -59,10 +62,10 @@ value_added value welfare low high low2 high2 =
     let read : to_z w64 (of_z w64 welfare) ≡ welfare = omega (arith, ints, low2, high2) in
     omega (arith, ints, low, high, low2, high2, own, read)
 
--- ---- the lines of a choice's curves
-on_lines : (curves : CurvesState) (curve : Curve) (ls : List Line) (ps : List (List Step)) (net : ℤ) → ls ≡ lines_at curves.lines curve
-    → IsOnCurve curves curve ps net → IsOnLines ls ps net
-on_lines curves curve ls ps net e on = record {
+-- ---- the segments of a choice's curves
+on_segments : (curves : CurvesState) (curve : Curve) (ls : List Segment) (ps : List (List Step)) (net : ℤ)
+    → ls ≡ segments_at curves.segments curve → IsOnCurve curves curve ps net → IsOnSegments ls ps net
+on_segments curves curve ls ps net e on = record {
   least = on.least;
   most = on.most;
   curve_is = subst (IsCurve ps on.least on.most) (sym e) on.curve_is.is_curve;
@@ -73,13 +76,13 @@ on_lines curves curve ls ps net e on = record {
 pub net_on_curve : (curves : CurvesState) (curve : Curve) (ps : List (List Step)) (net : ℤ)
     → IsOnCurve curves curve ps net → IsNetVolume net
 net_on_curve curves curve ps net on =
-    net_volume (lines_at curves.lines curve) ps net (on_lines curves curve (lines_at curves.lines curve) ps net refl on)
+    net_volume (segments_at curves.segments curve) ps net (on_segments curves curve (segments_at curves.segments curve) ps net refl on)
 
-pub lines_read : (curves : CurvesState) (choice : Choice) (earlier later : List Line) (before after : List (List Step)) (net : ℤ)
-    → earlier ≡ lines_at curves.lines choice.before → later ≡ lines_at curves.lines choice.after
+pub segments_read : (curves : CurvesState) (choice : Choice) (earlier later : List Segment) (before after : List (List Step)) (net : ℤ)
+    → earlier ≡ segments_at curves.segments choice.before → later ≡ segments_at curves.segments choice.after
     → IsChoiceAt curves choice before after net → AreReadAt earlier later later choice before after net
-lines_read curves choice earlier later before after net e f at = record {
-  before_is = on_lines curves choice.before earlier before net e at.before_is;
-  left_is = on_lines curves choice.after later after net f at.left_is;
-  taken_is = on_lines curves choice.after later after (net +ℤ choice.net) f at.taken_is;
+segments_read curves choice earlier later before after net e f at = record {
+  before_is = on_segments curves choice.before earlier before net e at.before_is;
+  left_is = on_segments curves choice.after later after net f at.left_is;
+  taken_is = on_segments curves choice.after later after (net +ℤ choice.net) f at.taken_is;
 }

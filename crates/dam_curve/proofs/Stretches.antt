@@ -1,32 +1,32 @@
--- The stretches of a curve's lines, and the losses between the lines of three of them.
+-- The stretches of a curve's segments, and the losses between the segments of three of them.
 use Rattle.std.proofs.Common.{◌≡◌, ℕ, ◌+◌, ◌-◌, ◌<◌, ◌≤◌, ℤ, pos, neg_ℤ, ◌+ℤ◌, ◌-ℤ◌, ◌≤ℤ◌, ◌<ℤ◌, nat_abs, Option, Some, None, List, length, get_or, FitsSigned, to_z, of_z, w32, w64, ap, ◌∙◌, sym, subst, refl, arith}
 use Rattle.std.specs.Int.{int_min}
 use Rattle.std.proofs.lemmas.Int.{ints, int_min_is}
 use Rattle.std.proofs.lemmas.List.{get_or_default}
 use Rattle.dam_hour.specs.declared.step.Step.{Step}
 use Rattle.dam_hour.specs.Execution.{IsNetVolume}
-use Rattle.dam_curve.specs.declared.line.Line.{Line}
+use Rattle.dam_curve.specs.declared.segment.Segment.{Segment}
 use Rattle.dam_curve.specs.declared.losses.Choice.{Choice}
 use Rattle.dam_curve.specs.declared.losses.Loss.{Loss}
 use Rattle.dam_curve.specs.declared.ramp.Ramp.{Ramp}
-use Rattle.dam_curve.specs.Curve.{both, joint_welfare, AreLines, bottom_of}
+use Rattle.dam_curve.specs.Curve.{both, joint_welfare, AreSegments, bottom_of}
 use Rattle.dam_curve.specs.Losses.{IsKept, IsLoss}
 use Rattle.dam_curve.specs.inside.Reading.{AreReadAt}
-use Rattle.dam_curve.specs.inside.Ramp.{kept_number, line_value, ramp_at, loss_on, AreWritten, AreLossesFrom}
+use Rattle.dam_curve.specs.inside.Ramp.{kept_number, segment_value, ramp_at, loss_on, AreWritten, AreLossesFrom}
 use Rattle.dam_curve.proofs.LookingUp.{value_from}
 use Rattle.dam_curve.proofs.Reading.{net_volume}
 
 pub at_most_both : (x y z : ℤ) → z ≤ℤ x → z ≤ℤ y → z ≤ℤ int_min x y
 at_most_both x y z h k = let m = int_min_is x y in omega (arith, ints, m, h, k)
 
--- the line at a place holds from one net volume up to its greatest one, if it does at the first
-pub line_holds : (f : ℤ → Option ℤ) (ls : List Line) (net at : ℤ) (place : ℕ) (d : Line) → AreLines f ls (bottom_of ls)
+-- the segment at a place holds from one net volume up to its greatest one, if it does at the first
+pub segment_holds : (f : ℤ → Option ℤ) (ls : List Segment) (net at : ℤ) (place : ℕ) (d : Segment) → AreSegments f ls (bottom_of ls)
     → (get_or ls (length ls - 1) d).most ≤ℤ net → place < length ls
-    → ((e : Line) → place + 1 < length ls → (get_or ls (place + 1) e).most ≤ℤ net) → net ≤ℤ at → at ≤ℤ (get_or ls place d).most
-    → f at ≡ line_value (Some (get_or ls place d)) at
-line_holds f ls net at place d are last l next low high =
+    → ((e : Segment) → place + 1 < length ls → (get_or ls (place + 1) e).most ≤ℤ net) → net ≤ℤ at → at ≤ℤ (get_or ls place d).most
+    → f at ≡ segment_value (Some (get_or ls place d)) at
+segment_holds f ls net at place d are last l next low high =
     sym (value_from f ls at place d are (omega (arith, ints, last, low)) l
-    (λ e. (let same = ap (λ (x : Line). x.most) (get_or_default ls place d e l) in omega (arith, ints, high, same)))
+    (λ e. (let same = ap (λ (x : Segment). x.most) (get_or_default ls place d e l) in omega (arith, ints, high, same)))
     (λ e m. (let under = next e m in omega (arith, ints, under, low))))
 
 -- ---- net volumes in the numbers of the machine
@@ -104,57 +104,59 @@ span_of net last add from back wide own is e f =
       at_most = omega (arith, ints, e, f, low, high, a, b);
     }
 
-pub kept_moved : (own other : Option Line) (r : Ramp) (net added value n a v : ℤ) → n ≡ net → a ≡ added → v ≡ value
-    → ((i : ℕ) (w : ℤ) → line_value own (n +ℤ pos i) ≡ Some w
-    → IsKept (kept_number (ramp_at r i)) w (both (Some v) (line_value other ((n +ℤ pos i) +ℤ a))))
-    → (i : ℕ) (w : ℤ) → line_value own (net +ℤ pos i) ≡ Some w
-    → IsKept (kept_number (ramp_at r i)) w (both (Some value) (line_value other ((net +ℤ pos i) +ℤ added)))
+pub kept_moved : (own other : Option Segment) (r : Ramp) (net added value n a v : ℤ) → n ≡ net → a ≡ added → v ≡ value
+    → ((i : ℕ) (w : ℤ) → segment_value own (n +ℤ pos i) ≡ Some w
+    → IsKept (kept_number (ramp_at r i)) w (both (Some v) (segment_value other ((n +ℤ pos i) +ℤ a))))
+    → (i : ℕ) (w : ℤ) → segment_value own (net +ℤ pos i) ≡ Some w
+    → IsKept (kept_number (ramp_at r i)) w (both (Some value) (segment_value other ((net +ℤ pos i) +ℤ added)))
 kept_moved own other r net added value n a v e f h is i w there =
-    subst (λ (z : ℤ). IsKept (kept_number (ramp_at r i)) w (both (Some z) (line_value other ((net +ℤ pos i) +ℤ added)))) h
-    (subst (λ (z : ℤ). IsKept (kept_number (ramp_at r i)) w (both (Some v) (line_value other ((net +ℤ pos i) +ℤ z)))) f
-    (subst (λ (z : ℤ). IsKept (kept_number (ramp_at r i)) w (both (Some v) (line_value other ((z +ℤ pos i) +ℤ a)))) e
-    (is i w (ap (λ (z : ℤ). line_value own (z +ℤ pos i)) e ∙ there))))
+    subst (λ (z : ℤ). IsKept (kept_number (ramp_at r i)) w (both (Some z) (segment_value other ((net +ℤ pos i) +ℤ added)))) h
+    (subst (λ (z : ℤ). IsKept (kept_number (ramp_at r i)) w (both (Some v) (segment_value other ((net +ℤ pos i) +ℤ z)))) f
+    (subst (λ (z : ℤ). IsKept (kept_number (ramp_at r i)) w (both (Some v) (segment_value other ((z +ℤ pos i) +ℤ a)))) e
+    (is i w (ap (λ (z : ℤ). segment_value own (z +ℤ pos i)) e ∙ there))))
 
--- ---- the losses between lines
+-- ---- the losses between segments
 both_none : (x : Option ℤ) → both (Some (pos 0)) x ≡ x
 both_none None = refl
 both_none (Some z) = ap (λ (y : ℤ). Some y) (omega (arith, ints))
 
-loss_of_lines : (before after : List (List Step)) (choice : Choice) (own left taken : Option Line) (r s : Ramp) (net at : ℤ) (i : ℕ)
-    → at ≡ net +ℤ pos i → joint_welfare before at ≡ line_value own at → joint_welfare after at ≡ line_value left at
-    → joint_welfare after (at +ℤ choice.net) ≡ line_value taken (at +ℤ choice.net)
-    → ((w : ℤ) → line_value own (net +ℤ pos i) ≡ Some w
-    → IsKept (kept_number (ramp_at r i)) w (both (Some (pos 0)) (line_value left ((net +ℤ pos i) +ℤ pos 0))))
-    → ((w : ℤ) → line_value own (net +ℤ pos i) ≡ Some w
-    → IsKept (kept_number (ramp_at s i)) w (both (Some choice.value) (line_value taken ((net +ℤ pos i) +ℤ choice.net))))
+loss_of_segments : (before after : List (List Step)) (choice : Choice) (own left taken : Option Segment) (r s : Ramp) (net at : ℤ) (i : ℕ)
+    → at ≡ net +ℤ pos i → joint_welfare before at ≡ segment_value own at → joint_welfare after at ≡ segment_value left at
+    → joint_welfare after (at +ℤ choice.net) ≡ segment_value taken (at +ℤ choice.net)
+    → ((w : ℤ) → segment_value own (net +ℤ pos i) ≡ Some w
+    → IsKept (kept_number (ramp_at r i)) w (both (Some (pos 0)) (segment_value left ((net +ℤ pos i) +ℤ pos 0))))
+    → ((w : ℤ) → segment_value own (net +ℤ pos i) ≡ Some w
+    → IsKept (kept_number (ramp_at s i)) w (both (Some choice.value) (segment_value taken ((net +ℤ pos i) +ℤ choice.net))))
     → IsLoss before after choice at (loss_on r s i)
-loss_of_lines before after choice own left taken r s net at i e a b c is is2 =
-    let there : (w : ℤ) → joint_welfare before at ≡ Some w → line_value own (net +ℤ pos i) ≡ Some w =
-    λ w f. ap (line_value own) (sym e) ∙ sym a ∙ f in
+loss_of_segments before after choice own left taken r s net at i e a b c is is2 =
+    let there : (w : ℤ) → joint_welfare before at ≡ Some w → segment_value own (net +ℤ pos i) ≡ Some w =
+    λ w f. ap (segment_value own) (sym e) ∙ sym a ∙ f in
     let same : (net +ℤ pos i) +ℤ pos 0 ≡ at = omega (arith, ints, e) in
     record {
       left = λ w f. subst (IsKept (kept_number (ramp_at r i)) w)
-          (both_none (line_value left ((net +ℤ pos i) +ℤ pos 0)) ∙ ap (line_value left) same ∙ sym b) (is w (there w f));
+          (both_none (segment_value left ((net +ℤ pos i) +ℤ pos 0)) ∙ ap (segment_value left) same ∙ sym b) (is w (there w f));
       taken = λ w f. subst (IsKept (kept_number (ramp_at s i)) w)
-          (ap (λ (z : ℤ). both (Some choice.value) (line_value taken (z +ℤ choice.net))) (sym e) ∙ ap (both (Some choice.value)) (sym c))
+          (ap (λ (z : ℤ). both (Some choice.value) (segment_value taken (z +ℤ choice.net))) (sym e) ∙ ap (both (Some choice.value)) (sym c))
           (is2 w (there w f));
     }
 
--- the lines of the curves of a choice don't change between two net volumes
-pub record AreSteady (earlier before_end taken_lines : List Line) (choice : Choice) (own left taken : Option Line) (r s : Ramp) (net last : ℤ)
+-- the segments of the curves of a choice don't change between two net volumes
+pub record AreSteady (earlier before_end taken_segments : List Segment) (choice : Choice) (own left taken : Option Segment) (r s : Ramp)
+    (net last : ℤ)
     : Type 0 where
-  pub own_is : (ps : List (List Step)) (qs : List (List Step)) (at : ℤ) → AreReadAt earlier before_end taken_lines choice ps qs at → net ≤ℤ at
-      → at ≤ℤ last → joint_welfare ps at ≡ line_value own at
-  pub left_is : (ps : List (List Step)) (qs : List (List Step)) (at : ℤ) → AreReadAt earlier before_end taken_lines choice ps qs at → net ≤ℤ at
-      → at ≤ℤ last → joint_welfare qs at ≡ line_value left at
-  pub taken_is : (ps : List (List Step)) (qs : List (List Step)) (at : ℤ) → AreReadAt earlier before_end taken_lines choice ps qs at → net ≤ℤ at
-      → at ≤ℤ last → joint_welfare qs (at +ℤ choice.net) ≡ line_value taken (at +ℤ choice.net)
-  pub left_kept : (i : ℕ) (w : ℤ) → line_value own (net +ℤ pos i) ≡ Some w
-      → IsKept (kept_number (ramp_at r i)) w (both (Some (pos 0)) (line_value left ((net +ℤ pos i) +ℤ pos 0)))
-  pub taken_kept : (i : ℕ) (w : ℤ) → line_value own (net +ℤ pos i) ≡ Some w
-      → IsKept (kept_number (ramp_at s i)) w (both (Some choice.value) (line_value taken ((net +ℤ pos i) +ℤ choice.net)))
+  pub own_is : (ps : List (List Step)) (qs : List (List Step)) (at : ℤ) → AreReadAt earlier before_end taken_segments choice ps qs at
+      → net ≤ℤ at → at ≤ℤ last → joint_welfare ps at ≡ segment_value own at
+  pub left_is : (ps : List (List Step)) (qs : List (List Step)) (at : ℤ) → AreReadAt earlier before_end taken_segments choice ps qs at
+      → net ≤ℤ at → at ≤ℤ last → joint_welfare qs at ≡ segment_value left at
+  pub taken_is : (ps : List (List Step)) (qs : List (List Step)) (at : ℤ) → AreReadAt earlier before_end taken_segments choice ps qs at
+      → net ≤ℤ at → at ≤ℤ last → joint_welfare qs (at +ℤ choice.net) ≡ segment_value taken (at +ℤ choice.net)
+  pub left_kept : (i : ℕ) (w : ℤ) → segment_value own (net +ℤ pos i) ≡ Some w
+      → IsKept (kept_number (ramp_at r i)) w (both (Some (pos 0)) (segment_value left ((net +ℤ pos i) +ℤ pos 0)))
+  pub taken_kept : (i : ℕ) (w : ℤ) → segment_value own (net +ℤ pos i) ≡ Some w
+      → IsKept (kept_number (ramp_at s i)) w (both (Some choice.value) (segment_value taken ((net +ℤ pos i) +ℤ choice.net)))
 
-pub losses_from : (earlier later moved : List Line) (choice : Choice) (own left taken : Option Line) (r s : Ramp) (old losses : List Loss)
+pub losses_from : (earlier later moved : List Segment) (choice : Choice) (own left taken : Option Segment) (r s : Ramp)
+    (old losses : List Loss)
     (net last : ℤ) (count : ℕ) → pos count ≡ (last -ℤ net) +ℤ pos 1 → AreSteady earlier later moved choice own left taken r s net last
     → AreWritten old losses r s count → AreLossesFrom earlier later moved choice old losses net last
 losses_from earlier later moved choice own left taken r s old losses net last count e along written =
@@ -172,14 +174,14 @@ losses_from earlier later moved choice own left taken r s old losses net last co
             loss_is = λ d.
                 subst (IsLoss before after choice at)
                 (sym (ap (λ (n : ℕ). get_or losses n d) (sym stands) ∙ written.each i d inside))
-                (loss_of_lines before after choice own left taken r s net at i further (along.own_is before after at read low high)
+                (loss_of_segments before after choice own left taken r s net at i further (along.own_is before after at read low high)
                 (along.left_is before after at read low high) (along.taken_is before after at read low high) (along.left_kept i)
                 (along.taken_kept i));
           });
     }
 
 -- ---- a net volume of the choice, and the net volume after taking it
-pub moved_at : (earlier left taken : List Line) (choice : Choice) (net most from : ℤ) (ps qs : List (List Step))
+pub moved_at : (earlier left taken : List Segment) (choice : Choice) (net most from : ℤ) (ps qs : List (List Step))
     → ((at : ℤ) → net ≤ℤ at → at ≤ℤ most → AreReadAt earlier left taken choice ps qs at) → from ≡ to_z w32 (of_z w32 choice.net)
     → (at : ℤ) → net ≤ℤ at → at ≤ℤ most → AreMoved at choice.net from
 moved_at earlier left taken choice net most from ps qs read e at low high =
@@ -234,17 +236,17 @@ pub room_after : (len more cap cap2 size size2 : ℕ) (net last next most : ℤ)
     → (pos more +ℤ (most -ℤ next)) <ℤ pos cap2
 room_after len more cap cap2 size size2 net last next most e f long step same room = omega (arith, ints, e, f, long, step, same, room)
 
--- ---- the same lines
-pub read_as : (a b c x y : List Line) (choice : Choice) (ps qs : List (List Step)) (at : ℤ) → a ≡ x → b ≡ y → c ≡ y
+-- ---- the same segments
+pub read_as : (a b c x y : List Segment) (choice : Choice) (ps qs : List (List Step)) (at : ℤ) → a ≡ x → b ≡ y → c ≡ y
     → AreReadAt x y y choice ps qs at → AreReadAt a b c choice ps qs at
 read_as a b c x y choice ps qs at e f h read =
-    subst (λ (ls : List Line). AreReadAt ls b c choice ps qs at) (sym e)
-    (subst (λ (ls : List Line). AreReadAt x ls c choice ps qs at) (sym f)
-    (subst (λ (ls : List Line). AreReadAt x y ls choice ps qs at) (sym h) read))
+    subst (λ (ls : List Segment). AreReadAt ls b c choice ps qs at) (sym e)
+    (subst (λ (ls : List Segment). AreReadAt x ls c choice ps qs at) (sym f)
+    (subst (λ (ls : List Segment). AreReadAt x y ls choice ps qs at) (sym h) read))
 
-pub losses_as : (a b c x y : List Line) (choice : Choice) (old losses : List Loss) (net last : ℤ) → a ≡ x → b ≡ y → c ≡ y
+pub losses_as : (a b c x y : List Segment) (choice : Choice) (old losses : List Loss) (net last : ℤ) → a ≡ x → b ≡ y → c ≡ y
     → AreLossesFrom a b c choice old losses net last → AreLossesFrom x y y choice old losses net last
 losses_as a b c x y choice old losses net last e f h from =
-    subst (λ (ls : List Line). AreLossesFrom x y ls choice old losses net last) h
-    (subst (λ (ls : List Line). AreLossesFrom x ls c choice old losses net last) f
-    (subst (λ (ls : List Line). AreLossesFrom ls b c choice old losses net last) e from))
+    subst (λ (ls : List Segment). AreLossesFrom x y ls choice old losses net last) h
+    (subst (λ (ls : List Segment). AreLossesFrom x ls c choice old losses net last) f
+    (subst (λ (ls : List Segment). AreLossesFrom ls b c choice old losses net last) e from))

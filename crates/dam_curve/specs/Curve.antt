@@ -1,4 +1,4 @@
--- The greatest welfare of periods as a function of the net volume, by straight lines.
+-- The greatest welfare of periods as a function of the net volume, in straight segments.
 use Rattle.std.specs.Prelude.{◌≡◌, ◌⊎◌, ℕ, ◌+◌, ◌*◌, ◌<◌, ◌≤◌, ℤ, pos, neg_ℤ, ◌+ℤ◌, ◌*ℤ◌, ◌≤ℤ◌, ◌<ℤ◌, Option, Some, None}
 use Rattle.std.specs.Prelude.{List, [], ◌∷◌, length, slice_range}
 use Rattle.dam_book.specs.Limits.{last_period, greatest_volume}
@@ -6,7 +6,7 @@ use Rattle.dam_hour.specs.Execution.{IsHour, IsNetVolume}
 use Rattle.dam_hour.specs.Best.{greatest_welfare}
 use Rattle.dam_hour.specs.Limits.{most_steps, greatest_price, greatest_value, price_span}
 use Rattle.dam_hour.specs.declared.step.Step.{Step}
-use Rattle.dam_curve.specs.declared.line.Line.{Line}
+use Rattle.dam_curve.specs.declared.segment.Segment.{Segment}
 use Rattle.dam_curve.specs.declared.curves.Curve.{Curve}
 use Rattle.dam_curve.specs.declared.losses.Loss.{Loss}
 
@@ -20,35 +20,35 @@ abbrev pub joint_welfare : List (List Step) → ℤ → Option ℤ
 joint_welfare [] net = Some (pos 0)
 joint_welfare (steps ∷ periods) net = both (greatest_welfare steps net) (joint_welfare periods net)
 
--- the value of a line at a net volume
-abbrev pub line_at : Line → ℤ → ℤ
-line_at line net = line.surplus +ℤ line.price *ℤ net
+-- the value of a segment at a net volume
+abbrev pub segment_at : Segment → ℤ → ℤ
+segment_at segment net = segment.surplus +ℤ segment.price *ℤ net
 
--- the line is the function from this net volume up to its greatest one
-pub record IsLine (f : ℤ → Option ℤ) (line : Line) (least : ℤ) : Type 0 where
-  pub ordered : least ≤ℤ line.most
-  pub each : (net : ℤ) → least ≤ℤ net → net ≤ℤ line.most → f net ≡ Some (line_at line net)
+-- the segment is the function from this net volume up to its greatest one
+pub record IsSegment (f : ℤ → Option ℤ) (segment : Segment) (least : ℤ) : Type 0 where
+  pub ordered : least ≤ℤ segment.most
+  pub each : (net : ℤ) → least ≤ℤ net → net ≤ℤ segment.most → f net ≡ Some (segment_at segment net)
 
--- the net volume down to which a line before these holds, if the last of them holds down to this one
-abbrev pub end_of : List Line → ℤ → ℤ
+-- the net volume down to which a segment before these holds, if the last of them holds down to this one
+abbrev pub end_of : List Segment → ℤ → ℤ
 end_of [] least = least
-end_of (line ∷ lines) least = line.most
+end_of (segment ∷ segments) least = segment.most
 
--- each line is the function down to the next one, and the last down to this net volume
-abbrev pub AreLines : (ℤ → Option ℤ) → List Line → ℤ → Type 0
-AreLines f [] least = Unit {0}
-AreLines f (line ∷ lines) least = IsLine f line (end_of lines least) × AreLines f lines least
+-- each segment is the function down to the next one, and the last down to this net volume
+abbrev pub AreSegments : (ℤ → Option ℤ) → List Segment → ℤ → Type 0
+AreSegments f [] least = Unit {0}
+AreSegments f (segment ∷ segments) least = IsSegment f segment (end_of segments least) × AreSegments f segments least
 
--- the last line's greatest net volume, at which alone it holds
-abbrev pub bottom_of : List Line → ℤ
+-- the last segment's greatest net volume, at which alone it holds
+abbrev pub bottom_of : List Segment → ℤ
 bottom_of [] = pos 0
-bottom_of (line ∷ []) = line.most
-bottom_of (line ∷ next ∷ lines) = bottom_of (next ∷ lines)
+bottom_of (segment ∷ []) = segment.most
+bottom_of (segment ∷ next ∷ segments) = bottom_of (next ∷ segments)
 
--- no line holds at the net volume
-abbrev pub IsOutside : List Line → ℤ → Type 0
+-- no segment holds at the net volume
+abbrev pub IsOutside : List Segment → ℤ → Type 0
 IsOutside [] net = Unit {0}
-IsOutside (line ∷ lines) net = (net <ℤ bottom_of (line ∷ lines)) ⊎ (line.most <ℤ net)
+IsOutside (segment ∷ segments) net = (net <ℤ bottom_of (segment ∷ segments)) ⊎ (segment.most <ℤ net)
 
 -- each of the periods is an hour
 abbrev pub AreHours : List (List Step) → Type 0
@@ -57,52 +57,52 @@ AreHours (steps ∷ periods) = IsHour steps × AreHours periods
 
 -- the greatest size of the surplus of an hour's orders at a price: the value of all buys, of all steps, and of the
 -- volume of all steps at that price, each over the least price
-abbrev pub greatest_line_surplus : ℕ
-greatest_line_surplus = 3 * (most_steps * (price_span * greatest_volume))
+abbrev pub greatest_segment_surplus : ℕ
+greatest_segment_surplus = 3 * (most_steps * (price_span * greatest_volume))
 
--- a line over this number of periods
-pub record IsSmallLine (count : ℕ) (line : Line) : Type 0 where
-  pub price_at_least : neg_ℤ (pos (count * greatest_price)) ≤ℤ line.price
-  pub price_at_most : line.price ≤ℤ pos (count * greatest_price)
-  pub surplus_at_least : neg_ℤ (pos (count * greatest_line_surplus)) ≤ℤ line.surplus
-  pub surplus_at_most : line.surplus ≤ℤ pos (count * greatest_line_surplus)
+-- a segment over this number of periods
+pub record IsSmallSegment (count : ℕ) (segment : Segment) : Type 0 where
+  pub price_at_least : neg_ℤ (pos (count * greatest_price)) ≤ℤ segment.price
+  pub price_at_most : segment.price ≤ℤ pos (count * greatest_price)
+  pub surplus_at_least : neg_ℤ (pos (count * greatest_segment_surplus)) ≤ℤ segment.surplus
+  pub surplus_at_most : segment.surplus ≤ℤ pos (count * greatest_segment_surplus)
 
--- each of the lines is a line over this number of periods
-abbrev pub AreSmallLines : ℕ → List Line → Type 0
-AreSmallLines count [] = Unit {0}
-AreSmallLines count (line ∷ lines) = IsSmallLine count line × AreSmallLines count lines
+-- each of the segments is a segment over this number of periods
+abbrev pub AreSmallSegments : ℕ → List Segment → Type 0
+AreSmallSegments count [] = Unit {0}
+AreSmallSegments count (segment ∷ segments) = IsSmallSegment count segment × AreSmallSegments count segments
 
--- no line goes beyond these net volumes
-abbrev pub AreWithin : List Line → ℤ → ℤ → Type 0
-AreWithin lines least most = 0 < length lines → (least ≤ℤ bottom_of lines) × (end_of lines (pos 0) ≤ℤ most)
+-- no segment goes beyond these net volumes
+abbrev pub AreWithin : List Segment → ℤ → ℤ → Type 0
+AreWithin segments least most = 0 < length segments → (least ≤ℤ bottom_of segments) × (end_of segments (pos 0) ≤ℤ most)
 
--- the lines are the joint welfare of the periods at each net volume from the least to the most, and at no other: if no
--- line holds at one of these, there is none
-pub record IsCurve (periods : List (List Step)) (least most : ℤ) (lines : List Line) : Type 0 where
+-- the segments are the joint welfare of the periods at each net volume from the least to the most, and at no other: if no
+-- segment holds at one of these, there is none
+pub record IsCurve (periods : List (List Step)) (least most : ℤ) (segments : List Segment) : Type 0 where
   pub few : length periods ≤ last_period
   pub are_hours : AreHours periods
   pub least_is : IsNetVolume least
   pub most_is : IsNetVolume most
-  pub are_lines : AreLines (joint_welfare periods) lines (bottom_of lines)
-  pub within : AreWithin lines least most
-  pub small : AreSmallLines (length periods) lines
-  pub outside : (net : ℤ) → least ≤ℤ net → net ≤ℤ most → IsOutside lines net → joint_welfare periods net ≡ None
+  pub are_segments : AreSegments (joint_welfare periods) segments (bottom_of segments)
+  pub within : AreWithin segments least most
+  pub small : AreSmallSegments (length periods) segments
+  pub outside : (net : ℤ) → least ≤ℤ net → net ≤ℤ most → IsOutside segments net → joint_welfare periods net ≡ None
 
--- the lines of many curves, one curve after another, and the losses of choices, one choice after another
+-- the segments of many curves, one curve after another, and the losses of choices, one choice after another
 pub record CurvesState : Type 0 where
-  pub lines : List Line
+  pub segments : List Segment
   pub losses : List Loss
 
--- the lines of one curve among those of many
-abbrev pub lines_at : List Line → Curve → List Line
-lines_at lines curve = slice_range lines curve.first (curve.first + curve.count)
+-- the segments of one curve among those of many
+abbrev pub segments_at : List Segment → Curve → List Segment
+segments_at segments curve = slice_range segments curve.first (curve.first + curve.count)
 
--- the curve of these periods stands there; if it has no line, no net volume is within its ends
+-- the curve of these periods stands there; if it has no segment, no net volume is within its ends
 pub record IsCurveAt (curves : CurvesState) (curve : Curve) (periods : List (List Step)) (least most : ℤ) : Type 0 where
-  pub within : curve.first + curve.count ≤ length curves.lines
-  pub is_curve : IsCurve periods least most (lines_at curves.lines curve)
+  pub within : curve.first + curve.count ≤ length curves.segments
+  pub is_curve : IsCurve periods least most (segments_at curves.segments curve)
   pub ends : 0 < curve.count
-      → (curve.bottom ≡ bottom_of (lines_at curves.lines curve)) × (curve.top ≡ end_of (lines_at curves.lines curve) (pos 0))
+      → (curve.bottom ≡ bottom_of (segments_at curves.segments curve)) × (curve.top ≡ end_of (segments_at curves.segments curve) (pos 0))
   pub none : curve.count ≡ 0 → curve.top <ℤ curve.bottom
 
 -- the size of the welfare of a day's periods

@@ -1,5 +1,5 @@
 -- Only contracts inside this crate cite these.
 pub mod Supply
-pub mod Lines
+pub mod Segments
 pub mod Reading
 pub mod Ramp

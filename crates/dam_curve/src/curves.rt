@@ -1,18 +1,18 @@
 ghost use Rattle.std.specs.Prelude.{◌≡◌, ◌+◌, ◌-◌, ◌^◌, ◌≤◌, ◌<◌, ℕ, ℤ, pos, neg_ℤ, ◌+ℤ◌, ◌-ℤ◌, ◌≤ℤ◌, ◌<ℤ◌, Some, List, [], length, take, IsOk, IfOk, OnOk, OnErr, IfSome, slice_index_or};
 ghost use Rattle.dam_book.specs.Limits.{last_period};
 ghost use Rattle.dam_hour.specs.declared.step.Step.{Step};
-ghost use Rattle.dam_curve.specs.declared.line.Line.{Line};
-ghost use Rattle.dam_curve.specs.Curve.{joint_welfare, line_at, end_of, bottom_of, IsSmallLine, IsCurve, CurvesState, IsCurveAt, greatest_joint_welfare};
+ghost use Rattle.dam_curve.specs.declared.segment.Segment.{Segment};
+ghost use Rattle.dam_curve.specs.Curve.{joint_welfare, segment_at, end_of, bottom_of, IsSmallSegment, IsCurve, CurvesState, IsCurveAt, greatest_joint_welfare};
 ghost use Rattle.dam_curve.specs.Losses.{Keeps};
 
-use crate::line::Line;
 use crate::losses::Loss;
+use crate::segment::Segment;
 use crate::sum::Sum;
 use dam_hour::laws;
 use std::alloc::{AllocError, Allocator, Global};
 use std::marker::Model;
 
-/// How many hints a curve has for each of its lines, at most, besides one for the whole curve.
+/// How many hints a curve has for each of its segments, at most, besides one for the whole curve.
 const HINTS: usize = 8;
 
 /// The hints of a curve. A wrong hint only costs time (`place_of`).
@@ -24,7 +24,7 @@ pub(crate) struct Hints {
     pub(crate) shift: u32,
 }
 
-/// A curve among many: where its lines stand, and between which net volumes it has a welfare.
+/// A curve among many: where its segments stand, and between which net volumes it has a welfare.
 #[derive(Clone, Copy)]
 pub struct Curve {
     pub(crate) first: u32,
@@ -35,16 +35,16 @@ pub struct Curve {
     pub(crate) hints: Hints,
 }
 
-/// The lines of many curves, one curve after another, and the losses of choices between them.
+/// The segments of many curves, one curve after another, and the losses of choices between them.
 ///
-/// A contract sees the list of the lines and the list of the losses. It asks of a curve which periods it is of, and
+/// A contract sees the list of the segments and the list of the losses. It asks of a curve which periods it is of, and
 /// of a choice whether its losses stand there.
 #[derive(Drop)]
 pub struct Curves<A: Allocator = Global> {
-    pub(crate) lines: Vec<Line, A>,
+    pub(crate) segments: Vec<Segment, A>,
     /// The losses of the choices that keep them, one choice after another.
     pub(crate) losses: Vec<Loss, A>,
-    /// Places of lines near which a net volume is. They need not be right: a look-up goes on from there.
+    /// Places of segments near which a net volume is. They need not be right: a look-up goes on from there.
     hints: Vec<u16, A>,
 }
 
@@ -53,11 +53,11 @@ impl<A: Allocator> Model for Curves<A> {
 
     ghost Value = { CurvesState };
 
-    ghost view = { λ c. record { lines = c.lines.items; losses = c.losses.items } };
+    ghost view = { λ c. record { segments = c.segments.items; losses = c.losses.items } };
 }
 
-/// The number in 32 bits. If it doesn't fit, there are more lines, hints or losses than can be kept, which is reported as
-/// out of memory.
+/// The number in 32 bits. If it doesn't fit, there are more segments, hints or losses than can be kept, which is
+/// reported as out of memory.
 pub(crate) fn narrow(number: usize) -> Result<u32, AllocError>
     ensures value { IfOk result (λ narrow. narrow ≡ number) }
     ensures fits { number < 2 ^ 32 → IsOk result }
@@ -69,11 +69,11 @@ pub(crate) fn narrow(number: usize) -> Result<u32, AllocError>
 }
 
 /// By how many bits net volumes are shifted to find a hint, so that a curve over this range of them has at most
-/// `HINTS` hints for each of its lines, and one more.
-fn shift_of(range: u32, lines: usize) -> u32
+/// `HINTS` hints for each of its segments, and one more.
+fn shift_of(range: u32, segments: usize) -> u32
     ensures { result ≤ 31 }
 {
-    let enough = lines.saturating_mul(HINTS);
+    let enough = segments.saturating_mul(HINTS);
     let mut shift = 0;
     while shift < 31 && (range >> shift) as usize > enough {
         shift += 1;
@@ -81,19 +81,22 @@ fn shift_of(range: u32, lines: usize) -> u32
     shift
 }
 
-/// Writes the hints of a curve with these lines. The error is out of memory.
-fn write_hints<A: Allocator>(hints: &mut Vec<u16, A>, lines: &[Line]) -> Result<Hints, AllocError>
-    requires some { 0 < length lines.now }
+/// Writes the hints of a curve with these segments. The error is out of memory.
+fn write_hints<A: Allocator>(
+    hints: &mut Vec<u16, A>,
+    segments: &[Segment],
+) -> Result<Hints, AllocError>
+    requires some { 0 < length segments.now }
 {
     let first = narrow(hints.len())?;
-    let top = lines[0].most;
-    let range = top.abs_diff(lines[lines.len() - 1].most);
-    let shift = shift_of(range, lines.len());
+    let top = segments[0].most;
+    let range = top.abs_diff(segments[segments.len() - 1].most);
+    let shift = shift_of(range, segments.len());
     let mut place = 0usize;
     for hint in 0..=(range >> shift) {
         let under = i64::from(hint) << shift;
-        while place + 1 < lines.len()
-            && i64::from(top) - i64::from(lines[place + 1].most) <= under
+        while place + 1 < segments.len()
+            && i64::from(top) - i64::from(segments[place + 1].most) <= under
         {
             place += 1;
         }
@@ -102,43 +105,43 @@ fn write_hints<A: Allocator>(hints: &mut Vec<u16, A>, lines: &[Line]) -> Result<
     Ok(Hints { first, shift })
 }
 
-/// The welfare that a line gives at a net volume.
+/// The welfare that a segment gives at a net volume.
 #[inline(always)]
-pub(crate) fn value_of(line: Line, net: i64) -> i64
-    requires line { IsSmallLine last_period line }
+pub(crate) fn value_of(segment: Segment, net: i64) -> i64
+    requires segment { IsSmallSegment last_period segment }
     requires least { neg_ℤ (pos (2 ^ 31)) ≤ℤ net }
     requires most { net ≤ℤ pos (2 ^ 31) }
-    ensures value { result ≡ line_at line net }
+    ensures value { result ≡ segment_at segment net }
     ensures at_least { neg_ℤ (pos (2 ^ 58)) ≤ℤ result }
     ensures at_most { result ≤ℤ pos (2 ^ 58) }
 {
-    line.surplus + i64::from(line.price) * net
+    segment.surplus + i64::from(segment.price) * net
 }
 
-/// The place of the line that holds at the net volume, looked for from a place near by, and the joint welfare there.
+/// The place of the segment that holds at the net volume, looked for from a place near by, and the joint welfare there.
 #[inline(always)]
-fn value_in(lines: &[Line], net: i64, near: usize) -> (usize, i64)
+fn value_in(segments: &[Segment], net: i64, near: usize) -> (usize, i64)
     requires curve { (periods : List (List Step)) × (least : ℤ) × (most : ℤ)
-        × IsCurve periods least most lines.now }
-    requires some { 0 < length lines.now }
-    requires bottom { bottom_of lines.now ≤ℤ net }
-    requires top { net ≤ℤ end_of lines.now (pos 0) }
+        × IsCurve periods least most segments.now }
+    requires some { 0 < length segments.now }
+    requires bottom { bottom_of segments.now ≤ℤ net }
+    requires top { net ≤ℤ end_of segments.now (pos 0) }
     requires least { neg_ℤ (pos (2 ^ 31)) ≤ℤ net }
     requires most { net ≤ℤ pos (2 ^ 31) }
     ensures value { (periods : List (List Step)) (least most : ℤ)
-        → IsCurve periods least most lines.now → Some result.1 ≡ joint_welfare periods net }
+        → IsCurve periods least most segments.now → Some result.1 ≡ joint_welfare periods net }
 {
-    let place = place_of(lines, net, near);
-    (place, value_of(lines[place], net))
+    let place = place_of(segments, net, near);
+    (place, value_of(segments[place], net))
 }
 
 impl<A: Allocator + Copy> Curves<A> {
     /// No curve yet.
     pub fn new(alloc: A) -> Curves<A>
-        ensures { result ≡ record { lines = []; losses = [] } }
+        ensures { result ≡ record { segments = []; losses = [] } }
     {
         Curves {
-            lines: Vec::new(alloc),
+            segments: Vec::new(alloc),
             losses: Vec::new(alloc),
             hints: Vec::new(alloc),
         }
@@ -154,44 +157,44 @@ impl<A: Allocator> Curves<A> {
         ensures kept { Keeps self.old self.new }
         ensures err { OnErr result (self.new ≡ self.old) }
     {
-        let lines = sum.lines();
-        if lines.is_empty() {
+        let segments = sum.segments();
+        if segments.is_empty() {
             return Ok(Curve::none());
         }
-        let first = narrow(self.lines.len())?;
-        let count = narrow(lines.len())?;
-        let hints = write_hints(&mut self.hints, lines)?;
-        self.lines.extend_from_slice(lines)?;
+        let first = narrow(self.segments.len())?;
+        let count = narrow(segments.len())?;
+        let hints = write_hints(&mut self.hints, segments)?;
+        self.segments.extend_from_slice(segments)?;
         Ok(Curve {
             first,
             count,
-            bottom: lines[lines.len() - 1].most,
-            top: lines[0].most,
+            bottom: segments[segments.len() - 1].most,
+            top: segments[0].most,
             hints,
         })
     }
 
-    /// The price of a line near the net volume, in cents per MWh summed over the curve's periods. It is only a hint,
+    /// The price of a segment near the net volume, in cents per MWh summed over the curve's periods. It is only a hint,
     /// without a contract. It is 0 if there is none.
     pub fn price_near(&self, curve: Curve, net: i64) -> i64 {
         let first = curve.first as usize;
-        let Some(lines) = self
-            .lines
+        let Some(segments) = self
+            .segments
             .get(first..first.saturating_add(curve.count as usize))
         else {
             return 0;
         };
         let mut price = 0;
-        for line in lines {
-            if i64::from(line.most) < net {
+        for segment in segments {
+            if i64::from(segment.most) < net {
                 return price;
             }
-            price = i64::from(line.price);
+            price = i64::from(segment.price);
         }
         price
     }
 
-    /// A place near the line for the net volume; it may be any.
+    /// A place near the segment for the net volume; it may be any.
     fn near(&self, curve: Curve, net: i64) -> usize
         requires least { curve.bottom ≤ℤ net }
         requires most { net ≤ℤ curve.top }
@@ -226,7 +229,7 @@ impl<A: Allocator> Curves<A> {
         Some(self.searched(curve, net))
     }
 
-    /// The value of the line for the net volume.
+    /// The value of the segment for the net volume.
     #[inline(always)]
     fn searched(&self, curve: Curve, net: i64) -> i64
         requires curve { (periods : List (List Step)) × (least : ℤ) × (most : ℤ)
@@ -238,13 +241,13 @@ impl<A: Allocator> Curves<A> {
             → Some result ≡ joint_welfare periods net }
     {
         let first = curve.first as usize;
-        let lines = &self.lines[first..first + curve.count as usize];
-        value_in(lines, net, self.near(curve, net)).1
+        let segments = &self.segments[first..first + curve.count as usize];
+        value_in(segments, net, self.near(curve, net)).1
     }
 }
 
 impl Curve {
-    /// A curve without lines.
+    /// A curve without segments.
     fn none() -> Curve
         ensures { (curves : CurvesState) (periods : List (List Step)) (least most : ℤ)
             → IsCurve periods least most [] → IsCurveAt curves result periods least most }
@@ -259,22 +262,22 @@ impl Curve {
     }
 }
 
-/// The line that holds at the net volume; looked for from a place near by, which may be any.
-pub(crate) fn place_of(lines: &[Line], net: i64, near: usize) -> usize
-    requires some { 0 < length lines.now }
-    requires first { (d : Line) → net ≤ℤ (slice_index_or lines.now 0 d).most }
-    requires last { (d : Line)
-        → (slice_index_or lines.now (length lines.now - 1) d).most ≤ℤ net }
-    ensures inside { result < length lines.now }
-    ensures holds { (d : Line) → net ≤ℤ (slice_index_or lines.now result d).most }
-    ensures next { (d : Line) → result + 1 < length lines.now
-        → (slice_index_or lines.now (result + 1) d).most ≤ℤ net }
+/// The segment that holds at the net volume; looked for from a place near by, which may be any.
+pub(crate) fn place_of(segments: &[Segment], net: i64, near: usize) -> usize
+    requires some { 0 < length segments.now }
+    requires first { (d : Segment) → net ≤ℤ (slice_index_or segments.now 0 d).most }
+    requires last { (d : Segment)
+        → (slice_index_or segments.now (length segments.now - 1) d).most ≤ℤ net }
+    ensures inside { result < length segments.now }
+    ensures holds { (d : Segment) → net ≤ℤ (slice_index_or segments.now result d).most }
+    ensures next { (d : Segment) → result + 1 < length segments.now
+        → (slice_index_or segments.now (result + 1) d).most ≤ℤ net }
 {
-    let mut place = near.min(lines.len() - 1);
-    while i64::from(lines[place].most) < net {
+    let mut place = near.min(segments.len() - 1);
+    while i64::from(segments[place].most) < net {
         place -= 1;
     }
-    while place + 1 < lines.len() && i64::from(lines[place + 1].most) > net {
+    while place + 1 < segments.len() && i64::from(segments[place + 1].most) > net {
         place += 1;
     }
     place

@@ -1,9 +1,9 @@
-//! The greatest welfare of periods as a function of the net volume, as straight lines; and by how much either side of a
-//! choice lowers it, at each net volume.
+//! The greatest welfare of periods as a function of the net volume, in straight segments; and by how much either side
+//! of a choice lowers it, at each net volume.
 //!
 //! The price of a period changes only where the volume of an order ends. Between two such net volumes the greatest
-//! welfare is a straight line: the price times the net volume, plus the surplus of all orders at that price. For
-//! several periods at the same net volume the sum is straight lines, too: the sum of their prices times the net volume,
+//! welfare is a segment: the price times the net volume, plus the surplus of all orders at that price. For
+//! several periods at the same net volume the sum is segments, too: the sum of their prices times the net volume,
 //! plus the sum of their surpluses.
 //!
 //! ```
@@ -24,18 +24,18 @@
 //! let loss = curves.loss(offset, 120); // how far the welfare falls if it is left, and if it is taken
 //! ```
 //!
-//! A contract sees the lines of all curves and all losses. It asks of a curve which periods it is of, and between which
+//! A contract sees the segments of all curves and all losses. It asks of a curve which periods it is of, and between which
 //! net volumes. Only tests show that a call reports out of memory only if memory was refused, or if more than 2^32 - 1
-//! lines, hints or losses would be held.
+//! segments, hints or losses would be held.
 //!
 //! The crate doesn't know blocks or books.
 #![tactic(auto)]
 
 mod curves;
-mod line;
 mod losses;
 mod ramp;
 mod row;
+mod segment;
 mod stretch;
 mod sum;
 mod supply;

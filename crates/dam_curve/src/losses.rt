@@ -2,12 +2,12 @@
 
 ghost use Rattle.std.specs.Prelude.{◌≡◌, ◌<◌, ◌≤◌, ◌+◌, ◌^◌, ℕ, ℤ, pos, neg_ℤ, ◌+ℤ◌, ◌-ℤ◌, ◌≤ℤ◌, ◌<ℤ◌, Option, Some, None, Ok, List, length, slice_index_or, take, IfOk, OnOk, OnErr, MatchOption};
 ghost use Rattle.dam_hour.specs.declared.step.Step.{Step};
-ghost use Rattle.dam_curve.specs.Curve.{joint_welfare, lines_at};
+ghost use Rattle.dam_curve.specs.Curve.{joint_welfare, segments_at};
 ghost use Rattle.dam_curve.specs.Losses.{IsLossAt, AreLosses, IsChoice, IsChoiceAt, Keeps, welfare_left, welfare_taken};
 ghost use Rattle.dam_curve.specs.inside.Reading.{AreReadAt};
 
 use crate::curves::{Curve, Curves, narrow};
-use crate::line::Line;
+use crate::segment::Segment;
 use crate::stretch::Readers;
 use std::alloc::{AllocError, Allocator};
 
@@ -45,21 +45,21 @@ pub struct ExactLoss {
     pub taken: Option<i64>,
 }
 
-/// The lines of one curve among many.
-fn lines_of(lines: &[Line], curve: Curve) -> &[Line]
-    requires { curve.first + curve.count ≤ length lines.now }
-    ensures { result.now ≡ lines_at lines.now curve }
+/// The segments of one curve among many.
+fn segments_of(segments: &[Segment], curve: Curve) -> &[Segment]
+    requires { curve.first + curve.count ≤ length segments.now }
+    ensures { result.now ≡ segments_at segments.now curve }
 {
     let first = curve.first as usize;
-    &lines[first..first + curve.count as usize]
+    &segments[first..first + curve.count as usize]
 }
 
-/// Writes the losses of a choice between the curves of these lines, one for each net volume from the least to the
+/// Writes the losses of a choice between the curves of these segments, one for each net volume from the least to the
 /// greatest. On an error, which is out of memory, it writes none. The losses that stood there before the call stay.
 fn write_losses<A: Allocator>(
     losses: &mut Vec<Loss, A>,
-    before: &[Line],
-    after: &[Line],
+    before: &[Segment],
+    after: &[Segment],
     choice: &Choice,
     least: i64,
     most: i64,
@@ -113,9 +113,9 @@ impl<A: Allocator> Curves<A> {
             return Ok(0);
         }
         let first = i64::from(narrow(self.losses.len())?);
-        let lines = self.lines.as_slice();
-        let before = lines_of(lines, choice.before);
-        let after = lines_of(lines, choice.after);
+        let segments = self.segments.as_slice();
+        let before = segments_of(segments, choice.before);
+        let after = segments_of(segments, choice.after);
         write_losses(&mut self.losses, before, after, choice, least, most)?;
         Ok(first - least)
     }

@@ -1,14 +1,14 @@
-//! Losses along straight lines, which are written without looking anything up.
+//! Losses along segments, which are written without looking anything up.
 
 ghost use Rattle.std.specs.Prelude.{◌≡◌, ℕ, ◌+◌, ◌≤◌, ◌^◌, ℤ, pos, neg_ℤ, ◌+ℤ◌, ◌≤ℤ◌, Some, IfSome, vec_len, vec_capacity};
 ghost use Rattle.dam_book.specs.Limits.{last_period};
-ghost use Rattle.dam_curve.specs.Curve.{both, IsSmallLine};
+ghost use Rattle.dam_curve.specs.Curve.{both, IsSmallSegment};
 ghost use Rattle.dam_curve.specs.Losses.{IsKept};
-ghost use Rattle.dam_curve.specs.inside.Ramp.{kept_number, line_value, ramp_at, FitsIn64Bits, AreWritten};
+ghost use Rattle.dam_curve.specs.inside.Ramp.{kept_number, segment_value, ramp_at, FitsIn64Bits, AreWritten};
 
 use crate::curves::value_of;
-use crate::line::Line;
 use crate::losses::Loss;
+use crate::segment::Segment;
 use std::alloc::Allocator;
 
 /// The number that is kept of a loss.
@@ -29,26 +29,26 @@ pub(crate) struct Ramp {
 }
 
 impl Ramp {
-    /// The loss from the line before a choice to the line after it, beginning at this net volume. The choice adds a net
-    /// volume and a value. If there is no line, there is no welfare.
+    /// The loss from the segment before a choice to the segment after it, beginning at this net volume. The choice adds
+    /// a net volume and a value. If there is no segment, there is no welfare.
     pub(crate) fn between(
-        before: Option<Line>,
-        after: Option<Line>,
+        before: Option<Segment>,
+        after: Option<Segment>,
         net: i64,
         added: i64,
         value: i64,
     ) -> Ramp
-        requires before { IfSome before (IsSmallLine last_period) }
-        requires after { IfSome after (IsSmallLine last_period) }
+        requires before { IfSome before (IsSmallSegment last_period) }
+        requires after { IfSome after (IsSmallSegment last_period) }
         requires least { neg_ℤ (pos (2 ^ 31)) ≤ℤ net }
         requires most { net ≤ℤ pos (2 ^ 31) }
         requires moved_least { neg_ℤ (pos (2 ^ 31)) ≤ℤ (net +ℤ added) }
         requires moved_most { (net +ℤ added) ≤ℤ pos (2 ^ 31) }
         requires value_least { neg_ℤ (pos (2 ^ 62)) ≤ℤ value }
         requires value_most { value ≤ℤ pos (2 ^ 62) }
-        ensures kept { (i : ℕ) (w : ℤ) → line_value before (net +ℤ pos i) ≡ Some w
+        ensures kept { (i : ℕ) (w : ℤ) → segment_value before (net +ℤ pos i) ≡ Some w
             → IsKept (kept_number (ramp_at result i)) w
-            (both (Some value) (line_value after ((net +ℤ pos i) +ℤ added))) }
+            (both (Some value) (segment_value after ((net +ℤ pos i) +ℤ added))) }
         ensures fits { (i : ℕ) → (net +ℤ pos i) ≤ℤ pos (2 ^ 31)
             → ((net +ℤ pos i) +ℤ added) ≤ℤ pos (2 ^ 31) → FitsIn64Bits (ramp_at result i) }
     {

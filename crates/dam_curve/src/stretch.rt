@@ -1,85 +1,86 @@
-//! The stretches of net volumes along which the lines of a choice's curves don't change.
+//! The stretches of net volumes along which the segments of a choice's curves don't change.
 
 ghost use Rattle.std.specs.Prelude.{◌≡◌, ◌+◌, ◌^◌, ℤ, pos, neg_ℤ, ◌+ℤ◌, ◌-ℤ◌, ◌≤ℤ◌, ◌<ℤ◌, List, IfSome, vec_len, vec_capacity};
 ghost use Rattle.dam_book.specs.Limits.{last_period};
 ghost use Rattle.dam_hour.specs.declared.step.Step.{Step};
-ghost use Rattle.dam_curve.specs.Curve.{joint_welfare, IsSmallLine};
-ghost use Rattle.dam_curve.specs.inside.Reading.{IsOnLines, AreReadAt};
-ghost use Rattle.dam_curve.specs.inside.Ramp.{line_value, AreLossesFrom};
+ghost use Rattle.dam_curve.specs.Curve.{joint_welfare, IsSmallSegment};
+ghost use Rattle.dam_curve.specs.inside.Reading.{IsOnSegments, AreReadAt};
+ghost use Rattle.dam_curve.specs.inside.Ramp.{segment_value, AreLossesFrom};
 
 use crate::curves::place_of;
-use crate::line::Line;
 use crate::losses::{Choice, Loss};
 use crate::ramp::{Ramp, write_ramps};
+use crate::segment::Segment;
 use std::alloc::Allocator;
 use std::marker::Model;
 
-/// The line that holds from a net volume on, and the last net volume at which it does; no line if there is no welfare.
+/// The segment that holds from a net volume on, and the last net volume at which it does; no segment if there is no
+/// welfare.
 #[derive(Clone, Copy)]
 struct Stretch {
-    line: Option<Line>,
+    segment: Option<Segment>,
     end: i64,
 }
 
-/// The lines of a curve, read at rising net volumes.
+/// The segments of a curve, read at rising net volumes.
 ///
-/// A contract sees the lines.
+/// A contract sees the segments.
 #[derive(Drop)]
 struct Reader<'a> {
-    lines: &'a [Line],
-    /// The place of the line that was read last.
+    segments: &'a [Segment],
+    /// The place of the segment that was read last.
     near: usize,
 }
 
 impl<'a> Model for Reader<'a> {
     ghost use Rattle.std.specs.Prelude.{List};
-    ghost use Rattle.dam_curve.specs.declared.line.Line.{Line};
+    ghost use Rattle.dam_curve.specs.declared.segment.Segment.{Segment};
 
-    ghost Value = { List Line };
+    ghost Value = { List Segment };
 
-    ghost view = { λ r. r.lines.now };
+    ghost view = { λ r. r.segments.now };
 }
 
 impl<'a> Reader<'a> {
-    /// A reader of these lines.
-    fn new(lines: &'a [Line]) -> Reader<'a>
-        ensures { result ≡ lines.now }
+    /// A reader of these segments.
+    fn new(segments: &'a [Segment]) -> Reader<'a>
+        ensures { result ≡ segments.now }
     {
-        Reader { lines, near: 0 }
+        Reader { segments, near: 0 }
     }
 
     /// The stretch from this net volume on, up to another at most.
     fn stretch(&mut self, net: i64, most: i64) -> Stretch
-        requires lines { (periods : List (List Step)) × IsOnLines self.old periods net }
+        requires segments { (periods : List (List Step)) × IsOnSegments self.old periods net }
         requires ordered { net ≤ℤ most }
-        ensures holds { (periods : List (List Step)) (at : ℤ) → IsOnLines self.old periods at
+        ensures holds { (periods : List (List Step)) (at : ℤ) → IsOnSegments self.old periods at
             → net ≤ℤ at → at ≤ℤ result.end
-            → joint_welfare periods at ≡ line_value result.line at }
+            → joint_welfare periods at ≡ segment_value result.segment at }
         ensures ordered { net ≤ℤ result.end }
         ensures within { result.end ≤ℤ most }
-        ensures small { IfSome result.line (IsSmallLine last_period) }
+        ensures small { IfSome result.segment (IsSmallSegment last_period) }
         ensures kept { self.new ≡ self.old }
     {
-        let lines = self.lines;
-        if lines.is_empty() || net > i64::from(lines[0].most) {
+        let segments = self.segments;
+        if segments.is_empty() || net > i64::from(segments[0].most) {
             return Stretch {
-                line: None,
+                segment: None,
                 end: most,
             };
         }
-        let bottom = i64::from(lines[lines.len() - 1].most);
+        let bottom = i64::from(segments[segments.len() - 1].most);
         if net < bottom {
             return Stretch {
-                line: None,
+                segment: None,
                 end: most.min(bottom - 1),
             };
         }
-        let place = place_of(lines, net, self.near);
+        let place = place_of(segments, net, self.near);
         self.near = place;
-        let line = lines[place];
+        let segment = segments[place];
         Stretch {
-            line: Some(line),
-            end: most.min(i64::from(line.most)),
+            segment: Some(segment),
+            end: most.min(i64::from(segment.most)),
         }
     }
 }
@@ -93,8 +94,8 @@ pub(crate) struct Readers<'a> {
 }
 
 impl<'a> Readers<'a> {
-    /// Readers of a choice between the curves of these lines.
-    pub(crate) fn new(before: &'a [Line], after: &'a [Line]) -> Readers<'a>
+    /// Readers of a choice between the curves of these segments.
+    pub(crate) fn new(before: &'a [Segment], after: &'a [Segment]) -> Readers<'a>
         ensures before { result.before ≡ before.now }
         ensures left { result.left ≡ after.now }
         ensures taken { result.taken ≡ after.now }
@@ -106,8 +107,8 @@ impl<'a> Readers<'a> {
         }
     }
 
-    /// Writes the losses of the choice from this net volume up to another at most, as far as none of the lines changes, and
-    /// returns the last net volume. There is room for them.
+    /// Writes the losses of the choice from this net volume up to another at most, as far as none of the segments
+    /// changes, and returns the last net volume. There is room for them.
     pub(crate) fn write_losses<A: Allocator>(
         &mut self,
         losses: &mut Vec<Loss, A>,
@@ -139,8 +140,8 @@ impl<'a> Readers<'a> {
         let end = taken.end - added;
         write_ramps(
             losses,
-            Ramp::between(before.line, left.line, net, 0, 0),
-            Ramp::between(before.line, taken.line, net, added, choice.value),
+            Ramp::between(before.segment, left.segment, net, 0, 0),
+            Ramp::between(before.segment, taken.segment, net, added, choice.value),
             (end - net) as usize + 1,
         );
         end

@@ -4,14 +4,14 @@ ghost use Rattle.dam_book.specs.Limits.{last_period, greatest_volume};
 ghost use Rattle.dam_hour.specs.Execution.{IsNetVolume, offered_volume};
 ghost use Rattle.dam_hour.specs.Limits.{most_steps, price_span};
 ghost use Rattle.dam_hour.specs.declared.step.Step.{Step};
-ghost use Rattle.dam_curve.specs.declared.line.Line.{Line};
+ghost use Rattle.dam_curve.specs.declared.segment.Segment.{Segment};
 ghost use Rattle.dam_curve.specs.Supply.{IsSupplyOf};
-ghost use Rattle.dam_curve.specs.Curve.{both, AreLines, bottom_of, AreWithin, IsOutside, AreSmallLines, IsSmallLine, IsCurve};
+ghost use Rattle.dam_curve.specs.Curve.{both, AreSegments, bottom_of, AreWithin, IsOutside, AreSmallSegments, IsSmallSegment, IsCurve};
 ghost use Rattle.dam_curve.specs.inside.Supply.{worth_of};
-ghost use Rattle.dam_curve.specs.inside.Lines.{line_of, lines_from, joined, IsPast};
+ghost use Rattle.dam_curve.specs.inside.Segments.{segment_of, segments_from, joined, IsPast};
 
-use crate::line::Line;
 use crate::row::height;
+use crate::segment::Segment;
 use crate::supply::{Demand, Supply};
 use dam_book::Price;
 use dam_hour::{Step, laws};
@@ -21,32 +21,32 @@ use std::mem;
 
 /// The curve of some periods, to which others are added one by one.
 ///
-/// A contract sees its lines.
+/// A contract sees its segments.
 #[derive(Drop)]
 pub struct Sum<A: Allocator = Global> {
-    lines: Vec<Line, A>,
-    /// The lines of the period that is added.
-    own: Vec<Line, A>,
-    /// The lines that take the place of the first.
-    next: Vec<Line, A>,
+    segments: Vec<Segment, A>,
+    /// The segments of the period that is added.
+    own: Vec<Segment, A>,
+    /// The segments that take the place of the first.
+    next: Vec<Segment, A>,
 }
 
 impl<A: Allocator> Model for Sum<A> {
     ghost use Rattle.std.specs.Prelude.{List};
-    ghost use Rattle.dam_curve.specs.declared.line.Line.{Line};
+    ghost use Rattle.dam_curve.specs.declared.segment.Segment.{Segment};
 
-    ghost Value = { List Line };
+    ghost Value = { List Segment };
 
-    ghost view = { λ s. s.lines.items };
+    ghost view = { λ s. s.segments.items };
 }
 
 impl<A: Allocator + Copy> Sum<A> {
-    /// A sum without lines, which has to be cleared first.
+    /// A sum without segments, which has to be cleared first.
     pub fn new(alloc: A) -> Sum<A>
         ensures { result ≡ [] }
     {
         Sum {
-            lines: Vec::new(alloc),
+            segments: Vec::new(alloc),
             own: Vec::new(alloc),
             next: Vec::new(alloc),
         }
@@ -62,9 +62,9 @@ impl<A: Allocator> Sum<A> {
         requires ordered { least ≤ℤ most }
         ensures { OnOk result (IsCurve [] least most self.new) }
     {
-        self.lines.clear();
-        self.lines.push(flat(most as i32))?;
-        self.lines.push(flat(least as i32))?;
+        self.segments.clear();
+        self.segments.push(flat(most as i32))?;
+        self.segments.push(flat(least as i32))?;
         Ok(())
     }
 
@@ -83,122 +83,129 @@ impl<A: Allocator> Sum<A> {
         laws::welfare();
         laws::surplus();
         laws::balance();
-        write_lines(&mut self.own, supply.steps())?;
-        add_lines(&self.own, &self.lines, &mut self.next)?;
-        mem::swap(&mut self.lines, &mut self.next);
+        write_segments(&mut self.own, supply.steps())?;
+        add_segments(&self.own, &self.segments, &mut self.next)?;
+        mem::swap(&mut self.segments, &mut self.next);
         Ok(())
     }
 
-    /// The lines.
-    pub(crate) fn lines(&self) -> &[Line]
+    /// The segments.
+    pub(crate) fn segments(&self) -> &[Segment]
         ensures { result.now ≡ self.now }
     {
-        self.lines.as_slice()
+        self.segments.as_slice()
     }
 }
 
-/// The line of no period.
-fn flat(most: i32) -> Line
+/// The segment of no period.
+fn flat(most: i32) -> Segment
     ensures { result ≡ record { most = most; price = pos 0; surplus = pos 0 } }
 {
-    Line {
+    Segment {
         most,
         price: 0,
         surplus: 0,
     }
 }
 
-/// The line at a price, if this volume at this cost is taken of the supply.
-fn line_of(demand: Demand, price: Price, before: u64, cost: u64) -> Line
+/// The segment at a price, if this volume at this cost is taken of the supply.
+fn segment_of(demand: Demand, price: Price, before: u64, cost: u64) -> Segment
     requires volume { demand.volume ≤ most_steps * greatest_volume }
     requires worth { demand.worth ≤ most_steps * (price_span * greatest_volume) }
     requires before { before ≤ most_steps * greatest_volume }
     requires cost { cost ≤ most_steps * (price_span * greatest_volume) }
-    ensures { result ≡ line_of demand.volume demand.worth price before cost }
+    ensures { result ≡ segment_of demand.volume demand.worth price before cost }
 {
     let most = demand.volume as i64 - before as i64;
-    Line {
+    Segment {
         most: most as i32,
         price: price.get(),
         surplus: demand.worth as i64 - cost as i64 - i64::from(height(price)) * most,
     }
 }
 
-/// Writes the lines of a period with these steps, which stand by rising limit.
-fn write_lines<A: Allocator>(lines: &mut Vec<Line, A>, steps: &[Step]) -> Result<(), AllocError>
+/// Writes the segments of a period with these steps, which stand by rising limit.
+fn write_segments<A: Allocator>(
+    segments: &mut Vec<Segment, A>,
+    steps: &[Step],
+) -> Result<(), AllocError>
     requires { length steps.now ≤ most_steps }
-    ensures { OnOk result (lines.new.items
-        ≡ lines_from (offered_volume Buy steps.now) (worth_of steps.now) 0 0 steps.now) }
+    ensures { OnOk result (segments.new.items
+        ≡ segments_from (offered_volume Buy steps.now) (worth_of steps.now) 0 0 steps.now) }
 {
     let demand = Demand::of(steps);
     let mut before = 0u64;
     let mut cost = 0u64;
-    lines.clear();
-    lines.reserve(steps.len() + 1)?;
+    segments.clear();
+    segments.reserve(steps.len() + 1)?;
     for step in steps {
-        lines.push(line_of(demand, step.price, before, cost))?;
+        segments.push(segment_of(demand, step.price, before, cost))?;
         let volume = u64::from(step.qty.get());
         before += volume;
         cost += u64::from(height(step.price)) * volume;
     }
-    lines.push(line_of(demand, Price::highest(), before, cost))?;
+    segments.push(segment_of(demand, Price::highest(), before, cost))?;
     Ok(())
 }
 
-/// The sum of two lines, at the net volumes at which both hold, up to this one.
-fn joined(a: Line, b: Line, most: i32) -> Line
-    requires { (n : ℕ) × (m : ℕ) × IsSmallLine n a × IsSmallLine m b × (n + m ≤ last_period) }
+/// The sum of two segments, at the net volumes at which both hold, up to this one.
+fn joined(a: Segment, b: Segment, most: i32) -> Segment
+    requires { (n : ℕ) × (m : ℕ) × IsSmallSegment n a × IsSmallSegment m b × (n + m ≤ last_period) }
     ensures { result ≡ joined a b most }
 {
-    Line {
+    Segment {
         most,
         price: a.price + b.price,
         surplus: a.surplus + b.surplus,
     }
 }
 
-/// The last line that holds at the net volume, from a first one on.
-fn from_net(lines: &[Line], net: i32) -> usize
-    requires some { 0 < length lines.now }
-    requires first { (d : Line) → net ≤ℤ (slice_index_or lines.now 0 d).most }
-    ensures inside { result < length lines.now }
-    ensures holds { (d : Line) → net ≤ℤ (slice_index_or lines.now result d).most }
-    ensures last { (d : Line) → result + 1 < length lines.now
-        → (slice_index_or lines.now (result + 1) d).most <ℤ net }
+/// The last segment that holds at the net volume, from a first one on.
+fn from_net(segments: &[Segment], net: i32) -> usize
+    requires some { 0 < length segments.now }
+    requires first { (d : Segment) → net ≤ℤ (slice_index_or segments.now 0 d).most }
+    ensures inside { result < length segments.now }
+    ensures holds { (d : Segment) → net ≤ℤ (slice_index_or segments.now result d).most }
+    ensures last { (d : Segment) → result + 1 < length segments.now
+        → (slice_index_or segments.now (result + 1) d).most <ℤ net }
 {
     let mut place = 0;
-    while place + 1 < lines.len() && lines[place + 1].most >= net {
+    while place + 1 < segments.len() && segments[place + 1].most >= net {
         place += 1;
     }
     place
 }
 
-/// The next place if the line there holds up to this net volume, and otherwise the same place.
-fn past(lines: &[Line], place: usize, net: i32) -> usize
-    requires { place + 1 < length lines.now }
-    ensures { IsPast lines.now place net result }
+/// The next place if the segment there holds up to this net volume, and otherwise the same place.
+fn past(segments: &[Segment], place: usize, net: i32) -> usize
+    requires { place + 1 < length segments.now }
+    ensures { IsPast segments.now place net result }
 {
-    if lines[place + 1].most == net {
+    if segments[place + 1].most == net {
         place + 1
     } else {
         place
     }
 }
 
-/// Writes the lines of the sum of two curves.
-fn add_lines<A: Allocator>(a: &[Line], b: &[Line], sum: &mut Vec<Line, A>) -> Result<(), AllocError>
-    requires { (n : ℕ) × (m : ℕ) × AreSmallLines n a.now × AreSmallLines m b.now
+/// Writes the segments of the sum of two curves.
+fn add_segments<A: Allocator>(
+    a: &[Segment],
+    b: &[Segment],
+    sum: &mut Vec<Segment, A>,
+) -> Result<(), AllocError>
+    requires { (n : ℕ) × (m : ℕ) × AreSmallSegments n a.now × AreSmallSegments m b.now
         × (n + m ≤ last_period) }
-    ensures lines { (f g : ℤ → Option ℤ) → AreLines f a.now (bottom_of a.now)
-        → AreLines g b.now (bottom_of b.now) → OnOk result
-        (AreLines (λ net. both (f net) (g net)) sum.new.items (bottom_of sum.new.items)) }
-    ensures within { (g : ℤ → Option ℤ) (least most : ℤ) → AreLines g b.now (bottom_of b.now)
+    ensures segments { (f g : ℤ → Option ℤ) → AreSegments f a.now (bottom_of a.now)
+        → AreSegments g b.now (bottom_of b.now) → OnOk result
+        (AreSegments (λ net. both (f net) (g net)) sum.new.items (bottom_of sum.new.items)) }
+    ensures within { (g : ℤ → Option ℤ) (least most : ℤ) → AreSegments g b.now (bottom_of b.now)
         → AreWithin b.now least most → OnOk result (AreWithin sum.new.items least most) }
-    ensures outside { (f g : ℤ → Option ℤ) (net : ℤ) → AreLines f a.now (bottom_of a.now)
-        → AreLines g b.now (bottom_of b.now) → OnOk result
+    ensures outside { (f g : ℤ → Option ℤ) (net : ℤ) → AreSegments f a.now (bottom_of a.now)
+        → AreSegments g b.now (bottom_of b.now) → OnOk result
         (IsOutside sum.new.items net → IsOutside a.now net ⊎ IsOutside b.now net) }
-    ensures small { (n m : ℕ) → AreSmallLines n a.now → AreSmallLines m b.now
-        → OnOk result (AreSmallLines (n + m) sum.new.items) }
+    ensures small { (n m : ℕ) → AreSmallSegments n a.now → AreSmallSegments m b.now
+        → OnOk result (AreSmallSegments (n + m) sum.new.items) }
 {
     sum.clear();
     if a.is_empty() || b.is_empty() {

@@ -13,10 +13,10 @@ use Rattle.dam_blocks.specs.Eligible.{IsEligible}
 use Rattle.dam_blocks.specs.Result.{RanksAtOrBelow, IsResult}
 use Rattle.dam_bound.specs.Prefix.{IsCompletion}
 use Rattle.dam_search.specs.declared.answer.PieceAnswer.{PieceAnswer}
-use Rattle.dam_search.specs.Piece.{IsFind, IsMatched, Rises, welfare_found, AreEnough, IsSpent}
-use Rattle.dam_search.specs.Search.{IsLimitEnough}
+use Rattle.dam_search.specs.Piece.{IsFind, IsMatched, Rises, welfare_found, HasNeeded, IsSpent}
+use Rattle.dam_search.specs.Search.{LimitHasNeeded}
 use Rattle.dam_search.specs.inside.Collect.{IsWorked}
-use Rattle.dam_search.proofs.Walks.{enough_more}
+use Rattle.dam_search.proofs.Walks.{needed_more}
 use Rattle.dam_search.specs.Answer.{IsSoundAnswer, AreAnswered, IsReached, greatest_found, IsHighest}
 use Rattle.dam_search.proofs.Ranks.{IsTransitive}
 
@@ -177,7 +177,7 @@ spent_less problem prefix left told nodes visited read done s = record {
   unfinished = s.unfinished;
   done_by_all = s.done_by_all;
   done_by_live = λ v h. s.done_by_live v (omega (arith, h));
-  enough = s.enough;
+  needed = s.needed;
 }
 
 -- ---- the limit on nodes
@@ -190,19 +190,19 @@ reached_at_most problem value b r result =
     omega (arith, ints, reaches, most)
 
 -- an answer that is done visited as many nodes as its piece needs, which the limit allows
-pub answer_enough : (problem : ProblemState) (prefix : List Bool) (left told nodes visited read : ℕ) (b : Best)
+pub answer_needed : (problem : ProblemState) (prefix : List Bool) (left told nodes visited read : ℕ) (b : Best)
     → IsSpent problem prefix left told nodes visited read true → IsReached problem read
-    → IsResult problem b.selection (pos b.welfare) → AreEnough problem prefix left b.welfare nodes
-answer_enough problem prefix left told nodes visited read b s reached result =
-    enough_more problem prefix left read b.welfare visited nodes (reached_at_most problem read b reached result) s.within (s.enough refl)
+    → IsResult problem b.selection (pos b.welfare) → HasNeeded problem prefix left b.welfare nodes
+answer_needed problem prefix left told nodes visited read b s reached result =
+    needed_more problem prefix left read b.welfare visited nodes (reached_at_most problem read b reached result) s.within (s.needed refl)
 
-pub limit_enough : (problem : ProblemState) (depth nodes : ℕ) (answers : List PieceAnswer) (b : Best)
+pub limit_needed : (problem : ProblemState) (depth nodes : ℕ) (answers : List PieceAnswer) (b : Best)
     → All (λ (a : PieceAnswer). IsWorked problem depth nodes a) answers → AreAnswered problem depth answers
-    → IsResult problem b.selection (pos b.welfare) → IsLimitEnough problem depth nodes b.welfare
-limit_enough problem depth nodes answers b worked are result piece less =
+    → IsResult problem b.selection (pos b.welfare) → LimitHasNeeded problem depth nodes b.welfare
+limit_needed problem depth nodes answers b worked are result piece less =
     let found = are.each piece less in let left = length problem.blocks - depth in
     let work = All-contains (λ (a : PieceAnswer). IsWorked problem depth nodes a) answers found.0 worked found.1 in
     let done = All-contains (λ (a : PieceAnswer). a.done ≡ true) answers found.0 are.done found.1 in
     let spent = subst (λ (b : Bool). IsSpent problem (choice depth found.0.piece) left 0 nodes found.0.visited found.0.read b) done work.spent in
-    subst (λ (n : ℕ). AreEnough problem (choice depth n) left b.welfare nodes) found.2
-    (answer_enough problem (choice depth found.0.piece) left 0 nodes found.0.visited found.0.read b spent work.reached result)
+    subst (λ (n : ℕ). HasNeeded problem (choice depth n) left b.welfare nodes) found.2
+    (answer_needed problem (choice depth found.0.piece) left 0 nodes found.0.visited found.0.read b spent work.reached result)

@@ -1,4 +1,4 @@
--- The verdict on a selection, by the day of its decisions.
+-- The verdict on a selection, by the positions of its decisions.
 use Rattle.std.proofs.Common.{◌≡◌, inr, ◌↔◌, MatchOption, ℕ, ℤ, pos, ◌<ℤ◌, Bool, true, false, Option, Some, None, List, ◌∙◌, ap, sym, subst, refl, ◌≤◌, arith}
 use Rattle.std.proofs.lemmas.Int.{ints, to_z-of_z}
 use mir.Syntax.{w64}
@@ -8,10 +8,10 @@ use Rattle.dam_blocks.specs.Problem.{ProblemState}
 use Rattle.dam_blocks.specs.Selection.{padded, IsAdmissible}
 use Rattle.dam_blocks.specs.Eligible.{ArePrices, HasNoLoss, selection_welfare, IsEligible}
 use Rattle.dam_blocks.specs.Result.{RanksAtOrBelow}
-use Rattle.dam_bound.specs.declared.day.Day.{Day}
+use Rattle.dam_bound.specs.declared.positions.Positions.{Positions}
 use Rattle.dam_bound.specs.declared.trail.Trail.{Trail}
-use Rattle.dam_bound.specs.Day.{IsDay, IsUnder}
-use Rattle.dam_bound.specs.Trail.{IsDayIn, IsBoundOf}
+use Rattle.dam_bound.specs.Positions.{ArePositions, IsUnder}
+use Rattle.dam_bound.specs.Trail.{ArePositionsIn, IsBoundOf}
 use Rattle.dam_bound.specs.Prefix.{IsCompletion}
 use Rattle.dam_bound.specs.Relaxed.{relaxed_welfare, without_rows}
 use Rattle.dam_search.specs.Piece.{Rises}
@@ -28,15 +28,15 @@ pub tells_of : (problem relaxed : ProblemState) (prefix : List Bool) (loss : Boo
     → TellsLoss relaxed prefix loss → TellsLoss problem prefix loss
 tells_of problem relaxed prefix loss same tells = subst (λ (p : ProblemState). TellsLoss p prefix loss) same tells
 
--- the total of the day is the welfare of each completion
-pub welfare_is_total : (problem relaxed : ProblemState) (prefix sel : List Bool) (day : Day) → relaxed ≡ without_rows problem
-    → IsDay relaxed prefix day
-    → relaxed_welfare problem prefix ≡ selection_welfare problem sel → selection_welfare problem sel ≡ Some day.total
-welfare_is_total problem relaxed prefix sel day same is decided =
+-- the total of the positions is the welfare of each completion
+pub welfare_is_total : (problem relaxed : ProblemState) (prefix sel : List Bool) (positions : Positions) → relaxed ≡ without_rows problem
+    → ArePositions relaxed prefix positions
+    → relaxed_welfare problem prefix ≡ selection_welfare problem sel → selection_welfare problem sel ≡ Some positions.total
+welfare_is_total problem relaxed prefix sel positions same is decided =
     sym (is.total_is ∙ ap (λ (p : ProblemState). relaxed_welfare p prefix) same ∙ decided)
 
 pub welfare_is_told : (problem relaxed : ProblemState) (prefix sel : List Bool) (trail : Trail) (total : ℤ) → relaxed ≡ without_rows problem
-    → IsDayIn relaxed prefix trail total
+    → ArePositionsIn relaxed prefix trail total
     → relaxed_welfare problem prefix ≡ selection_welfare problem sel → selection_welfare problem sel ≡ Some total
 welfare_is_told problem relaxed prefix sel trail total same is decided =
     sym (is.total_is ∙ ap (λ (p : ProblemState). relaxed_welfare p prefix) same ∙ decided)
@@ -58,30 +58,30 @@ pub read_more : (told : Option ℤ) (problem : ProblemState) (prefix : List Bool
 read_more (Some own) problem prefix low high more is = is
 read_more None problem prefix low high more under = λ w e. (let less = under w e in omega (arith, ints, less, more))
 
--- the bound of a prefix whose day stands in the slots if it has one
+-- the bound of a prefix whose positions are in the trail if it has one
 pub bound_stands : (told : Option ℤ) (problem : ProblemState) (prefix : List Bool) (low : ℕ) (trail : Trail) → IsBoundOf problem prefix low told
-    → ((total : ℤ) → told ≡ Some total → Some total ≡ relaxed_welfare problem prefix → IsDayIn problem prefix trail total)
-    → MatchOption told (IsUnder problem prefix low) (IsDayIn problem prefix trail)
+    → ((total : ℤ) → told ≡ Some total → Some total ≡ relaxed_welfare problem prefix → ArePositionsIn problem prefix trail total)
+    → MatchOption told (IsUnder problem prefix low) (ArePositionsIn problem prefix trail)
 bound_stands (Some own) problem prefix low trail is stands = stands own refl is
 bound_stands None problem prefix low trail under stands = under
 
 -- the day stands in the slots, if the prefix has a bound
 pub if_told : (told : Option ℤ) (total : ℤ) (problem : ProblemState) (prefix : List Bool) (trail : Trail) (low : ℕ) → told ≡ Some total
-    → MatchOption told (IsUnder problem prefix low) (IsDayIn problem prefix trail) → IsDayIn problem prefix trail total
+    → MatchOption told (IsUnder problem prefix low) (ArePositionsIn problem prefix trail) → ArePositionsIn problem prefix trail total
 if_told (Some own) total problem prefix trail low e m =
-    let same : own ≡ total = cc in subst (λ (z : ℤ). IsDayIn problem prefix trail z) same m
+    let same : own ≡ total = cc in subst (λ (z : ℤ). ArePositionsIn problem prefix trail z) same m
 if_told None total problem prefix trail low e m = absurd (cc)
 
 pub unless_told : (told : Option ℤ) (problem : ProblemState) (prefix : List Bool) (trail : Trail) (low : ℕ) → told ≡ None
-    → MatchOption told (IsUnder problem prefix low) (IsDayIn problem prefix trail) → IsUnder problem prefix low
+    → MatchOption told (IsUnder problem prefix low) (ArePositionsIn problem prefix trail) → IsUnder problem prefix low
 unless_told (Some own) problem prefix trail low e m = absurd (cc)
 unless_told None problem prefix trail low e m = m
 
--- the day, with the total as it is passed on
+-- the positions, with the total as it is passed on
 pub as_passed : (problem : ProblemState) (prefix : List Bool) (trail : Trail) (total : ℤ) → SFits w64 total
-    → IsDayIn problem prefix trail total
-    → IsDayIn problem prefix trail (to_z w64 (of_z w64 total))
-as_passed problem prefix trail total fits is = subst (λ (z : ℤ). IsDayIn problem prefix trail z) (sym (to_z-of_z w64 total fits)) is
+    → ArePositionsIn problem prefix trail total
+    → ArePositionsIn problem prefix trail (to_z w64 (of_z w64 total))
+as_passed problem prefix trail total fits is = subst (λ (z : ℤ). ArePositionsIn problem prefix trail z) (sym (to_z-of_z w64 total fits)) is
 
 -- no more welfare than the prefix's bound
 pub under_read : (problem relaxed : ProblemState) (prefix sel : List Bool) (read : ℕ) (w : ℤ) → relaxed ≡ without_rows problem

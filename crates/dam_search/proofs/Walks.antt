@@ -9,7 +9,7 @@ use Rattle.dam_blocks.specs.Problem.{ProblemState}
 use Rattle.dam_book.specs.Limits.{most_blocks}
 use Rattle.dam_blocks.specs.Selection.{padded, IsAdmissible}
 use Rattle.dam_bound.specs.Relaxed.{relaxed_welfare, reaches, live_count}
-use Rattle.dam_search.specs.Piece.{needed_nodes, AdmitsOnly, AreEnough, IsSpent}
+use Rattle.dam_search.specs.Piece.{needed_nodes, AdmitsOnly, HasNeeded, IsSpent}
 use Rattle.dam_search.specs.inside.Walk.{Spends, Reads}
 use Rattle.dam_search.proofs.LastBlock.{still_rejected}
 use Rattle.dam_search.proofs.Prefixes.{length_more}
@@ -179,10 +179,10 @@ spends_both problem prefix first n told least later nodes before middle after do
 
 -- ---- the nodes that a walk needs
 
-pub enough_more : (problem : ProblemState) (prefix : List Bool) (left read later nodes more : ℕ) → read ≤ later → nodes ≤ more
-    → AreEnough problem prefix left read nodes → AreEnough problem prefix left later more
-enough_more problem prefix left read later nodes more h h' enough admissible admits value only le =
-    let needed = enough admissible admits value only (omega (arith, h, le)) in omega (arith, needed, h')
+pub needed_more : (problem : ProblemState) (prefix : List Bool) (left read later nodes more : ℕ) → read ≤ later → nodes ≤ more
+    → HasNeeded problem prefix left read nodes → HasNeeded problem prefix left later more
+needed_more problem prefix left read later nodes more h h' needed admissible admits value only le =
+    let least = needed admissible admits value only (omega (arith, h, le)) in omega (arith, least, h')
 
 -- a relaxed welfare under the greatest value read reaches no greater value
 pub unreached : (w : Option ℤ) (value least : ℕ) → ((x : ℤ) → w ≡ Some x → x <ℤ pos least) → least ≤ value → reaches w value ≡ false
@@ -239,25 +239,25 @@ both_needed problem prefix false admits value next x y total h only rejected a b
 
 -- the node alone was visited: it decides every block, or its relaxed welfare is under the value
 -- read
-pub enough_one : (problem : ProblemState) (prefix : List Bool) (left read before after : ℕ) → after ≡ before + 1
+pub needed_one : (problem : ProblemState) (prefix : List Bool) (left read before after : ℕ) → after ≡ before + 1
     → (left ≡ 0) ⊎ ((value : ℕ) → read ≤ value → reaches (relaxed_welfare problem prefix) value ≡ false)
-    → AreEnough problem prefix left read (after - before)
-enough_one problem prefix left read before after e (inl full) admissible admits value only le =
+    → HasNeeded problem prefix left read (after - before)
+needed_one problem prefix left read before after e (inl full) admissible admits value only le =
     let one = one_needed problem admits value left prefix (inl full) in omega (arith, e, one)
-enough_one problem prefix left read before after e (inr under) admissible admits value only le =
+needed_one problem prefix left read before after e (inr under) admissible admits value only le =
     let one = one_needed problem admits value left prefix (inr (under value le)) in omega (arith, e, one)
 
 -- the node and both of its extensions
-pub enough_both : (problem : ProblemState) (prefix : List Bool) (first : Bool) (n read later before middle after : ℕ) → length prefix < n
+pub needed_both : (problem : ProblemState) (prefix : List Bool) (first : Bool) (n read later before middle after : ℕ) → length prefix < n
     → length prefix < most_blocks → before + 1 ≤ middle → middle ≤ after → read ≤ later
-    → AreEnough problem (prefix ++ first ∷ []) (n - length (prefix ++ first ∷ [])) read (middle - (before + 1))
-    → AreEnough problem (prefix ++ not first ∷ []) (n - length (prefix ++ not first ∷ [])) later (after - middle)
-    → AreEnough problem prefix (n - length prefix) later (after - before)
-enough_both problem prefix first n read later before middle after few fits more more' h one other admissible admits value only le =
+    → HasNeeded problem (prefix ++ first ∷ []) (n - length (prefix ++ first ∷ [])) read (middle - (before + 1))
+    → HasNeeded problem (prefix ++ not first ∷ []) (n - length (prefix ++ not first ∷ [])) later (after - middle)
+    → HasNeeded problem prefix (n - length prefix) later (after - before)
+needed_both problem prefix first n read later before middle after few fits more more' h one other admissible admits value only le =
     let next = n - length (prefix ++ first ∷ []) in
     let same : n - length (prefix ++ not first ∷ []) ≡ next = omega
     (arith, one_less n prefix first few, one_less n prefix (not first) few) in
-    let two = subst (λ (k : ℕ). AreEnough problem (prefix ++ not first ∷ []) k later (after - middle)) same other in
+    let two = subst (λ (k : ℕ). HasNeeded problem (prefix ++ not first ∷ []) k later (after - middle)) same other in
     subst (λ (k : ℕ). needed_nodes problem admits value prefix k ≤ after - before) (sym (one_less n prefix first few))
     (both_needed problem prefix first admits value next (middle - (before + 1)) (after - middle) (after - before)
     (omega (arith, more, more')) only (still_rejected problem.blocks prefix fits admissible)
@@ -265,9 +265,9 @@ enough_both problem prefix first n read later before middle after few fits more 
 
 -- a whole walk, before which nothing was visited
 pub spent_from : (problem : ProblemState) (prefix : List Bool) (left told nodes visited read : ℕ) (done : Bool)
-    → Spends problem prefix left told nodes 0 visited done → (done ≡ true → AreEnough problem prefix left read (visited - 0))
+    → Spends problem prefix left told nodes 0 visited done → (done ≡ true → HasNeeded problem prefix left read (visited - 0))
     → IsSpent problem prefix left told nodes visited read done
-spent_from problem prefix left told nodes visited read done s enough =
+spent_from problem prefix left told nodes visited read done s needed =
     let all = s.all in let some = two_or_more left in
     record {
       within = s.within;
@@ -276,7 +276,7 @@ spent_from problem prefix left told nodes visited read done s enough =
       unfinished = s.unfinished;
       done_by_all = λ h. true_unless done (λ f. (let over = s.over_all f in omega (arith, over, h, some)));
       done_by_live = λ v m h. true_unless done (λ f. (let over = s.over_live f v m in omega (arith, over, h)));
-      enough = λ f. enough_more problem prefix left read read (visited - 0) visited (omega arith) (omega arith) (enough f);
+      needed = λ f. needed_more problem prefix left read read (visited - 0) visited (omega arith) (omega arith) (needed f);
     }
   where
     true_unless : (b : Bool) → (b ≡ false → 0 < 0) → b ≡ true

@@ -69,10 +69,11 @@ needed_nodes problem admits value prefix (suc left) =
 abbrev pub AdmitsOnly : ProblemState → (List Bool → Bool) → Type 0
 AdmitsOnly problem admits = (sel : List Bool) → admits sel ≡ true → IsAdmissible problem.blocks sel
 
--- the number of nodes is at least the number that a walk over the completions of the prefix visits, even
--- if it reads this value from the start and never a greater one
-abbrev pub AreEnough : ProblemState → List Bool → ℕ → ℕ → ℕ → Type 0
-AreEnough problem prefix left read nodes = IsAdmissible problem.blocks (padded prefix)
+-- the number of nodes is at least the number needed: that which a walk over the completions of the prefix
+-- visits even if it reads this value from the start and never a greater one. So many are necessary; they
+-- need not suffice
+abbrev pub HasNeeded : ProblemState → List Bool → ℕ → ℕ → ℕ → Type 0
+HasNeeded problem prefix left read nodes = IsAdmissible problem.blocks (padded prefix)
     → (admits : List Bool → Bool) (value : ℕ) → AdmitsOnly problem admits → read ≤ value
     → needed_nodes problem admits value prefix left ≤ nodes
 
@@ -87,4 +88,4 @@ pub record IsSpent (problem : ProblemState) (prefix : List Bool)
   pub done_by_all : all_nodes left ≤ nodes → done ≡ true
   pub done_by_live : (value : ℕ) → value ≤ greatest_read
       → live_nodes problem value prefix left ≤ nodes → done ≡ true
-  pub enough : done ≡ true → AreEnough problem prefix left read visited
+  pub needed : done ≡ true → HasNeeded problem prefix left read visited

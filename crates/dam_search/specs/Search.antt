@@ -2,7 +2,7 @@
 use Rattle.std.specs.Prelude.{◌≡◌, ℕ, ◌-◌, ◌^◌, ◌<◌, length}
 use Rattle.dam_blocks.specs.Problem.{ProblemState}
 use Rattle.dam_blocks.specs.Selection.{choice}
-use Rattle.dam_search.specs.Piece.{all_nodes, live_nodes, AreEnough}
+use Rattle.dam_search.specs.Piece.{all_nodes, live_nodes, HasNeeded}
 
 -- a piece of the cutting that visited as many nodes as it may, which is less than either bound on
 -- those that it can need
@@ -12,8 +12,9 @@ pub record IsUnfinished (problem : ProblemState) (depth nodes piece visited : �
   pub over_all : nodes < all_nodes (length problem.blocks - depth)
   pub over_live : nodes < live_nodes problem 0 (choice depth piece) (length problem.blocks - depth)
 
--- the limit is at least the number of nodes that each piece of the cutting must visit, even if the
--- result's welfare, which is this one, is read from the start; a lesser limit gives no result
-abbrev pub IsLimitEnough : ProblemState → ℕ → ℕ → ℕ → Type 0
-IsLimitEnough problem depth nodes welfare = (piece : ℕ) → piece < 2 ^ depth
-    → AreEnough problem (choice depth piece) (length problem.blocks - depth) welfare nodes
+-- the limit is at least the number of nodes needed: those that each piece of the cutting must visit, even
+-- if the result's welfare, which is this one, is read from the start. So many are necessary, since a lesser
+-- limit gives no result; they need not suffice
+abbrev pub LimitHasNeeded : ProblemState → ℕ → ℕ → ℕ → Type 0
+LimitHasNeeded problem depth nodes welfare = (piece : ℕ) → piece < 2 ^ depth
+    → HasNeeded problem (choice depth piece) (length problem.blocks - depth) welfare nodes

@@ -2,7 +2,7 @@ ghost use Rattle.std.specs.Prelude.{◌≡◌, ◌≤◌, max, ℕ, pos, true, [
 ghost use Rattle.dam_blocks.specs.Result.{IsResult};
 ghost use Rattle.dam_search.specs.Answer.{IsReached};
 ghost use Rattle.dam_search.specs.Piece.{IsSound, welfare_found};
-ghost use Rattle.dam_search.specs.Search.{IsUnfinished, IsLimitEnough};
+ghost use Rattle.dam_search.specs.Search.{IsUnfinished, LimitHasNeeded};
 ghost use Rattle.dam_search.specs.inside.Collect.{IsWorked};
 
 use crate::answer::PieceAnswer;
@@ -48,7 +48,7 @@ fn concluded(
     ensures unfinished { (piece visited : ℕ)
         → IsErrOf result (SearchFault.Unfinished piece visited)
         → IsUnfinished problem.now 0 nodes piece visited }
-    ensures enough { IfOk result (λ best. IsLimitEnough problem.now 0 nodes best.welfare) }
+    ensures needed { IfOk result (λ best. LimitHasNeeded problem.now 0 nodes best.welfare) }
     ensures whole { (piece : ℕ) → ¬ (IsErrOf result (SearchFault.Collected piece)) }
 {
     if !answer.done {
@@ -71,7 +71,7 @@ pub fn search_alone(alloc: Global, problem: &Problem, nodes: u32) -> Result<Best
     ensures unfinished { (piece visited : ℕ)
         → IsErrOf result (SearchFault.Unfinished piece visited)
         → IsUnfinished problem.now 0 nodes piece visited }
-    ensures enough { IfOk result (λ best. IsLimitEnough problem.now 0 nodes best.welfare) }
+    ensures needed { IfOk result (λ best. LimitHasNeeded problem.now 0 nodes best.welfare) }
     ensures whole { (piece : ℕ) → ¬ (IsErrOf result (SearchFault.Collected piece)) }
 {
     let tables = Tables::of(alloc, problem)?;

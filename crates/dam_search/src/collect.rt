@@ -3,7 +3,7 @@ ghost use Rattle.std.specs.Prelude.{MatchOption, IfOk, IsErrOf};
 ghost use Rattle.dam_blocks.specs.Result.{IsResult};
 ghost use Rattle.dam_plan.specs.Limits.{most_cut};
 ghost use Rattle.dam_search.specs.Piece.{Rises};
-ghost use Rattle.dam_search.specs.Search.{IsUnfinished, IsLimitEnough};
+ghost use Rattle.dam_search.specs.Search.{IsUnfinished, LimitHasNeeded};
 ghost use Rattle.dam_search.specs.inside.Collect.{IsWorked, AreOneEach, IsFirstFaulty, AreCounts};
 ghost use Rattle.dam_search.specs.inside.Collect.{is_lesser, IsLeastUnfinished};
 ghost use Rattle.dam_search.specs.inside.Collect.{IsLong, IsHighestFound, IsCollected};
@@ -122,7 +122,7 @@ pub(crate) fn collected<A: Allocator>(
     requires few { depth ≤ most_cut }
     requires worked { All (λ a. IsWorked problem.now depth nodes a) answers.now }
     ensures ok { IfOk result (λ best. IsResult problem.now best.selection (pos best.welfare)) }
-    ensures enough { IfOk result (λ best. IsLimitEnough problem.now depth nodes best.welfare) }
+    ensures needed { IfOk result (λ best. LimitHasNeeded problem.now depth nodes best.welfare) }
     ensures collected { IsCollected depth answers.now result }
     ensures unfinished { (piece visited : ℕ)
         → IsErrOf result (SearchFault.Unfinished piece visited)

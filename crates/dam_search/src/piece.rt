@@ -3,7 +3,7 @@ ghost use Rattle.std.specs.Prelude.{List, Option, [], ◌∷◌, ◌++◌, lengt
 ghost use Rattle.dam_blocks.specs.Selection.{choice, padded, IsAdmissible};
 ghost use Rattle.dam_blocks.specs.Eligible.{ArePrices, HasNoLoss};
 ghost use Rattle.dam_bound.specs.Relaxed.{without_rows};
-ghost use Rattle.dam_bound.specs.Trail.{IsDayIn, KeepsDays, IsBoundOf};
+ghost use Rattle.dam_bound.specs.Trail.{ArePositionsIn, KeepsPositions, IsBoundOf};
 ghost use Rattle.dam_search.specs.Piece.{IsFind, IsMatched, Rises, welfare_found, IsSound, IsSpent};
 ghost use Rattle.dam_search.specs.inside.Walk.{IsBoundIn, Finds, Covers, IsGoing, IsWalked};
 
@@ -67,33 +67,35 @@ fn equals(bound: i64, value: u64) -> bool
 
 impl<A: Allocator, B: Allocator> SearchSpace<'_, A, B> {
     /// Whether some accepted block, together with its accepted descendants, loses at the prices of a prefix that
-    /// decides every block. The day of the prefix is in the slots, and `total` is its relaxed welfare.
+    /// decides every block. The positions of the prefix are in the trail, and `total` is its relaxed welfare.
     ///
-    /// It isn't inlined, since few prefixes come so far, and its day takes room on the stack.
+    /// It isn't inlined, since few prefixes come so far, and their positions take room on the stack.
     #[inline(never)]
     fn loses(&self, prefix: &Prefix, trail: &Trail, total: i64) -> bool
         requires full { length self.now.problem.now.blocks ≡ length prefix.now }
-        requires day { IsDayIn self.now.walk.now prefix.now trail.now total }
+        requires positions { ArePositionsIn self.now.walk.now prefix.now trail.now total }
         ensures { (prices : List ℤ)
             → ArePrices self.now.walk.now.blocks (padded prefix.now) 1
             self.now.walk.now.hours prices
             → (result ≡ false) ↔ HasNoLoss self.now.walk.now.blocks (padded prefix.now) prices }
     {
-        let day = self.walk.day_at(trail, total);
-        prefix.has_loss(self.walk, &day)
+        let positions = self.walk.positions_at(trail, total);
+        prefix.has_loss(self.walk, &positions)
     }
 
-    /// Makes the day of the extension of a prefix by a decision on its next block, if there is a `total`: the bound of
-    /// the extension. `total` is `None` if the extension has no bound, or one below the incumbent that was read.
+    /// Makes the positions of the extension of a prefix by a decision on its next block, if there is a `total`: the
+    /// bound of the extension. `total` is `None` if the extension has no bound, or one below the incumbent that was
+    /// read.
     #[inline(always)]
     fn enter(&self, prefix: &Prefix, accept: bool, trail: &mut Trail, total: Option<i64>)
         requires depth { length prefix.now < length self.now.walk.now.blocks }
-        requires day { (before : ℤ) × IsDayIn self.now.walk.now prefix.now trail.old before }
+        requires positions { (before : ℤ)
+            × ArePositionsIn self.now.walk.now prefix.now trail.old before }
         ensures stands { (before : ℤ) (least : ℕ)
-            → IsDayIn self.now.walk.now prefix.now trail.old before
+            → ArePositionsIn self.now.walk.now prefix.now trail.old before
             → IsBoundOf self.now.walk.now (prefix.now ++ accept ∷ []) least total
             → IsBoundIn self.now.walk.now (prefix.now ++ accept ∷ []) least trail.new total }
-        ensures kept { KeepsDays self.now.walk.now (length prefix.now) trail.old trail.new }
+        ensures kept { KeepsPositions self.now.walk.now (length prefix.now) trail.old trail.new }
     {
         if total.is_some() {
             self.walk.enter(trail, prefix.depth(), accept);
@@ -115,7 +117,7 @@ impl<A: Allocator, B: Allocator> SearchSpace<'_, A, B> {
         found: &mut Progress,
     )
         requires full { length self.now.problem.now.blocks ≡ length prefix.now }
-        requires day { IsBoundIn self.now.walk.now prefix.now found.old.read trail.now total }
+        requires positions { IsBoundIn self.now.walk.now prefix.now found.old.read trail.now total }
         requires admissible { IsAdmissible self.now.problem.now.blocks (padded prefix.now) }
         requires best { IsFind self.now.problem.now [] found.old.best }
         requires offered { welfare_found found.old.best ≤ I.greatest_offer incumbent.old }
@@ -152,7 +154,7 @@ impl<A: Allocator, B: Allocator> SearchSpace<'_, A, B> {
     /// A prefix whose bound is less than the value read is passed over after its own visit. 'Rejected' is
     /// explored before 'accepted', which finds good selections sooner. If the bound equals the value read, no
     /// completion has more welfare than that, and only the order of ties counts: 'accepted' comes first in
-    /// it, and is explored first. The days of the prefix and of the shorter ones stay.
+    /// it, and is explored first. The positions of the prefix and of the shorter ones stay.
     ///
     /// `total` is the prefix's bound. There is none if it has no bound, or one that is known to be under the value
     /// read.
@@ -170,7 +172,7 @@ impl<A: Allocator, B: Allocator> SearchSpace<'_, A, B> {
         found: &mut Progress,
     ) -> bool
         requires depth { length prefix.now ≤ length self.now.problem.now.blocks }
-        requires day { IsBoundIn self.now.walk.now prefix.now found.old.read trail.old total }
+        requires positions { IsBoundIn self.now.walk.now prefix.now found.old.read trail.old total }
         requires admissible { IsAdmissible self.now.problem.now.blocks (padded prefix.now) }
         requires going { IsGoing self.now.problem.now nodes
             (I.greatest_read incumbent.old) (I.greatest_offer incumbent.old) found.old }
@@ -179,7 +181,8 @@ impl<A: Allocator, B: Allocator> SearchSpace<'_, A, B> {
             (I.greatest_read incumbent.new) (I.greatest_offer incumbent.new)
             found.old found.new result }
         ensures kept { I.kept incumbent.new ≡ I.kept incumbent.old }
-        ensures days { KeepsDays self.now.walk.now (length prefix.now) trail.old trail.new }
+        ensures positions { KeepsPositions self.now.walk.now (length prefix.now)
+            trail.old trail.new }
     {
         dam_blocks::laws::ranking();
         dam_bound::laws::completions();
@@ -224,7 +227,8 @@ impl<A: Allocator, B: Allocator> SearchSpace<'_, A, B> {
     /// Explores the extension of a prefix by this decision on the next block, as `explore` does.
     ///
     /// If the links and the groups don't admit it, it is passed over without a visit. `total` is its bound; there is
-    /// none if it has no bound, or one that is known to be under the value read. Its day is made only if there is one.
+    /// none if it has no bound, or one that is known to be under the value read. Its positions are made only if there
+    /// is one.
     #[cycle(explore)]
     fn decide<I: Incumbent>(
         &self,
@@ -237,7 +241,8 @@ impl<A: Allocator, B: Allocator> SearchSpace<'_, A, B> {
         found: &mut Progress,
     ) -> bool
         requires depth { length prefix.now < length self.now.problem.now.blocks }
-        requires day { (total : ℤ) × IsDayIn self.now.walk.now prefix.now trail.old total }
+        requires positions { (total : ℤ)
+            × ArePositionsIn self.now.walk.now prefix.now trail.old total }
         requires bound { IsBoundOf self.now.walk.now (prefix.now ++ accept ∷ []) found.old.read
             total }
         requires admissible { IsAdmissible self.now.problem.now.blocks (padded prefix.now) }
@@ -248,7 +253,8 @@ impl<A: Allocator, B: Allocator> SearchSpace<'_, A, B> {
             (I.greatest_read incumbent.new) (I.greatest_offer incumbent.new)
             found.old found.new result }
         ensures kept { I.kept incumbent.new ≡ I.kept incumbent.old }
-        ensures days { KeepsDays self.now.walk.now (length prefix.now) trail.old trail.new }
+        ensures positions { KeepsPositions self.now.walk.now (length prefix.now)
+            trail.old trail.new }
     {
         kept(self.problem);
         let extended = prefix.extended(accept);
@@ -268,7 +274,7 @@ impl<A: Allocator, B: Allocator> SearchSpace<'_, A, B> {
 /// it, it is visited when its bound is compared with the value read, or, if it decides every block, when
 /// its welfare is looked at; otherwise it is passed over without a visit. A node is never visited twice,
 /// and the answer isn't `done` if it takes more than `nodes` nodes. The search takes no memory but 20 kB
-/// of the stack, for the days of the walk.
+/// of the stack, for the positions of the walk.
 pub fn search_piece<A: Allocator, B: Allocator, R: Bounds<B>, I: Incumbent>(
     problem: &Problem<A>,
     relaxed: &R,

@@ -6,14 +6,14 @@ ghost use Rattle.dam_blocks.specs.Selection.{choice, padded, IsAdmissible};
 ghost use Rattle.dam_blocks.specs.Eligible.{ArePrices, HasNoLoss, selection_welfare};
 ghost use Rattle.dam_bound.specs.Prefix.{IsCompletion};
 ghost use Rattle.dam_bound.specs.Relaxed.{relaxed_welfare, reaches};
-ghost use Rattle.dam_bound.specs.Day.{IsDay, IsUnder};
-ghost use Rattle.dam_bound.specs.Trail.{IsDayIn};
+ghost use Rattle.dam_bound.specs.Positions.{ArePositions, IsUnder};
+ghost use Rattle.dam_bound.specs.Trail.{ArePositionsIn};
 ghost use Rattle.dam_bound.specs.declared.trail.Trail.{Trail};
-ghost use Rattle.dam_search.specs.inside.Walk.{IsBoundIn, IsDayFrom, turned_at};
+ghost use Rattle.dam_search.specs.inside.Walk.{IsBoundIn, ArePositionsFrom, turned_at};
 
 use crate::space::kept;
 use dam_blocks::{Problem, Selection, admissible, is_allowed};
-use dam_bound::{Day, Trail, Walk};
+use dam_bound::{Positions, Trail, Walk};
 use std::alloc::Allocator;
 use std::marker::Model;
 
@@ -134,8 +134,8 @@ impl Prefix {
         is_allowed(problem, self.taken, last)
     }
 
-    /// Makes the days of the prefix and of the shorter ones, and returns its bound; `None` only if it has
-    /// no bound or one below 0.
+    /// Makes the positions of the prefix and of the shorter ones, and returns its bound; `None` only if it
+    /// has no bound or one below 0.
     pub(crate) fn walked<A: Allocator, B: Allocator>(
         &self,
         walk: &Walk<A, B>,
@@ -157,20 +157,20 @@ impl Prefix {
         Some(total)
     }
 
-    /// The day of the prefix, which decides every block; `None` only if it has no bound or one below 0.
-    /// It is made in the slots.
-    pub(crate) fn day<A: Allocator, B: Allocator>(
+    /// The positions of the prefix, which decides every block; `None` only if it has no bound or one below 0.
+    /// They are made in the trail.
+    pub(crate) fn positions<A: Allocator, B: Allocator>(
         &self,
         walk: &Walk<A, B>,
         trail: &mut Trail,
-    ) -> Option<Day>
+    ) -> Option<Positions>
         requires { length self.now ≡ length walk.now.blocks }
-        ensures { IsDayFrom walk.now self.now 0 result }
+        ensures { ArePositionsFrom walk.now self.now 0 result }
     {
         let Some(total) = self.walked(walk, trail) else {
             return None;
         };
-        Some(walk.day_at(trail, total))
+        Some(walk.positions_at(trail, total))
     }
 
     /// Whether the block at the place is accepted.
@@ -196,16 +196,20 @@ impl Prefix {
     }
 
     /// Whether some accepted block, together with its accepted descendants, loses at the prices of the
-    /// prefix's day, on which every block is decided.
-    pub(crate) fn has_loss<A: Allocator, B: Allocator>(&self, walk: &Walk<A, B>, day: &Day) -> bool
+    /// prefix, which decides every block, and whose positions these are.
+    pub(crate) fn has_loss<A: Allocator, B: Allocator>(
+        &self,
+        walk: &Walk<A, B>,
+        positions: &Positions,
+    ) -> bool
         requires full { length self.now ≡ length walk.now.blocks }
-        requires day { IsDay walk.now self.now day.now }
+        requires positions { ArePositions walk.now self.now positions.now }
         ensures { (prices : List ℤ)
             → ArePrices walk.now.blocks (padded self.now) 1 walk.now.hours prices
             → (result ≡ false) ↔ HasNoLoss walk.now.blocks (padded self.now) prices }
     {
         for place in 0..self.depth {
-            if self.taken.has(place) && walk.gain(day, self.taken, place) < 0 {
+            if self.taken.has(place) && walk.gain(positions, self.taken, place) < 0 {
                 return true;
             }
         }
@@ -222,7 +226,7 @@ impl Prefix {
             (IsUnder relaxed self.now least × ((sel : List Bool) (w : ℤ)
             → IsCompletion self.now sel → selection_welfare relaxed sel ≡ Some w → w <ℤ pos least))
             (λ bound. (reaches (relaxed_welfare relaxed self.now) least ≡ true)
-            × IsDayIn relaxed self.now trail bound) }
+            × ArePositionsIn relaxed self.now trail bound) }
     {
         dam_bound::laws::bound();
         let Some(total) = total else {

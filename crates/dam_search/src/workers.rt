@@ -4,7 +4,7 @@ ghost use Rattle.atomic_table.specs.Seated.{TableId};
 ghost use Rattle.dam_blocks.specs.Result.{IsResult};
 ghost use Rattle.dam_bound.specs.Relaxed.{without_rows};
 ghost use Rattle.dam_plan.specs.Limits.{most_workers, most_cut};
-ghost use Rattle.dam_search.specs.Search.{IsUnfinished, IsLimitEnough};
+ghost use Rattle.dam_search.specs.Search.{IsUnfinished, LimitHasNeeded};
 ghost use Rattle.dam_search.specs.Words.{view_of};
 ghost use Rattle.dam_search.specs.inside.Share.{IsNewSeat, IsShare, AreJoined, AreWhole};
 
@@ -218,8 +218,8 @@ pub fn search<R: Threads + Sync, T: Turnstile + Sync>(
         → IsUnfinished problem.now (min plan.cut (length problem.now.blocks))
         plan.nodes piece visited }
 
-    // A limit below the number of nodes that some piece must visit gives no result.
-    ensures enough { IfOk result (λ best. IsLimitEnough problem.now
+    // The limit is at least the number of nodes that each piece must visit: a lesser one gives no result.
+    ensures needed { IfOk result (λ best. LimitHasNeeded problem.now
         (min plan.cut (length problem.now.blocks)) plan.nodes best.welfare) }
 
     // It never ends in the fault of a piece that lacks its answer or has two.

@@ -46,8 +46,8 @@ pub record PeriodsState : Type 0 where
   pub firsts : List ℕ
   pub ranges : List Range
 
--- a block that is decided in the periods, the slots and the curves before it, its own row of slots, and whether its losses
--- are kept
+-- a block that is decided in the periods, the places of the net volumes and the curves before it, where its own row of net
+-- volumes begins, and whether its losses are kept
 pub record DecidingState : Type 0 where
   pub periods : PeriodsState
   pub order : BlockTerms
@@ -66,8 +66,8 @@ pub record AreDecided (problem : ProblemState) (depth : ℕ) (periods : PeriodsS
   pub firsts_are : AreFirsts problem periods.firsts
   pub ranges_are : AreRanges problem depth periods.ranges
 
--- the block at the place is the last of those that are decided, with the slots and the curves before it and its own row of
--- slots; the losses are kept from this place on
+-- the block at the place is the last of those that are decided, with the places of the net volumes and the curves before it,
+-- and its own row of net volumes; the losses are kept from this place on
 pub record IsDeciding (problem : ProblemState) (all : CurvesState) (kept k : ℕ) (b : Block) (deciding : DecidingState) : Type 0 where
   pub block_is : slice_get problem.blocks k ≡ Some b
   pub order_is : b.order ≡ deciding.order

@@ -1,4 +1,4 @@
--- The change of a day if one block is decided, or decided the other way.
+-- The change of the positions if one block is decided, or decided the other way.
 use Rattle.std.specs.Prelude.{◌≡◌, ℕ, ◌+◌, ◌*◌, Bool, true, false, ℤ, pos, neg_ℤ, ◌+ℤ◌, ◌≤ℤ◌, ◌<ℤ◌, ◌<◌, Option, Some, MatchOption, List, [], ◌∷◌, ◌++◌, length, drop}
 use Rattle.std.specs.Prelude.{slice_get}
 use Rattle.dam_book.specs.Limits.{last_period, most_blocks}
@@ -12,9 +12,9 @@ use Rattle.dam_blocks.specs.Eligible.{period_welfare}
 use Rattle.dam_bound.specs.Relaxed.{as_steps, relaxed_welfare}
 use Rattle.dam_bound.specs.inside.Levels.{greatest_period_bound}
 use Rattle.dam_bound.specs.Tables.{TablesState, AreTablesOf}
-use Rattle.dam_bound.specs.Trail.{IsDayIn, bound_by}
-use Rattle.dam_bound.specs.declared.day.Change.{Change}
-use Rattle.dam_bound.specs.declared.day.Change.TheVariants.{Decide, Turn}
+use Rattle.dam_bound.specs.Trail.{ArePositionsIn, bound_by}
+use Rattle.dam_bound.specs.declared.positions.Change.{Change}
+use Rattle.dam_bound.specs.declared.positions.Change.TheVariants.{Decide, Turn}
 use Rattle.dam_bound.specs.declared.trail.Extensions.{Extensions}
 use Rattle.dam_bound.specs.declared.trail.Trail.{Trail}
 
@@ -63,20 +63,20 @@ abbrev pub IsBoundFrom : ProblemState → List Bool → ℤ → Option ℤ → T
 IsBoundFrom problem prefix floor total =
     MatchOption total (IsBelow problem prefix floor) (λ w. (Some w ≡ relaxed_welfare problem prefix) × (floor ≤ℤ w))
 
--- the tables are those of a problem that has a block at the place, and the slots hold the day of a prefix that decides the
--- blocks before it and has this total as its relaxed welfare
+-- the tables are those of a problem that has a block at the place, and the trail holds the positions of a prefix that
+-- decides the blocks before it and has this total as its relaxed welfare
 abbrev pub IsAtBlock : TablesState → Trail → ℕ → ℤ → Type 0
 IsAtBlock tables trail place total = (problem : ProblemState) × (before : List Bool)
     × AreTablesOf problem tables × (place < length problem.blocks)
     × ((accept : Bool) → IsDecision problem place accept before)
-    × IsDayIn problem before trail total
+    × ArePositionsIn problem before trail total
 
 -- the bounds of the two extensions of each such prefix by the block at the place, each if it isn't under the floor
 abbrev pub AreBoundsFrom : TablesState → Trail → ℕ → ℤ → ℤ → Extensions → Type 0
 AreBoundsFrom tables trail place total floor bounds = (problem : ProblemState) (before : List Bool) (accept : Bool)
     → AreTablesOf problem tables → place < length problem.blocks
     → ((choice : Bool) → IsDecision problem place choice before)
-    → IsDayIn problem before trail total
+    → ArePositionsIn problem before trail total
     → IsBoundFrom problem (before ++ accept ∷ []) floor (bound_by accept bounds)
 
 -- the sizes of a class's welfare without the value of the accepted blocks, of a block's value in a class, and of the

@@ -7,12 +7,12 @@ use Rattle.dam_blocks.specs.Problem.{ProblemState}
 use Rattle.dam_blocks.specs.Eligible.{IsEligible}
 use Rattle.dam_bound.specs.Prefix.{IsCompletion}
 use Rattle.dam_bound.specs.Relaxed.{live_count}
-use Rattle.dam_bound.specs.declared.day.Day.{Day}
-use Rattle.dam_bound.specs.Day.{IsDay, IsUnder}
-use Rattle.dam_bound.specs.Trail.{IsDayIn}
+use Rattle.dam_bound.specs.declared.positions.Positions.{Positions}
+use Rattle.dam_bound.specs.Positions.{ArePositions, IsUnder}
+use Rattle.dam_bound.specs.Trail.{ArePositionsIn}
 use Rattle.dam_bound.specs.declared.trail.Trail.{Trail}
 use Rattle.dam_search.specs.declared.piece.Progress.{Progress}
-use Rattle.dam_search.specs.Piece.{IsFind, IsMatched, Rises, welfare_found, AreEnough}
+use Rattle.dam_search.specs.Piece.{IsFind, IsMatched, Rises, welfare_found, HasNeeded}
 
 -- the find changes to an eligible completion of the prefix, or not at all, and only rises
 pub record Finds (problem : ProblemState) (prefix : List Bool) (before after : Option Best)
@@ -68,23 +68,23 @@ pub record IsWalked (problem : ProblemState) (prefix : List Bool)
   pub covers : done ≡ true → Covers problem prefix after.best after.read
   pub spends : Spends problem prefix (length problem.blocks - length prefix) greatest_read_before
       nodes before.visited after.visited done
-  pub enough : done ≡ true → AreEnough problem prefix (length problem.blocks - length prefix)
+  pub needed : done ≡ true → HasNeeded problem prefix (length problem.blocks - length prefix)
       after.read (after.visited - before.visited)
   pub reads : Reads (length problem.blocks - length prefix) before.visited after.visited
       before.read after.read greatest_read_before greatest_read_after
   pub offered : greatest_offer_after ≡ max greatest_offer_before (welfare_found after.best)
 
--- the total is the prefix's relaxed welfare, and its day is in the slots; or there is no total, and the prefix
+-- the total is the prefix's relaxed welfare, and its positions are in the trail; or there is no total, and the prefix
 -- has no relaxed welfare or one that is less than the value
 abbrev pub IsBoundIn : ProblemState → List Bool → ℕ → Trail → Option ℤ → Type 0
-IsBoundIn problem prefix least trail total = MatchOption total (IsUnder problem prefix least) (IsDayIn problem prefix trail)
+IsBoundIn problem prefix least trail total = MatchOption total (IsUnder problem prefix least) (ArePositionsIn problem prefix trail)
 
 -- the decisions with the one at the place reversed
 abbrev pub turned_at : List Bool → ℕ → List Bool
 turned_at decisions place = slice_set decisions place (not (slice_index_or decisions place false))
 
--- the day of the prefix; or there is none, and then its relaxed welfare, if it has one, is under
+-- the positions of the prefix; or there are none, and then its relaxed welfare, if it has one, is under
 -- the value
-abbrev pub IsDayFrom : ProblemState → List Bool → ℕ → Option Day → Type 0
-IsDayFrom problem prefix least None = IsUnder problem prefix least
-IsDayFrom problem prefix least (Some day) = IsDay problem prefix day
+abbrev pub ArePositionsFrom : ProblemState → List Bool → ℕ → Option Positions → Type 0
+ArePositionsFrom problem prefix least None = IsUnder problem prefix least
+ArePositionsFrom problem prefix least (Some positions) = ArePositions problem prefix positions

@@ -12,7 +12,7 @@ use Rattle.dam_hour.specs.declared.step.Step.{Step}
 use Rattle.dam_blocks.specs.Selection.{padded, net_volume, net_volume_of}
 use Rattle.dam_bound.specs.Relaxed.{without_rows}
 use Rattle.dam_bound.specs.Tables.{TablesState}
-use Rattle.dam_bound.specs.declared.day.Position.{Position}
+use Rattle.dam_bound.specs.declared.positions.Position.{Position}
 use Rattle.dam_bound.proofs.Pricing.{class_inside, net_there, net_allowed, net_fits, is_cleared}
 use Rattle.dam_bound.proofs.Gains.{price_is, price_at}
 use Rattle.dam_bound.proofs.gain.price_at.Goals as goal
@@ -26,8 +26,8 @@ hour_there hour found hours at period e f number =
     let same : at ≡ period - 1 = omega (arith, number) in
     ap (slice_get hours) same ∙ sym e ∙ ap option_copied f
 
-pub bounds-day-class : goal.bounds-day-class
-bounds-day-class g c =
+pub bounds-positions-class : goal.bounds-positions-class
+bounds-positions-class g c =
     (class_inside (without_rows c.args.problem.now) c.args.tables.now c.tables.inside.firsts c.args.at _
     (ap (λ (t : TablesState). t.firsts) c.tables.view_is) c.requires.tables c.requires.place refl).2
 
@@ -35,20 +35,24 @@ pub clear-requires : goal.clear-requires
 clear-requires g c =
     let first = (class_inside (without_rows c.args.problem.now) c.args.tables.now c.tables.inside.firsts c.args.at _
     (ap (λ (t : TablesState). t.firsts) c.tables.view_is) c.requires.tables c.requires.place refl).0 in
-    let net = net_there (without_rows c.args.problem.now) c.requires.day.0 c.args.day.now c.args.at _ nothing c.requires.day.2 c.requires.place
+    let net = net_there (without_rows c.args.problem.now) c.requires.positions.0 c.args.positions.now c.args.at _ nothing
+    c.requires.positions.2 c.requires.place
     first in
-    let allowed = net_allowed (without_rows c.args.problem.now) c.args.tables.now c.requires.day.0 c.args.at _ c.requires.tables net in
+    let allowed = net_allowed (without_rows c.args.problem.now) c.args.tables.now c.requires.positions.0 c.args.at _
+    c.requires.tables net in
     subst IsNetVolume (sym (to_z-of_z w64 _ (net_fits _ allowed))) allowed
 
 pub unwrap-requires : goal.unwrap-requires
 unwrap-requires g c =
     let first = (class_inside (without_rows c.args.problem.now) c.args.tables.now c.tables.inside.firsts c.args.at _
     (ap (λ (t : TablesState). t.firsts) c.tables.view_is) c.requires.tables c.requires.place refl).0 in
-    let net = net_there (without_rows c.args.problem.now) c.requires.day.0 c.args.day.now c.args.at _ nothing c.requires.day.2
+    let net = net_there (without_rows c.args.problem.now) c.requires.positions.0 c.args.positions.now c.args.at _ nothing
+    c.requires.positions.2
     c.requires.place first in
-    let allowed = net_allowed (without_rows c.args.problem.now) c.args.tables.now c.requires.day.0 c.args.at _ c.requires.tables net in
-    is_cleared (λ (m : Cleared). m.welfare) (without_rows c.args.problem.now) c.requires.day.0 c.args.day.now c.args.at
-    c.unwrap-hour.result.now _ _ c.clear.result c.requires.day.1 c.requires.day.2
+    let allowed = net_allowed (without_rows c.args.problem.now) c.args.tables.now c.requires.positions.0 c.args.at _
+    c.requires.tables net in
+    is_cleared (λ (m : Cleared). m.welfare) (without_rows c.args.problem.now) c.requires.positions.0 c.args.positions.now c.args.at
+    c.unwrap-hour.result.now _ _ c.clear.result c.requires.positions.1 c.requires.positions.2
     (hour_there c.hour.result c.unwrap-hour.result c.args.problem.now.hours c.args.at c.at.result c.hour.ensures.value
     c.unwrap-hour.ensures c.at.ensures) net (to_z-of_z w64 _ (net_fits _ allowed)) c.clear.ensures.welfare
 
@@ -56,13 +60,13 @@ pub returns : goal.returns
 returns g c prefix prices long is are =
     let first = (class_inside (without_rows c.args.problem.now) c.args.tables.now c.tables.inside.firsts c.args.at _
     (ap (λ (t : TablesState). t.firsts) c.tables.view_is) c.requires.tables c.requires.place refl).0 in
-    let net = net_there (without_rows c.args.problem.now) prefix c.args.day.now c.args.at _ nothing is c.requires.place first in
+    let net = net_there (without_rows c.args.problem.now) prefix c.args.positions.now c.args.at _ nothing is c.requires.place first in
     let allowed = net_allowed (without_rows c.args.problem.now) c.args.tables.now prefix c.args.at _ c.requires.tables net in
     let there = hour_there c.hour.result c.unwrap-hour.result c.args.problem.now.hours c.args.at c.at.result c.hour.ensures.value
     c.unwrap-hour.ensures c.at.ensures in
     let price = price_at c.args.problem.now.blocks (padded prefix) 1 c.args.at c.args.problem.now.hours prices
     c.unwrap-hour.result.now are there in
-    let own = (slice_index_or c.args.day.now.classes (slice_index_or c.tables.inside.firsts c.args.at 0) nothing).net in
+    let own = (slice_index_or c.args.positions.now.classes (slice_index_or c.tables.inside.firsts c.args.at 0) nothing).net in
     let ends = subst (λ (o : Option Cleared). IfSome o (λ m. AreEnds c.unwrap-hour.result.now (to_z w64 (of_z w64 own)) m.low m.high))
     c.unwrap.ensures
     c.clear.ensures.ends in

@@ -59,24 +59,24 @@ loop-period-preserved g c =
     record {
       low = omega (arith, ints, low, high, least, most, fits, long, inside);
       high = omega (arith, ints, low, high, least, most, fits, long, inside);
-      so_far = λ prefix prices is day are.
+      so_far = λ prefix prices is positions are.
           gain_more (to_z w64 c.loop-period.total-bits) c.surplus_at_price-total.result _ _ _ _ _
           (omega (arith, ints, low, high, least, most, fits, long, inside))
           (c.surplus_at_price-total.ensures.value
           ∙ ap (λ (n : ℕ). signed order.side ((order.price -ℤ c.price_at.result) *ℤ pos n)) c.get-in-loop-period.ensures.value)
           (surplus_at_place order c.pairs-period-items.result.now
           c.loop-period.period-index (c.from-at.result - 1) c.loop-period-item.result prices c.price_at.result rising pair number
-          (c.price_at.ensures prefix prices is day are))
-          (c.loop-period.invariant.so_far prefix prices is day are);
+          (c.price_at.ensures prefix prices is positions are))
+          (c.loop-period.invariant.so_far prefix prices is positions are);
     }
 
 pub returns-clause-value : goal.returns-clause-value
-returns-clause-value g c prefix prices is day are =
+returns-clause-value g c prefix prices is positions are =
     let order = (slice_index_or c.blocks-2.result.now c.args.place c.index-blocks-place.result).order in
     gain_whole (to_z w64 c.loop-period.total-bits) _ _
     (ap (λ (ps : List Pair). surplus_of prices (with_pairs order ps))
     (drop_all c.loop-period.period-index c.pairs-period-items.result.now c.loop-period-test.false) ∙ without_pairs order 1 prices)
-    (c.loop-period.invariant.so_far prefix prices is day are)
+    (c.loop-period.invariant.so_far prefix prices is positions are)
 
 pub returns-clause-size : goal.returns-clause-size
 returns-clause-size g c =

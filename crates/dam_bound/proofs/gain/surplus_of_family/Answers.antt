@@ -24,13 +24,14 @@ loop-place-preserved g c =
           record {
             low = omega (arith, ints, low, high, least, most, inside, few, is);
             high = omega (arith, ints, low, high, least, most, inside, few, is);
-            so_far = λ prefix members prices long day are both.
+            so_far = λ prefix members prices long positions are both.
                 member_more prices c.args.problem.now.blocks members c.loop-place.place true (to_z w64 c.loop-place.total-bits)
                 w.surplus_of-total.result (to_z w64 c.if-has.total-bits) inside
                 (both c.loop-place.place inside ∙ and_from _ _ (sym c.has.ensures.value ∙ w.if-has.true)
                 (sym w.has-then-has.ensures.value ∙ w.if-has-2.true))
-                (w.surplus_of-total.ensures.value prefix prices long day are) (omega (arith, ints, low, high, least, most, inside, few, is))
-                (c.loop-place.invariant.so_far prefix members prices long day are both);
+                (w.surplus_of-total.ensures.value prefix prices long positions are)
+                (omega (arith, ints, low, high, least, most, inside, few, is))
+                (c.loop-place.invariant.so_far prefix members prices long positions are both);
           })
       | else-has w ↦
           (let is = w.total-is in
@@ -44,16 +45,16 @@ loop-place-preserved g c =
           record {
             low = omega (arith, ints, low, is);
             high = omega (arith, ints, high, is);
-            so_far = λ prefix members prices long day are both.
+            so_far = λ prefix members prices long positions are both.
                 member_more prices c.args.problem.now.blocks members c.loop-place.place false (to_z w64 c.loop-place.total-bits) (pos 0)
                 (to_z w64 c.if-has.total-bits) inside
                 (rejected members (both c.loop-place.place inside)) refl (omega (arith, ints, is))
-                (c.loop-place.invariant.so_far prefix members prices long day are both);
+                (c.loop-place.invariant.so_far prefix members prices long positions are both);
           })
     ]
 
 pub returns-clause-value : goal.returns-clause-value
-returns-clause-value g c prefix members prices long day are both =
+returns-clause-value g c prefix members prices long positions are both =
     all_members (surplus_of prices) c.args.problem.now.blocks members c.loop-place.place (to_z w64 c.loop-place.total-bits) _
     (drop_all c.loop-place.place c.args.problem.now.blocks (omega (arith, c.block_count-place-end.ensures.value, c.loop-place-test.false)))
-    (c.loop-place.invariant.so_far prefix members prices long day are both)
+    (c.loop-place.invariant.so_far prefix members prices long positions are both)

@@ -95,8 +95,8 @@ loop-block-preserved g c =
           c.take_over.new.ends c.loop-block.places c.take_over.new.places c.loop-block.lots.items c.push.new.self.items
           c.in_ok-touches.touches.items c.by_stake.result c.touches.ensures.kept at touches c.by_stake.ensures c.in_ok-push.ensures.items
           (λ ends. c.take_over.ensures.ends problem c.touches.new.curves c.args.kept c.loop-block.block-index c.block-item.result at seen ends)
-          (λ slots. c.take_over.ensures.places problem c.touches.new.curves c.args.kept c.loop-block.block-index c.block-item.result at
-          (omega (arith, inside, few)) before.few_periods seen slots)
+          (λ placed. c.take_over.ensures.places problem c.touches.new.curves c.args.kept c.loop-block.block-index c.block-item.result at
+          (omega (arith, inside, few)) before.few_periods seen placed)
           built);
     }
 

@@ -1,4 +1,4 @@
--- The lots so far, and the periods, the curves and the slots after them.
+-- The lots so far, and the periods, the curves and the places of the net volumes after them.
 use Rattle.std.proofs.Common.{◌≡◌, ◌+◌, ◌*◌}
 use Rattle.dam_book.specs.Limits.{last_period}
 use Rattle.dam_blocks.specs.Problem.{ProblemState}

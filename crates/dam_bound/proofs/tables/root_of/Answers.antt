@@ -9,7 +9,7 @@ use Rattle.dam_curve.specs.Curve.{greatest_joint_welfare}
 use Rattle.dam_bound.proofs.Sizes.{added_to}
 use Rattle.dam_bound.specs.Classes.{first_of, class_hours}
 use Rattle.dam_bound.specs.Tables.{least_net, most_net}
-use Rattle.dam_bound.proofs.BuildingDay.{at_zero, class_zero, no_line, total_more, total_kept, total_within, same_within, total_ended}
+use Rattle.dam_bound.proofs.BuildingDay.{at_zero, class_zero, no_segment, total_more, total_kept, total_within, same_within, total_ended}
 use Rattle.dam_bound.proofs.tables.root_of.Goals as goal
 use Rattle.dam_bound.proofs.tables.root_of.Goals.{then-firsts-at, else-firsts-at}
 
@@ -24,7 +24,7 @@ welfare-requires-then-firsts-at g c =
       class_hours c.requires.0 0 c.loop-at.at,
       least_net c.requires.0.blocks 0 c.loop-at.at,
       most_net c.requires.0.blocks 0 c.loop-at.at,
-      c.requires.2.each c.loop-at.at no_line inside first,
+      c.requires.2.each c.loop-at.at no_segment inside first,
       zero,
       zero,
     )
@@ -39,7 +39,7 @@ unwrap-total-requires g c =
     let zero : pos 0 ≤ℤ pos 0 = omega (arith, ints) in
     let value = c.welfare-then-firsts-at.ensures.value (class_hours c.requires.0 0 c.loop-at.at)
     (least_net c.requires.0.blocks 0 c.loop-at.at) (most_net c.requires.0.blocks 0 c.loop-at.at)
-    (c.requires.2.each c.loop-at.at no_line inside first) zero zero in
+    (c.requires.2.each c.loop-at.at no_segment inside first) zero zero in
     let law = at_zero c.balance.ensures.exists c.welfare.ensures.some in
     subst IsSome (sym (value ∙ class_zero law c.requires.0 c.loop-at.at)) refl
 
@@ -66,7 +66,7 @@ loop-at-preserved g c =
                 let zero : pos 0 ≤ℤ pos 0 = omega (arith, ints) in
                 let value = w.welfare-then-firsts-at.ensures.value (class_hours problem 0 c.loop-at.at)
                 (least_net problem.blocks 0 c.loop-at.at) (most_net problem.blocks 0 c.loop-at.at)
-                (curves.each c.loop-at.at no_line inside first) zero zero in
+                (curves.each c.loop-at.at no_segment inside first) zero zero in
                 total_more (at_zero c.balance.ensures.exists c.welfare.ensures.some) problem c.loop-at.at w.unwrap-total.result
                 (to_z w64 c.loop-at.total-bits) (to_z w64 c.if-firsts-at.total-bits) (sym w.unwrap-total.ensures ∙ value) total
                 (c.loop-at.invariant.so_far problem firsts curves few));

@@ -30,7 +30,7 @@ loop-touch-init g c = record {
 
 pub bounds-trail-touch : goal.bounds-trail-touch
 bounds-trail-touch g c =
-    let r = c.requires.day in let j = c.loop-touch.touch-index in
+    let r = c.requires.positions in let j = c.loop-touch.touch-index in
     let block = one_at r.0.blocks c.args.place r.3 in
     let touches = c.touches_of-touch-items.result.now in
     let are = c.touches_of-touch-items.ensures r.0 block.0 r.2 block.1 in
@@ -40,12 +40,12 @@ bounds-trail-touch g c =
 
 pub exact_loss-loss-requires-clause-choice : goal.exact_loss-loss-requires-clause-choice
 exact_loss-loss-requires-clause-choice g c =
-    let r = c.requires.day in let j = c.loop-touch.touch-index in
+    let r = c.requires.positions in let j = c.loop-touch.touch-index in
     let block = one_at r.0.blocks c.args.place r.3 in
     let touches = c.touches_of-touch-items.result.now in let touch = get_or touches j no_touch in
     let are = c.touches_of-touch-items.ensures r.0 block.0 r.2 block.1 in
     let t = touch_now r.0 c.args.tables.now.curves c.args.place block.0 c.args.tables.now.kept touches j are c.loop-touch-test.true in
-    let net = get_or c.args.trail.now.slots touch.from (pos 0) in
+    let net = get_or c.args.trail.now.nets touch.from (pos 0) in
     let net_is = passed net (search rules) ∙ net_read (pos 0) t.is (r.4 true).change.kind.0 r.5 in
     let before = class_hours r.0 c.args.place touch.at in let after = class_hours r.0 (c.args.place + 1) touch.at in (
       before,
@@ -56,7 +56,7 @@ exact_loss-loss-requires-clause-choice g c =
 
 pub exact_loss-loss-requires-clause-value_least : goal.exact_loss-loss-requires-clause-value_least
 exact_loss-loss-requires-clause-value_least g c =
-    let r = c.requires.day in let j = c.loop-touch.touch-index in
+    let r = c.requires.positions in let j = c.loop-touch.touch-index in
     let block = one_at r.0.blocks c.args.place r.3 in
     let touches = c.touches_of-touch-items.result.now in let touch = get_or touches j no_touch in
     let are = c.touches_of-touch-items.ensures r.0 block.0 r.2 block.1 in
@@ -67,7 +67,7 @@ exact_loss-loss-requires-clause-value_least g c =
 
 pub exact_loss-loss-requires-clause-value_most : goal.exact_loss-loss-requires-clause-value_most
 exact_loss-loss-requires-clause-value_most g c =
-    let r = c.requires.day in let j = c.loop-touch.touch-index in
+    let r = c.requires.positions in let j = c.loop-touch.touch-index in
     let block = one_at r.0.blocks c.args.place r.3 in
     let touches = c.touches_of-touch-items.result.now in let touch = get_or touches j no_touch in
     let are = c.touches_of-touch-items.ensures r.0 block.0 r.2 block.1 in
@@ -78,12 +78,12 @@ exact_loss-loss-requires-clause-value_most g c =
 
 pub lowered-rejected-requires : goal.lowered-rejected-requires
 lowered-rejected-requires g c =
-    let r = c.requires.day in let j = c.loop-touch.touch-index in
+    let r = c.requires.positions in let j = c.loop-touch.touch-index in
     let block = one_at r.0.blocks c.args.place r.3 in
     let touches = c.touches_of-touch-items.result.now in let touch = get_or touches j no_touch in
     let are = c.touches_of-touch-items.ensures r.0 block.0 r.2 block.1 in
     let t = touch_now r.0 c.args.tables.now.curves c.args.place block.0 c.args.tables.now.kept touches j are c.loop-touch-test.true in
-    let net = get_or c.args.trail.now.slots touch.from (pos 0) in
+    let net = get_or c.args.trail.now.nets touch.from (pos 0) in
     let net_is = passed net (search rules) ∙ net_read (pos 0) t.is (r.4 true).change.kind.0 r.5 in
     let before = class_hours r.0 c.args.place touch.at in let after = class_hours r.0 (c.args.place + 1) touch.at in
     let there = subst (λ (tables : TablesState). IsChoiceAt tables.curves touch.choice before after (to_z w64 (of_z w64 net)))
@@ -107,12 +107,12 @@ lowered-rejected-requires g c =
 
 pub lowered-accepted-requires : goal.lowered-accepted-requires
 lowered-accepted-requires g c =
-    let r = c.requires.day in let j = c.loop-touch.touch-index in
+    let r = c.requires.positions in let j = c.loop-touch.touch-index in
     let block = one_at r.0.blocks c.args.place r.3 in
     let touches = c.touches_of-touch-items.result.now in let touch = get_or touches j no_touch in
     let are = c.touches_of-touch-items.ensures r.0 block.0 r.2 block.1 in
     let t = touch_now r.0 c.args.tables.now.curves c.args.place block.0 c.args.tables.now.kept touches j are c.loop-touch-test.true in
-    let net = get_or c.args.trail.now.slots touch.from (pos 0) in
+    let net = get_or c.args.trail.now.nets touch.from (pos 0) in
     let net_is = passed net (search rules) ∙ net_read (pos 0) t.is (r.4 true).change.kind.0 r.5 in
     let before = class_hours r.0 c.args.place touch.at in let after = class_hours r.0 (c.args.place + 1) touch.at in
     let there = subst (λ (tables : TablesState). IsChoiceAt tables.curves touch.choice before after (to_z w64 (of_z w64 net)))
@@ -149,8 +149,8 @@ returns-then-accepted-floor g c =
           let lost = (let touches = c.touches_of-touch-items.result.now in let touch = get_or touches j no_touch in
           let t = touch_now problem c.args.tables.now.curves c.args.place b c.args.tables.now.kept touches j
           (c.touches_of-touch-items.ensures problem b are at) c.loop-touch-test.true in
-          let slot = get_or c.args.trail.now.slots touch.from (pos 0) in let net = to_z w64 (of_z w64 slot) in
-          let net_is = passed slot (search rules) ∙ net_read (pos 0) t.is (is accept).change.kind.0 of in
+          let held = get_or c.args.trail.now.nets touch.from (pos 0) in let net = to_z w64 (of_z w64 held) in
+          let net_is = passed held (search rules) ∙ net_read (pos 0) t.is (is accept).change.kind.0 of in
           let hours = class_hours problem c.args.place touch.at in let rest = class_hours problem (c.args.place + 1) touch.at in
           let there = subst (λ (tables : TablesState). IsChoiceAt tables.curves touch.choice hours rest net) (sym c.tables.view_is)
           (choice_at net t.is at (λ choice. (is choice).change) net_is) in
@@ -183,8 +183,8 @@ loop-touch-preserved g c =
           (let touches = c.touches_of-touch-items.result.now in let touch = get_or touches j no_touch in
           let t = touch_now problem c.args.tables.now.curves c.args.place b c.args.tables.now.kept touches j
           (c.touches_of-touch-items.ensures problem b are at) c.loop-touch-test.true in
-          let slot = get_or c.args.trail.now.slots touch.from (pos 0) in let net = to_z w64 (of_z w64 slot) in
-          let net_is = passed slot (search rules) ∙ net_read (pos 0) t.is (is accept).change.kind.0 of in
+          let held = get_or c.args.trail.now.nets touch.from (pos 0) in let net = to_z w64 (of_z w64 held) in
+          let net_is = passed held (search rules) ∙ net_read (pos 0) t.is (is accept).change.kind.0 of in
           let hours = class_hours problem c.args.place touch.at in let rest = class_hours problem (c.args.place + 1) touch.at in
           let there = subst (λ (tables : TablesState). IsChoiceAt tables.curves touch.choice hours rest net) (sym c.tables.view_is)
           (choice_at net t.is at (λ choice. (is choice).change) net_is) in

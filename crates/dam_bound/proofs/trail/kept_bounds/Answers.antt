@@ -29,7 +29,7 @@ loop-touch-init g c = record {
 
 pub bounds-trail-touch : goal.bounds-trail-touch
 bounds-trail-touch g c =
-    let r = c.requires.day in let j = c.loop-touch.touch-index in
+    let r = c.requires.positions in let j = c.loop-touch.touch-index in
     let block = one_at r.0.blocks c.args.place r.3 in
     let touches = c.touches_of-touch-items.result.now in
     let are = c.touches_of-touch-items.ensures r.0 block.0 r.2 block.1 in
@@ -39,20 +39,20 @@ bounds-trail-touch g c =
 
 pub loss-loss-requires : goal.loss-loss-requires
 loss-loss-requires g c =
-    let r = c.requires.day in let j = c.loop-touch.touch-index in
+    let r = c.requires.positions in let j = c.loop-touch.touch-index in
     let block = one_at r.0.blocks c.args.place r.3 in
     let touches = c.touches_of-touch-items.result.now in let touch = get_or touches j no_touch in
     let are = c.touches_of-touch-items.ensures r.0 block.0 r.2 block.1 in
     let t = touch_now r.0 c.args.tables.now.curves c.args.place block.0 c.args.tables.now.kept touches j are c.loop-touch-test.true in
     let depth = (r.4 true).change.kind.0 in
-    let net = get_or c.args.trail.now.slots touch.from (pos 0) in
+    let net = get_or c.args.trail.now.nets touch.from (pos 0) in
     let found = loss_there r.1 (to_z w64 (of_z w64 net)) (to_z w64 (of_z w64 touch.offset)) t.is c.requires.kept depth
     (passed net (search rules) ∙ net_read (pos 0) t.is depth r.5) (passed touch.offset (search rules)) in
     (found.0, found.1, subst (λ (tables : TablesState). found.0 < length tables.curves.losses) (sym c.tables.view_is) found.2.inside)
 
 pub overflow_sub-rejected : goal.overflow_sub-rejected
 overflow_sub-rejected g c =
-    let r = c.requires.day in let j = c.loop-touch.touch-index in
+    let r = c.requires.positions in let j = c.loop-touch.touch-index in
     let block = one_at r.0.blocks c.args.place r.3 in
     let are = c.touches_of-touch-items.ensures r.0 block.0 r.2 block.1 in
     let few = are.few in let inside = c.loop-touch-test.true in
@@ -65,7 +65,7 @@ overflow_sub-rejected g c =
 
 pub overflow_sub-accepted : goal.overflow_sub-accepted
 overflow_sub-accepted g c =
-    let r = c.requires.day in let j = c.loop-touch.touch-index in
+    let r = c.requires.positions in let j = c.loop-touch.touch-index in
     let block = one_at r.0.blocks c.args.place r.3 in
     let are = c.touches_of-touch-items.ensures r.0 block.0 r.2 block.1 in
     let few = are.few in let inside = c.loop-touch-test.true in
@@ -78,7 +78,7 @@ overflow_sub-accepted g c =
 
 pub returns-then-accepted-floor : goal.returns-then-accepted-floor
 returns-then-accepted-floor g c =
-    let r = c.requires.day in let j = c.loop-touch.touch-index in
+    let r = c.requires.positions in let j = c.loop-touch.touch-index in
     let block = one_at r.0.blocks c.args.place r.3 in
     let few = (c.touches_of-touch-items.ensures r.0 block.0 r.2 block.1).few in let inside = c.loop-touch-test.true in
     let total_is = passed c.args.total (search rules) in let l = c.requires.size.at_least in let m = c.requires.size.at_most in
@@ -100,7 +100,7 @@ returns-then-accepted-floor g c =
           let lost = (let touches = c.touches_of-touch-items.result.now in let touch = get_or touches j no_touch in
           let t = touch_now problem c.args.tables.now.curves c.args.place b c.args.tables.now.kept touches j
           (c.touches_of-touch-items.ensures problem b are at) c.loop-touch-test.true in
-          let net = get_or c.args.trail.now.slots touch.from (pos 0) in
+          let net = get_or c.args.trail.now.nets touch.from (pos 0) in
           let floor_is = passed c.args.floor (search rules) in let near = c.requires.near in
           kept_touch loss (to_z w64 (of_z w64 net)) (to_z w64 (of_z w64 touch.offset)) (to_z w64 (of_z w64 c.args.floor))
           (to_z w64 (of_z w64 c.args.total)) (left_by accept (to_z w64 c.loop-touch.rejected-bits) (to_z w64 c.loop-touch.accepted-bits))
@@ -118,7 +118,7 @@ returns-then-accepted-floor g c =
 
 pub loop-touch-preserved : goal.loop-touch-preserved
 loop-touch-preserved g c =
-    let r = c.requires.day in let j = c.loop-touch.touch-index in
+    let r = c.requires.positions in let j = c.loop-touch.touch-index in
     let block = one_at r.0.blocks c.args.place r.3 in
     let few = (c.touches_of-touch-items.ensures r.0 block.0 r.2 block.1).few in let inside = c.loop-touch-test.true in
     let total_is = passed c.args.total (search rules) in let l = c.requires.size.at_least in let m = c.requires.size.at_most in
@@ -138,7 +138,7 @@ loop-touch-preserved g c =
           (let touches = c.touches_of-touch-items.result.now in let touch = get_or touches j no_touch in
           let t = touch_now problem c.args.tables.now.curves c.args.place b c.args.tables.now.kept touches j
           (c.touches_of-touch-items.ensures problem b are at) c.loop-touch-test.true in
-          let net = get_or c.args.trail.now.slots touch.from (pos 0) in
+          let net = get_or c.args.trail.now.nets touch.from (pos 0) in
           let floor_is = passed c.args.floor (search rules) in let near = c.requires.near in
           kept_touch loss (to_z w64 (of_z w64 net)) (to_z w64 (of_z w64 touch.offset)) (to_z w64 (of_z w64 c.args.floor))
           (to_z w64 (of_z w64 c.args.total)) (left_by accept (to_z w64 c.loop-touch.rejected-bits) (to_z w64 c.loop-touch.accepted-bits))

@@ -3,7 +3,7 @@ use Rattle.std.proofs.Common.{◌≡◌, ◌*◌, ℤ, pos, ◌+ℤ◌, ◌≤�
 use Rattle.std.specs.List.{slice_get}
 use Rattle.dam_blocks.specs.declared.problem.Block.{Block}
 use Rattle.dam_blocks.specs.Problem.{ProblemState}
-use Rattle.dam_bound.specs.Trail.{IsDayIn}
+use Rattle.dam_bound.specs.Trail.{ArePositionsIn}
 use Rattle.dam_bound.specs.Tables.{AreTablesOf}
 use Rattle.dam_bound.specs.inside.Change.{IsDecision}
 use Rattle.dam_bound.proofs.Losing.{IsLeft, left_by}
@@ -15,7 +15,7 @@ invariant-loop-touch g l = record {
       → AreTablesOf problem l.tables
       → slice_get problem.blocks l.place ≡ Some b
       → ((choice : Bool) → IsDecision problem l.place choice before)
-      → (total : ℤ) → total ≡ l.total → IsDayIn problem before l.trail total
+      → (total : ℤ) → total ≡ l.total → ArePositionsIn problem before l.trail total
       → IsLeft problem before (before ++ accept ∷ []) l.floor (drop l.touch-index l.touch-items) (left_by accept l.rejected l.accepted);
   most : (accept : Bool) → left_by accept l.rejected l.accepted ≤ℤ l.total;
   least : (accept : Bool) → l.total ≤ℤ (left_by accept l.rejected l.accepted +ℤ pos (l.touch-index * 2 ^ 32));

@@ -7,7 +7,7 @@ use mir.Syntax.{w32, w64}
 use mir.Val.{to_z, of_z, SFits}
 use Rattle.dam_book.specs.Limits.{last_period}
 use Rattle.dam_bound.proofs.DayLevels.{one_at}
-use Rattle.dam_bound.specs.declared.day.Change.TheVariants.{Decide}
+use Rattle.dam_bound.specs.declared.positions.Change.TheVariants.{Decide}
 use Rattle.dam_bound.specs.inside.Change.{by}
 use Rattle.dam_bound.proofs.Sizes.{added_up}
 use Rattle.dam_bound.proofs.Walking.{no_touch, touch_now, first_nets, own_net, net_fits, net_decided, more_nets, all_nets, below_more}
@@ -48,13 +48,13 @@ overflow_add-after g c =
     let t = touch_now r.0 c.args.tables.now.curves c.args.place block.0 c.args.tables.now.kept touches j are c.loop-touch-test.true in
     let few = r.3.few_periods in let blocks = r.3.few_blocks in let many = r.4 in let room = c.loop-touch.invariant.room in
     let from = from_within few (omega (arith, blocks, many)) t.is in
-    let slot = get_or c.loop-touch.trail.slots touch.from (pos 0) in
-    let own = own_net r.1 (r.1 ++ c.args.accept ∷ []) c.loop-touch.trail.slots (pos 0) t (omega (arith, from, room))
+    let held = get_or c.loop-touch.trail.nets touch.from (pos 0) in
+    let own = own_net r.1 (r.1 ++ c.args.accept ∷ []) c.loop-touch.trail.nets (pos 0) t (omega (arith, from, room))
     (c.loop-touch.invariant.so_far r.0 r.1 block.0 r.2 r.3 block.1 r.5 r.6) in
     let more = c.from.ensures ∙ narrow touch.choice.net (search rules) in
-    let next = net_decided r.1 c.args.accept slot (slot +ℤ c.from.result) t.is block.1 r.5.change own
-    (ap (λ (z : ℤ). slot +ℤ z) (more ∙ ap (λ (a : Bool). by Decide a touch.choice.net) (sym c.if-accept.true))) in
-    (added_up slot c.from.result (net_fits r.1 slot t.is r.5.change.kind.0 own) (search rules) next.1).0
+    let next = net_decided r.1 c.args.accept held (held +ℤ c.from.result) t.is block.1 r.5.change own
+    (ap (λ (z : ℤ). held +ℤ z) (more ∙ ap (λ (a : Bool). by Decide a touch.choice.net) (sym c.if-accept.true))) in
+    (added_up held c.from.result (net_fits r.1 held t.is r.5.change.kind.0 own) (search rules) next.1).0
 
 pub bounds-trail-touch-in-loop-touch : goal.bounds-trail-touch-in-loop-touch
 bounds-trail-touch-in-loop-touch g c =
@@ -76,36 +76,37 @@ loop-touch-preserved g c =
     let next = to_z w64 c.if-accept.after-bits in
     let high : (c.args.place + 1) * last_period ≤ touch.to = (let to = t.is.to_is in omega (arith, to)) in
     record {
-      room = length-set c.loop-touch.trail.slots touch.to next ∙ c.loop-touch.invariant.room;
-      below = λ i d l. below_more c.args.place touch.to i c.loop-touch.trail.slots next d high l ∙ c.loop-touch.invariant.below i d l;
+      room = length-set c.loop-touch.trail.nets touch.to next ∙ c.loop-touch.invariant.room;
+      below = λ i d l. below_more c.args.place touch.to i c.loop-touch.trail.nets next d high l ∙ c.loop-touch.invariant.below i d l;
       so_far = λ problem before b total are_tables at is of.
           (let listed = c.touches_of-touch-items.ensures problem b are_tables at in
           let u = touch_now problem c.args.tables.now.curves c.args.place b c.args.tables.now.kept touches j listed c.loop-touch-test.true in
           let few = are_tables.few_periods in let blocks = are_tables.few_blocks in let room = c.loop-touch.invariant.room in
           let here = slice_get_within problem.blocks c.args.place b at in
           let from = from_within few (omega (arith, blocks, here)) u.is in let to = to_within few (omega (arith, blocks, here)) u.is in
-          let slot = get_or c.loop-touch.trail.slots touch.from (pos 0) in
+          let held = get_or c.loop-touch.trail.nets touch.from (pos 0) in
           let so_far = c.loop-touch.invariant.so_far problem before b total are_tables at is of in
-          let own = own_net before (before ++ c.args.accept ∷ []) c.loop-touch.trail.slots (pos 0) u (omega (arith, from, room)) so_far in
-          let slot_fits = net_fits before slot u.is is.change.kind.0 own in
-          more_nets before (before ++ c.args.accept ∷ []) c.loop-touch.trail.slots next u at few (omega (arith, to, room))
+          let own = own_net before (before ++ c.args.accept ∷ []) c.loop-touch.trail.nets (pos 0) u (omega (arith, from, room)) so_far in
+          let held_fits = net_fits before held u.is is.change.kind.0 own in
+          more_nets before (before ++ c.args.accept ∷ []) c.loop-touch.trail.nets next u at few (omega (arith, to, room))
           (elim c.if-accept.branch [
             | then-accept w ↦
                 (let more = w.from.ensures ∙ narrow touch.choice.net (search rules) in
-                let after = net_decided before c.args.accept slot (slot +ℤ w.from.result) u.is at is.change own
-                (ap (λ (z : ℤ). slot +ℤ z) (more ∙ ap (λ (a : Bool). by Decide a touch.choice.net) (sym w.if-accept.true))) in
-                w.after-is ∙ (added_up slot w.from.result slot_fits (search rules) after.1).1 ∙ after.0)
+                let after = net_decided before c.args.accept held (held +ℤ w.from.result) u.is at is.change own
+                (ap (λ (z : ℤ). held +ℤ z) (more ∙ ap (λ (a : Bool). by Decide a touch.choice.net) (sym w.if-accept.true))) in
+                w.after-is ∙ (added_up held w.from.result held_fits (search rules) after.1).1 ∙ after.0)
             | else-accept w ↦
                 w.after-is
-                ∙ to_z-of_z w64 slot slot_fits
-                ∙ (net_decided before c.args.accept slot slot u.is at is.change own
-                (none_added slot (by Decide c.args.accept touch.choice.net) (ap (λ (a : Bool). by Decide a touch.choice.net) w.if-accept.false))).0
+                ∙ to_z-of_z w64 held held_fits
+                ∙ (net_decided before c.args.accept held held u.is at is.change own
+                (none_added held (by Decide c.args.accept touch.choice.net)
+                (ap (λ (a : Bool). by Decide a touch.choice.net) w.if-accept.false))).0
           ])
           so_far);
     }
 
-pub returns-clause-day : goal.returns-clause-day
-returns-clause-day g c problem before total left are inside is of e =
+pub returns-clause-positions : goal.returns-clause-positions
+returns-clause-positions g c problem before total left are inside is of e =
     let block = one_at problem.blocks c.args.place inside in let j = c.loop-touch.touch-index in
     let past = c.loop-touch-test.false in let blocks = are.few_blocks in
     all_nets problem c.args.place before (before ++ c.args.accept ∷ []) (drop j c.touches_of-touch-items.result.now) c.loop-touch.trail left

@@ -1,5 +1,5 @@
 -- The losses of the net volumes so far stand after those that were there, there is room for the others, and the readers keep
--- their lines.
+-- their segments.
 use Rattle.std.proofs.Common.{◌≡◌, pos, ◌+ℤ◌, ◌-ℤ◌, ◌≤ℤ◌, ◌<ℤ◌, nat_abs}
 use Rattle.std.specs.Vec.{vec_len, vec_capacity}
 use Rattle.dam_curve.proofs.Losing.{AreLossesSoFar}

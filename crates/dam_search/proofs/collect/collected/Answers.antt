@@ -2,7 +2,7 @@
 use Rattle.std.proofs.Common.{ℕ, ◌^◌, subst}
 use Rattle.dam_search.specs.inside.Collect.{AreOneEach}
 use Rattle.dam_search.proofs.Answers.{all_in_cutting, conclusive}
-use Rattle.dam_search.proofs.Collecting.{limit_enough}
+use Rattle.dam_search.proofs.Collecting.{limit_needed}
 use Rattle.dam_search.proofs.collect.collected.Goals as goal
 
 pub first_faulty-requires-clause-in_cutting : goal.first_faulty-requires-clause-in_cutting
@@ -27,11 +27,11 @@ returns-clause-ok g c =
     c.in_default-least_unfinished.ensures in
     c.collecting.ensures.result problem depth answers c.in-Some-highest.best are c.in-Some-highest.ensures
 
-pub returns-clause-enough : goal.returns-clause-enough
-returns-clause-enough g c =
+pub returns-clause-needed : goal.returns-clause-needed
+returns-clause-needed g c =
     let problem = c.args.problem.now in let depth = c.args.depth in let answers = c.args.answers.now in
     let one : AreOneEach answers (2 ^ depth) = subst (λ (n : ℕ). AreOneEach answers n) c.pieces.ensures.value c.in_default.ensures in
     let are = conclusive problem depth c.args.nodes answers c.kept.ensures c.requires.depth c.requires.worked one
     c.in_default-least_unfinished.ensures in
-    limit_enough problem depth c.args.nodes answers c.in-Some-highest.best c.requires.worked are.answered
+    limit_needed problem depth c.args.nodes answers c.in-Some-highest.best c.requires.worked are.answered
     (c.collecting.ensures.result problem depth answers c.in-Some-highest.best are c.in-Some-highest.ensures)

@@ -53,7 +53,7 @@ returns-clause-spent g c =
     (subst (λ (prefix : List Bool). IsSpent c.args.problem.now prefix (n - length c.of_piece-prefix.result) told c.args.nodes
     found.visited found.read c.explore-done.result) c.of_piece-prefix.ensures
     (spent_from c.args.problem.now c.of_piece-prefix.result (n - length c.of_piece-prefix.result) told c.args.nodes found.visited
-    found.read c.explore-done.result walked.spends walked.enough))
+    found.read c.explore-done.result walked.spends walked.needed))
 
 pub returns-clause-read : goal.returns-clause-read
 returns-clause-read g c some few =

@@ -3,7 +3,7 @@ use Rattle.std.proofs.Common.{◌≡◌, ℕ, min, List, length, IfOk, ◌∙◌
 use Rattle.std.specs.List.{All}
 use Rattle.dam_search.specs.declared.answer.PieceAnswer.{PieceAnswer}
 use Rattle.dam_blocks.specs.declared.selection.Best.{Best}
-use Rattle.dam_search.specs.Search.{IsUnfinished, IsLimitEnough}
+use Rattle.dam_search.specs.Search.{IsUnfinished, LimitHasNeeded}
 use Rattle.dam_search.specs.inside.Collect.{IsWorked, IsCollected}
 use Rattle.dam_search.proofs.Shares.{first_reached, all_worked, one_each, none_faulty}
 use Rattle.dam_search.proofs.workers.search.Goals as goal
@@ -25,14 +25,14 @@ returns-clause-unfinished g c piece visited e =
     (subst (λ (n : ℕ). IsUnfinished problem c.depth.result n piece visited) c.nodes-2.ensures.value
     (c.collected.ensures.unfinished piece visited e))
 
-pub returns-clause-enough : goal.returns-clause-enough
-returns-clause-enough g c =
+pub returns-clause-needed : goal.returns-clause-needed
+returns-clause-needed g c =
     let problem = c.args.problem.now in let result = c.collected.result in
     let depth : c.depth.result ≡ min c.args.plan.cut (length problem.blocks) = c.depth.ensures.value
     ∙ ap (λ (n : ℕ). min c.args.plan.cut n) c.block_count.ensures.value in
-    subst (λ (n : ℕ). IfOk result (λ (best : Best). IsLimitEnough problem n c.args.plan.nodes best.welfare)) depth
-    (subst (λ (n : ℕ). IfOk result (λ (best : Best). IsLimitEnough problem c.depth.result n best.welfare)) c.nodes-2.ensures.value
-    c.collected.ensures.enough)
+    subst (λ (n : ℕ). IfOk result (λ (best : Best). LimitHasNeeded problem n c.args.plan.nodes best.welfare)) depth
+    (subst (λ (n : ℕ). IfOk result (λ (best : Best). LimitHasNeeded problem c.depth.result n best.welfare)) c.nodes-2.ensures.value
+    c.collected.ensures.needed)
 
 pub returns-clause-whole : goal.returns-clause-whole
 returns-clause-whole g c piece e =

@@ -9,7 +9,7 @@ use Rattle.dam_bound.proofs.walk.Walk.extensions.Goals as goal
 
 pub bounds_of-requires : goal.bounds_of-requires
 bounds_of-requires g c =
-    let problem = without_rows c.self.inside.problem.now in let r = c.requires.day in
+    let problem = without_rows c.self.inside.problem.now in let r = c.requires.positions in
     let laws : Laws = record {
       joined = c.joining.ensures.joined;
       parted = c.joining.ensures.parted;
@@ -30,7 +30,7 @@ bounds_of-requires g c =
     )
 
 pub returns-clause-bounds : goal.returns-clause-bounds
-returns-clause-bounds g c prefix accept is day =
+returns-clause-bounds g c prefix accept is positions =
     let problem = without_rows c.self.inside.problem.now in
     let laws : Laws = record {
       joined = c.joining.ensures.joined;
@@ -47,4 +47,4 @@ returns-clause-bounds g c prefix accept is day =
     (c.bounds_of.ensures.bounds problem prefix accept c.self.invariant
     (subst (λ (p : ProblemState). c.args.depth < length p.blocks) (sym c.self.view_is) c.requires.depth)
     (λ choice. is_decision laws problem prefix c.args.depth choice is)
-    (as_passed problem c.args.self.now prefix c.args.trail.now c.args.total c.self.view_is (search rules) day))
+    (as_passed problem c.args.self.now prefix c.args.trail.now c.args.total c.self.view_is (search rules) positions))

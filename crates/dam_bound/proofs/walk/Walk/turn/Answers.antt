@@ -1,7 +1,7 @@
 -- The decision is turned round.
 use Rattle.std.proofs.Common.{◌<◌, length, slice_set, ap, ◌∙◌, sym, subst}
 use Rattle.dam_blocks.specs.Problem.{ProblemState}
-use Rattle.dam_bound.specs.Day.{IsDay}
+use Rattle.dam_bound.specs.Positions.{ArePositions}
 use Rattle.dam_bound.specs.Relaxed.{without_rows}
 use Rattle.dam_bound.proofs.Extending.{turning}
 use Rattle.dam_bound.proofs.Steering.{turned_answer}
@@ -9,25 +9,25 @@ use Rattle.dam_bound.proofs.walk.Walk.turn.Goals as goal
 
 pub turn_block-requires : goal.turn_block-requires
 turn_block-requires g c =
-    let problem = without_rows c.self.inside.problem.now in let prefix = c.requires.day.0 in (
+    let problem = without_rows c.self.inside.problem.now in let prefix = c.requires.positions.0 in (
       problem,
       prefix,
       slice_set prefix c.args.place c.args.accept,
       c.self.invariant,
       subst (λ (p : ProblemState). c.args.place < length p.blocks) (sym c.self.view_is) c.requires.place,
       turning problem.blocks prefix c.args.place c.args.accept
-          (c.requires.day.1 ∙ ap (λ (p : ProblemState). length p.blocks) (sym c.self.view_is)) c.requires.day.2,
-      subst (λ (p : ProblemState). IsDay p prefix c.args.day.now) (sym c.self.view_is) c.requires.day.3,
+          (c.requires.positions.1 ∙ ap (λ (p : ProblemState). length p.blocks) (sym c.self.view_is)) c.requires.positions.2,
+      subst (λ (p : ProblemState). ArePositions p prefix c.args.positions.now) (sym c.self.view_is) c.requires.positions.3,
     )
 
 pub returns : goal.returns
-returns g c prefix long is day =
+returns g c prefix long is positions =
     let problem = without_rows c.self.inside.problem.now in
     turned_answer c.turn_block.result problem c.args.self.now
-    (slice_set prefix c.args.place c.args.accept) c.turn_block.new.day c.self.view_is
+    (slice_set prefix c.args.place c.args.accept) c.turn_block.new.positions c.self.view_is
     (c.turn_block.ensures problem prefix
     (slice_set prefix c.args.place c.args.accept) c.self.invariant
     (subst (λ (p : ProblemState). c.args.place < length p.blocks) (sym c.self.view_is) c.requires.place)
     (turning problem.blocks prefix c.args.place c.args.accept
     (long ∙ ap (λ (p : ProblemState). length p.blocks) (sym c.self.view_is)) is)
-    (subst (λ (p : ProblemState). IsDay p prefix c.args.day.now) (sym c.self.view_is) day))
+    (subst (λ (p : ProblemState). ArePositions p prefix c.args.positions.now) (sym c.self.view_is) positions))

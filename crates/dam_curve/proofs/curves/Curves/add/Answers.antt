@@ -1,4 +1,4 @@
--- The lines stand after those of the other curves.
+-- The segments stand after those of the other curves.
 use Rattle.std.proofs.Common.{◌≡◌, pos, [], sym, subst, rules}
 use Rattle.dam_curve.specs.Curve.{IsCurve}
 use Rattle.dam_curve.proofs.LookingUp.{curve_added}
@@ -11,6 +11,7 @@ returns-then-is_empty-clause-added g c ps least most is =
 
 pub returns-clause-added : goal.returns-clause-added
 returns-clause-added g c ps least most is =
-    curve_added c.args.self.now.lines c.lines-lines.result.now _ _ ps least most (record { most = pos 0; price = pos 0; surplus = pos 0 })
+    curve_added c.args.self.now.segments c.segments-segments.result.now _ _ ps least most
+    (record { most = pos 0; price = pos 0; surplus = pos 0 })
     (search rules) (search rules) (search rules) (search rules) (search rules) (search rules)
-    (subst (IsCurve ps least most) (sym c.lines-lines.ensures) is)
+    (subst (IsCurve ps least most) (sym c.segments-segments.ensures) is)

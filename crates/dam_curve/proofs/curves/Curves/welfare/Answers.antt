@@ -1,4 +1,4 @@
--- The value of the line is the joint welfare; and it is small.
+-- The value of the segment is the joint welfare; and it is small.
 use Rattle.std.proofs.Common.{◌≡◌, ℤ, Some, ap, ◌∙◌, inl, inr, sym, to_z, of_z, w64, rules, arith}
 use Rattle.std.proofs.lemmas.Int.{ints}
 use Rattle.dam_curve.specs.Curve.{joint_welfare}

@@ -1,14 +1,15 @@
--- The loss changes from line to line as their prices differ, and all numbers are small enough.
+-- The loss changes from segment to segment as their prices differ, and all numbers are small enough.
 use Rattle.std.proofs.Common.{◌≡◌, ℤ, pos, neg_ℤ, ◌+ℤ◌, ◌-ℤ◌, ◌≤ℤ◌, Option, Some, IfSome, to_z, of_z, w64, ap, ap₂, ◌∙◌, subst, rules, arith}
 use Rattle.std.proofs.lemmas.Int.{ints}
 use Rattle.dam_book.specs.Limits.{last_period}
-use Rattle.dam_curve.specs.declared.line.Line.{Line}
-use Rattle.dam_curve.specs.Curve.{line_at, IsSmallLine}
-use Rattle.dam_curve.proofs.Ramps.{IsSmallValue, value_fits, loss_fits, loss_in_machine, step_in_machine, kept_between_lines, fits_between}
+use Rattle.dam_curve.specs.declared.segment.Segment.{Segment}
+use Rattle.dam_curve.specs.Curve.{segment_at, IsSmallSegment}
+use Rattle.dam_curve.proofs.Ramps.{IsSmallValue, value_fits, loss_fits, loss_in_machine, step_in_machine, kept_between_segments, fits_between}
 use Rattle.dam_curve.proofs.ramp.Ramp.between.Goals as goal
 
-small_of : (line : Option Line) (l : Line) → line ≡ Some l → IfSome line (IsSmallLine last_period) → IsSmallLine last_period l
-small_of line l e is = subst (λ (o : Option Line). IfSome o (IsSmallLine last_period)) e is
+small_of : (segment : Option Segment) (l : Segment) → segment ≡ Some l → IfSome segment (IsSmallSegment last_period)
+    → IsSmallSegment last_period l
+small_of segment l e is = subst (λ (o : Option Segment). IfSome o (IsSmallSegment last_period)) e is
 
 small_result : (z : ℤ) → neg_ℤ (pos 288230376151711744) ≤ℤ z → z ≤ℤ pos 288230376151711744 → IsSmallValue z
 small_result z low high = record { at_least = low; at_most = high }
@@ -43,12 +44,12 @@ overflow_sub-result-2 c =
     let f = c.from-2.ensures in let g = c.from-3.ensures in
     omega (arith, ints, a, b, d, e, f, g)
 
--- the ramp of two lines, in the numbers of the machine
-record IsBetween (b a : Line) (net added value loss step : ℤ) : Type 0 where
-  loss_is : loss ≡ line_at b net -ℤ (value +ℤ line_at a (net +ℤ added))
+-- the ramp of two segments, in the numbers of the machine
+record IsBetween (b a : Segment) (net added value loss step : ℤ) : Type 0 where
+  loss_is : loss ≡ segment_at b net -ℤ (value +ℤ segment_at a (net +ℤ added))
   step_is : step ≡ b.price -ℤ a.price
-  small : IsSmallLine last_period b
-  small2 : IsSmallLine last_period a
+  small : IsSmallSegment last_period b
+  small2 : IsSmallSegment last_period a
 
 between : (c : goal.After-from-3) → IsBetween c.in-Some-Some.before c.in-Some-Some.after c.args.net c.args.added c.args.value
     (to_z w64 (of_z w64 (to_z w64 (of_z w64 c.value_of-welfare.result)
@@ -63,8 +64,9 @@ between c =
     let low = c.requires.moved_least in let high = c.requires.moved_most in
     let moved : to_z w64 (of_z w64 (to_z w64 (of_z w64 c.args.net) +ℤ to_z w64 (of_z w64 c.args.added))) ≡ c.args.net +ℤ c.args.added =
     omega (arith, ints, net, added, low, high) in
-    let welfare : c.value_of-welfare.result ≡ line_at b c.args.net = c.value_of-welfare.ensures.value ∙ ap (line_at b) net in
-    let left : c.value_of-left.result ≡ line_at a (c.args.net +ℤ c.args.added) = c.value_of-left.ensures.value ∙ ap (line_at a) moved in
+    let welfare : c.value_of-welfare.result ≡ segment_at b c.args.net = c.value_of-welfare.ensures.value ∙ ap (segment_at b) net in
+    let left : c.value_of-left.result ≡ segment_at a (c.args.net +ℤ c.args.added) =
+    c.value_of-left.ensures.value ∙ ap (segment_at a) moved in
     let value : to_z w64 (of_z w64 c.args.value) ≡ c.args.value = search rules in
     let own : to_z w64 (of_z w64 c.value_of-left.result) ≡ c.value_of-left.result = search rules in
     let own2 : to_z w64 (of_z w64 c.value_of-welfare.result) ≡ c.value_of-welfare.result = search rules in
@@ -83,7 +85,7 @@ between c =
 pub returns-clause-kept : goal.returns-clause-kept
 returns-clause-kept c i w is =
     let two = between c in
-    kept_between_lines c.args.before c.args.after c.in-Some-Some.before c.in-Some-Some.after _ _ c.args.net c.args.added c.args.value
+    kept_between_segments c.args.before c.args.after c.in-Some-Some.before c.in-Some-Some.after _ _ c.args.net c.args.added c.args.value
     c.in-Some-Some.is-0 c.in-Some-Some.is-1 two.loss_is two.step_is i w is
 
 pub returns-clause-fits : goal.returns-clause-fits

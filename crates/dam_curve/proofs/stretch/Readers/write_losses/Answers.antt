@@ -1,21 +1,21 @@
--- The lines don't change up to the least end of the three stretches.
+-- The segments don't change up to the least end of the three stretches.
 use Rattle.std.proofs.Common.{◌≡◌, pos, ◌+ℤ◌, ◌-ℤ◌, ◌≤ℤ◌, refl, sym, subst, to_z, of_z, w64, rules, arith}
 use Rattle.std.proofs.lemmas.Int.{ints}
-use Rattle.dam_curve.specs.inside.Reading.{IsOnLines}
+use Rattle.dam_curve.specs.inside.Reading.{IsOnSegments}
 use Rattle.dam_curve.proofs.Stretches.{moved_at, moved_back, span_of, count_of, count_small, count_more, room_for, within_word, moved_within_word, moved_low, moved_high, kept_moved, losses_from}
 use Rattle.dam_curve.proofs.stretch.Readers.write_losses.Goals as goal
 
-pub stretch-before-requires-clause-lines : goal.stretch-before-requires-clause-lines
-stretch-before-requires-clause-lines g c =
+pub stretch-before-requires-clause-segments : goal.stretch-before-requires-clause-segments
+stretch-before-requires-clause-segments g c =
     let net : to_z w64 (of_z w64 c.args.net) ≡ c.args.net = search rules in
     let at = c.requires.choice.2 c.args.net (omega (arith, ints)) c.requires.ordered in
-    (c.requires.choice.0, subst (IsOnLines c.args.self.now.before c.requires.choice.0) (sym net) at.before_is)
+    (c.requires.choice.0, subst (IsOnSegments c.args.self.now.before c.requires.choice.0) (sym net) at.before_is)
 
-pub stretch-left-requires-clause-lines : goal.stretch-left-requires-clause-lines
-stretch-left-requires-clause-lines g c =
+pub stretch-left-requires-clause-segments : goal.stretch-left-requires-clause-segments
+stretch-left-requires-clause-segments g c =
     let net : to_z w64 (of_z w64 c.args.net) ≡ c.args.net = search rules in
     let at = c.requires.choice.2 c.args.net (omega (arith, ints)) c.requires.ordered in
-    (c.requires.choice.1, subst (IsOnLines c.args.self.now.left c.requires.choice.1) (sym net) at.left_is)
+    (c.requires.choice.1, subst (IsOnSegments c.args.self.now.left c.requires.choice.1) (sym net) at.left_is)
 
 pub overflow_add-net : goal.overflow_add-net
 overflow_add-net g c =
@@ -37,13 +37,13 @@ overflow_add-left g c =
     c.from-added.ensures c.stretch-left.result.end low high in
     last.fits
 
-pub stretch-taken-requires-clause-lines : goal.stretch-taken-requires-clause-lines
-stretch-taken-requires-clause-lines g c =
+pub stretch-taken-requires-clause-segments : goal.stretch-taken-requires-clause-segments
+stretch-taken-requires-clause-segments g c =
     let read = c.requires.choice.2 in
     let first = moved_at _ _ _ c.args.choice.now c.args.net c.args.most c.from-added.result c.requires.choice.0 c.requires.choice.1 read
     c.from-added.ensures c.args.net (omega (arith, ints)) c.requires.ordered in (
       c.requires.choice.1,
-      subst (IsOnLines c.args.self.now.taken c.requires.choice.1) (sym first.sum_is)
+      subst (IsOnSegments c.args.self.now.taken c.requires.choice.1) (sym first.sum_is)
           (read c.args.net (omega (arith, ints)) c.requires.ordered).taken_is,
     )
 
@@ -278,8 +278,8 @@ returns-clause-losses g c =
     let value : to_z w64 (of_z w64 c.args.choice.now.value) ≡ c.args.choice.now.value = search rules in
     let is = span.span_is in let a = span.at_least in let end_is = back.end_is in let at_most = back.at_most in
     let end2 : to_z w64 (of_z w64 c.stretch-left.result.end) ≡ c.stretch-left.result.end = search rules in
-    losses_from c.args.self.now.before c.args.self.now.left c.args.self.now.taken c.args.choice.now c.stretch-before.result.line
-    c.stretch-left.result.line c.stretch-taken.result.line c.between.result c.between-2.result c.args.losses.now.items _ c.args.net
+    losses_from c.args.self.now.before c.args.self.now.left c.args.self.now.taken c.args.choice.now c.stretch-before.result.segment
+    c.stretch-left.result.segment c.stretch-taken.result.segment c.between.result c.between-2.result c.args.losses.now.items _ c.args.net
     (to_z w64 (of_z w64 (to_z w64 (of_z w64 c.stretch-taken.result.end) -ℤ to_z w64 (of_z w64 c.from-added.result)))) _
     (count_more _ _ _ c.args.net _ (count_of _ span.at_least) span.span_is back.end_is)
     (record {
@@ -290,9 +290,10 @@ returns-clause-losses g c =
       taken_is = λ ps qs at read low2 high2. c.stretch-taken.ensures.holds qs (at +ℤ c.args.choice.now.net) read.taken_is
           (moved_low _ c.args.net c.args.choice.now.net at sum low2)
           (moved_high _ c.stretch-taken.result.end c.args.choice.now.net at end_is high2);
-      left_kept = kept_moved c.stretch-before.result.line c.stretch-left.result.line c.between.result c.args.net (pos 0) (pos 0) _ _ _ net
+      left_kept = kept_moved c.stretch-before.result.segment c.stretch-left.result.segment c.between.result c.args.net
+          (pos 0) (pos 0) _ _ _ net
           refl refl c.between.ensures.kept;
-      taken_kept = kept_moved c.stretch-before.result.line c.stretch-taken.result.line c.between-2.result c.args.net
+      taken_kept = kept_moved c.stretch-before.result.segment c.stretch-taken.result.segment c.between-2.result c.args.net
           c.args.choice.now.net c.args.choice.now.value _ _ _ net back.add_is value c.between-2.ensures.kept;
     })
     c.write_ramps.ensures.written

@@ -1,25 +1,25 @@
--- The lines of the period and those of the others, added up.
+-- The segments of the period and those of the others, added up.
 use Rattle.std.proofs.Common.{◌≡◌, List, ◌∷◌, length, ap, ◌∙◌, sym, subst, rules, arith}
 use Rattle.dam_book.specs.declared.order.Side.TheVariants.{Buy}
 use Rattle.dam_hour.specs.declared.step.Step.{Step}
 use Rattle.dam_hour.specs.Execution.{offered_volume}
-use Rattle.dam_curve.specs.Curve.{AreSmallLines, IsCurve}
+use Rattle.dam_curve.specs.Curve.{AreSmallSegments, IsCurve}
 use Rattle.dam_curve.specs.inside.Supply.{worth_of}
-use Rattle.dam_curve.specs.inside.Lines.{lines_from}
+use Rattle.dam_curve.specs.inside.Segments.{segments_from}
 use Rattle.dam_curve.proofs.Clearing.{Laws}
 use Rattle.dam_curve.proofs.Removing.{same_length}
-use Rattle.dam_curve.proofs.PeriodLines.{NoLaws, IsPeriodCurve, period_curve}
+use Rattle.dam_curve.proofs.PeriodSegments.{NoLaws, IsPeriodCurve, period_curve}
 use Rattle.dam_curve.proofs.JointWelfare.{curve_more}
 use Rattle.dam_curve.proofs.sum.Sum.add.Goals as goal
 
-pub write_lines-requires : goal.write_lines-requires
-write_lines-requires g c =
+pub write_segments-requires : goal.write_segments-requires
+write_segments-requires g c =
     let long = same_length c.requires.3 c.args.supply.now c.requires.5.same in
     let few = c.requires.5.is_hour.few in let same = ap length c.steps.ensures in
     omega (arith, long, few, same)
 
-pub add_lines-requires : goal.add_lines-requires
-add_lines-requires g c =
+pub add_segments-requires : goal.add_segments-requires
+add_segments-requires g c =
     let laws : Laws = record {
       reached = c.welfare.ensures.reached;
       bound = c.welfare.ensures.bound;
@@ -28,15 +28,15 @@ add_lines-requires g c =
       greatest = c.surplus.ensures.greatest;
     } in
     let nothing : NoLaws = record { none = c.welfare.ensures.none; within = c.balance.ensures.within } in
-    let own : c.deref.result.now ≡ lines_from (offered_volume Buy c.args.supply.now) (worth_of c.args.supply.now) 0 0 c.args.supply.now =
-    c.deref.ensures.value ∙ c.in_ok-write_lines.ensures
-    ∙ ap (λ (ss : List Step). lines_from (offered_volume Buy ss) (worth_of ss) 0 0 ss) c.steps.ensures in
+    let own : c.deref.result.now ≡ segments_from (offered_volume Buy c.args.supply.now) (worth_of c.args.supply.now) 0 0 c.args.supply.now =
+    c.deref.ensures.value ∙ c.in_ok-write_segments.ensures
+    ∙ ap (λ (ss : List Step). segments_from (offered_volume Buy ss) (worth_of ss) 0 0 ss) c.steps.ensures in
     let old : c.deref-2.result.now ≡ c.args.self.now = search rules in
     let few = c.requires.6 in (
       1,
       length c.requires.0,
-      subst (AreSmallLines 1) (sym own) (period_curve laws nothing c.requires.3 c.args.supply.now c.requires.5).small,
-      subst (AreSmallLines (length c.requires.0)) (sym old) c.requires.4.small,
+      subst (AreSmallSegments 1) (sym own) (period_curve laws nothing c.requires.3 c.args.supply.now c.requires.5).small,
+      subst (AreSmallSegments (length c.requires.0)) (sym old) c.requires.4.small,
       omega (arith, few),
     )
 
@@ -50,16 +50,16 @@ returns-clause-added g c ps least most ss is supply few =
       greatest = c.surplus.ensures.greatest;
     } in
     let nothing : NoLaws = record { none = c.welfare.ensures.none; within = c.balance.ensures.within } in
-    let own : c.deref.result.now ≡ lines_from (offered_volume Buy c.args.supply.now) (worth_of c.args.supply.now) 0 0 c.args.supply.now =
-    c.deref.ensures.value ∙ c.in_ok-write_lines.ensures
-    ∙ ap (λ (ss : List Step). lines_from (offered_volume Buy ss) (worth_of ss) 0 0 ss) c.steps.ensures in
+    let own : c.deref.result.now ≡ segments_from (offered_volume Buy c.args.supply.now) (worth_of c.args.supply.now) 0 0 c.args.supply.now =
+    c.deref.ensures.value ∙ c.in_ok-write_segments.ensures
+    ∙ ap (λ (ss : List Step). segments_from (offered_volume Buy ss) (worth_of ss) 0 0 ss) c.steps.ensures in
     let old : c.deref-2.result.now ≡ c.args.self.now = search rules in
-    let new : c.swap.new.x.items ≡ c.add_lines.new.sum.items = search rules in
+    let new : c.swap.new.x.items ≡ c.add_segments.new.sum.items = search rules in
     let period = subst (IsPeriodCurve ss) (sym own) (period_curve laws nothing ss c.args.supply.now supply) in
     let curve = subst (IsCurve ps least most) (sym old) is in
     subst (IsCurve (ss ∷ ps) least most) (sym new)
-    (curve_more ss ps least most c.deref.result.now c.deref-2.result.now c.add_lines.new.sum.items supply.is_hour period curve few
-    (c.in_ok-add_lines.ensures.lines _ _ period.are_lines curve.are_lines)
-    (c.in_ok-add_lines.ensures.within _ least most curve.are_lines curve.within)
-    (λ net. c.in_ok-add_lines.ensures.outside _ _ net period.are_lines curve.are_lines)
-    (c.in_ok-add_lines.ensures.small 1 (length ps) period.small curve.small))
+    (curve_more ss ps least most c.deref.result.now c.deref-2.result.now c.add_segments.new.sum.items supply.is_hour period curve few
+    (c.in_ok-add_segments.ensures.segments _ _ period.are_segments curve.are_segments)
+    (c.in_ok-add_segments.ensures.within _ least most curve.are_segments curve.within)
+    (λ net. c.in_ok-add_segments.ensures.outside _ _ net period.are_segments curve.are_segments)
+    (c.in_ok-add_segments.ensures.small 1 (length ps) period.small curve.small))

@@ -1,4 +1,4 @@
--- The two lines of no period.
+-- The two segments of no period.
 use Rattle.std.proofs.Common.{◌≡◌, to_z, of_z, w32, w64, arith}
 use Rattle.std.proofs.lemmas.Int.{ints}
 use Rattle.dam_curve.proofs.JointWelfare.{flat_curve}

@@ -8,7 +8,7 @@ use mir.Val.{SFits}
 use Rattle.dam_blocks.specs.Problem.{ProblemState}
 use Rattle.dam_bound.specs.declared.trail.Trail.{Trail}
 use Rattle.dam_bound.specs.Relaxed.{relaxed_welfare, reaches}
-use Rattle.dam_bound.specs.Trail.{IsDayIn}
+use Rattle.dam_bound.specs.Trail.{ArePositionsIn}
 use Rattle.dam_search.proofs.Leaf.{as_passed, if_told, unless_told}
 use Rattle.dam_search.proofs.prefix.Prefix.open_bound.Goals as goal
 
@@ -17,14 +17,14 @@ less : (w bound : ℤ) (value : ℕ) → w ≤ℤ bound → reaches (Some bound)
 less w (pos n) value h e = let under : n < value = grind (arith, nat_tests) in omega (arith, ints)
 less w (negsuc n) value h e = omega (arith, ints)
 
--- the total that stands in the slots is the bound
-bound_is : (relaxed : ProblemState) (prefix : List Bool) (trail : Trail) (total : ℤ) → IsDayIn relaxed prefix trail total
+-- the total of the positions in the trail is the bound
+bound_is : (relaxed : ProblemState) (prefix : List Bool) (trail : Trail) (total : ℤ) → ArePositionsIn relaxed prefix trail total
     → Some total ≡ relaxed_welfare relaxed prefix
 bound_is relaxed prefix trail total is = is.total_is
 
 pub returns-in_default : goal.returns-in_default
-returns-in_default c relaxed trail low few day =
-    let under = unless_told c.args.total relaxed c.args.self.now trail low c.in_default.is day in (
+returns-in_default c relaxed trail low few positions =
+    let under = unless_told c.args.total relaxed c.args.self.now trail low c.in_default.is positions in (
       λ w e. (let less = under w e in omega (arith, ints, few, less)),
       λ sel w whole e.
           (let most = c.bound.ensures.most relaxed c.args.self.now sel w whole e in let at_most = most.2 in
@@ -32,8 +32,8 @@ returns-in_default c relaxed trail low few day =
     )
 
 pub returns-then-reaches : goal.returns-then-reaches
-returns-then-reaches c relaxed trail low few day =
-    let own = if_told c.args.total c.in-Some.total relaxed c.args.self.now trail low c.in-Some.is day in
+returns-then-reaches c relaxed trail low few positions =
+    let own = if_told c.args.total c.in-Some.total relaxed c.args.self.now trail low c.in-Some.is positions in
     let fits : SFits w64 c.in-Some.total = search rules in (
       subst (λ (bound : Option ℤ). reaches bound c.args.least ≡ true)
           (ap (λ (z : ℤ). Some z) (to_z-of_z w64 c.in-Some.total fits) ∙ bound_is relaxed c.args.self.now trail c.in-Some.total own)
@@ -42,8 +42,8 @@ returns-then-reaches c relaxed trail low few day =
     )
 
 pub returns-else-reaches : goal.returns-else-reaches
-returns-else-reaches c relaxed trail low few day =
-    let own = if_told c.args.total c.in-Some.total relaxed c.args.self.now trail low c.in-Some.is day in
+returns-else-reaches c relaxed trail low few positions =
+    let own = if_told c.args.total c.in-Some.total relaxed c.args.self.now trail low c.in-Some.is positions in
     let fits : SFits w64 c.in-Some.total = search rules in
     let is = ap (λ (z : ℤ). Some z) (to_z-of_z w64 c.in-Some.total fits) ∙ bound_is relaxed c.args.self.now trail c.in-Some.total own in
     let short = subst (λ (bound : Option ℤ). reaches bound c.args.least ≡ false) is (sym c.reaches.ensures ∙ c.if-reaches.false) in

@@ -2,14 +2,14 @@
 -- them.
 use Rattle.std.proofs.Common.{◌≡◌, ◌+◌, List, Bool, [], ◌∷◌, ◌++◌, take, drop, take-append-drop, ap, ◌∙◌, sym, subst, rules, arith}
 use Rattle.std.proofs.lemmas.Int.{ints}
-use Rattle.dam_bound.specs.Trail.{IsDayIn, bound_by}
+use Rattle.dam_bound.specs.Trail.{ArePositionsIn, bound_by}
 use Rattle.dam_bound.specs.Relaxed.{relaxed_welfare}
 use Rattle.dam_search.proofs.Leaf.{as_passed, bound_told, bound_untold}
 use Rattle.dam_search.proofs.Prefixes.{prefix_of, decided_more, front_long}
 use Rattle.dam_search.proofs.prefix.Prefix.walked.Goals as goal
 
-pub extensions-requires-clause-day : goal.extensions-requires-clause-day
-extensions-requires-clause-day g c = (
+pub extensions-requires-clause-positions : goal.extensions-requires-clause-positions
+extensions-requires-clause-positions g c = (
   take c.loop-place.place c.args.self.now,
   front_long c.self.inside.taken c.args.self.now c.self.inside.depth c.loop-place.place c.self.view_is c.self.invariant.0
       c.self.invariant.1 c.loop-place-test.true,
@@ -33,8 +33,8 @@ loop-place-preserved g c =
     let bound = bound_told (bound_by accept c.extensions.result) c.in-Some.next c.args.walk.now (front ++ accept ∷ []) 0
     (sym c.by.ensures ∙ c.in-Some.is) (c.extensions.ensures.bounds front accept long c.loop-place.invariant) in
     as_passed c.args.walk.now (take (c.loop-place.place + 1) c.args.self.now) c.enter.new.trail c.in-Some.next (search rules)
-    (subst (λ (xs : List Bool). IsDayIn c.args.walk.now xs c.enter.new.trail c.in-Some.next) (sym more)
-    (c.enter.ensures.day front _ c.in-Some.next long c.loop-place.invariant bound))
+    (subst (λ (xs : List Bool). ArePositionsIn c.args.walk.now xs c.enter.new.trail c.in-Some.next) (sym more)
+    (c.enter.ensures.positions front _ c.in-Some.next long c.loop-place.invariant bound))
 
 pub returns-in_default : goal.returns-in_default
 returns-in_default g c w e =

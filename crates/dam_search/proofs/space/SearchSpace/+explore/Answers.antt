@@ -9,15 +9,15 @@ use Rattle.dam_blocks.specs.declared.problem.Block.{Block}
 use Rattle.dam_blocks.specs.Selection.{padded, IsAdmissible}
 use Rattle.dam_blocks.specs.Eligible.{selection_welfare}
 use Rattle.dam_bound.specs.Prefix.{IsCompletion}
-use Rattle.dam_bound.specs.Trail.{IsDayIn, IsBoundOf}
+use Rattle.dam_bound.specs.Trail.{ArePositionsIn, IsBoundOf}
 use Rattle.dam_bound.specs.Relaxed.{without_rows, relaxed_welfare, reaches}
-use Rattle.dam_bound.specs.Day.{IsUnder}
+use Rattle.dam_bound.specs.Positions.{IsUnder}
 use Rattle.dam_search.specs.inside.Walk.{IsBoundIn, Spends, Reads, IsGoing, IsWalked}
 use Rattle.dam_search.proofs.Ranks.{found_after, finds_nothing, finds_shorter, finds_twice, covers_both, welfare_rises}
 use Rattle.dam_search.proofs.Leaf.{read_more}
 use Rattle.dam_search.proofs.LastBlock.{still_rejected}
 use Rattle.dam_search.proofs.Walks.{spends_none, spends_nothing, spends_one, spends_first, spends_both, reads_nothing, reads_asked}
-use Rattle.dam_search.proofs.Walks.{unreached, enough_one, enough_both}
+use Rattle.dam_search.proofs.Walks.{unreached, needed_one, needed_both}
 use Rattle.dam_search.proofs.space.SearchSpace.+explore.Goals.{decide-else-accept-via-then-accept+else-not-is_still_admissible}
 use Rattle.dam_search.proofs.space.SearchSpace.+explore.Goals.{decide-else-accept-via-else-accept}
 use Rattle.dam_search.proofs.space.SearchSpace.+explore.Goals as goal
@@ -67,7 +67,7 @@ decide-returns-then-not-is_still_admissible-clause-walked g t c =
       finds = finds_nothing problem prefix found.best;
       covers = λ done sel w whole e. absurd (passed sel whole e.admissible);
       spends = spends_nothing problem prefix left told c.args.nodes found.visited going.room;
-      enough = λ done admissible. absurd
+      needed = λ done admissible. absurd
           (not_admitted c.is_still_admissible.result c.if-not-is_still_admissible.true
           (c.is_still_admissible.ensures.value.1
           (subst (λ (xs : List Bool). IsAdmissible problem.blocks (padded xs)) (sym c.extended-extended.ensures) admissible)));
@@ -85,7 +85,7 @@ decide-explore-requires g t c =
     let few : length prefix < most_blocks = omega (arith, c.requires.depth, c.kept.ensures.few_blocks) in
     let is_bound : IsBoundIn relaxed next read trail total =
     next_bound relaxed next prefix c.args.accept read total trail is
-    (c.enter.ensures.stands c.requires.day.0 read c.requires.day.1 c.requires.bound) in
+    (c.enter.ensures.stands c.requires.positions.0 read c.requires.positions.1 c.requires.bound) in
     let admissible : IsAdmissible blocks (padded next) = elim c.else-accept.branch [
       | decide-else-accept-via-then-accept+else-not-is_still_admissible w ↦ w.is_still_admissible.ensures.value.0 (search rules)
       | decide-else-accept-via-else-accept w ↦
@@ -101,11 +101,11 @@ decide-returns-clause-walked g t c =
     (top after) c.args.found.now
     c.explore.new.found c.explore.result) c.extended-extended.ensures c.explore.ensures.walked
 
-pub decide-returns-clause-days : goal.decide-returns-clause-days
-decide-returns-clause-days g t c prefix total few day =
+pub decide-returns-clause-positions : goal.decide-returns-clause-positions
+decide-returns-clause-positions g t c prefix total few positions =
     let long = ap (λ (xs : List Bool). length xs) c.extended-extended.ensures in
     let more = length-append c.args.prefix.now (c.args.accept ∷ []) in
-    c.explore.ensures.days prefix total (omega (arith, few, long, more)) (c.enter.ensures.kept prefix total few day)
+    c.explore.ensures.positions prefix total (omega (arith, few, long, more)) (c.enter.ensures.kept prefix total few positions)
 
 -- ---- the node
 
@@ -118,7 +118,7 @@ explore-returns-then-found-nodes-clause-walked g t c =
       finds = finds_nothing problem prefix found.best;
       covers = λ done. absurd (cc);
       spends = spends_none problem prefix left told c.args.nodes found.visited c.if-found-nodes.true;
-      enough = λ done. absurd (cc);
+      needed = λ done. absurd (cc);
       reads = reads_nothing left found.visited found.visited found.read told told going.read refl (inl refl);
       offered = let offered = going.offered in omega (arith, offered);
     }
@@ -137,7 +137,7 @@ explore-returns-then-depth-block_count-clause-walked g t c =
       spends =
           subst (λ (n : ℕ). Spends problem prefix left (told c.args.incumbent.now) c.args.nodes found.visited n true) (sym visited)
           (spends_one problem prefix left (told c.args.incumbent.now) c.args.nodes found.visited room);
-      enough = λ done. enough_one problem prefix left after.read found.visited after.visited visited (inl full);
+      needed = λ done. needed_one problem prefix left after.read found.visited after.visited visited (inl full);
       reads =
           subst (λ (n : ℕ). Reads left found.visited after.visited found.read n (told c.args.incumbent.now)
           (told c.try_selection.new.incumbent))
@@ -158,7 +158,7 @@ explore-returns-in_default-clause-walked g t c =
     let inside =
     undecided prefix c.depth.result c.block_count.result (length problem.blocks) c.depth.ensures.value c.block_count.ensures.value
     c.requires.depth c.if-depth-block_count.false in
-    let none = c.in_default.ensures relaxed c.args.trail.now found.read low c.requires.day in
+    let none = c.in_default.ensures relaxed c.args.trail.now found.read low c.requires.positions in
     let under : IsUnder problem prefix c.read-found.result =
     subst (λ (p : ProblemState). IsUnder p prefix c.read-found.result) c.args.self.now.same none.0 in
     record {
@@ -169,7 +169,7 @@ explore-returns-in_default-clause-walked g t c =
       spends =
           spends_one problem prefix left (told c.args.incumbent.now) c.args.nodes found.visited
           (unmet found.visited c.args.nodes going.room c.if-found-nodes.false);
-      enough = λ done. enough_one problem prefix left c.read-found.result found.visited (found.visited + 1) refl
+      needed = λ done. needed_one problem prefix left c.read-found.result found.visited (found.visited + 1) refl
           (inr (λ value le. unreached (relaxed_welfare problem prefix) value c.read-found.result under le));
       reads =
           reads_asked left found.visited (found.visited + 1) found.read c.read-found.result (told c.args.incumbent.now)
@@ -180,22 +180,22 @@ explore-returns-in_default-clause-walked g t c =
 
 -- ---- its two extensions
 
-pub explore-extensions-next-requires-clause-day : goal.explore-extensions-next-requires-clause-day
-explore-extensions-next-requires-clause-day g t c =
+pub explore-extensions-next-requires-clause-positions : goal.explore-extensions-next-requires-clause-positions
+explore-extensions-next-requires-clause-positions g t c =
     let relaxed = c.args.self.now.walk.now in let prefix = c.args.prefix.now in
     let low : c.args.found.now.read ≤ c.read-found.result = omega (arith, c.requires.going.read, c.read-found.ensures.rises) in
-    let is = c.in-Some.ensures relaxed c.args.trail.now c.args.found.now.read low c.requires.day in
+    let is = c.in-Some.ensures relaxed c.args.trail.now c.args.found.now.read low c.requires.positions in
     (prefix, search rules, search (rules, is.1))
 
 pub explore-decide-requires : goal.explore-decide-requires
 explore-decide-requires g t c =
     let problem = c.args.self.now.problem.now in let relaxed = c.args.self.now.walk.now in let prefix = c.args.prefix.now in
     let low : c.args.found.now.read ≤ c.read-found.result = omega (arith, c.requires.going.read, c.read-found.ensures.rises) in
-    let is = c.in-Some.ensures relaxed c.args.trail.now c.args.found.now.read low c.requires.day in
+    let is = c.in-Some.ensures relaxed c.args.trail.now c.args.found.now.read low c.requires.positions in
     let depth : length prefix < length problem.blocks =
     undecided prefix c.depth.result c.block_count.result (length problem.blocks) c.depth.ensures.value c.block_count.ensures.value
     c.requires.depth c.if-depth-block_count.false in
-    let day : IsDayIn relaxed prefix c.args.trail.now c.in-Some.bound = is.1 in
+    let positions : ArePositionsIn relaxed prefix c.args.trail.now c.in-Some.bound = is.1 in
     let first = c.equals-accept.result in
     let bound : IsBoundOf relaxed (prefix ++ first ∷ []) c.read-found.result c.by.result =
     subst (IsBoundOf relaxed (prefix ++ first ∷ []) c.read-found.result) (sym c.by.ensures)
@@ -219,7 +219,7 @@ explore-returns-then-not-decide-clause-walked g t c =
     let first = c.equals-accept.result in
     let nodes = c.args.nodes in let told = g.I.Incumbent.greatest_read in
     let low : c.args.found.now.read ≤ c.read-found.result = omega (arith, c.requires.going.read, c.read-found.ensures.rises) in
-    let is = c.in-Some.ensures c.args.self.now.walk.now c.args.trail.now c.args.found.now.read low c.requires.day in
+    let is = c.in-Some.ensures c.args.self.now.walk.now c.args.trail.now c.args.found.now.read low c.requires.positions in
     let inside =
     undecided prefix c.depth.result c.block_count.result n c.depth.ensures.value c.block_count.ensures.value
     c.requires.depth c.if-depth-block_count.false in
@@ -241,7 +241,7 @@ explore-returns-then-not-decide-clause-walked g t c =
       spends =
           spends_first problem prefix first n (told c.args.incumbent.now) least nodes before after inside c.read-found.ensures.rises
           (alive_here problem c.args.self.now.walk.now prefix least c.args.self.now.same is.0) unfinished;
-      enough = λ done. absurd (cc);
+      needed = λ done. absurd (cc);
       reads =
           reads_asked (n - length prefix) before after c.args.found.now.read c.decide.new.found.read (told c.args.incumbent.now)
           (told c.decide.new.incumbent) (omega (arith, inside)) (omega (arith, more)) c.requires.going.read
@@ -253,11 +253,12 @@ pub explore-decide-requires-2 : goal.explore-decide-requires-2
 explore-decide-requires-2 g t c =
     let problem = c.args.self.now.problem.now in let relaxed = c.args.self.now.walk.now in let prefix = c.args.prefix.now in
     let low : c.args.found.now.read ≤ c.read-found.result = omega (arith, c.requires.going.read, c.read-found.ensures.rises) in
-    let is = c.in-Some.ensures relaxed c.args.trail.now c.args.found.now.read low c.requires.day in
+    let is = c.in-Some.ensures relaxed c.args.trail.now c.args.found.now.read low c.requires.positions in
     let depth : length prefix < length problem.blocks =
     undecided prefix c.depth.result c.block_count.result (length problem.blocks) c.depth.ensures.value c.block_count.ensures.value
     c.requires.depth c.if-depth-block_count.false in
-    let day : IsDayIn relaxed prefix c.decide.new.trail c.in-Some.bound = c.decide.ensures.days prefix c.in-Some.bound (omega arith) is.1 in
+    let positions : ArePositionsIn relaxed prefix c.decide.new.trail c.in-Some.bound =
+    c.decide.ensures.positions prefix c.in-Some.bound (omega arith) is.1 in
     let now = c.decide.new.found in let incumbent = c.decide.new.incumbent in
     let walked = c.decide.ensures.walked in let told = walked.reads.greatest_read in let top = walked.offered in
     let first = c.equals-accept.result in
@@ -280,7 +281,7 @@ explore-returns-clause-walked g t c =
     let first = c.equals-accept.result in
     let nodes = c.args.nodes in let told = g.I.Incumbent.greatest_read in
     let low : c.args.found.now.read ≤ c.read-found.result = omega (arith, c.requires.going.read, c.read-found.ensures.rises) in
-    let is = c.in-Some.ensures c.args.self.now.walk.now c.args.trail.now c.args.found.now.read low c.requires.day in
+    let is = c.in-Some.ensures c.args.self.now.walk.now c.args.trail.now c.args.found.now.read low c.requires.positions in
     let inside =
     undecided prefix c.depth.result c.block_count.result n c.depth.ensures.value c.block_count.ensures.value
     c.requires.depth c.if-depth-block_count.false in
@@ -316,8 +317,8 @@ explore-returns-clause-walked g t c =
           spends_both problem prefix first n (told c.args.incumbent.now) least later nodes before middle after c.decide-2.result inside
           c.read-found.ensures.rises (omega (arith, asked, raised))
           (alive_here problem c.args.self.now.walk.now prefix least c.args.self.now.same is.0) one other;
-      enough = λ done. enough_both problem prefix first n c.decide.new.found.read c.decide-2.new.found.read before middle after
-          inside few more more' grows' (w.enough c.if-not-decide.false) (v.enough done);
+      needed = λ done. needed_both problem prefix first n c.decide.new.found.read c.decide-2.new.found.read before middle after
+          inside few more more' grows' (w.needed c.if-not-decide.false) (v.needed done);
       reads =
           reads_asked (n - length prefix) before after c.args.found.now.read c.decide-2.new.found.read (told c.args.incumbent.now)
           (told c.decide-2.new.incumbent) (omega (arith, inside)) (omega (arith, more, more')) c.requires.going.read
@@ -327,6 +328,6 @@ explore-returns-clause-walked g t c =
           omega (arith, rises, top, top', c.requires.going.offered, c.read-found.ensures.greatest_offer);
     }
 
-pub explore-returns-clause-days : goal.explore-returns-clause-days
-explore-returns-clause-days g t c prefix total few day =
-    c.decide-2.ensures.days prefix total few (c.decide.ensures.days prefix total few day)
+pub explore-returns-clause-positions : goal.explore-returns-clause-positions
+explore-returns-clause-positions g t c prefix total few positions =
+    c.decide-2.ensures.positions prefix total few (c.decide.ensures.positions prefix total few positions)

@@ -20,17 +20,17 @@ returns-in_default-clause-covers g c sel w whole e =
     inl (under_read c.args.self.now.problem.now c.args.self.now.walk.now c.args.prefix.now sel
     c.args.found.now.read w c.args.self.now.same
     (unless_told c.args.total c.args.self.now.walk.now c.args.prefix.now c.args.trail.now c.args.found.now.read
-    c.in_default.is c.requires.day)
+    c.in_default.is c.requires.positions)
     (c.decided.ensures c.args.self.now.problem.now c.args.prefix.now sel (omega (arith, c.requires.full)) whole) e.welfare_is)
 
 pub loses-requires : goal.loses-requires
 loses-requires g c =
     let prefix = c.args.prefix.now in
     let is = if_told c.args.total c.in-Some.total c.args.self.now.walk.now prefix c.args.trail.now c.args.found.now.read
-    c.in-Some.is c.requires.day in
+    c.in-Some.is c.requires.positions in
     record {
       full = c.requires.full;
-      day = as_passed c.args.self.now.walk.now prefix c.args.trail.now c.in-Some.total (search rules) is;
+      positions = as_passed c.args.self.now.walk.now prefix c.args.trail.now c.in-Some.total (search rules) is;
     }
 
 pub returns-in_default-candidate-clause-finds : goal.returns-in_default-candidate-clause-finds
@@ -42,7 +42,7 @@ returns-in_default-candidate-clause-covers g c sel w whole e =
     let only = c.completions.ensures.only problem prefix sel (omega (arith, c.requires.full)) whole e.admissible
     ∙ sym c.selection.ensures in
     let is = if_told c.args.total c.in-Some.total c.args.self.now.walk.now prefix c.args.trail.now c.args.found.now.read
-    c.in-Some.is c.requires.day in
+    c.in-Some.is c.requires.positions in
     let total = welfare_is_told problem c.args.self.now.walk.now prefix sel c.args.trail.now c.in-Some.total c.args.self.now.same is
     (c.decided.ensures problem prefix sel (omega (arith, c.requires.full)) whole) in
     let same = same_welfare _ w c.in-Some.total e.welfare_is total in
@@ -70,7 +70,7 @@ returns-clause-finds g c =
     let few : length prefix ≤ most_blocks = omega (arith, full, blocks) in
     let whole = c.completions.ensures.padded prefix few in
     let is = if_told c.args.total c.in-Some.total c.args.self.now.walk.now prefix c.args.trail.now c.args.found.now.read
-    c.in-Some.is c.requires.day in
+    c.in-Some.is c.requires.positions in
     let total = welfare_is_told problem c.args.self.now.walk.now prefix (padded prefix) c.args.trail.now c.in-Some.total
     c.args.self.now.same is (c.decided.ensures problem prefix (padded prefix) (omega (arith, full)) whole) in
     let fits : SFits w64 c.in-Some.total = search rules in
@@ -87,7 +87,7 @@ returns-clause-covers g c sel w whole e =
     let problem = c.args.self.now.problem.now in let prefix = c.args.prefix.now in
     let only = c.completions.ensures.only problem prefix sel (omega (arith, c.requires.full)) whole e.admissible in
     let is = if_told c.args.total c.in-Some.total c.args.self.now.walk.now prefix c.args.trail.now c.args.found.now.read
-    c.in-Some.is c.requires.day in
+    c.in-Some.is c.requires.positions in
     let total = welfare_is_told problem c.args.self.now.walk.now prefix sel c.args.trail.now c.in-Some.total c.args.self.now.same is
     (c.decided.ensures problem prefix sel (omega (arith, c.requires.full)) whole) in
     let same = same_welfare _ w c.in-Some.total e.welfare_is total in

@@ -5,12 +5,12 @@ use Rattle.std.proofs.lemmas.List.{length-set}
 use Rattle.std.specs.Option.{IsSome}
 use mir.Syntax.{w64}
 use mir.Val.{to_z, of_z}
-use Rattle.dam_bound.specs.declared.day.Day.{Day}
+use Rattle.dam_bound.specs.declared.positions.Positions.{Positions}
 use Rattle.dam_bound.specs.Classes.{class_hours}
 use Rattle.dam_bound.specs.Tables.{TablesState, AreTablesOf, least_net, most_net}
 use Rattle.dam_bound.proofs.Reading.{AreReadSoFar, read_at, read_position, read_more, read_past}
-use Rattle.dam_bound.proofs.trail.day_of.Goals as goal
-use Rattle.dam_bound.proofs.trail.day_of.Goals.{then-tables-at, else-tables-at}
+use Rattle.dam_bound.proofs.trail.positions_of.Goals as goal
+use Rattle.dam_bound.proofs.trail.positions_of.Goals.{then-tables-at, else-tables-at}
 
 pub welfare-requires : goal.welfare-requires
 welfare-requires g c =
@@ -36,9 +36,10 @@ pub loop-at-preserved : goal.loop-at-preserved
 loop-at-preserved g c = elim c.if-tables-at.branch [
   | then-tables-at w ↦
       record {
-        long = ap (λ (d : Day). length d.classes) w.day-is ∙ length-set c.loop-at.day.classes c.loop-at.at _ ∙ c.loop-at.invariant.long;
+        long = ap (λ (d : Positions). length d.classes) w.positions-is ∙ length-set c.loop-at.positions.classes c.loop-at.at _
+            ∙ c.loop-at.invariant.long;
         so_far = λ problem prefix total are long is.
-            subst (λ (d : Day). AreReadSoFar problem prefix (c.loop-at.at + 1) d.classes) (sym w.day-is)
+            subst (λ (d : Positions). AreReadSoFar problem prefix (c.loop-at.at + 1) d.classes) (sym w.positions-is)
             (let count = are.count_is in let same = ap (λ (t : TablesState). t.count) c.tables.view_is in let few = are.few_periods in
             let here = c.loop-at-test.true in let room = c.loop-at.invariant.long in
             let read = read_at problem _ prefix c.args.trail.now total c.loop-at.at w.index.result.now
@@ -46,19 +47,19 @@ loop-at-preserved g c = elim c.if-tables-at.branch [
             let n = length problem.blocks in
             let found = sym (w.welfare.ensures.value (class_hours problem n c.loop-at.at) (least_net problem.blocks n c.loop-at.at)
             (most_net problem.blocks n c.loop-at.at) read.curve_is read.at_least read.at_most) ∙ w.unwrap-welfare.ensures in
-            read_more problem prefix c.loop-at.at c.loop-at.day.classes _ (omega (arith, here, count, same, few, room))
+            read_more problem prefix c.loop-at.at c.loop-at.positions.classes _ (omega (arith, here, count, same, few, room))
             (read_position (to_z w64 (of_z w64 w.unwrap-welfare.result)) long read
             (found ∙ ap (λ (z : ℤ). Some z) (sym (to_z-of_z w64 w.unwrap-welfare.result (search rules)))))
             (c.loop-at.invariant.so_far problem prefix total are long is));
       }
   | else-tables-at w ↦
       record {
-        long = ap (λ (d : Day). length d.classes) w.day-is ∙ c.loop-at.invariant.long;
+        long = ap (λ (d : Positions). length d.classes) w.positions-is ∙ c.loop-at.invariant.long;
         so_far = λ problem prefix total are long is.
-            subst (λ (d : Day). AreReadSoFar problem prefix (c.loop-at.at + 1) d.classes) (sym w.day-is)
+            subst (λ (d : Positions). AreReadSoFar problem prefix (c.loop-at.at + 1) d.classes) (sym w.positions-is)
             (let count = are.count_is in let same = ap (λ (t : TablesState). t.count) c.tables.view_is in let here = c.loop-at-test.true in
             let firsts = ap (λ (t : TablesState). get_or t.firsts c.loop-at.at 0) c.tables.view_is in
-            read_past problem prefix c.loop-at.at c.loop-at.day.classes
+            read_past problem prefix c.loop-at.at c.loop-at.positions.classes
             (λ first. w.if-tables-at.false (firsts ∙ are.firsts_are.each c.loop-at.at 0 (omega (arith, here, count, same)) ∙ first))
             (c.loop-at.invariant.so_far problem prefix total are long is));
       }

@@ -1,12 +1,12 @@
--- The sum begins at the lesser of the two greatest net volumes, and goes on line by line.
+-- The sum begins at the lesser of the two greatest net volumes, and goes on segment by segment.
 use Rattle.std.proofs.Common.{pos, inl, inr, to_z, of_z, w32, rules, arith}
 use Rattle.std.proofs.lemmas.Int.{ints}
-use Rattle.dam_curve.proofs.ListsOfLines.{small_at}
-use Rattle.dam_curve.proofs.Adding.{place_from, stands_from, none_added, next_added, shorter, all_lines, small_added, bottom_over, all_within, all_outside, apart_outside}
+use Rattle.dam_curve.proofs.ListsOfSegments.{small_at}
+use Rattle.dam_curve.proofs.Adding.{place_from, stands_from, none_added, next_added, shorter, all_segments, small_added, bottom_over, all_within, all_outside, apart_outside}
 use Rattle.dam_curve.proofs.Adding.{under_first}
-use Rattle.dam_curve.proofs.sum.add_lines.Goals.{then-a-at-via-then-a-at, then-a-at-via-else-a-at+then-b-at}
-use Rattle.dam_curve.proofs.sum.add_lines.Goals.{then-loop-left-test+else-right-b, else-loop-left-test}
-use Rattle.dam_curve.proofs.sum.add_lines.Goals as goal
+use Rattle.dam_curve.proofs.sum.add_segments.Goals.{then-a-at-via-then-a-at, then-a-at-via-else-a-at+then-b-at}
+use Rattle.dam_curve.proofs.sum.add_segments.Goals.{then-loop-left-test+else-right-b, else-loop-left-test}
+use Rattle.dam_curve.proofs.sum.add_segments.Goals as goal
 
 pub from_net-left-requires-clause-first : goal.from_net-left-requires-clause-first
 from_net-left-requires-clause-first g c d =
@@ -64,10 +64,11 @@ loop-left-preserved g c =
     (record { most = pos 0; price = pos 0; surplus = pos 0 }) c.loop-left.invariant (search rules) (search rules) (search rules)
     c.past-left.ensures c.past-right.ensures)
 
-pub returns-clause-lines : goal.returns-clause-lines
-returns-clause-lines g c f h s t =
+pub returns-clause-segments : goal.returns-clause-segments
+returns-clause-segments g c f h s t =
     rw (c.in_ok-push-2.ensures.items, c.joined-2.ensures)
-    (all_lines f h c.args.a.now c.args.b.now c.loop-left.sum.items (to_z w32 (of_z w32 c.min-at.result)) (to_z w32 c.loop-left.at-bits) c.loop-left.left
+    (all_segments f h c.args.a.now c.args.b.now c.loop-left.sum.items (to_z w32 (of_z w32 c.min-at.result))
+    (to_z w32 c.loop-left.at-bits) c.loop-left.left
     c.loop-left.right (record { most = pos 0; price = pos 0; surplus = pos 0 }) c.loop-left.invariant s t)
 
 pub returns-clause-within : goal.returns-clause-within

@@ -1,4 +1,4 @@
--- The lines of a period's supply are its greatest welfare.
+-- The segments of a period's supply are its greatest welfare.
 use Rattle.std.proofs.Common.{◌≡◌, ◌↔◌, ℕ, suc, ◌+◌, ◌-◌, ◌*◌, ◌<◌, ◌≤◌, ℤ, pos, negsuc, neg_ℤ, ◌+ℤ◌, ◌-ℤ◌, ◌*ℤ◌, ◌≤ℤ◌, ◌<ℤ◌, nat_abs, ◌⊎◌}
 use Rattle.std.proofs.Common.{Option, Some, None, List, [], ◌∷◌, length, get_or, ap, ◌∙◌, sym, subst, inl, inr, refl, arith}
 use Rattle.std.specs.List.Sorted.{IsNonDecreasingBy}
@@ -13,12 +13,12 @@ use Rattle.dam_hour.specs.declared.step.Step.{Step}
 use Rattle.dam_hour.specs.Limits.{most_steps, price_span}
 use Rattle.dam_hour.specs.Execution.{AreInRange, IsExecution, Balances, IsUnbalanced, IsWithinOffers, offered_volume, volume_on}
 use Rattle.dam_hour.specs.Best.{greatest_welfare}
-use Rattle.dam_curve.specs.declared.line.Line.{Line}
+use Rattle.dam_curve.specs.declared.segment.Segment.{Segment}
 use Rattle.dam_curve.specs.Supply.{height_of, total_of, AreAlike, IsSupplyOf}
-use Rattle.dam_curve.specs.Curve.{line_at, IsLine, end_of, AreLines, bottom_of, IsOutside, IsSmallLine, AreSmallLines}
+use Rattle.dam_curve.specs.Curve.{segment_at, IsSegment, end_of, AreSegments, bottom_of, IsOutside, IsSmallSegment, AreSmallSegments}
 use Rattle.dam_curve.specs.inside.Supply.{all_units, units_under, units_up_to, gain_under, worth_of}
 use Rattle.dam_curve.specs.inside.Supply.{if_any}
-use Rattle.dam_curve.specs.inside.Lines.{line_of, lines_from}
+use Rattle.dam_curve.specs.inside.Segments.{segment_of, segments_from}
 use Rattle.dam_curve.proofs.Parts.{under_none, up_to_full, part_most}
 use Rattle.dam_curve.proofs.Supplying.{height_is, all_offered}
 use Rattle.dam_curve.proofs.Clearing.{Laws, under_all, height_most, all_up_to, highest_in_range, welfare_is}
@@ -133,42 +133,44 @@ last_piece all m b c a is =
     let units = is.units in let below = under_all price_span all in let cost = is.cost_is price_span is.low in
     record { under = omega (arith, units, below); up_to = all_up_to all a; cost_is = omega (arith, cost) }
 
--- ---- the lines, one by one
-ends_at : (v w b c : ℕ) (ss : List Step) (least : ℤ) → end_of (lines_from v w b c ss) least ≡ pos v -ℤ pos b
+-- ---- the segments, one by one
+ends_at : (v w b c : ℕ) (ss : List Step) (least : ℤ) → end_of (segments_from v w b c ss) least ≡ pos v -ℤ pos b
 ends_at v w b c [] least = refl
 ends_at v w b c (s ∷ ss) least = refl
 
-bottom_next : (line : Line) (v w b c : ℕ) (ss : List Step) → bottom_of (line ∷ lines_from v w b c ss) ≡ bottom_of (lines_from v w b c ss)
-bottom_next line v w b c [] = refl
-bottom_next line v w b c (s ∷ ss) = refl
+bottom_next : (segment : Segment) (v w b c : ℕ) (ss : List Step)
+    → bottom_of (segment ∷ segments_from v w b c ss) ≡ bottom_of (segments_from v w b c ss)
+bottom_next segment v w b c [] = refl
+bottom_next segment v w b c (s ∷ ss) = refl
 
-bottom_is : (v w b c : ℕ) (ss : List Step) → bottom_of (lines_from v w b c ss) ≡ pos v -ℤ pos (b + all_units ss)
+bottom_is : (v w b c : ℕ) (ss : List Step) → bottom_of (segments_from v w b c ss) ≡ pos v -ℤ pos (b + all_units ss)
 bottom_is v w b c [] = omega (arith, ints)
 bottom_is v w b c (s ∷ ss) =
-    bottom_next (line_of v w s.price b c) v w (b + s.qty) (c + height_of s.price * s.qty) ss
+    bottom_next (segment_of v w s.price b c) v w (b + s.qty) (c + height_of s.price * s.qty) ss
     ∙ bottom_is v w (b + s.qty) (c + height_of s.price * s.qty) ss
     ∙ (let same : pos v -ℤ pos ((b + s.qty) + all_units ss) ≡ pos v -ℤ pos (b + (s.qty + all_units ss)) = omega (arith, ints) in same)
 
-abbrev EachLine : (ℤ → Option ℤ) → ℕ → ℕ → List Step → Type 0
-EachLine f v w all = (p : ℤ) (b e c : ℕ) → IsPrice p → ArePiece all (height_of p) b e c → b ≤ e → e ≤ all_units all
-    → IsLine f (line_of v w p b c) (pos v -ℤ pos e)
+abbrev EachSegment : (ℤ → Option ℤ) → ℕ → ℕ → List Step → Type 0
+EachSegment f v w all = (p : ℤ) (b e c : ℕ) → IsPrice p → ArePiece all (height_of p) b e c → b ≤ e → e ≤ all_units all
+    → IsSegment f (segment_of v w p b c) (pos v -ℤ pos e)
 
-lines_hold : (f : ℤ → Option ℤ) (v w : ℕ) (all : List Step) → AreInRange all → EachLine f v w all → (ss : List Step) (m b c : ℕ)
-    → AreInRange ss → Rises ss → AtLeast m ss → AreLast all ss m b c → AreLines f (lines_from v w b c ss) (pos v -ℤ pos (all_units all))
-lines_hold f v w all a each [] m b c r rises low is =
+segments_hold : (f : ℤ → Option ℤ) (v w : ℕ) (all : List Step) → AreInRange all → EachSegment f v w all → (ss : List Step) (m b c : ℕ)
+    → AreInRange ss → Rises ss → AtLeast m ss → AreLast all ss m b c
+    → AreSegments f (segments_from v w b c ss) (pos v -ℤ pos (all_units all))
+segments_hold f v w all a each [] m b c r rises low is =
     let units = is.units in
     (each highest_price b (all_units all) c highest_in_range (last_piece all m b c a is) (omega (arith, units)) (omega arith), tt)
-lines_hold f v w all a each (s ∷ ss) m b c r rises low is =
+segments_hold f v w all a each (s ∷ ss) m b c r rises low is =
     let units = is.units in
     let least = pos v -ℤ pos (all_units all) in (
-      subst (IsLine f (line_of v w s.price b c))
+      subst (IsSegment f (segment_of v w s.price b c))
           (sym (ends_at v w (b + s.qty) (c + height_of s.price * s.qty) ss least))
           (each s.price b (b + s.qty) c r.0 (piece_of all s ss m b c low.0 rises.0 is) (omega arith) (omega (arith, units))),
-      lines_hold f v w all a each ss (height_of s.price) (b + s.qty) (c + height_of s.price * s.qty) r.2 rises.1 rises.0
+      segments_hold f v w all a each ss (height_of s.price) (b + s.qty) (c + height_of s.price * s.qty) r.2 rises.1 rises.0
           (next_last all s ss m b c r.0 low.0 is),
     )
 
--- ---- the welfare on a line
+-- ---- the welfare on a segment
 row_cost : (c g h b x : ℕ) → b ≤ x → c + g ≡ h * b → (c + h * (x - b)) + g ≡ h * x
 row_cost c g h b x l e =
     let s : b + (x - b) ≡ x = omega (arith, l) in
@@ -189,7 +191,7 @@ price_times p c y h e =
     omega (arith, ints, m, k)
 
 welfare_at : (p net : ℤ) (h v w b c x u k : ℕ) → p ≡ lowest_price +ℤ pos h → pos x +ℤ net ≡ pos u → b ≤ x → v ≡ u → w ≡ k
-    → (pos k -ℤ pos (c + h * (x - b))) +ℤ lowest_price *ℤ net ≡ line_at (line_of v w p b c) net
+    → (pos k -ℤ pos (c + h * (x - b))) +ℤ lowest_price *ℤ net ≡ segment_at (segment_of v w p b c) net
 welfare_at p net h v w b c x u k ep ex l ev ew =
     let s : pos v -ℤ pos b ≡ pos (x - b) +ℤ net = omega (arith, ints, ex, l, ev) in
     let t = times_sum h (x - b) (pos v -ℤ pos b) net s in
@@ -198,9 +200,9 @@ welfare_at p net h v w b c x u k ep ex l ev ew =
     let at = ap (λ (n : ℕ). pos n *ℤ (pos v -ℤ pos b)) same in
     omega (arith, ints, t, q, ew, at)
 
-line_holds : Laws → (ss : List Step) (v w : ℕ) → AreInRange ss → v ≡ offered_volume Buy ss → w ≡ worth_of ss
-    → EachLine (greatest_welfare ss) v w ss
-line_holds laws ss v w a ev ew p b e c r piece l within = record {
+segment_holds : Laws → (ss : List Step) (v w : ℕ) → AreInRange ss → v ≡ offered_volume Buy ss → w ≡ worth_of ss
+    → EachSegment (greatest_welfare ss) v w ss
+segment_holds laws ss v w a ev ew p b e c r piece l within = record {
   ordered = omega (arith, ints, l);
   each = λ net low high.
       (let x = nat_abs (pos v -ℤ net) in
@@ -283,9 +285,10 @@ times_small h s n (pos m) l a b =
 times_small h s n (negsuc m) l a b =
     let t = mul-le h (suc m) s n l (omega (arith, ints, a)) in (omega (arith, ints, t), omega (arith, ints, t))
 
-line_small : (v w b c : ℕ) (p : ℤ) → IsPrice p → v ≤ most_steps * greatest_volume → b ≤ most_steps * greatest_volume
-    → w ≤ most_steps * (price_span * greatest_volume) → c ≤ most_steps * (price_span * greatest_volume) → IsSmallLine 1 (line_of v w p b c)
-line_small v w b c p r lv lb lw lc =
+segment_small : (v w b c : ℕ) (p : ℤ) → IsPrice p → v ≤ most_steps * greatest_volume → b ≤ most_steps * greatest_volume
+    → w ≤ most_steps * (price_span * greatest_volume) → c ≤ most_steps * (price_span * greatest_volume)
+    → IsSmallSegment 1 (segment_of v w p b c)
+segment_small v w b c p r lv lb lw lc =
     let low = r.at_least in let high = r.at_most in
     let t = times_small (height_of p) price_span (most_steps * greatest_volume) (pos v -ℤ pos b) (height_most p r) (omega (arith, ints, lv, lb))
     (omega (arith, ints, lv, lb)) in
@@ -296,12 +299,13 @@ line_small v w b c p r lv lb lw lc =
       surplus_at_most = omega (arith, ints, t.0, t.1, lw, lc);
     }
 
-lines_small : (v w : ℕ) (ss : List Step) (b c : ℕ) → AreInRange ss → b + all_units ss ≤ most_steps * greatest_volume → c ≤ price_span * b
-    → v ≤ most_steps * greatest_volume → w ≤ most_steps * (price_span * greatest_volume) → AreSmallLines 1 (lines_from v w b c ss)
-lines_small v w [] b c a lb lc lv lw = (line_small v w b c highest_price highest_in_range lv (omega (arith, lb)) lw (omega (arith, lb, lc)), tt)
-lines_small v w (s ∷ ss) b c a lb lc lv lw = (
-  line_small v w b c s.price a.0 lv (omega (arith, lb)) lw (omega (arith, lb, lc)),
-  lines_small v w ss (b + s.qty) (c + height_of s.price * s.qty) a.2 (omega (arith, lb))
+segments_small : (v w : ℕ) (ss : List Step) (b c : ℕ) → AreInRange ss → b + all_units ss ≤ most_steps * greatest_volume → c ≤ price_span * b
+    → v ≤ most_steps * greatest_volume → w ≤ most_steps * (price_span * greatest_volume) → AreSmallSegments 1 (segments_from v w b c ss)
+segments_small v w [] b c a lb lc lv lw =
+    (segment_small v w b c highest_price highest_in_range lv (omega (arith, lb)) lw (omega (arith, lb, lc)), tt)
+segments_small v w (s ∷ ss) b c a lb lc lv lw = (
+  segment_small v w b c s.price a.0 lv (omega (arith, lb)) lw (omega (arith, lb, lc)),
+  segments_small v w ss (b + s.qty) (c + height_of s.price * s.qty) a.2 (omega (arith, lb))
       (let own = mul-le (height_of s.price) s.qty price_span s.qty (height_most s.price a.0) (omega arith) in omega (arith, lc, own))
       lv lw,
 )
@@ -312,8 +316,8 @@ pub record NoLaws : Type 0 where
   pub none : (ss : List Step) (net : ℤ) → (greatest_welfare ss net ≡ None) ↔ IsUnbalanced ss net
   pub within : (ss : List Step) (net : ℤ) (xs : List ℕ) → IsExecution ss xs → Balances ss net xs → IsWithinOffers ss net
 
-outside_is : (v w b c : ℕ) (ss : List Step) (net : ℤ) → IsOutside (lines_from v w b c ss) net
-    → (net <ℤ bottom_of (lines_from v w b c ss)) ⊎ ((pos v -ℤ pos b) <ℤ net)
+outside_is : (v w b c : ℕ) (ss : List Step) (net : ℤ) → IsOutside (segments_from v w b c ss) net
+    → (net <ℤ bottom_of (segments_from v w b c ss)) ⊎ ((pos v -ℤ pos b) <ℤ net)
 outside_is v w b c [] net o = o
 outside_is v w b c (s ∷ ss) net o = o
 
@@ -326,13 +330,13 @@ none_outside laws ss net v units ev eu o = (laws.none ss net).1 (λ xs e b. beyo
     beyond_offers is (inr more) = let high = is.at_most in absurd (omega (arith, ints, high, more, ev))
 
 -- ---- the curve of a period
-pub record IsPeriodCurve (ss : List Step) (lines : List Line) : Type 0 where
-  pub are_lines : AreLines (greatest_welfare ss) lines (bottom_of lines)
-  pub small : AreSmallLines 1 lines
-  pub outside : (net : ℤ) → IsOutside lines net → greatest_welfare ss net ≡ None
+pub record IsPeriodCurve (ss : List Step) (segments : List Segment) : Type 0 where
+  pub are_segments : AreSegments (greatest_welfare ss) segments (bottom_of segments)
+  pub small : AreSmallSegments 1 segments
+  pub outside : (net : ℤ) → IsOutside segments net → greatest_welfare ss net ≡ None
 
 pub period_curve : Laws → NoLaws → (ss rising : List Step) → IsSupplyOf ss rising
-    → IsPeriodCurve ss (lines_from (offered_volume Buy rising) (worth_of rising) 0 0 rising)
+    → IsPeriodCurve ss (segments_from (offered_volume Buy rising) (worth_of rising) 0 0 rising)
 period_curve laws nothing ss rising is =
     let v = offered_volume Buy rising in let w = worth_of rising in
     let range = rising_in_range ss rising is in
@@ -344,16 +348,16 @@ period_curve laws nothing ss rising is =
     let count : length ss * greatest_volume ≤ most_steps * greatest_volume = omega (arith, few) in
     let bottom = bottom_is v w 0 0 rising in
     record {
-      are_lines = subst (AreLines (greatest_welfare ss) (lines_from v w 0 0 rising))
-          (let same : pos v -ℤ pos (all_units rising) ≡ bottom_of (lines_from v w 0 0 rising) = omega (arith, ints, bottom) in same)
-          (lines_hold (greatest_welfare ss) v w rising range
-          (λ p b e c r piece l k. line_holds laws ss v w is.is_hour.in_range ev ew p b e c r
+      are_segments = subst (AreSegments (greatest_welfare ss) (segments_from v w 0 0 rising))
+          (let same : pos v -ℤ pos (all_units rising) ≡ bottom_of (segments_from v w 0 0 rising) = omega (arith, ints, bottom) in same)
+          (segments_hold (greatest_welfare ss) v w rising range
+          (λ p b e c r piece l k. segment_holds laws ss v w is.is_hour.in_range ev ew p b e c r
           (piece_alike ss rising (height_of p) b e c is.same piece) l (omega (arith, k, eu)))
           rising 0 0 0 range (rises_from rising is.rises) (at_least_zero rising) (all_last rising));
-      small = lines_small v w rising 0 0 range (omega (arith, eu, units, count)) (omega arith) (omega (arith, eu, units, count, volume))
+      small = segments_small v w rising 0 0 range (omega (arith, eu, units, count)) (omega arith) (omega (arith, eu, units, count, volume))
           (omega (arith, eu, units, count, worth));
       outside = λ net o. none_outside nothing ss net v (all_units rising) ev eu
-          (shifted net v (all_units rising) (bottom_of (lines_from v w 0 0 rising)) (outside_is v w 0 0 rising net o) bottom);
+          (shifted net v (all_units rising) (bottom_of (segments_from v w 0 0 rising)) (outside_is v w 0 0 rising net o) bottom);
     }
   where
     shifted : (net : ℤ) (v units : ℕ) (z : ℤ) → (net <ℤ z) ⊎ ((pos v -ℤ pos 0) <ℤ net) → z ≡ pos v -ℤ pos (0 + units)

@@ -4,12 +4,12 @@ ghost use Rattle.dam_hour.specs.declared.step.Step.{Step};
 ghost use Rattle.dam_curve.specs.Curve.{IsCurveAt, joint_welfare};
 ghost use Rattle.dam_blocks.specs.Magnitude.{IsWithin};
 ghost use Rattle.dam_blocks.specs.Problem.{ProblemState};
-ghost use Rattle.dam_bound.specs.Day.{IsDay};
+ghost use Rattle.dam_bound.specs.Positions.{ArePositions};
 ghost use Rattle.dam_bound.specs.Relaxed.{relaxed_welfare};
 ghost use Rattle.dam_bound.specs.Tables.{AreTablesOf};
 ghost use Rattle.dam_bound.specs.inside.Change.{by, IsChange, greatest_position, greatest_class_value, greatest_move};
-ghost use Rattle.dam_bound.specs.declared.day.Change.TheVariants.{Turn};
-ghost use Rattle.dam_bound.specs.declared.day.Position.{Position};
+ghost use Rattle.dam_bound.specs.declared.positions.Change.TheVariants.{Turn};
+ghost use Rattle.dam_bound.specs.declared.positions.Position.{Position};
 
 use crate::lookup::{end_of, moved, touches_of};
 use crate::tables::Tables;
@@ -36,33 +36,33 @@ impl Position {
     }
 }
 
-/// A day: where each class of periods stands under a prefix, and its relaxed welfare.
+/// Where each class of periods stands under a prefix, and the prefix's relaxed welfare.
 ///
-/// A walk keeps its days in the slots of a trail; one of them is read out if every block is decided.
+/// A walk keeps the positions of its prefixes as net volumes, in a trail; they are read out if every block is decided.
 #[derive(Clone, Copy)]
-pub struct Day {
+pub struct Positions {
     /// Where each class stands, at the place of its first period.
     pub(crate) classes: [Position; MOST_PERIODS],
     /// The relaxed welfare, in cents per MWh times tenths of a MW.
     pub total: i64,
 }
 
-impl Day {
-    /// A day with nothing accepted, to be written over; it need not be the day of any prefix.
-    pub fn empty() -> Day
+impl Positions {
+    /// Positions with nothing accepted, to be written over; they need not be those of any prefix.
+    pub fn empty() -> Positions
         ensures long { length result.classes ≡ last_period }
         ensures total { result.total ≡ pos 0 }
     {
-        Day {
+        Positions {
             classes: [Position::none(); MOST_PERIODS],
             total: 0,
         }
     }
 }
 
-/// Copies the first `count` places of a day, and its total, into another: all that counts on a delivery day of that
-/// length.
-pub(crate) fn copy_classes(from: &Day, to: &mut Day, count: usize)
+/// Copies the first `count` places of positions, and their total, into others: all that counts on a delivery day of
+/// that length.
+pub(crate) fn copy_classes(from: &Positions, to: &mut Positions, count: usize)
     requires { count ≤ last_period }
     ensures classes { (i : ℕ) (own : Position) → i < count
         → slice_index_or to.new.classes i own ≡ slice_index_or from.now.classes i own }
@@ -73,12 +73,12 @@ pub(crate) fn copy_classes(from: &Day, to: &mut Day, count: usize)
     to.total = from.total;
 }
 
-/// The change of a block on a day.
+/// The change of a block.
 #[derive(Clone, Copy)]
 pub(crate) enum Change {
     /// It is decided.
     Decide,
-    /// Its decision is turned round, on a day on which every block is decided.
+    /// Its decision is turned round, with every block decided.
     Turn,
 }
 
@@ -97,10 +97,10 @@ fn turned(touch: &Touch, accept: bool) -> (i64, i64)
 }
 
 /// Turns the decision on the block at the place round in each of its classes; it is then accepted or
-/// rejected. Whether every period balances: if not, the day is of no use.
+/// rejected. Whether every period balances: if not, the positions are of no use.
 pub(crate) fn turn_block<A: Allocator>(
     tables: &Tables<A>,
-    day: &mut Day,
+    positions: &mut Positions,
     place: usize,
     accept: bool,
 ) -> bool
@@ -108,13 +108,14 @@ pub(crate) fn turn_block<A: Allocator>(
         × AreTablesOf problem tables.now
         × (place < length problem.blocks)
         × IsChange problem.blocks place Turn accept (length problem.blocks) before after
-        × IsDay problem before day.old }
+        × ArePositions problem before positions.old }
     ensures { (problem : ProblemState) (before after : List Bool)
         → AreTablesOf problem tables.now
         → place < length problem.blocks
         → IsChange problem.blocks place Turn accept (length problem.blocks) before after
-        → IsDay problem before day.old
-        → MatchBool result (IsDay problem after day.new) (relaxed_welfare problem after ≡ None) }
+        → ArePositions problem before positions.old
+        → MatchBool result (ArePositions problem after positions.new)
+        (relaxed_welfare problem after ≡ None) }
 {
     dam_hour::laws::joining();
     dam_hour::laws::welfare();
@@ -122,13 +123,13 @@ pub(crate) fn turn_block<A: Allocator>(
     dam_blocks::laws::sums();
     for touch in touches_of(tables, place) {
         let at = touch.at as usize;
-        let own = day.classes[at];
+        let own = positions.classes[at];
         let (net, value) = turned(touch, accept);
         let Some((next, gained)) = moved(tables, end_of(tables, at), own, net, value) else {
             return false;
         };
-        day.classes[at] = next;
-        day.total += gained;
+        positions.classes[at] = next;
+        positions.total += gained;
     }
     true
 }

@@ -1,12 +1,12 @@
--- The numbers of a line fit their types.
+-- The numbers of a segment fit their types.
 use Rattle.std.proofs.Common.{◌≡◌, ℤ, pos, ◌-ℤ◌, ◌*ℤ◌, ◌*◌, ℕ, ap, ap₂, to_z, of_z, w64, rules, arith}
 use Rattle.std.proofs.lemmas.Int.{ints}
 use Rattle.dam_book.specs.Limits.{greatest_volume}
 use Rattle.dam_hour.specs.Limits.{most_steps, price_span}
 use Rattle.dam_curve.specs.Supply.{height_of}
-use Rattle.dam_curve.proofs.ListsOfLines.{same_line}
-use Rattle.dam_curve.proofs.PeriodLines.{times_small}
-use Rattle.dam_curve.proofs.sum.line_of.Goals as goal
+use Rattle.dam_curve.proofs.ListsOfSegments.{same_segment}
+use Rattle.dam_curve.proofs.PeriodSegments.{times_small}
+use Rattle.dam_curve.proofs.sum.segment_of.Goals as goal
 
 pub overflow_sub-result-2 : goal.overflow_sub-result-2
 overflow_sub-result-2 c =
@@ -32,4 +32,4 @@ returns c =
     (omega (arith, ints, volume, before)) (omega (arith, ints, volume, before)) in
     let own = ap (λ (n : ℕ). pos n *ℤ (pos c.args.demand.volume -ℤ pos c.args.before)) c.height.ensures.value in
     let same = ap₂ (λ (x y : ℤ). x *ℤ y) high most in
-    same_line _ _ _ _ _ _ (omega (arith, ints, volume, before)) (search rules) (omega (arith, ints, same, t.0, t.1, own, worth, cost))
+    same_segment _ _ _ _ _ _ (omega (arith, ints, volume, before)) (search rules) (omega (arith, ints, same, t.0, t.1, own, worth, cost))

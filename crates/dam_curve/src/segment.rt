@@ -1,7 +1,7 @@
-/// A straight piece of a curve. It holds from its greatest net volume down to the next line's, and the last one at its
-/// greatest net volume alone.
+/// A straight piece of a curve. It holds from its greatest net volume down to the next segment's, and the last one at
+/// its greatest net volume alone.
 #[derive(Clone, Copy)]
-pub(crate) struct Line {
+pub(crate) struct Segment {
     /// The greatest net volume at which it holds, in tenths of a MW.
     pub(crate) most: i32,
     /// The prices of the periods, added up, in cents per MWh.

@@ -1,7 +1,7 @@
--- The lines of the sum hold down to `at`, and the lines at the two places hold there.
+-- The segments of the sum hold down to `at`, and the segments at the two places hold there.
 use Rattle.std.proofs.Common.{◌+◌, ◌-◌, length}
 use Rattle.dam_curve.proofs.Adding.{IsAdded}
-use Rattle.dam_curve.proofs.sum.add_lines.Given as goal
+use Rattle.dam_curve.proofs.sum.add_segments.Given as goal
 
 abbrev pub invariant-loop-left : goal.invariant-loop-left
 invariant-loop-left g l = IsAdded l.a l.b l.sum.items l.initial.at l.at l.left l.right

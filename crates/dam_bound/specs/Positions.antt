@@ -5,8 +5,8 @@ use Rattle.dam_blocks.specs.Problem.{ProblemState}
 use Rattle.dam_blocks.specs.Selection.{net_volume}
 use Rattle.dam_bound.specs.Classes.{first_of, class_welfare}
 use Rattle.dam_bound.specs.Relaxed.{relaxed_welfare}
-use Rattle.dam_bound.specs.declared.day.Day.{Day}
-use Rattle.dam_bound.specs.declared.day.Position.{Position}
+use Rattle.dam_bound.specs.declared.positions.Positions.{Positions}
+use Rattle.dam_bound.specs.declared.positions.Position.{Position}
 
 -- the position of the class: the net volume of the prefix's accepted blocks, and the joint welfare there, without the
 -- value of these blocks
@@ -14,12 +14,12 @@ pub record IsPosition (problem : ProblemState) (prefix : List Bool) (c : ℕ) (o
   pub net_is : own.net ≡ net_volume problem.blocks prefix (c + 1)
   pub welfare_is : class_welfare problem (length prefix) c own.net ≡ Some own.welfare
 
--- the day of the prefix: where each class stands, at the place of its first period, and the relaxed welfare
-pub record IsDay (problem : ProblemState) (prefix : List Bool) (day : Day) : Type 0 where
-  pub long : length day.classes ≡ last_period
+-- the positions of the prefix: where each class stands, at the place of its first period, and the relaxed welfare
+pub record ArePositions (problem : ProblemState) (prefix : List Bool) (positions : Positions) : Type 0 where
+  pub long : length positions.classes ≡ last_period
   pub each : (c : ℕ) (d : Position) → c < length problem.hours → first_of problem.blocks c ≡ c
-      → IsPosition problem prefix c (slice_index_or day.classes c d)
-  pub total_is : Some day.total ≡ relaxed_welfare problem prefix
+      → IsPosition problem prefix c (slice_index_or positions.classes c d)
+  pub total_is : Some positions.total ≡ relaxed_welfare problem prefix
 
 -- the prefix has no relaxed welfare, or one that is less than the value
 abbrev pub IsUnder : ProblemState → List Bool → ℕ → Type 0
