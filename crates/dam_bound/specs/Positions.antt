@@ -1,4 +1,4 @@
--- The day of a prefix: the position of each class of periods.
+-- The positions of a prefix: the net volume and the welfare of each class of periods.
 use Rattle.std.specs.Prelude.{◌≡◌, ℕ, ◌+◌, ◌<◌, Bool, ℤ, pos, ◌<ℤ◌, Some, List, length, slice_index_or}
 use Rattle.dam_book.specs.Limits.{last_period}
 use Rattle.dam_blocks.specs.Problem.{ProblemState}

@@ -11,7 +11,7 @@ use Rattle.dam_engines.specs.declared.fault.RunFault.{RunFault}
 use Rattle.dam_engines.specs.declared.fault.RunFault.TheVariants.{Read, Input, TooManyCommands, CloseGiven, TooManyParticipants, StillOpen}
 use Rattle.dam_engines.specs.declared.fault.RunFault.TheVariants.{Mismatch, Unfinished, Collected, Memory, Write}
 use Rattle.dam_engines.specs.Engine.{Ends, IsRunFault, IsTextFault}
-use Rattle.dam_engines.specs.Clear.{AreResults, IsClearFault}
+use Rattle.dam_engines.specs.Clear.{AreResultsWithin, IsClearFault}
 use Rattle.dam_engines.specs.Day.{IsCommandsFault, IsDayText}
 use Rattle.dam_engines.proofs.Runs.{result-weaker}
 
@@ -76,18 +76,20 @@ replay-exact law text periods commands old new asked result reads =
 
 pub clearing-exact : AreRead → (plan : PlanTerms) (text : List ℕ) (periods : ℕ) (commands : List Command) (old new : Option (List ℕ))
     (asked : ℕ) (result : Result (Unit {0}) RunFault)
-    → ReadsAs text periods commands → Ends (IsMadeFrom AreResults text) (IsRunFault (IsClearFault plan) text) old new asked result
-    → Ends (AreResults periods commands) (IsClearFault plan periods commands) old new asked result
+    → ReadsAs text periods commands
+    → Ends (IsMadeFrom (AreResultsWithin plan) text) (IsRunFault (IsClearFault plan) text) old new asked result
+    → Ends (AreResultsWithin plan periods commands) (IsClearFault plan periods commands) old new asked result
 clearing-exact law plan text periods commands old new asked result reads =
-    result-weaker (IsMadeFrom AreResults text) (AreResults periods commands) (IsRunFault (IsClearFault plan) text)
+    result-weaker (IsMadeFrom (AreResultsWithin plan) text) (AreResultsWithin plan periods commands) (IsRunFault (IsClearFault plan) text)
     (IsClearFault plan periods commands) old new asked
-    (made-one law AreResults text periods commands reads) (run-fault law (IsClearFault plan) text periods commands reads tt) result
+    (made-one law (AreResultsWithin plan) text periods commands reads) (run-fault law (IsClearFault plan) text periods commands reads tt) result
 
 pub day-exact : AreRead → (plan : PlanTerms) (text : List ℕ) (periods : ℕ) (commands : List Command) (old new : Option (List ℕ)) (asked : ℕ)
     (result : Result (Unit {0}) RunFault)
-    → ReadsAs text periods commands → Ends (IsMadeFrom IsDayText text) (IsRunFault (IsCommandsFault plan) text) old new asked result
-    → Ends (IsDayText periods commands) (IsCommandsFault plan periods commands) old new asked result
+    → ReadsAs text periods commands
+    → Ends (IsMadeFrom (IsDayText plan) text) (IsRunFault (IsCommandsFault plan) text) old new asked result
+    → Ends (IsDayText plan periods commands) (IsCommandsFault plan periods commands) old new asked result
 day-exact law plan text periods commands old new asked result reads =
-    result-weaker (IsMadeFrom IsDayText text) (IsDayText periods commands) (IsRunFault (IsCommandsFault plan) text)
+    result-weaker (IsMadeFrom (IsDayText plan) text) (IsDayText plan periods commands) (IsRunFault (IsCommandsFault plan) text)
     (IsCommandsFault plan periods commands) old new asked
-    (made-one law IsDayText text periods commands reads) (run-fault law (IsCommandsFault plan) text periods commands reads tt) result
+    (made-one law (IsDayText plan) text periods commands reads) (run-fault law (IsCommandsFault plan) text periods commands reads tt) result

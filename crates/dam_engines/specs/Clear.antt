@@ -10,10 +10,6 @@ use Rattle.dam_results.specs.Clearing.{IsResultsText}
 use Rattle.dam_engines.specs.declared.fault.RunFault.{RunFault}
 use Rattle.dam_engines.specs.declared.fault.RunFault.TheVariants.{StillOpen, Unfinished, Memory}
 
--- the text is the results text of the book that these commands make
-abbrev pub AreResults : ℕ → List Command → List ℕ → Type 0
-AreResults periods commands text = IsResultsText (run periods commands) text
-
 -- the book is closed, and the search of its problem by this plan could not finish this piece within its limit on nodes
 pub record IsCutShort (plan : PlanTerms) (book : BookState) (piece visited : ℕ) : Type 0 where
   pub closed : book.closed ≡ true

@@ -65,7 +65,7 @@ pub bound_stands : (told : Option ℤ) (problem : ProblemState) (prefix : List B
 bound_stands (Some own) problem prefix low trail is stands = stands own refl is
 bound_stands None problem prefix low trail under stands = under
 
--- the day stands in the slots, if the prefix has a bound
+-- the positions are in the trail, if the prefix has a bound
 pub if_told : (told : Option ℤ) (total : ℤ) (problem : ProblemState) (prefix : List Bool) (trail : Trail) (low : ℕ) → told ≡ Some total
     → MatchOption told (IsUnder problem prefix low) (ArePositionsIn problem prefix trail) → ArePositionsIn problem prefix trail total
 if_told (Some own) total problem prefix trail low e m =

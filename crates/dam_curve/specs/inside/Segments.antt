@@ -20,7 +20,7 @@ segments_from volume worth before cost (step ∷ steps) =
     segment_of volume worth step.price before cost
     ∷ segments_from volume worth (before + step.qty) (cost + height_of step.price * step.qty) steps
 
--- the segment that two make where they hold both, up to this net volume
+-- the sum of two segments, at the net volumes at which both hold, up to this one
 abbrev pub joined : Segment → Segment → ℤ → Segment
 joined a b most = record { most = most; price = a.price +ℤ b.price; surplus = a.surplus +ℤ b.surplus }
 

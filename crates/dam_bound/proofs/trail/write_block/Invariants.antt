@@ -1,4 +1,4 @@
--- The classes of the touches so far have the net volume after the decision in the block's row; the slots below the row
+-- The classes of the touches so far have the net volume after the decision in the block's row; the net volumes below the row
 -- are as they were.
 use Rattle.std.proofs.Common.{◌≡◌, ℕ, ◌+◌, ◌*◌, ◌<◌, Bool, ℤ, Some, [], ◌∷◌, ◌++◌, List, length, drop, get_or}
 use Rattle.std.specs.List.{slice_get}
