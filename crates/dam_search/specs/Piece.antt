@@ -69,9 +69,9 @@ needed_nodes problem admits value prefix (suc left) =
 abbrev pub AdmitsOnly : ProblemState → (List Bool → Bool) → Type 0
 AdmitsOnly problem admits = (sel : List Bool) → admits sel ≡ true → IsAdmissible problem.blocks sel
 
--- the number of nodes is at least the number needed: that which a walk over the completions of the prefix
--- visits even if it reads this value from the start and never a greater one. So many are necessary; they
--- need not suffice
+-- the number of nodes is at least the number needed: the number that a walk over the completions of the
+-- prefix visits even if it reads this value from the start and never a greater one. This is a necessary
+-- number, not a sufficient one
 abbrev pub HasNeeded : ProblemState → List Bool → ℕ → ℕ → ℕ → Type 0
 HasNeeded problem prefix left read nodes = IsAdmissible problem.blocks (padded prefix)
     → (admits : List Bool → Bool) (value : ℕ) → AdmitsOnly problem admits → read ≤ value

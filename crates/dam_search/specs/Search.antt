@@ -12,9 +12,9 @@ pub record IsUnfinished (problem : ProblemState) (depth nodes piece visited : �
   pub over_all : nodes < all_nodes (length problem.blocks - depth)
   pub over_live : nodes < live_nodes problem 0 (choice depth piece) (length problem.blocks - depth)
 
--- the limit is at least the number of nodes needed: those that each piece of the cutting must visit, even
--- if the result's welfare, which is this one, is read from the start. So many are necessary, since a lesser
--- limit gives no result; they need not suffice
+-- the limit is at least the number of nodes that each piece of the cutting must visit, even if the result's
+-- welfare, which is this one, is read from the start. A lesser limit gives no result. This is a necessary
+-- number, not a sufficient one
 abbrev pub LimitHasNeeded : ProblemState → ℕ → ℕ → ℕ → Type 0
 LimitHasNeeded problem depth nodes welfare = (piece : ℕ) → piece < 2 ^ depth
     → HasNeeded problem (choice depth piece) (length problem.blocks - depth) welfare nodes
