@@ -125,6 +125,7 @@ impl<W: Write> Sink<W> {
         ensures bytes { WriteAppends self.old.taken self.new.taken result buf.now }
         ensures asked { self.new.asked ≡ one_more self.old.asked }
         ensures flushes { self.new.flushes ≡ self.old.flushes }
+        ensures flushed { self.new.flushed ≡ false }
         ensures cause { MatchResult result
             (λ _. self.new.failed ≡ false)
             (λ _. self.new.failed ≡ true) }
