@@ -47,6 +47,8 @@ SOURCES = {
     for path in (crate / folder).rglob(f"*.{ending}")
     for word in re.findall(r"\w+", path.read_text())
 }
+# The table of a crate's files in its notes.
+FILES = re.compile(r"^\| File of `src/` \| Contents \|\n\|---\|---\|\n((?:\|.*\n)+)", re.MULTILINE)
 EXAMPLE = re.compile(r"^```text\n(day,24\nwelfare.*?)^```$", re.MULTILINE | re.DOTALL)
 
 
@@ -117,6 +119,24 @@ class Pages(unittest.TestCase):
             for word in re.findall(r"`(\w+(?:::\w+)*)`", (crate / "README.md").read_text()):
                 with self.subTest(crate=crate.name, word=word):
                     self.assertTrue((TOP / "crates" / word).exists() or word.split("::")[-1] in SOURCES)
+
+    def test_the_files_that_notes_name_are_there(self):
+        notes = sorted(path for path in (TOP / "crates").glob("*/*.md") if "The files of `src/`" in path.read_text())
+        self.assertGreater(len(notes), 2)
+        for path in notes:
+            files = re.search(r"^The files of `src/`: (.*?)\n\n|\Z", path.read_text() + "\n", re.MULTILINE | re.DOTALL)[1] or ""
+            for name in re.findall(r"(?:^|; |, |and )`(\w+)`", re.sub(r"\([^)]*\)", "", files).replace("\n", " ")):
+                with self.subTest(path.parent.name, name=name):
+                    self.assertTrue((path.parent / "src" / f"{name}.rt").exists())
+
+    def test_the_tables_of_notes_have_each_file(self):
+        tables = {path: FILES.search(path.read_text()) for path in sorted((TOP / "crates").glob("*/NOTES.md"))}
+        tables = {path: found[1] for path, found in tables.items() if found}
+        self.assertGreater(len(tables), 9)
+        for path, rows in tables.items():
+            named = sorted(name for cell in re.findall(r"^\| (.*?) \|", rows, re.MULTILINE) for name in re.findall(r"`(\w+)`", cell))
+            with self.subTest(path.parent.name):
+                self.assertEqual(named, sorted(file.stem for file in (path.parent / "src").glob("*.rt") if file.stem != "lib"))
 
     def test_the_first_example_is_printed(self):
         lines = printed(SUNNY).decode().splitlines()
