@@ -1,4 +1,5 @@
-"""The pages: that links lead somewhere, that lines and cells can be read, and that README's first example is printed."""
+"""The pages: that links lead somewhere, that lines and cells can be read, that files and definitions which they name are there, and that
+README's first example is printed."""
 
 import re
 import shlex
@@ -11,6 +12,7 @@ from pathlib import Path
 from support import AUCTION, AUCTION_RESULTS, SUNNY, TOP, book, journal, printed, selection, tool
 
 from lib import best
+from lib.specs import Repository
 from shared.pages import links, prose
 
 CRATES = sorted(path for path in (TOP / "crates").iterdir() if (path / "src").is_dir())
@@ -49,7 +51,14 @@ SOURCES = {
 }
 # The table of a crate's files in its notes.
 FILES = re.compile(r"^\| File of `src/` \| Contents \|\n\|---\|---\|\n((?:\|.*\n)+)", re.MULTILINE)
+DEFINITIONS = TOP / "docs" / "DEFINITIONS.md"
 EXAMPLE = re.compile(r"^```text\n(day,24\nwelfare.*?)^```$", re.MULTILINE | re.DOTALL)
+
+
+def sections():
+    """The names that the section of each file has on the page of definitions."""
+    found = re.findall(r"^## `(\w+)/specs/(\w+)\.antt`\n(.*?)(?=^## |\Z)", DEFINITIONS.read_text(), re.M | re.S)
+    return {(crate, module): set(re.findall(r"^- `(\S+)`: .", body, re.M)) for crate, module, body in found}
 
 
 class Pages(unittest.TestCase):
@@ -183,6 +192,16 @@ class Pages(unittest.TestCase):
         quoted = re.search(r"replay < examples/(\S+) \| grep refused\n```\n\n```text\n(.*?)```", text, re.DOTALL)
         read = journal.read_journal((TOP / "examples" / quoted[1]).read_bytes())
         self.assertEqual(quoted[2].splitlines(), [line for line in book.replies_text(read).splitlines() if "refused" in line])
+
+
+class Definitions(unittest.TestCase):
+    def test_each_that_a_public_contract_cites_is_on_the_page(self):
+        on_page = sections()
+        cited = {(node, function) for node, function in Repository(TOP).cited()}
+        self.assertGreater(len(cited), 300)
+        for (crate, _, module, name), function in sorted(cited):
+            with self.subTest(f"{name} of {crate}, by {function}"):
+                self.assertIn(name, on_page.get((crate, module), ()))
 
 
 if __name__ == "__main__":
