@@ -9,7 +9,7 @@ import json
 import re
 import socket
 
-from . import changes, cleared, command, engine, limit_words, limits, output, place, rules, scenario_tables, scenarios, text
+from . import changes, cleared, command, engine, limits, output, place, rules, scenario_tables, scenarios, text
 from .cleared import Cleared
 
 GRID = 2_000, 100  # cents per MWh: how far the limits of an hourly order reach from the price, and their distance
@@ -132,12 +132,12 @@ def limit(args):
     search = limits.Search(held, key, clear_one(args))
     found = search.worst()
     if args.json:
-        data = json.dumps(limit_words.record(search, found), indent=1) + "\n"
+        data = json.dumps(limits.record(search, found), indent=1) + "\n"
     elif output.is_table(args.out) or args.decimal_comma:
-        output.write("whatif", args, "limits", [limit_words.HEADS, limit_words.row(search, found)], held.periods)
+        output.write("whatif", args, "limits", [limits.HEADS, limits.row(search, found)], held.periods)
         return command.DONE
     else:
-        data = "".join(f"{line}\n" for line in limit_words.lines(search, found)).rstrip("\n") + "\n"
+        data = "".join(f"{line}\n" for line in limits.lines(search, found)).rstrip("\n") + "\n"
     command.write_bytes("whatif", args.out, data.encode())
     return command.DONE
 
@@ -162,10 +162,10 @@ def all_limits(args, held):
 
         def row(key):
             search = limits.Search(held, key, clear_one(args, running))
-            return limit_words.row(search, search.worst())
+            return limits.row(search, search.worst())
 
         rows = list(engine.with_bar(threads.map(row, keys), len(keys), "block"))
-    output.write("whatif", args, "limits", [limit_words.HEADS, *rows], held.periods)
+    output.write("whatif", args, "limits", [limits.HEADS, *rows], held.periods)
     return command.DONE
 
 
