@@ -9,7 +9,6 @@ from unittest import mock
 
 from support import TOP, audit, journal_of, problem, results_of, small_problems, tool
 
-import days
 from lib import best, book, command, journal, period, rules, selection
 from lib.progress import Progress
 
