@@ -13,10 +13,8 @@ ends after 60 s, or after the seconds of LIMIT in the environment."""
 import statistics
 import sys
 
-import enumeration
 import make_blocks
-import walks
-from figures import BEFORE, DAM, LIMIT, TWIN, at_most, by_turns, line, peak, ratio, seconds, write
+from figures import BEFORE, DAM, LIMIT, TWIN, at_most, by_turns, count_nodes, enumeration, line, peak, ratio, seconds, write
 
 DEFAULT = ["2", "3"]  # workers, and how many of the first blocks are cut
 TURNS, SECONDS = 5, 6.0  # at most, for a book
@@ -48,7 +46,7 @@ class Book:
     def clear(self):
         """Times `dam clear` by the default plan, and its comparisons, in turns."""
         words = {"dam": [DAM, "clear"], "before": BEFORE and [BEFORE, "clear"], "twin": [TWIN, *DEFAULT]}
-        words["enumeration"] = enumeration.words(self.path)
+        words["enumeration"] = enumeration(self.path)
         runs = by_turns({name: given for name, given in words.items() if given}, self.path, most=TURNS, seconds=SECONDS)
         walls = {name: [each.wall for each in found] for name, found in runs.items()}
         what = f"{self.name}: dam clear"
@@ -69,7 +67,7 @@ class Book:
     def nodes(self):
         """Counts and times the nodes of one worker without a cut."""
         what = f"{self.name}, plan 1 0:"
-        counted = walks.nodes(what, self.path, "0")
+        counted = count_nodes(what, self.path, "0")
         most = MOST_OF_NODE.get((self.drawn.kind, self.drawn.periods))
         if counted and most:
             count, laps = counted

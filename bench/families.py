@@ -14,8 +14,7 @@ import statistics
 import sys
 
 import make_family
-import walks
-from figures import BEFORE, DAM, HIGHS_LIMIT, LIMIT, TWIN, at_most, by_turns, line, ratio, run, seconds, write
+from figures import BEFORE, DAM, HIGHS_LIMIT, LIMIT, TWIN, at_most, by_turns, count_nodes, line, ratio, run, seconds, write
 
 ORDERS = ["500", "4000"]
 # Workers, and how many of the first blocks are cut. The first is the default plan.
@@ -60,7 +59,7 @@ class Book:
 
     def nodes(self, cut):
         """Counts and times the nodes of one worker."""
-        counted = walks.nodes(f"{self.name}, plan 1 {cut}:", self.path, cut)
+        counted = count_nodes(f"{self.name}, plan 1 {cut}:", self.path, cut)
         if counted and cut == "0" and self.family != LONG:
             self.ends_at(counted[0])
 

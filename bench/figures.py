@@ -1,4 +1,5 @@
-"""The common parts of the scripts of the bench: programs run and timed by turns, and a line for each figure."""
+"""The common parts of the scripts of the bench: programs run and timed by turns, among them the walk of one worker and the enumeration of
+all selections, and a line for each figure."""
 
 import os
 import statistics
@@ -7,7 +8,12 @@ import sys
 import tempfile
 import threading
 import time
+from pathlib import Path
 from typing import NamedTuple
+
+sys.path.insert(0, str(Path(__file__).resolve().parent.parent / "tools"))
+
+from lib import command
 
 DAM = "../crates/dam_cli/out/dam_cli"
 MEASURES = "out/measures"
@@ -26,6 +32,9 @@ HIGHS_LIMIT = float(os.environ.get("HIGHS_LIMIT", "20"))
 
 # By how many bytes a program's stack moves from turn to turn, and over how many places.
 STACKS, PLACES = 32, 32
+
+LONG_WALK = 5.0  # seconds of a walk of which one run stands for many
+MOST_OF_TWIN = 1.2  # how many times as long as the twin's a node may take
 
 
 class Run(NamedTuple):
@@ -94,8 +103,8 @@ def peak(words, given):
     if not os.access(TIME, os.X_OK):
         sys.exit(f"{TIME} is missing")
     with open(given, "rb") as text, tempfile.NamedTemporaryFile("r") as used:
-        command = [TIME, "-f", "%M", "-o", used.name, *words]
-        subprocess.run(command, stdin=text, stdout=subprocess.DEVNULL, stderr=subprocess.DEVNULL, check=True)
+        timed = [TIME, "-f", "%M", "-o", used.name, *words]
+        subprocess.run(timed, stdin=text, stdout=subprocess.DEVNULL, stderr=subprocess.DEVNULL, check=True)
         return int(used.read()) / 1024
 
 
@@ -135,3 +144,42 @@ def ratio(what, ones, others, most=None, least=None, shown=seconds, note=""):
     if note:
         detail += f"; {note}"
     line(what, times(value), target, holds, detail)
+
+
+def walks(path, cut):
+    """Runs one worker of `dam` and of the twin, in turns, on a book that is cut into pieces. Returns the nodes of both, and the seconds of
+    many walks of both; None if one takes too long."""
+    programs = {"dam": [MEASURES, "nodes", cut], "twin": [TWIN, "1", cut]}
+    once = {name: [run([*words, "1"], path)] for name, words in programs.items()}
+    if [None] in once.values():
+        return None
+    walk = once["dam"][0].lap("walk")
+    timed = {name: [*words, str(max(1, min(200, int(0.2 / walk))))] for name, words in programs.items()}
+    runs = once if walk > LONG_WALK else by_turns(timed, path, most=5, seconds=1.5)
+    counts = [int(once[name][0].text.split()[-1]) for name in programs]
+    return *counts, *([lap for each in runs[name] for lap in each.laps("walk")] for name in programs)
+
+
+def count_nodes(what, path, cut):
+    """Counts the nodes of one worker, which must be as many as the twin visits, and times a node. Returns how many there are, and the
+    seconds of each walk; None if that takes too long."""
+    found = walks(path, cut)
+    if found is None:
+        line(f"{what} nodes", "?", detail=f"not counted in {LIMIT:g} s")
+        return None
+    count, twins, laps, twins_laps = found
+    line(f"{what} nodes", f"{count:,}", "as the twin", count == twins, f"twin {twins:,}")
+    ratio(f"{what} a node compared with the twin", [lap / count for lap in laps], [lap / twins for lap in twins_laps], MOST_OF_TWIN)
+    return count, laps
+
+
+def enumeration(path):
+    """The command that tries all selections of a book by `tools/audit`, with four threads, and fails if the results of `dam` aren't right
+    and best; None if numpy is missing, or `dam` takes too long."""
+    cleared = run([DAM, "clear"], path) if command.has("numpy") or command.elsewhere("numpy") else None
+    if cleared is None:
+        return None
+    results = f"{path}.txt"
+    with open(results, "wb") as text:
+        text.write(cleared.text)
+    return ["../tools/audit", "--best", "--quiet", "--jobs", "4", path, results]

@@ -11,10 +11,9 @@ import os
 import statistics
 import sys
 
-import enumeration
 import make_blocks
 import make_family
-from figures import DAM, LIMIT, MEASURES, PART, by_turns, line, peak, ratio, run, seconds, write
+from figures import DAM, LIMIT, MEASURES, PART, by_turns, enumeration, line, peak, ratio, run, seconds, write
 
 BLOCKS = (8, 12, 16, 20, 24)
 PERIODS = {"24": "1", "96": "4"}  # and how many of them an hour has
@@ -57,7 +56,7 @@ class Book:
 
     def enumerated(self):
         """The seconds of a trial of all selections; None if it didn't end, or a package is missing."""
-        words = enumeration.words(self.path)
+        words = enumeration(self.path)
         tried = run(words) if words else None
         return tried and tried.wall
 

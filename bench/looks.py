@@ -49,7 +49,7 @@ def looks():
 
 def calls():
     for orders in (100, 1_000, 4_000):
-        book = write(f"out/hourly-{orders}.csv", "./make_clearing.py", str(orders), "0")
+        book = write(f"out/hourly-{orders}.csv", "./make_journal.py", "clearing", str(orders), "0")
         runs = by_turns({"one": [MEASURES, "calls", str(CALLS)], "other": [PLAIN, "calls", str(CALLS)]}, book, most=5)
         one, other = (statistics.median(laps(runs[name], "calls", CALLS)) for name in ("one", "other"))
         what, detail = f"a call, {orders:,} orders held", f"a plain one {seconds(other)}"

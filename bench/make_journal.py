@@ -2,7 +2,11 @@
 """make_journal.py [day | blocks]: prints a journal of 10,000 records: a day of 24 periods, hourly orders and cancels of 8 participants,
 and a close; with `day` the close is replaced by another command. With `blocks` it prints a day of 100 periods and 10,000 commands, each
 of them a block with a volume of five digits in every period: 9 MB of the 16,777,216 bytes that may be read, about as long as a written
-journal gets. Every run prints the same bytes."""
+journal gets.
+
+make_journal.py clearing HOURLY BLOCKS [LENGTH [HOURS [PERIODS]]]: prints the journal of a closed day of PERIODS periods (24), with HOURLY
+hourly orders, spread evenly over the first HOURS periods (24), and with BLOCKS blocks over LENGTH periods each (6). Every run with the
+same arguments prints the same bytes."""
 
 import random
 import sys
@@ -47,7 +51,33 @@ def blocks(count, rng):
         yield f"submit,{who},BLOCK-{number},block,{side},{price},{volumes},,"
 
 
+def hour_of(number, hours, rng):
+    side = rng.choice(["buy", "sell"])
+    price = rng.randint(2_000, 12_000) + (3_000 if side == "buy" else -3_000)
+    return f"submit,{rng.choice(PARTICIPANTS)},HOUR-{number},hour,{side},{price},{1 + number % hours}:{rng.randint(50, 500)},,"
+
+
+def block_of(number, length, periods, rng):
+    first = rng.randint(1, periods - length + 1)
+    volumes = ";".join(f"{period}:{rng.randint(50, 300)}" for period in range(first, first + length))
+    side = rng.choice(["buy", "sell"])
+    return f"submit,{rng.choice(PARTICIPANTS)},BLOCK-{number},block,{side},{rng.randint(6_000, 8_000)},{volumes},,"
+
+
+def clearing(hourly, blocks, length=6, hours=24, periods=24):
+    rng = random.Random(20_250_311)
+    yield f"day,{periods},,,,,,,"
+    for number in range(hourly):
+        yield hour_of(number, hours, rng)
+    for number in range(blocks):
+        yield block_of(number, length, periods, rng)
+    yield "close,,,,,,,,"
+
+
 def main():
+    if sys.argv[1:2] == ["clearing"]:
+        print(*clearing(*map(int, sys.argv[2:])), sep="\n")
+        return
     rng = random.Random(20_240_601)
     if sys.argv[1:] == ["blocks"]:
         print("day,100,,,,,,,", *blocks(RECORDS, rng), sep="\n")

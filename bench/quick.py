@@ -69,7 +69,7 @@ def tables():
     for name, length, hours, periods in SPREADS:
         book = f"out/tables-{length}-{hours}.csv"
         with open(book, "wb") as made:
-            made.write(run(["./make_clearing.py", "4000", "24", str(length), str(hours), str(periods)]).text)
+            made.write(run(["./make_journal.py", "clearing", "4000", "24", str(length), str(hours), str(periods)]).text)
         what = f"tables and a first selection, 4,000 hourly orders, {name}"
         runs = by_turns({"": [MEASURES, "nodes", "0", "0"]}, book, most=15)[""]
         made, first = (statistics.median(one.lap(part) for one in runs) for part in ("tables", "first"))

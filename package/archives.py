@@ -1,7 +1,9 @@
-"""The two archives of a tree: a Debian package, and an archive that runs in place. They are read too, without unpacking them."""
+"""The two archives of a tree: a Debian package, and an archive that runs in place. They are read too, without unpacking them, and compared
+with what a clone makes."""
 
 import hashlib
 import io
+import json
 import os
 import re
 import shutil
@@ -12,10 +14,12 @@ from typing import NamedTuple
 from lib import command
 
 from . import clone as made_of
+from .tree import PROVENANCE
 
 HERE = made_of.TOP / "package"
 CONTROL = "control of the package: "
 SHARED = "lib/x86_64-linux-gnu/libdam.so.1"
+FEW = 20  # differences that are named
 
 
 class Entry(NamedTuple):
@@ -140,3 +144,51 @@ def read(path):
         raise command.Stop(f"{command.shown(path)} can't be read: {fault.strerror}") from None
     except (command.Stop, tarfile.TarError, EOFError):
         raise command.Stop(f"{command.shown(path)} isn't a package of dam: it is neither a Debian package nor a tar archive") from None
+
+
+def provenance_of(path, files):
+    """The provenance of a package."""
+    try:
+        found = json.loads(files[PROVENANCE].data)
+        return {"commit": str(found["commit"]), "check": found["check"], **found}
+    except (KeyError, ValueError, TypeError):
+        raise command.Stop(f"{command.shown(path)} isn't a package of dam: it has no {PROVENANCE}") from None
+
+
+def differing(there, here):
+    """Which entries of the provenance differ."""
+    for key in sorted({*there, *here}):
+        ours, theirs = here.get(key), there.get(key)
+        if ours != theirs and isinstance(ours, dict) and isinstance(theirs, dict):
+            yield from (f"{key}.{name}: {theirs.get(name)!r}, made here {ours.get(name)!r}" for name in sorted({*ours, *theirs})
+                        if ours.get(name) != theirs.get(name) and key != "sha256")
+        elif ours != theirs:
+            yield f"{key}: {theirs!r}, made here {ours!r}"
+
+
+def differences(there, here):
+    """What differs between two packages: a line for each file."""
+    for name in sorted({*there, *here}):
+        ours, theirs = here.get(name), there.get(name)
+        if ours is None:
+            yield f"{name} is not made here"
+        elif theirs is None:
+            yield f"{name} is missing"
+        elif ours[:-1] != theirs[:-1]:
+            yield f"{name} is {theirs}, made here {ours}"
+        elif ours.data != theirs.data and name == PROVENANCE:
+            words = "; ".join(differing(json.loads(theirs.data), json.loads(ours.data)))
+            yield f"{name} differs: {words or 'in its sums, or in how it is written'}"
+        elif ours.data != theirs.data:
+            yield f"{name} differs: {len(theirs.data)} bytes, made here {len(ours.data)}"
+
+
+def compare(path, made):
+    """Compares a package with one that was made here. Returns the lines to print, and whether they are the same."""
+    if path.read_bytes() == made.read_bytes():
+        return [f"{path.name}: the same, byte for byte"], True
+    found = list(differences(read(path), read(made)))
+    if not found:
+        return [f"{path.name}: each file is the same, byte for byte; only the packing differs"], True
+    more = [f"and {len(found) - FEW} more"] if len(found) > FEW else []
+    return [*found[:FEW], *more, f"{path.name}: not the same: {len(found)} of its files differ"], False

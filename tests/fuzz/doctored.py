@@ -14,6 +14,7 @@ Each case depends only on the seed and its number. A case that goes wrong is kep
 
 import argparse
 import contextlib
+import csv
 import io
 import json
 import random
@@ -27,11 +28,12 @@ sys.dont_write_bytecode = True
 
 import compare
 import days
-import doctor
 from lib import best, book, command, journal, kinds, results, selection, verdict
 from shared.counts import Counts
 
 MOST_BLOCKS = 6
+# The bytes that somebody who doctors a text, or a broken program, would put there.
+INTERESTING = b"0123456789,-\n\r\" ;ABKacejr\x00\xff"
 RIGHT, WRONG, UNREAD, ENCODING = command.DONE, command.DIFFERS, command.NO_INPUT, command.ENCODING
 
 
@@ -84,7 +86,7 @@ def wanted(pairs, data, text):
         return WRONG if is_open(data) else UNREAD
     if text == right:
         return RIGHT
-    return ENCODING if doctor.decoded(text) == right else WRONG
+    return ENCODING if decoded(text) == right else WRONG
 
 
 def audited(folder, data, text):
@@ -102,6 +104,92 @@ def audited(folder, data, text):
     except command.Stop as stop:
         return stop.status, audit.record(stop.status, str(stop))
     return audit.status, audit.record(audit.status)
+
+
+def a_byte(rng, data):
+    at = rng.randrange(len(data) + 1)
+    kind = rng.randrange(4)
+    byte = bytes([rng.choice(INTERESTING) if rng.random() < 0.8 else rng.randrange(256)])
+    if kind == 0:
+        return "a byte more", data[:at] + byte + data[at:]
+    if kind == 1:
+        return "a byte less", data[:at] + data[at + 1 :]
+    return "another byte", data[:at] + byte + data[at + 1 :]
+
+
+def a_field(rng, data):
+    """A field of a line, made larger, smaller, empty, or that of another line."""
+    lines = [line.split(b",") for line in data.split(b"\n")]
+    line = rng.choice([line for line in lines if len(line) > 1] or [lines[0]])
+    at = rng.randrange(len(line))
+    other = rng.choice(rng.choice(lines))
+    number = line[at].removeprefix(b"-").isdigit()
+    step = rng.choice([-10, -1, 1, 10])
+    stepped = b"%d" % (int(line[at]) + step) if number else other
+    line[at] = rng.choice([stepped, other, b"", b"0" + line[at], b"-" + line[at], line[at] + b"0"])
+    return "a field", b"\n".join(b",".join(line) for line in lines)
+
+
+def a_line(rng, data):
+    """A line less, twice, moved, or swapped with the next; or one of the text's words changed throughout."""
+    lines = data.splitlines(keepends=True)
+    at, to = rng.randrange(len(lines)), rng.randrange(len(lines))
+    kind = rng.randrange(5)
+    if kind == 0:
+        return "a line less", b"".join(lines[:at] + lines[at + 1 :])
+    if kind == 1:
+        return "a line twice", b"".join(lines[: at + 1] + lines[at:])
+    if kind == 2:
+        line = lines.pop(at)
+        return "a line moved", b"".join(lines[:to] + [line] + lines[to:])
+    if kind == 3:
+        lines[at], lines[to] = lines[to], lines[at]
+        return "two lines swapped", b"".join(lines)
+    one, other = rng.choice([(b"accepted", b"rejected"), (b"rejected", b"accepted"), (b"sell", b"buy"), (b"hour", b"block")])
+    return "a word changed", data.replace(one, other, rng.choice([1, -1]))
+
+
+def a_cut(rng, data):
+    return "the end cut off", data[: rng.randrange(len(data) + 1)]
+
+
+def doctored(rng, data):
+    """In words what was changed, and the changed text."""
+    return rng.choice([a_byte, a_field, a_field, a_line, a_line, a_cut])(rng, data)
+
+
+def encoded(rng, data):
+    """The same content in another encoding."""
+    kind = rng.randrange(5)
+    if kind == 0:
+        return "CR LF", data.replace(b"\n", b"\r\n")
+    if kind == 1:
+        return "a byte order mark", b"\xef\xbb\xbf" + data
+    if kind == 2:
+        return "no last line end", data[:-1]
+    if kind == 3:
+        return "quotes", b"".join(b",".join(b'"%s"' % field for field in line.split(b",")) + b"\n" for line in data.splitlines())
+    return "UTF-16", data.decode().encode("utf-16")
+
+
+def decoded(data):
+    """The text in the encoding of results, without what concerns only how it is encoded; None if it isn't one. Python's own modules read it,
+    and nothing of `lib`."""
+    for mark, encoding in ((b"\xef\xbb\xbf", "utf-8-sig"), (b"\xff\xfe", "utf-16"), (b"\xfe\xff", "utf-16")):
+        if data.startswith(mark):
+            break
+    else:
+        encoding = "ascii"
+    try:
+        text = data.decode(encoding)
+        rows = list(csv.reader(io.StringIO(text, newline=""), strict=True))
+    except (UnicodeDecodeError, csv.Error):
+        return None
+    while rows and not rows[-1]:
+        rows.pop()
+    if [] in rows or any(character in field for row in rows for field in row for character in '\r\n",'):
+        return None
+    return "".join(f"{','.join(row)}\n" for row in rows).encode()
 
 
 def worse(rng, data):
@@ -127,12 +215,12 @@ def changed(rng, pairs, data, text):
         if other is not None:
             return data, other, "another selection"
     if kind == 3:
-        words, other = doctor.encoded(rng, text)
+        words, other = encoded(rng, text)
         return data, other, words
     if kind in (4, 5):
-        words, other = doctor.doctored(rng, data)
+        words, other = doctored(rng, data)
         return other, text, f"{words} of the journal"
-    words, other = doctor.doctored(rng, text)
+    words, other = doctored(rng, text)
     return data, other, f"{words} of the results"
 
 

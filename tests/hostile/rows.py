@@ -13,8 +13,7 @@ from typing import NamedTuple
 sys.dont_write_bytecode = True
 
 import again
-import cancels
-import colliding
+import costs
 import judge
 from preload import EVERY, SECONDS, Program, Refusal
 from shared import cases
@@ -318,8 +317,8 @@ def main():
     threads(runs)
     texts(runs)
     if shutil.which("valgrind"):
-        colliding.run(runs)
-        cancels.run(runs)
+        costs.names(runs)
+        costs.cancels(runs)
     else:
         runs.leave_out("names that collide, and many cancels: valgrind, which counts instructions, is missing", 2)
     return runs.end()

@@ -25,7 +25,7 @@ def check_options(args, *inputs):
 
 
 def is_workbook(path):
-    return path.lower().endswith(WORKBOOK)
+    return path is not None and path.lower().endswith(WORKBOOK)
 
 
 def is_table(path):

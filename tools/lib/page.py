@@ -13,7 +13,7 @@ from typing import NamedTuple
 import jinja2
 from markupsafe import Markup, escape
 
-from . import aside, book, clock, decisions, limit_words, pictures, published, spans, tables, text, trades
+from . import aside, book, clock, decisions, limits, pictures, published, spans, tables, text, trades
 from .journal import command_line
 from .progress import Bar
 
@@ -180,11 +180,11 @@ def periods_of(order):
     return spans.in_words(number for number, _ in order.volumes)
 
 
-def block_table(day, found, limits):
+def block_table(day, found, needed):
     rows = []
     for place, (block, surplus, decision) in enumerate(zip(day.problem.blocks, day.said.surpluses, found)):
         order = block.order
-        why = f"{decision.why}. {limits[place]}" if place in limits else decision.why
+        why = f"{decision.why}. {needed[place]}" if place in needed else decision.why
         mark = Markup('<span class="mark {}"></span>{}').format(MARKS[decision.kind], decision.kind)
         total = energy(day, sum(tenths for _, tenths in order.volumes))
         links = [f"{word} {name}" for word, name in (("parent", order.parent), ("group", order.group)) if name]
@@ -313,12 +313,12 @@ def counted(made, bar):
         bar.step()
 
 
-def sections(day, found, limits, curves):
+def sections(day, found, needed, curves):
     parts = [drawn(lambda width: pictures.prices_picture(day, width), "prices", prices_words(day))]
     yield Section("prices", "Prices and volumes", parts)
     if found:
         picture = drawn(lambda width: pictures.blocks_picture(day, width), "blocks", block_words(found))
-        yield Section("blocks", "Blocks", [picture, block_table(day, found, limits)])
+        yield Section("blocks", "Blocks", [picture, block_table(day, found, needed)])
     yield Section("periods", "Periods", [period_table(day)])
     if made := list(curves):
         yield Section("curves", "Supply and demand", made)
@@ -336,14 +336,14 @@ def own_commands(day, who):
     return sorted(own, key=lambda cells: cells["order"] not in blocks)
 
 
-def statement_table(day, who, limits):
+def statement_table(day, who, needed):
     """A participant's sent commands, the replies, and the outcomes of its orders, with the limits that its rejected blocks needed."""
-    needed = {day.problem.blocks[place].name: words for place, words in limits.items()}
+    by_name = {day.problem.blocks[place].name: words for place, words in needed.items()}
     rows = []
     for cells in own_commands(day, who):
         reply = "done" if cells["reply"] == "done" else f"refused: {cells['reason']}"
         amount = text.shown(Fraction(cells["amount_eur"]), 2) if cells["amount_eur"] else ""
-        why = f"{cells['why']}. {needed[cells['order']]}" if cells["outcome"] and cells["order"] in needed else cells["why"]
+        why = f"{cells['why']}. {by_name[cells['order']]}" if cells["outcome"] and cells["order"] in by_name else cells["why"]
         row = [name_cell(cells["order"]), cells["outcome"] or reply, why, amount]
         row += [cells[name] for name in ("executed_mwh", "command", "what", "kind", "side", "price_eur_mwh", "periods")]
         rows.append([*row, cells["volume_mw"].replace(";", "; ")])
@@ -364,9 +364,9 @@ def own_periods(day, who):
     return Table(f"What {who} trades in each period", columns, rows)
 
 
-def own_sections(day, who, limits, curves):
+def own_sections(day, who, needed, curves):
     """The page of a participant: its statement, its periods, and the parts that everybody may see."""
-    yield Section("statement", f"Orders of {who}", [statement_table(day, who, limits)])
+    yield Section("statement", f"Orders of {who}", [statement_table(day, who, needed)])
     yield Section("periods", "Periods", [own_periods(day, who)])
     yield Section("prices", "Prices and volumes", [drawn(lambda width: pictures.prices_picture(day, width), "prices", prices_words(day))])
     if made := list(curves):
@@ -393,9 +393,9 @@ def own_figures(day, who):
 def page(day, title, curves, date=None, who=None):
     """The page of a day, or of a participant's part of it, with the curves of some periods, and the date of delivery if it is known."""
     found = decisions.decisions(day.problem, day.said.accepted, day.outcome)
-    limits = limit_words.of_rejected(day, who)  # before the curves, which would take the time that it has
+    needed = limits.of_rejected(day, who)  # before the curves, which would take the time that it has
     with curves_of(day, curves) as drawn_curves:
-        parts = list(own_sections(day, who, limits, drawn_curves) if who else sections(day, found, limits, drawn_curves))
+        parts = list(own_sections(day, who, needed, drawn_curves) if who else sections(day, found, needed, drawn_curves))
     return TEMPLATES.get_template("page.html").render(
         title=title,
         style=style(),

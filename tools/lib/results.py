@@ -4,8 +4,7 @@ import re
 from typing import NamedTuple
 
 from . import text
-from .faults import Fault, of_line
-from .lines import matched, moved
+from .faults import Fault, matched, moved, of_line
 
 ANOTHER = "these seem to be the results of another journal"
 

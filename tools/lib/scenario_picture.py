@@ -1,7 +1,7 @@
 """A picture of blocks over many scenarios: of each how often it is accepted, and the distribution of its surplus then."""
 
 from . import pictures, text
-from .scenario_tables import quantile
+from .scenarios import quantile
 
 from matplotlib import pyplot
 

@@ -3,8 +3,8 @@
 import hashlib
 import time
 
-from . import better, book, check, command, journal, kinds, lines, place, results, selection, sent, sums, text
-from .faults import Fault
+from . import better, book, check, command, journal, kinds, place, results, selection, sent, sums, text
+from .faults import Fault, matched
 from .progress import Progress
 from .rules import VERSION
 
@@ -197,7 +197,7 @@ def reply_faults(read, data):
     wanted, found = (part.removesuffix(b"\n").split(b"\n") for part in (book.replies_text(read).encode(), data))
     numbers = [[line.split(b",")[0] for line in part] for part in (wanted, found)]
     wrong, last = [] if data else [Fault("the replies are empty", "form")], 0
-    for at, place in lines.matched(*numbers):
+    for at, place in matched(*numbers):
         last = last if place is None else place + 1
         if place is None:
             wrong.append(Fault(f"replies line {last + 1}: {text.quoted(wanted[at])} is missing", "missing", last + 1))

@@ -9,7 +9,7 @@ import json
 import re
 import socket
 
-from . import changes, cleared, command, engine, limit_words, limits, output, place, rules, scenario_tables, scenarios, text
+from . import changes, cleared, command, engine, limits, output, place, rules, scenarios, text
 from .cleared import Cleared
 
 GRID = 2_000, 100  # cents per MWh: how far the limits of an hourly order reach from the price, and their distance
@@ -132,12 +132,12 @@ def limit(args):
     search = limits.Search(held, key, clear_one(args))
     found = search.worst()
     if args.json:
-        data = json.dumps(limit_words.record(search, found), indent=1) + "\n"
+        data = json.dumps(limits.record(search, found), indent=1) + "\n"
     elif output.is_table(args.out) or args.decimal_comma:
-        output.write("whatif", args, "limits", [limit_words.HEADS, limit_words.row(search, found)], held.periods)
+        output.write("whatif", args, "limits", [limits.HEADS, limits.row(search, found)], held.periods)
         return command.DONE
     else:
-        data = "".join(f"{line}\n" for line in limit_words.lines(search, found)).rstrip("\n") + "\n"
+        data = "".join(f"{line}\n" for line in limits.lines(search, found)).rstrip("\n") + "\n"
     command.write_bytes("whatif", args.out, data.encode())
     return command.DONE
 
@@ -162,10 +162,10 @@ def all_limits(args, held):
 
         def row(key):
             search = limits.Search(held, key, clear_one(args, running))
-            return limit_words.row(search, search.worst())
+            return limits.row(search, search.worst())
 
         rows = list(engine.with_bar(threads.map(row, keys), len(keys), "block"))
-    output.write("whatif", args, "limits", [limit_words.HEADS, *rows], held.periods)
+    output.write("whatif", args, "limits", [limits.HEADS, *rows], held.periods)
     return command.DONE
 
 
@@ -231,7 +231,7 @@ def add_scenarios(commands, epilog):
     words = "a table with the column scenario and those of a table of orders, or of commands with the column what (CSV or Excel)"
     add("scenarios", metavar="SCENARIOS", nargs="?", help=words)
     words = "the table that is printed for each scenario (default: welfare; with --sample the blocks over all scenarios)"
-    add("--rows", choices=scenario_tables.TABLES, help=words)
+    add("--rows", choices=scenarios.TABLES, help=words)
     add("--participant", metavar="NAME", type=command.participant, help="only this participant's rows; with --sample, its orders stay")
     add("--order", metavar="NAME", type=order_name, help="only this order of the participant")
     add("--jobs", metavar="N", type=jobs, help="the number of clearings at the same time (default: the number of processors)")
@@ -357,7 +357,7 @@ def run_scenarios(args):
         sds = [3 if args.price_sd is None else args.price_sd, 0.1 if args.volume_sd is None else args.volume_sd]
         sampler = scenarios.Sampler(held, args.participant, args.seed or "1", sds[0] * 100, sds[1])
         given, notes, count = sampler.scenarios(args.sample), [], args.sample
-    over = scenario_tables.Distribution(held, keys_asked(args, held)) if args.sample and not args.rows else None
+    over = scenarios.Distribution(held, keys_asked(args, held)) if args.sample and not args.rows else None
     rows = list(scenario_rows(args, held, given, count, over))
     for note in [] if args.quiet else notes:
         command.tell("whatif", note)
@@ -370,7 +370,7 @@ def run_scenarios(args):
 
 def scenario_rows(args, held, given, count, over):
     """The rows of the scenarios, or none, and then their results are added to the distribution."""
-    make, heads = scenario_tables.TABLES[args.rows or "welfare"]
+    make, heads = scenarios.TABLES[args.rows or "welfare"]
     waiting = collections.deque()
 
     def texts():
@@ -413,7 +413,7 @@ def day_of(name, rows, periods, printed):
 def write_distribution(args, held, over):
     """The table of the blocks over all scenarios, or a picture and then the table on standard output."""
     if not args.quiet:
-        for line in scenario_tables.words(over):
+        for line in scenarios.words(over):
             command.tell("whatif", line)
     if is_picture(args.out):
         from . import scenario_picture

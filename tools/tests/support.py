@@ -2,7 +2,9 @@
 
 import importlib.machinery
 import importlib.util
+import itertools
 import os
+import random
 import runpy
 import signal
 import subprocess
@@ -15,6 +17,7 @@ TOOLS = TOP / "tools"
 sys.path[:0] = [str(TOOLS), str(TOP / "tests" / "fuzz")]
 
 import compare
+import days
 from lib import book, command, journal, results, selection
 from shared import cases as worked
 
@@ -56,6 +59,33 @@ def printed(example):
 
 def problem(data):
     return selection.Problem(book.run(journal.read_journal(data))[0])
+
+
+def drawn():
+    """Random days of few blocks, each with its eligible selections by the plain reading of the rules."""
+    for number in itertools.count():
+        day = problem(days.text(random.Random(f"few blocks {number}"), 6).replace(b"close,,,,,,,,\n", b"") + b"close,,,,,,,,\n")
+        if 0 < len(day.blocks) <= 6:
+            yield day, ranked(day)
+
+
+# Those that a test has asked for, and the others.
+FOUND, MORE = [], drawn()
+
+
+def small_problems(count):
+    """Random days of at most six blocks, each with its eligible selections from the best one down. Every test has the same ones."""
+    FOUND.extend(itertools.islice(MORE, max(count - len(FOUND), 0)))
+    return FOUND[:count]
+
+
+def ranked(day):
+    """The eligible selections of a problem, with their welfare, the best one first."""
+    subsets = itertools.product([True, False], repeat=len(day.blocks))
+    chosen = [frozenset(itertools.compress(range(len(day.blocks)), flags)) for flags in subsets]
+    found = [(selection.eligible(day, accepted), accepted) for accepted in chosen]
+    # The selections come from the one that accepts most in front, and the sort keeps that order among equals.
+    return sorted(((welfare, accepted) for welfare, accepted in found if welfare is not None), key=lambda pair: -pair[0])
 
 
 def day_of(data, text):

@@ -13,13 +13,12 @@ import unittest.mock
 from fractions import Fraction
 
 import support
-from support import AUCTION, AUCTION_RESULTS, audit, cleared_cases, journal_of, printed, problem, results_of, tool
+from support import AUCTION, AUCTION_RESULTS, audit, cleared_cases, journal_of, printed, problem, ranked, results_of, small_problems, tool
 
 import days
 from lib import best, book, check, command, journal, period, results, rules, selection, sheets, tables, verdict
 from lib.progress import Progress
 from lib.text import exact_euros
-from small_days import ranked, small_problems
 
 NOT_COMPARED = f"{verdict.NOT_COMPARED}\n"
 NUMBER = re.compile(rb"(?<=,)-?\d+(?=[,\n])")

@@ -7,13 +7,10 @@ import sys
 import unittest
 from unittest import mock
 
-from support import TOP, journal_of, problem, results_of, tool
-from test_audit import audit
+from support import TOP, audit, journal_of, problem, results_of, small_problems, tool
 
-import days
 from lib import best, book, command, journal, period, rules, selection
 from lib.progress import Progress
-from small_days import ranked, small_problems
 
 # Of this many days each kind that a test asks for comes up 15 times or more: with all of 20 seeds, so another draw in `days` does no harm.
 SMALL_DAYS = 400

@@ -1,12 +1,16 @@
-"""The examples: the output of their scripts, and the audit of the results that the worked case has."""
+"""The examples: the output of their scripts, and the audit of the results that the worked case has. And the walks through example days in
+EXAMPLES.md: the quoted lines are printed, and statements about other selections hold by the audit's reading of the rules."""
 
+import re
 import subprocess
 import sys
 import unittest
+from fractions import Fraction
 
-from support import SUNNY, SUNNY_RESULTS, TOP, printed, tool
+from support import QUARTERS, SUNNY, SUNNY_RESULTS, TOP, book, journal, printed, problem, selection, tool
 
 SCRIPT = TOP / "examples" / "make_sunny_day.py"
+LINE = re.compile(r"`((?:period|hour|block),[^`]*|\d+,(?:done|refused,\w+))`")
 
 
 class Examples(unittest.TestCase):
@@ -23,6 +27,99 @@ class Examples(unittest.TestCase):
         prices = [int(line.split(b",")[2]) for line in printed(SUNNY).splitlines() if line.startswith(b"period")]
         self.assertGreater(len(set(prices)), 20)
         self.assertLess(min(prices), 0)
+
+
+def walk(heading):
+    """The text of a section of the page, without its line ends."""
+    page = (TOP / "docs" / "EXAMPLES.md").read_text()
+    return " ".join(page.partition(f"\n## {heading}\n")[2].partition("\n## ")[0].split())
+
+
+def replies(example):
+    """The lines that `dam replay` prints, by the audit's reading of the rules."""
+    _, reasons = book.run(journal.read_journal(example.read_bytes()))
+    return [f"{number},refused,{reason}" if reason else f"{number},done" for number, reason in enumerate(reasons, 1)]
+
+
+class Walk:
+    """A section on a day, and the example that it is about."""
+
+    def setUp(self):
+        self.text = walk(self.heading)
+        self.problem = problem(self.example.read_bytes())
+        names = {block.name: place for place, block in enumerate(self.problem.blocks)}
+        lines = printed(self.example).decode().splitlines()
+        self.accepted = {names[line.split(",")[2]] for line in lines if re.match("block,.*,accepted,", line)}
+        self.names = names
+
+    def outcome(self, without=(), plus=()):
+        """What the selection with some blocks left out and some others would lead to, and the blocks that would lose."""
+        chosen = self.accepted - {self.names[name] for name in without} | {self.names[name] for name in plus}
+        self.assertEqual(list(selection.link_faults(self.problem, chosen)), [])
+        found = selection.outcome(self.problem, chosen)
+        losing = selection.losing(self.problem, chosen, found.surpluses)
+        return found, {self.problem.blocks[place].name: loss for place, loss in losing.items()}
+
+    def says(self, *amounts):
+        for amount in amounts:
+            self.assertIn(f"{amount:,}", self.text)
+
+    def says_euros(self, *amounts):
+        """That the page has these amounts in EUR, whole ones with two digits after the point or without."""
+        for amount in amounts:
+            said = f"{float(Fraction(amount) * self.problem.hours / 1_000):,.2f} EUR"
+            self.assertTrue(said in self.text or said.replace(".00 ", " ") in self.text, said)
+
+    def test_the_day_is_the_example(self):
+        self.assertIn(f"`examples/{self.example.name}`", self.text)
+
+    def test_the_lines_are_printed(self):
+        quoted = LINE.findall(self.text)
+        self.assertGreater(len(quoted), 9)
+        self.assertEqual([line for line in quoted if line not in printed(self.example).decode().splitlines() + replies(self.example)], [])
+
+    def test_the_welfare(self):
+        welfare = self.outcome()[0].welfare
+        self.says(welfare)
+        self.says_euros(welfare)
+
+
+class SunnyDay(Walk, unittest.TestCase):
+    heading, example = "A day and its result", SUNNY
+
+    def test_other_selections(self):
+        for without, plus, losing in (
+            (["START", "STAY", "EVENING"], [], []),
+            (["NOON"], ["LONG"], []),
+            (["NOON"], ["NIGHT"], ["NIGHT"]),
+            ([], ["UNIT-7"], ["UNIT-7"]),
+        ):
+            with self.subTest(without=without, plus=plus):
+                found, losses = self.outcome(without, plus)
+                self.says_euros(found.welfare)
+                self.assertEqual(list(losses), losing)
+
+    def test_the_paradoxical_block(self):
+        found, losses = self.outcome(plus=["UNIT-7"])
+        self.says_euros(losses["UNIT-7"])
+        for number in range(19, 23):
+            self.assertIn(f"{self.outcome()[0].cleared[number].price / 100:.2f}", self.text)
+            self.assertIn(f"{found.cleared[number].price / 100:.2f}", self.text)
+
+    def test_the_price_between_two_ends(self):
+        found = self.outcome()[0].cleared[19]
+        self.assertIn(f"from {found.low / 100:.2f} EUR", self.text)
+        self.assertIn(f"to {found.high // 100} EUR", self.text)
+
+
+class QuarterHours(Walk, unittest.TestCase):
+    heading, example = "A day of quarter-hours", QUARTERS
+
+    def test_the_paradoxical_block(self):
+        found, losses = self.outcome(plus=["UNIT-7"])
+        self.says_euros(found.welfare, losses["UNIT-7"])
+        self.assertEqual(sorted(losses), ["PEAK", "RAMP", "RELEASE", "UNIT-7"])
+        self.says_euros(self.outcome()[0].surpluses[self.names["UNIT-7"]])
 
 
 if __name__ == "__main__":

@@ -13,9 +13,10 @@ from unittest import mock
 import support
 
 import compare
+import doctored
 import fake_dam
+from days import Profiles, hours_of
 from lib import command, rules
-from profiles import Profiles, hours_of
 
 
 def fake_program(folder, name):
@@ -178,17 +179,15 @@ class Doctored(unittest.TestCase):
 
     def test_the_changes(self):
         """Each kind of change alters the text, except for a field that was so before; the content is the text without its encoding."""
-        import doctor
-
         data, alike = support.printed(support.AUCTION), 0
         for number in range(500):
             rng = random.Random(number)
-            alike += doctor.doctored(rng, data)[1] == data
-            words, other = doctor.encoded(rng, data)
-            self.assertEqual((other != data, doctor.decoded(other)), (True, data), words)
+            alike += doctored.doctored(rng, data)[1] == data
+            words, other = doctored.encoded(rng, data)
+            self.assertEqual((other != data, doctored.decoded(other)), (True, data), words)
         self.assertLess(alike, 50)
         for text in (b"a,b\n\nc\n", b'"a,b",c\n', b"\xff\n"):
-            self.assertIsNone(doctor.decoded(text))
+            self.assertIsNone(doctored.decoded(text))
 
 
 @unittest.skipUnless(command.has("numpy"), "numpy is missing (Debian's python3-numpy)")

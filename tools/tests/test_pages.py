@@ -1,4 +1,5 @@
-"""The pages: that links lead somewhere, that lines and cells can be read, and that README's first example is printed."""
+"""The pages: that links lead somewhere, that lines and cells can be read, that files and definitions which they name are there, and that
+README's first example is printed."""
 
 import re
 import shlex
@@ -11,6 +12,7 @@ from pathlib import Path
 from support import AUCTION, AUCTION_RESULTS, SUNNY, TOP, book, journal, printed, selection, tool
 
 from lib import best
+from lib.specs import Repository
 from shared.pages import links, prose
 
 CRATES = sorted(path for path in (TOP / "crates").iterdir() if (path / "src").is_dir())
@@ -47,7 +49,16 @@ SOURCES = {
     for path in (crate / folder).rglob(f"*.{ending}")
     for word in re.findall(r"\w+", path.read_text())
 }
+# The table of a crate's files in its notes.
+FILES = re.compile(r"^\| File of `src/` \| Contents \|\n\|---\|---\|\n((?:\|.*\n)+)", re.MULTILINE)
+DEFINITIONS = TOP / "docs" / "DEFINITIONS.md"
 EXAMPLE = re.compile(r"^```text\n(day,24\nwelfare.*?)^```$", re.MULTILINE | re.DOTALL)
+
+
+def sections():
+    """The names that the section of each file has on the page of definitions."""
+    found = re.findall(r"^## `(\w+)/specs/(\w+)\.antt`\n(.*?)(?=^## |\Z)", DEFINITIONS.read_text(), re.M | re.S)
+    return {(crate, module): set(re.findall(r"^- `(\S+)`: .", body, re.M)) for crate, module, body in found}
 
 
 class Pages(unittest.TestCase):
@@ -118,6 +129,24 @@ class Pages(unittest.TestCase):
                 with self.subTest(crate=crate.name, word=word):
                     self.assertTrue((TOP / "crates" / word).exists() or word.split("::")[-1] in SOURCES)
 
+    def test_the_files_that_notes_name_are_there(self):
+        notes = sorted(path for path in (TOP / "crates").glob("*/*.md") if "The files of `src/`" in path.read_text())
+        self.assertGreater(len(notes), 2)
+        for path in notes:
+            files = re.search(r"^The files of `src/`: (.*?)\n\n|\Z", path.read_text() + "\n", re.MULTILINE | re.DOTALL)[1] or ""
+            for name in re.findall(r"(?:^|; |, |and )`(\w+)`", re.sub(r"\([^)]*\)", "", files).replace("\n", " ")):
+                with self.subTest(path.parent.name, name=name):
+                    self.assertTrue((path.parent / "src" / f"{name}.rt").exists())
+
+    def test_the_tables_of_notes_have_each_file(self):
+        tables = {path: FILES.search(path.read_text()) for path in sorted((TOP / "crates").glob("*/NOTES.md"))}
+        tables = {path: found[1] for path, found in tables.items() if found}
+        self.assertGreater(len(tables), 9)
+        for path, rows in tables.items():
+            named = sorted(name for cell in re.findall(r"^\| (.*?) \|", rows, re.MULTILINE) for name in re.findall(r"`(\w+)`", cell))
+            with self.subTest(path.parent.name):
+                self.assertEqual(named, sorted(file.stem for file in (path.parent / "src").glob("*.rt") if file.stem != "lib"))
+
     def test_the_first_example_is_printed(self):
         lines = printed(SUNNY).decode().splitlines()
         quoted = [line.split("  ")[0] for line in EXAMPLE.search((TOP / "README.md").read_text())[1].splitlines() if line != ".."]
@@ -163,6 +192,16 @@ class Pages(unittest.TestCase):
         quoted = re.search(r"replay < examples/(\S+) \| grep refused\n```\n\n```text\n(.*?)```", text, re.DOTALL)
         read = journal.read_journal((TOP / "examples" / quoted[1]).read_bytes())
         self.assertEqual(quoted[2].splitlines(), [line for line in book.replies_text(read).splitlines() if "refused" in line])
+
+
+class Definitions(unittest.TestCase):
+    def test_each_that_a_public_contract_cites_is_on_the_page(self):
+        on_page = sections()
+        cited = {(node, function) for node, function in Repository(TOP).cited()}
+        self.assertGreater(len(cited), 300)
+        for (crate, _, module, name), function in sorted(cited):
+            with self.subTest(f"{name} of {crate}, by {function}"):
+                self.assertIn(name, on_page.get((crate, module), ()))
 
 
 if __name__ == "__main__":

@@ -9,7 +9,7 @@ from pathlib import Path
 
 from support import AUCTION, journal_of, tool
 
-from lib import book, changes, cleared, command, engine, journal, rules, scenario_tables, scenarios
+from lib import book, changes, cleared, command, engine, journal, rules, scenarios
 
 HEADS = "scenario,participant,order,kind,side,price_eur_mwh,periods,volume_mw,parent,group\n"
 COMMANDS = HEADS.replace("scenario,", "scenario,what,")
@@ -71,16 +71,16 @@ class Tables(unittest.TestCase):
 
 class Distribution(unittest.TestCase):
     def test_what_is_counted(self):
-        over = scenario_tables.Distribution(HELD, [("GEN", "UNIT")])
+        over = scenarios.Distribution(HELD, [("GEN", "UNIT")])
         for number in range(1, 21):
             over.add(f"day,24\nblock,GEN,UNIT,accepted,{number * 1000}\n".encode())
         for _ in range(20):
             over.add(b"day,24\nblock,GEN,UNIT,rejected,999999\n")
         _, row = over.table()
         self.assertEqual(row, ["GEN", "UNIT", "40.00", 40, 20, "0.5000", "5.25", "1.00", "5.00", "10.00", "15.00", "19.00"])
-        self.assertEqual(list(scenario_tables.words(over)),
+        self.assertEqual(list(scenarios.words(over)),
                          ["GEN UNIT is accepted in 20 of 40 scenarios; the median of its surplus is then 10.00 EUR"])
-        none = scenario_tables.Distribution(HELD, [("GEN", "UNIT")])
+        none = scenarios.Distribution(HELD, [("GEN", "UNIT")])
         none.add(b"day,24\nblock,GEN,UNIT,rejected,5\n")
         self.assertEqual(list(none.table())[1][4:], [0, "0.0000", "0.00", "", "", "", "", ""])
 

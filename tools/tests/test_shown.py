@@ -2,8 +2,6 @@
 orders that GUIDE.md quotes are in its journals."""
 
 import re
-import subprocess
-import sys
 import tempfile
 import unittest
 
@@ -11,9 +9,6 @@ import shown
 from support import TOP
 
 from lib import book, command, engine, journal
-
-sys.path.insert(0, str(TOP / "docs"))
-import draw_trust
 
 TRUST, GUIDE = TOP / "docs" / "TRUST.md", TOP / "docs" / "GUIDE.md"
 NUMBER = re.compile(r"(?<![\w.-])-?\d[\d,]*(?:\.\d+)?(?![\w-])")
@@ -56,23 +51,6 @@ class Shown(unittest.TestCase):
                 self.assertLessEqual(said, printed)
             checked += len(said)
         self.assertGreater(checked, 10)
-
-    @unittest.skipUnless(command.has("matplotlib"), "matplotlib is missing (Debian's python3-matplotlib)")
-    def test_the_pictures_of_trust(self):
-        from lib import pictures
-
-        day = draw_trust.problem()
-        for draw, words in (draw_trust.draw_effect, ["hour 19", "its limit: 130"]), (draw_trust.draw_selections, ["4,096 ways", "207 of"]):
-            drawn = pictures.picture(draw(day), "svg", words_as_text=True).decode()
-            for word in words:
-                self.assertIn(word, drawn)
-
-    @unittest.skipUnless(command.is_debians(), "this isn't Debian's Python")
-    def test_the_pictures_of_trust_need_matplotlib(self):
-        words = [sys.executable, "-S", TOP / "docs" / "draw_trust.py", "unit-7", "--draw"]  # -S leaves out Debian's packages
-        ran = subprocess.run(words, capture_output=True, text=True)
-        self.assertEqual((ran.returncode, ran.stdout), (command.FAILED, ""))
-        self.assertRegex(ran.stderr, r"^\S*draw_trust\.py: it needs matplotlib, .*: apt-get install python3-matplotlib\n$")
 
     def test_the_journals_of_the_guide(self):
         """Each is valid, and has the orders that its step quotes."""

@@ -19,7 +19,7 @@ import support
 from support import AUCTION, AUCTION_RESULTS, FIRST, QUARTERS, QUARTERS_RESULTS, journal_of, printed, tool
 
 import compare
-from lib import book, changes, cleared, command, engine, journal, limit_words, limits, rules, tables, text
+from lib import book, changes, cleared, command, engine, journal, limits, rules, tables, text
 from test_many import ends
 
 FAKE = Path(__file__).with_name("fake_dam.py")
@@ -53,13 +53,13 @@ class Limits(unittest.TestCase):
         self.assertEqual((found.limit, found.past_limit, found.at.surplus(one.key), found.past.surplus(one.key)), (5000, 5001, 0, -20))
         self.assertEqual((found.at.welfare, found.past.welfare, found.at.prices[0]), (0, 0, 5000))
         self.assertLessEqual(found.clearings, limits.MOST_CLEARINGS)
-        self.assertEqual(limit_words.others(one, found), [("CITY", "TOWN")])
+        self.assertEqual(limits.others(one, found), [("CITY", "TOWN")])
 
     def test_a_block_that_buys(self):
         one = search(*BUYER, key=("CITY", "TOWN"))
         found = one.worst()
         self.assertEqual((found.limit, found.past_limit), (2000, 1999))
-        lines = "\n".join(limit_words.lines(one, found))
+        lines = "\n".join(limits.lines(one, found))
         self.assertIn("Its worst limit is 20.00 EUR/MWh: with it, and with every higher limit, it is accepted; with a lower one", lines)
 
     def test_no_limit_is_enough(self):
@@ -67,15 +67,15 @@ class Limits(unittest.TestCase):
         found = one.worst()
         self.assertEqual((found.limit, found.at, found.past_limit), (None, None, rules.LEAST_PRICE))
         self.assertIn(f"No limit of the range is enough: with the best, {rules.LEAST_PRICE / 100:.2f} EUR/MWh, it can never be accepted, because",
-                      "\n".join(limit_words.lines(one, found)))
-        self.assertIsNone(limit_words.record(one, found)["worst_limit_eur_mwh"])
+                      "\n".join(limits.lines(one, found)))
+        self.assertIsNone(limits.record(one, found)["worst_limit_eur_mwh"])
 
     def test_every_limit_is_enough(self):
         dearest = f"submit,CITY,TOWN,hour,buy,{rules.GREATEST_PRICE},1:30,,"
         one = search(dearest, "submit,GEN,UNIT,block,sell,4000,1:20,,", key=("GEN", "UNIT"))
         found = one.worst()
         self.assertEqual((found.limit, found.past, found.past_limit), (rules.GREATEST_PRICE, None, None))
-        self.assertIn(f"Every limit of the range is enough, up to the worst, {rules.GREATEST_PRICE / 100:,.2f} EUR/MWh.", limit_words.lines(one, found))
+        self.assertIn(f"Every limit of the range is enough, up to the worst, {rules.GREATEST_PRICE / 100:,.2f} EUR/MWh.", limits.lines(one, found))
 
     def test_the_most_clearings(self):
         """No worst limit needs more clearings than the most, and some needs as many."""
@@ -112,7 +112,7 @@ class Page(unittest.TestCase):
         data = journal_of(*lines)
         day = support.day_of(data, results or support.results_of(data, best(data)))
         with unittest.mock.patch.object(engine, "answer", answer):
-            return limit_words.of_rejected(day, who)
+            return limits.of_rejected(day, who)
 
     def test_the_sentence(self):
         high = SMALL[0], SMALL[1].replace("4000", "6000")
@@ -130,7 +130,7 @@ class Page(unittest.TestCase):
         self.assertEqual(self.said(high, lambda text, nodes: (0, "no program was found")), {})
         wrong = support.results_of(journal_of(*high), frozenset()).replace(b"welfare,0", b"welfare,1")
         self.assertEqual(self.said(high, results=wrong), {})
-        with unittest.mock.patch.object(limit_words, "SECONDS", -1):
+        with unittest.mock.patch.object(limits, "SECONDS", -1):
             self.assertEqual(self.said(high), {})
 
 

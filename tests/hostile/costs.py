@@ -1,0 +1,115 @@
+"""What names of orders that collide cost, and many cancels, as a number of instructions, which valgrind counts: it does not depend on what
+else the machine does.
+
+Names that collide in a book's map under the fixed seed cost no more than others, since the program draws a seed of its own. If it gets no
+random bytes, it takes the fixed seed, and then they do: so the names collide, and each engine passes its seed on. So do
+`Gate::begin_seeded` and `run_commands`, which `dam_refusals` calls with a seed that it draws in the same way.
+
+An old order costs no more to cancel than a new one, and a name that is used again no more than another. A book that moved all later
+orders up at each cancel would take ten times as much. The cost is that of a journal that submits as many orders as a book holds, less that
+of the journal of the submits alone."""
+
+import errno
+import re
+import shutil
+import subprocess
+
+from again import REFUSALS
+from preload import Program, Refusal  # by which `lib` is found
+from lib import rules
+
+ORDERS = rules.MOST_HOURLY
+TIMES = 3  # names that collide take less than 3 times the instructions of others; with the fixed seed 50 times or more
+CANCEL_TIMES = 2  # cancels take less than twice the instructions of others
+AGAIN = 2_990  # the orders that are cancelled, each with a submit after it, so that all fit a journal of 10,000 records
+SECONDS = 1_200  # for a run of some seconds, on a machine that has much else to do
+DRAWN = Refusal("random")
+FIXED = Refusal("random", first=1, error=errno.ENOSYS)
+# Each engine by its words, and the two calls of the gate that take a seed by those of `dam_refusals`; those of `OPEN` take no close.
+ENGINES = [["replay"], ["clear"], ["day"]]
+GATES = {"begin_seeded": [], "run_commands": ["threads"]}
+OPEN = [["day"], *GATES.values()]
+COUNTED = re.compile(r"I +refs: +([\d,]+)")
+
+
+def instructions(program, words, data, refusal):
+    """How many instructions a run takes, which must succeed."""
+    log = program.counts().with_suffix(".valgrind")
+    count = [shutil.which("valgrind"), "--tool=cachegrind", "--cache-sim=no", "--cachegrind-out-file=/dev/null", f"--log-file={log}"]
+    printed, _ = program.run(words, data, refusal, seconds=SECONDS, under=count)
+    if printed.status:
+        raise ValueError(f"{words} under valgrind: status {printed.status}, {printed.stderr[:80]!r}")
+    return int(COUNTED.search(log.read_text())[1].replace(",", ""))
+
+
+def journal(records, is_closed=True):
+    return "".join(["day,24,,,,,,,\n", *records, *["close,,,,,,,,\n"] * is_closed]).encode()
+
+
+def submits(names):
+    return [f"submit,A,{name},hour,buy,0,1:1,,\n" for name in names]
+
+
+def ordinary_names():
+    return [f"N-{number:010}" for number in range(ORDERS)]
+
+
+def colliding_names(room):
+    return subprocess.run([room / "collide", str(ORDERS)], stdout=subprocess.PIPE, text=True, check=True).stdout.split()
+
+
+def names(runs):
+    """Tries each engine and each call of the gate with a seed that is drawn and with the fixed one."""
+    refusals = Program(REFUSALS, runs.program.room)
+    tried = [(words[0], runs.program, words) for words in ENGINES] + [(call, refusals, words) for call, words in GATES.items()]
+    lists = submits(ordinary_names()), submits(colliding_names(runs.program.room))
+    asked = [
+        (program, words, journal(records, words not in OPEN), refusal)
+        for _, program, words in tried
+        for refusal in (DRAWN, FIXED)
+        for records in lists
+    ]
+    counts = list(runs.pool.map(lambda it: instructions(*it), asked))
+    for at, (about, _, _) in enumerate(tried):
+        drawn, fixed = (counts[4 * at + seed + 1] / counts[4 * at + seed] for seed in (0, 2))
+        took = f"{drawn:.1f} times the instructions of others, {fixed:.1f} times with the fixed seed"
+        print(f"{about}, names that collide: {took}", flush=True)
+        runs.check(f"{about}: names that collide take {drawn:.1f} times the instructions of others", drawn < TIMES)
+        runs.check(f"{about}: with the fixed seed, names that collide take only {fixed:.1f} times those of others", fixed > TIMES)
+
+
+def numbered(numbers):
+    return submits(f"N-{number}" for number in numbers)
+
+
+def cancelled(numbers):
+    return [f"cancel,A,N-{number},,,,,,\n" for number in numbers]
+
+
+def by_turns(*lists):
+    return [record for records in zip(*lists) for record in records]
+
+
+def with_cancels():
+    """The records after the submits of a book's orders, by name, each with those that they are compared with."""
+    oldest, newest = range(AGAIN), [ORDERS - 1] * AGAIN
+    from_the_back = cancelled(reversed(range(ORDERS)))
+    last_again = by_turns(cancelled(newest), numbered(newest))
+    return {
+        "cancels from the front": (cancelled(range(ORDERS)), from_the_back),
+        "the oldest order cancelled and its name used again": (by_turns(cancelled(oldest), numbered(oldest)), last_again),
+        "one order cancelled and its name used again": (by_turns(cancelled([0] * AGAIN), numbered([0] * AGAIN)), last_again),
+    }
+
+
+def cancels(runs):
+    """Counts the instructions of each journal with cancels, and of the one that it is compared with."""
+    begin = numbered(range(ORDERS))
+    tried = {name: tuple(journal(begin + records) for records in both) for name, both in with_cancels().items()}
+    needed = {journal(begin)}.union(*tried.values())
+    counts = dict(zip(needed, runs.pool.map(lambda data: instructions(runs.program, ["replay"], data, DRAWN), needed)))
+    alone = counts[journal(begin)]
+    for name, (one, other) in tried.items():
+        times = (counts[one] - alone) / (counts[other] - alone)
+        print(f"replay, {name}: {times:.2f} times the instructions of the same from the back", flush=True)
+        runs.check(f"replay: {name} takes {times:.2f} times the instructions of the same from the back", times < CANCEL_TIMES)
