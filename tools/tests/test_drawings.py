@@ -71,11 +71,11 @@ class Bound(unittest.TestCase):
         self.assertEqual([number for number, of in volumes.items() if of == first], [*draw_bound.PERIODS])
         self.assertTrue(any(first))
 
-    def test_the_lines_of_a_period(self):
+    def test_the_segments_of_a_period(self):
         for number in draw_bound.PERIODS:
             with self.subTest(number):
                 self.check_lines(*draw_bound.ends(self.day, number, *self.range), [number])
-                for start, end, price in draw_bound.lines(self.day.orders[number], *self.range):
+                for start, end, price in draw_bound.segments(self.day.orders[number], *self.range):
                     risen = self.welfare([number], start) - self.welfare([number], end)
                     self.assertEqual(risen, price * (start - end))
 
