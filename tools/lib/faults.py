@@ -25,7 +25,7 @@ KINDS = {
     "changed": "a command differs from the one that was sent",
     "repeated": "a command was sent fewer times",
     "unsent": "a command was not sent",
-    "encoding": "line ends, empty lines at the end, a byte order mark or quotes: no number or word differs",
+    "encoding": "line endings, trailing blank lines, a byte order mark or quotes: no number or word differs",
 }
 
 
