@@ -1,6 +1,7 @@
 -- The published results of the problem's result are the clearing of the closed book.
-use Rattle.std.proofs.Common.{subst}
+use Rattle.std.proofs.Common.{◌≡◌, ℕ, length, min, subst, sym, arith}
 use Rattle.dam_blocks.specs.Problem.{ProblemState}
+use Rattle.dam_search.specs.Search.{LimitHasNeeded}
 use Rattle.dam_engines.specs.Clear.{PlanHasNeeded, terms_alone}
 use Rattle.dam_engines.proofs.alone.clear_book_alone.Goals as goal
 
@@ -11,11 +12,13 @@ returns-clause-done c =
     c.in_ok-published.ensures in
     let found = c.in_ok-published.published in
     let best = c.in_ok-best.best in
-    let needed : PlanHasNeeded (terms_alone c.args.nodes) c.in_ok-problem.problem = record {
+    let problem = c.in_ok-problem.problem in
+    let uncut : min 0 (length problem.blocks) ≡ 0 = omega arith in
+    let needed : PlanHasNeeded (terms_alone c.args.nodes) problem = record {
       selection = best.selection;
       welfare = best.welfare;
       best = c.in_ok-best.ensures.ok;
-      needed = c.in_ok-best.ensures.needed;
+      needed = subst (λ (depth : ℕ). LimitHasNeeded problem depth c.args.nodes best.welfare) (sym uncut) c.in_ok-best.ensures.needed;
     } in (
       (found.welfare, found.periods.items, found.rows.items, clearing, c.in_ok-results_text.ensures),
       subst (λ (problem : ProblemState). PlanHasNeeded (terms_alone c.args.nodes) problem) made.1 needed,

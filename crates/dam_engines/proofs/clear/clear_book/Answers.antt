@@ -20,10 +20,9 @@ returns-clause-done g c =
     let clearing = c.published_results_are_clearings.ensures c.args.book.now _ _ _ _ _ _ made.0 made.1 c.in_ok-best.ensures.ok
     c.in_ok-published.ensures in
     let found = c.in_ok-published.published in
-    let best = c.in_ok-best.best in
     let needed : PlanHasNeeded c.args.plan c.in_ok-problem.problem = record {
-      selection = best.selection;
-      welfare = best.welfare;
+      selection = _;
+      welfare = _;
       best = c.in_ok-best.ensures.ok;
       needed = c.in_ok-best.ensures.needed;
     } in (
