@@ -300,6 +300,13 @@ def texts(runs):
             runs.check(f"{word} starts {started} threads with a block of {least} bytes or more", (started > 0) == is_held)
 
 
+def copies(runs):
+    """A day asks for memory as often for each order, however many the book holds: no command copies the book."""
+    few, many = (b"".join([b"day,24,,,,,,,\n", *(b"submit,A,N-%d,hour,buy,0,1:1,,\n" % at for at in range(count))]) for count in (500, 1_000))
+    asked, twice = (runs.program.run(["day"], data, Refusal("memory"))[1] for data in (few, many))
+    runs.check(f"day asks for memory {asked} times, and {twice} times with twice the orders", 500 < asked < twice < 3 * asked)
+
+
 def main():
     room, program, *rest = sys.argv[1:]
     if rest not in ([], ["--all"]):
@@ -316,6 +323,7 @@ def main():
     seeds(runs)
     threads(runs)
     texts(runs)
+    copies(runs)
     if shutil.which("valgrind"):
         costs.names(runs)
         costs.cancels(runs)

@@ -10,3 +10,4 @@ pub mod Permutations
 pub mod Accounts
 pub mod Days
 pub mod Places
+pub mod Witnesses

@@ -1,10 +1,10 @@
 ghost use Rattle.std.specs.Option.{option_copied};
 ghost use Rattle.dam_gate.specs.Limits.{most_participants};
-ghost use Rattle.std.specs.Prelude.{◌≡◌, ◌≤◌, ◌<◌, ◌∷◌, ◌++◌, [], ℕ, true, None, Some, length, map, slice_index_or, IfOk, IfErr, OnOk};
+ghost use Rattle.std.specs.Prelude.{◌≡◌, ◌≤◌, ◌<◌, ◌∷◌, ◌++◌, [], ℕ, true, false, None, Some, length, map, slice_index_or, IfOk, IfErr, OnOk};
 ghost use Rattle.dam_book.specs.Book.{commands_of};
 ghost use Rattle.dam_gate.specs.Pass.{Knowledge, PassState, IsPass, holders, knowing_nothing};
 ghost use Rattle.dam_gate.specs.Headline.{IsWholeAccount};
-ghost use Rattle.dam_gate.specs.Day.{AreTaken, IsDayFault, IsSettledDay, givers_of, is_one_of};
+ghost use Rattle.dam_gate.specs.Day.{AreTaken, EndsOtherwise, IsDayFault, IsSettledDay, givers_of, is_one_of};
 ghost use Rattle.dam_gate.specs.inside.Entering.{AreApart, AreGivers, AreServed, Enters, HasAll, IsClosedDay, IsLateFault, IsRefusalAt, IsUnsettled, Takes, at_places, share_at};
 
 use crate::account::Account;
@@ -318,7 +318,8 @@ fn enter_day<J: GateName + Send + Sync, R: Threads + Wait + Sync, T: Turnstile +
 
 /// Whether the journal's last command is a close.
 fn ends_with_a_close(journal: &Journal) -> bool
-    ensures { result ≡ true → IsClosedDay journal.now }
+    ensures close { result ≡ true → IsClosedDay journal.now }
+    ensures other { result ≡ false → EndsOtherwise journal.now }
 {
     match journal.entries() {
         [.., last] => matches!(last.entry().command, Command::Close),
@@ -344,7 +345,7 @@ fn run_at_gate<J: GateName + Send + Sync, R: Threads + Wait + Sync, T: Turnstile
     requires few { length participants.now ≤ most_participants }
     requires taken { AreTaken commands.now }
     ensures day { IfOk result (IsSettledDay periods commands.now) }
-    ensures err { IfErr result IsLateFault }
+    ensures err { IfErr result (IsLateFault commands.now) }
 {
     let gate = Gate::<J, &R>::for_day(rt, alloc, opening, periods, seed)?;
     let mut passes = enter_day(rt, alloc, &gate, turnstile, participants, commands)?;
@@ -362,7 +363,6 @@ fn run_at_gate<J: GateName + Send + Sync, R: Threads + Wait + Sync, T: Turnstile
 fn settle_day(alloc: Global, journal: Journal, passes: &[Account]) -> Result<Settled, DayFault>
     ensures journal { IfOk result (λ settled. settled ≡ journal) }
     ensures account { IfOk result (λ settled. IsWholeAccount settled passes.now) }
-    ensures err { IfErr result IsLateFault }
     ensures why { IfErr result (IsUnsettled journal passes.now) }
 {
     match settle(alloc, journal, passes) {

@@ -187,6 +187,7 @@ impl<A: Allocator + Copy> Keeper<A> {
         requires { is_full (length self.old.journal.entries) command.now ≡ false }
         ensures ready { IfOk result (IsReadyFor self.new command.now) }
         ensures journal { self.new.journal ≡ self.old.journal }
+        ensures room { self.old.room ≤ self.new.room }
     {
         let packed = command.clone()?;
         self.ready_with(packed, &command.command())
@@ -316,7 +317,9 @@ impl<A: Allocator + Copy> Keeper<A> {
 
     /// Makes room for this number of further entries.
     pub(crate) fn make_room(&mut self, entries: usize) -> Result<(), AllocError>
-        ensures { self.new.journal ≡ self.old.journal }
+        ensures room { OnOk result (entries ≤ self.new.room) }
+        ensures kept { self.old.room ≤ self.new.room }
+        ensures journal { self.new.journal ≡ self.old.journal }
     {
         self.entries.reserve(entries)
     }

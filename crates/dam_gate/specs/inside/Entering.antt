@@ -9,7 +9,7 @@ use Rattle.dam_gate.specs.Journal.{JournalState, IsJournal}
 use Rattle.dam_gate.specs.Limits.{most_participants}
 use Rattle.dam_gate.specs.Settled.{IsMismatch}
 use Rattle.dam_book.specs.Command.{giver}
-use Rattle.dam_gate.specs.Day.{commands_by, is_one_of, with_any, with_giver}
+use Rattle.dam_gate.specs.Day.{IsUnsettledDay, commands_by, is_one_of, with_any, with_giver}
 use Rattle.dam_gate.specs.declared.day.DayFault.{DayFault}
 use Rattle.dam_gate.specs.declared.day.DayFault.TheVariants.{TooManyCommands, CloseGiven, TooManyParticipants, NotSettled, Memory}
 use Rattle.dam_gate.specs.declared.settlement.Mismatch.TheVariants.{Memory as MismatchMemory}
@@ -86,18 +86,18 @@ pub record IsClosedDay (j : JournalState) : Type 0 where
   pub before : List Command
   pub last : commands_of j.entries ≡ before ++ Close ∷ []
 
--- the faults of a day that isn't refused
-abbrev pub IsLateFault : DayFault → Type 0
-IsLateFault TooManyCommands = ⊥
-IsLateFault (CloseGiven place) = ⊥
-IsLateFault (TooManyParticipants place) = ⊥
-IsLateFault (NotSettled why) = why ≢ MismatchMemory
-IsLateFault Memory = Unit {0}
+-- the faults of a day of these commands, which it takes: it came out unsettled, for this reason, or memory ran out
+abbrev pub IsLateFault : List Command → DayFault → Type 0
+IsLateFault cs TooManyCommands = ⊥
+IsLateFault cs (CloseGiven place) = ⊥
+IsLateFault cs (TooManyParticipants place) = ⊥
+IsLateFault cs (NotSettled why) = IsUnsettledDay cs why
+IsLateFault cs Memory = Unit {0}
 
 -- the faults of a day if this journal and these passes aren't found settled: why they aren't, or that memory ran out
 abbrev pub IsUnsettled : JournalState → List PassState → DayFault → Type 0
 IsUnsettled j passes TooManyCommands = ⊥
 IsUnsettled j passes (CloseGiven place) = ⊥
 IsUnsettled j passes (TooManyParticipants place) = ⊥
-IsUnsettled j passes (NotSettled why) = IsMismatch j passes why
+IsUnsettled j passes (NotSettled why) = (why ≢ MismatchMemory) × IsMismatch j passes why
 IsUnsettled j passes Memory = Unit {0}

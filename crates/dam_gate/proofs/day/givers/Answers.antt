@@ -1,7 +1,6 @@
 -- One command more is taken, or is the first that isn't.
-use Rattle.std.proofs.Common.{◌≡◌, ℕ, ◌+◌, ◌<◌, ◌++◌, ◌∷◌, [], List, length, take, slice_get, Some, Result, Ok, Err, IfErr, refl, sym, ap}
+use Rattle.std.proofs.Common.{◌≡◌, ℕ, ◌+◌, ◌<◌, ◌++◌, ◌∷◌, [], List, length, take, slice_get, Some, refl, sym, ap}
 use Rattle.std.proofs.Common.{subst, ◌∙◌, arith, rules}
-use Rattle.std.specs.Result.{IsErrAnd}
 use Rattle.std.specs.List.{filter}
 use Rattle.std.proofs.lemmas.List.{length-take, take_all, take_more}
 use Rattle.std.proofs.lemmas.Option.{slice_get_read}
@@ -9,16 +8,10 @@ use Rattle.dam_book.specs.declared.command.Command.{Command}
 use Rattle.dam_book.specs.Limits.{most_entries}
 use Rattle.dam_gate.specs.Pass.{is_close}
 use Rattle.dam_gate.specs.Day.{AreTaken, IsDayFault, givers_of}
-use Rattle.dam_gate.specs.declared.day.DayFault.{DayFault}
 use Rattle.dam_gate.specs.inside.Entering.{AreGivers}
 use Rattle.dam_gate.proofs.Days.{givers-more, no_close-more, order-more, refused-at}
+use Rattle.dam_gate.proofs.Witnesses.{passed_on}
 use Rattle.dam_gate.proofs.day.givers.Goals as goal
-
--- a fault that is passed on
-passed_on : {X : Type 0} (P : DayFault → Type 0) (r : Result X DayFault) (fault : DayFault) → IsErrAnd r (λ e. e ≡ fault) → P fault
-    → IfErr r P
-passed_on P (Ok x) fault same is = tt
-passed_on P (Err e) fault same is = subst P (sym same) is
 
 pub loop-place-preserved : goal.loop-place-preserved
 loop-place-preserved c =
