@@ -2,7 +2,8 @@
 //!
 //! An [`Hour`] holds the steps of a period in book order. At a net volume of accepted blocks it gives the price, the
 //! totals and the welfare (`clear`), the executed volume of one step (`executed`) and the executed volumes of all steps
-//! (`execution`). `specs/` defines these words: executions and their balance, supporting prices, the best execution.
+//! (`clear_and_execute`). `specs/` defines these words: executions and their balance, supporting prices, the best
+//! execution.
 //!
 //! ```
 //! let buy = Step { side: Side::Buy, price: Price::new(6000)?, qty: Qty::new(10)? };
