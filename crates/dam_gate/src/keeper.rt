@@ -246,6 +246,7 @@ impl<A: Allocator + Copy> Keeper<A> {
         ensures entry { result ≡ ready.entry }
         ensures step { self.new.journal ≡ journal_after self.old.journal ready.entry.command }
         ensures day { self.new.journal.book.periods ≡ self.old.journal.book.periods }
+        ensures room { self.old.room ≡ self.new.room + 1 }
     {
         let entry = ready.entry().entry();
         self.take(ready);
@@ -257,6 +258,7 @@ impl<A: Allocator + Copy> Keeper<A> {
         requires { IsReadyFor self.old ready.entry.command ready }
         ensures step { self.new.journal ≡ journal_after self.old.journal ready.entry.command }
         ensures day { self.new.journal.book.periods ≡ self.old.journal.book.periods }
+        ensures room { self.old.room ≡ self.new.room + 1 }
     {
         let Ready {
             entry,
