@@ -123,7 +123,9 @@ impl<A: Allocator> PackedCommand<A> {
         ensures { option_copied result ≡ giver self.now }
     {
         match &self.form {
-            Form::Hour { who, .. } | Form::Amend { who, .. } | Form::Cancel { who, .. } => Some(who),
+            Form::Hour { who, .. } | Form::Amend { who, .. } | Form::Cancel { who, .. } => Some(
+                who,
+            ),
             Form::Close => None,
             Form::Whole(command) => command.participant(),
         }
