@@ -15,7 +15,8 @@ pub record IsCutShort (plan : PlanTerms) (book : BookState) (piece visited : ℕ
   pub closed : book.closed ≡ true
   pub unfinished : IsUnfinished (problem_of book) (min plan.cut (length (problem_of book).blocks)) plan.nodes piece visited
 
--- the terms of a search by one worker that cuts nothing; they are a plan's terms only if a plan may have this limit on
+-- the problem has a result, and the plan's limit on nodes is at least the number that each piece needs if the result's welfare is
+-- read from the start
 pub record PlanHasNeeded (plan : PlanTerms) (problem : ProblemState) : Type 0 where
   pub selection : List Bool
   pub welfare : ℕ

@@ -41,8 +41,8 @@ pub record IsDayCutShort (plan : PlanTerms) (periods : ℕ) (commands : List Com
 abbrev pub record_number : ℕ → ℕ
 record_number place = place + 2
 
--- how a day of commands can fail: a day doesn't take them, for this reason; it takes them, and it came out unsettled, or the
--- search of its book didn't finish, if that can be; or memory ran out
+-- how a day of commands can fail: a day doesn't take them, for this reason; it takes them, and some journal and passes of such a
+-- day aren't settled, for this reason, or the search of its book didn't finish, if that can be; or memory ran out
 abbrev pub IsCommandsFault : PlanTerms → ℕ → List Command → RunFault → Type 0
 IsCommandsFault plan periods commands TooManyCommands = IsDayFault commands ManyCommands
 IsCommandsFault plan periods commands (CloseGiven at) =

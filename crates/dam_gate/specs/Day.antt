@@ -105,7 +105,7 @@ pub record IsUnsettledDay (given : List Command) (why : Mismatch) : Type 0 where
 
 -- the faults of a day of these commands: there are too many of them; if there aren't, the place, from 0, of a command
 -- that it doesn't take while it takes those before, a close or one that brings a participant too many; if it takes them
--- all, it came out unsettled, for this reason; or, unless there are too many, memory ran out
+-- all, some journal and passes of such a day aren't settled, for this reason; or, unless there are too many, memory ran out
 abbrev pub IsDayFault : List Command → DayFault → Type 0
 IsDayFault cs TooManyCommands = most_entries ≤ length cs
 IsDayFault cs (CloseGiven place) =
