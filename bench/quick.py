@@ -3,15 +3,14 @@
 tables that give a search its bounds.
 
 The baseline is a plain Rust program with std only: a hash map, and a list of orders with gaps. For a day it has a thread for each
-participant and one `Mutex`; it settles and prints the day, and clears nothing. A day of `dam` holds each command as it was read and as a
-receipt, both packed, and whole in the journal. The input is freed before the commands are entered, and the room for journal and receipts is
-made once. A settlement is compared with a plain pass that compares each receipt with its entry. An hour finds the end of the best execution
+participant and one `Mutex`; it settles and prints the day, and doesn't clear a book. A day of `dam` holds each command as it was read, as
+an entry and as a receipt, all packed. The input is freed before the commands are entered, and capacity for journal and receipts is reserved
+once. A settlement is compared with a plain pass that compares each receipt with its entry. An hour finds the end of the best execution
 by one bisection over the buys' own limits, with one over the sells inside, and then both ends of the price by two look-ups among the sells.
 These tables keep no losses; a search that its trial doesn't end makes others that do, at most 750,000 losses of 8 bytes.
 
-A day of `dam` takes as many instructions as one of the baseline (116 and 118 million), but writes 2.5 MiB more: the whole entries of the
-journal, and the orders of two books. That is 690 more page faults, 3 of the 7 ms between the two, and a third more misses of the last
-cache. In several runs on a quiet machine, its processor time was 1.16 to 1.27 times the baseline's."""
+A day of `dam` takes fewer instructions than a day of the baseline (97 and 117 million), and less memory, although it has the orders of two
+books. A replay takes 33 million instructions, and the baseline 86; the times that are compared also have the start of a process in them."""
 
 import statistics
 import sys
