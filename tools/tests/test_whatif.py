@@ -359,6 +359,7 @@ class Tools(unittest.TestCase):
             pids = Path(self.folder, "pids")
             while not pids.exists() or not pids.read_text():
                 time.sleep(0.02)
+            time.sleep(0.5)  # the program may begin before the tool waits for it
             os.kill(running.pid, signal.SIGINT)
             out, err = running.communicate(timeout=30)
         finally:
