@@ -61,7 +61,8 @@ fn clear_text<H: Threads + Sync, T: Watch + Sync>(
     plan: Plan,
     watch: &T,
 ) -> Result<Vec<u8>, RunFault>
-    ensures done { IfOk result (λ results. IsMadeFrom (AreResultsWithin plan) text.items results.items) }
+    ensures done { IfOk result (λ results.
+        IsMadeFrom (AreResultsWithin plan) text.items results.items) }
     ensures fault { IfErr result (IsRunFault (IsClearFault plan) text.items) }
 {
     let run = run_journal(alloc, seed, text.as_slice())?;
