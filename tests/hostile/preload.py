@@ -1,6 +1,7 @@
 """One run of the program with calls refused, by the library of refuse.c."""
 
 import hashlib
+import struct
 import subprocess
 import sys
 import threading
@@ -14,6 +15,7 @@ from shared.printed import Printed
 SECONDS = 120
 EVERY = 2**63  # above the number of any call
 NONE = -1
+LEFT = b"written before each thread was joined\n"
 
 
 class Refusal(NamedTuple):
@@ -55,9 +57,10 @@ class Program:
         return file
 
     def run(self, words, data, refusal, stdout=subprocess.PIPE, seconds=SECONDS, under=()):
-        """Its output, and how many calls of the refusal's kind it made. The words of `under` go before the program."""
+        """Its output, and how many calls of the refusal's kind it made. The words of `under` go before the program. A program that
+        writes before it has joined each thread that it started is at fault: that thread may still be running."""
         calls = self.counts()
-        calls.write_bytes(bytes(8))
+        calls.write_bytes(bytes(16))
         surroundings = {
             "LD_PRELOAD": str(self.room / "refuse.so"),
             "HOSTILE": " ".join(map(str, refusal)),
@@ -70,4 +73,5 @@ class Program:
                 printed = Printed(ran.returncode, ran.stdout or b"", ran.stderr)
             except subprocess.TimeoutExpired:
                 printed = Printed(NONE, b"", f"no answer in {seconds} seconds\n".encode())
-        return printed, int.from_bytes(calls.read_bytes(), "little")
+        made, early = struct.unpack("@2L", calls.read_bytes())
+        return Printed(NONE, b"", LEFT) if early else printed, made

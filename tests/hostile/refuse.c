@@ -4,7 +4,8 @@
    HOSTILE in the environment is 'KIND FIRST LAST ERROR MOST'. KIND is memory, thread, random, read (of standard input), write (of
    standard output) or report (writes to standard error). The calls of the kind whose numbers are from FIRST to LAST fail with the
    error number ERROR; if that is 0, such a read or write moves no byte. Every other read or write of the kind moves at most MOST
-   bytes, or all if MOST is 0. The file that HOSTILE_CALLS names holds the number of calls so far.
+   bytes, or all if MOST is 0. The file that HOSTILE_CALLS names holds two numbers: the calls of the kind so far, and the writes to
+   standard output or standard error made before every started thread was joined.
 
    Two kinds refuse nothing. held counts the starts of threads during which the program holds a block of at least MOST bytes. clock
    counts the readings of the clock, and has each of them MOST milliseconds later than the one before. */
@@ -33,6 +34,7 @@ extern void *__libc_memalign(size_t alignment, size_t size);
 extern void __libc_free(void *block);
 
 typedef int create_thread(pthread_t *, const pthread_attr_t *, void *(*)(void *), void *);
+typedef int join_thread(pthread_t, void **);
 typedef int give_entropy(void *, size_t);
 typedef ssize_t give_random(void *, size_t, unsigned);
 
@@ -43,9 +45,11 @@ static const char *const names[] = {"none", "memory", "thread", "random", "read"
 static enum kind chosen = NONE;
 static unsigned long first, last, most;
 static int error;
-static atomic_ulong *calls;
-static atomic_long large; /* the blocks of at least MOST bytes */
+static atomic_ulong *calls, *early;
+static atomic_long large;    /* the blocks of at least MOST bytes */
+static atomic_long unjoined; /* the threads that were started and not joined */
 static create_thread *create;
+static join_thread *join;
 static give_entropy *entropy;
 static give_random *randomly;
 
@@ -54,16 +58,18 @@ __attribute__((constructor)) static void begin(void) {
     const char *plan = getenv("HOSTILE"), *file = getenv("HOSTILE_CALLS");
     char name[16];
     create = (create_thread *)dlsym(RTLD_NEXT, "pthread_create");
+    join = (join_thread *)dlsym(RTLD_NEXT, "pthread_join");
     entropy = (give_entropy *)dlsym(RTLD_NEXT, "getentropy");
     randomly = (give_random *)dlsym(RTLD_NEXT, "getrandom");
     if (plan == NULL || file == NULL || sscanf(plan, "%15s %lu %lu %d %lu", name, &first, &last, &error, &most) != 5)
         return;
     int shared = open(file, O_RDWR);
-    void *page = mmap(NULL, sizeof *calls, PROT_READ | PROT_WRITE, MAP_SHARED, shared, 0);
+    void *page = mmap(NULL, 2 * sizeof *calls, PROT_READ | PROT_WRITE, MAP_SHARED, shared, 0);
     close(shared);
     if (page == MAP_FAILED)
         return;
     calls = page;
+    early = calls + 1;
     for (int kind = MEMORY; kind <= CLOCK; kind++)
         if (strcmp(name, names[kind]) == 0)
             chosen = kind;
@@ -136,7 +142,17 @@ void free(void *block) {
 int pthread_create(pthread_t *thread, const pthread_attr_t *how, void *(*work)(void *), void *given) {
     if (large > 0)
         refuses(HELD);
-    return refuses(THREAD) ? EAGAIN : create(thread, how, work, given);
+    if (refuses(THREAD))
+        return EAGAIN;
+    int status = create(thread, how, work, given);
+    unjoined += status == 0;
+    return status;
+}
+
+int pthread_join(pthread_t thread, void **result) {
+    int status = join(thread, result);
+    unjoined -= status == 0;
+    return status;
 }
 
 int clock_gettime(clockid_t clock, struct timespec *now) {
@@ -178,5 +194,7 @@ ssize_t read(int stream, void *bytes, size_t count) {
 
 ssize_t write(int stream, const void *bytes, size_t count) {
     enum kind kind = stream == STDOUT_FILENO ? WRITE : stream == STDERR_FILENO ? REPORT : NONE;
+    if (kind != NONE && early != NULL && unjoined > 0)
+        atomic_fetch_add(early, 1);
     return moved(SYS_write, kind, stream, (void *)bytes, count);
 }

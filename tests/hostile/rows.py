@@ -15,7 +15,7 @@ sys.dont_write_bytecode = True
 import again
 import costs
 import judge
-from preload import EVERY, SECONDS, Program, Refusal
+from preload import EVERY, LEFT, SECONDS, Program, Refusal
 from shared import cases
 from shared.counts import Counts
 from shared.printed import Printed
@@ -291,6 +291,13 @@ def threads(runs):
             runs.check(f"{' '.join(words)} starts {started} threads", started == workers - 1 + others)
 
 
+def strays(runs):
+    """A program that writes while a thread of it still runs is found, so the runs of the rows leave none, whatever call is refused."""
+    script = "import threading; threading.Thread(target=threading.Event().wait, daemon=True).start(); print()"
+    got, _ = Program(sys.executable, runs.program.room).run(["-c", script], b"", judge.NOTHING_REFUSED)
+    runs.check("a thread that isn't joined is found", got.stderr == LEFT)
+
+
 def texts(runs):
     """The journal's text is freed before the search, and before the participants of a day are started."""
     for word, data in [("clear", AUCTION), ("day", OPEN_AUCTION)]:
@@ -322,6 +329,7 @@ def main():
     again.run(runs, room, rows_of_calls(runs.program))
     seeds(runs)
     threads(runs)
+    strays(runs)
     texts(runs)
     copies(runs)
     if shutil.which("valgrind"):
