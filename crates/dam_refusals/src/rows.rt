@@ -183,6 +183,19 @@ struct Held {
     refused: u32,
 }
 
+/// The first commands at the gate, each by a pass of its giver.
+fn enter_each<J: GateName, H: Wait + Drop>(
+    rt: &impl Wait,
+    gate: &Gate<J, H>,
+    round: &mut Round<J>,
+    commands: &[Command],
+) -> Result<(), Stop> {
+    for (earlier, command) in (0..).zip(commands) {
+        round.enter(rt, gate, command, earlier)?;
+    }
+    Ok(())
+}
+
 /// The commands at a gate of this opening, each by a pass of its giver.
 fn enter_named<J: GateName, R: Wait>(
     rt: &R,
@@ -196,11 +209,7 @@ fn enter_named<J: GateName, R: Wait>(
     let accounts = Vec::with_capacity(alloc, MOST_PASSES as usize)?;
     let mut round = Round::<J>::new(alloc)?;
     let gate = Gate::<J, &R>::begin_seeded(rt, alloc, opening, seed)?;
-    let mut earlier = 0_u32;
-    for command in commands {
-        round.enter(rt, &gate, command, earlier)?;
-        earlier = earlier.wrapping_add(1);
-    }
+    enter_each(rt, &gate, &mut round, commands)?;
     let (journal, refused) = (gate.finish(), round.refused);
     Ok(Held {
         journal,
