@@ -1,6 +1,8 @@
 """The edits of must-fail/ and wrong-bodies/: each makes a wrong text of a right one.
 
-A file of must-fail/ is one edit. A file of wrong-bodies/ has several, each below a line with its name, or is one, too."""
+A file of must-fail/ is one edit. A file of wrong-bodies/ has several, each below a line with its name, or is one, too. The file
+tests/rattle/wrong-bodies.edit has those that contracts allow and a test finds. There a line 'test: CRATE TEST' names the test, and the
+paths begin with crates/CRATE/."""
 
 import os
 import re
@@ -10,6 +12,8 @@ from source import functions_of, outside
 
 FOLDERS = ("must-fail", "wrong-bodies")
 NAMED = re.compile(r"^name:[ \t]*(.*?)[ \t]*$", re.MULTILINE)
+FOUND = re.compile(r"^test: (\w+) ([\w:]+)\n", re.MULTILINE)
+CHANGED = re.compile(r"^file: crates/(\w+)/", re.MULTILINE)
 
 
 class Unfit(Exception):
@@ -56,13 +60,40 @@ def edits_in(path, folder, may_be_several):
     text = read(f"{folder}/{path}")
     if not (may_be_several and NAMED.search(text)):
         return [Edit(name, path, text, folder)]
+    found = []
+    for named, line, body in parts_of(text):
+        if named is None:
+            found.append(Edit(name, path, body, folder, "a line stands before the first 'name:' line"))
+        else:
+            found.append(Edit(named, f"{path}:{line}", body, folder, None if named else "a 'name:' line names nothing"))
+    return found
+
+
+def parts_of(text):
+    """Yields each 'name:' line's name, its number and the text below it; with None for the name, a text before the first such line."""
     first, *others = NAMED.split(text)
-    found = [Edit(name, path, first, folder, "a line stands before the first 'name:' line")] if first.strip() else []
+    if first.strip():
+        yield None, 1, first
     line = first.count("\n") + 1
-    for named, body in zip(others[::2], others[1::2]):
-        fault = None if named else "a 'name:' line names nothing"
-        found.append(Edit(named, f"{path}:{line}", body, folder, fault))
+    for name, body in zip(others[::2], others[1::2]):
+        yield name, line, body
         line += body.count("\n")
+
+
+def edits_that_tests_find(file, top):
+    """Returns the edits of tests/rattle/wrong-bodies.edit, applied to the crates of this folder, each with the crate and the path of its
+    test."""
+    found, names = [], set()
+    for name, line, text in parts_of(read(file)):
+        crates, tests, fault = {*CHANGED.findall(text)}, FOUND.findall(text), None
+        if not name or name in names:
+            fault = "it has no name, or another's"
+        elif len(crates) != 1 or len(tests) != 1:
+            fault = "it needs one 'test:' line, and 'file:' lines of one crate"
+        names.add(name)
+        text = FOUND.sub("", CHANGED.sub("file: ", text))
+        edit = Edit(name, f"{os.path.relpath(file, top)}:{line}", text, f"{top}/crates/{min(crates, default='')}", fault)
+        found.append((edit, *(tests or [("", "")])[0]))
     return found
 
 

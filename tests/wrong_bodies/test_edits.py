@@ -4,7 +4,7 @@ import os
 import tempfile
 import unittest
 
-from edits import Unfit, batches_of, edits_of, texts_made, write
+from edits import Unfit, batches_of, edits_of, edits_that_tests_find, texts_made, write
 
 LIB = """\
 const MOST: u64 = 5;
@@ -123,6 +123,35 @@ class Edits(unittest.TestCase):
             write(f"{self.crate}/wrong-bodies/{name}.edit", edit(old, new))
         first, second, third = edits_of(self.crate, ("wrong-bodies",))
         self.assertEqual(batches_of([first, second, third]), [[first, third], [second]])
+
+
+class EditsThatTestsFind(unittest.TestCase):
+    GOOD = "name: one\ntest: b_tests low::is_1\n" + edit("MOST - 4", "MOST - 3", "crates/a/src/lib.rt")
+
+    def found(self, text):
+        with tempfile.TemporaryDirectory(prefix="edits-") as top:
+            os.makedirs(f"{top}/crates/a/src")
+            write(f"{top}/crates/a/src/lib.rt", LIB)
+            write(f"{top}/wrong-bodies.edit", text)
+            return edits_that_tests_find(f"{top}/wrong-bodies.edit", top)
+
+    def test_one_and_its_test(self):
+        ((found, crate, test),) = self.found(self.GOOD)
+        self.assertIsNone(found.fault)
+        self.assertEqual(found.texts, {"src/lib.rt": LIB.replace("MOST - 4", "MOST - 3")})
+        self.assertEqual((found.name, found.place, crate, test), ("one", "wrong-bodies.edit:1", "b_tests", "low::is_1"))
+
+    def test_faults(self):
+        other = self.GOOD.replace("one", "other")
+        for text, why in [
+            (self.GOOD + self.GOOD, "it has no name, or another's"),
+            ("x\n" + self.GOOD, "it has no name, or another's"),
+            (self.GOOD + other.replace("test: b_tests low::is_1\n", ""), "it needs one 'test:' line, and 'file:' lines of one crate"),
+            (self.GOOD + other + edit("MOST - 1", "MOST", "crates/b/src/lib.rt"), "it needs one 'test:' line, and 'file:' lines of one crate"),
+            (self.GOOD + other.replace("MOST - 4", "MOST - 5"), "an 'old:' text stands 0 times in src/lib.rt, and not once: MOST - 5"),
+        ]:
+            with self.subTest(text=text):
+                self.assertEqual({it.fault for it, *_ in self.found(text)} - {None}, {why})
 
 
 if __name__ == "__main__":
