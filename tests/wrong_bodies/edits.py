@@ -12,8 +12,8 @@ from source import functions_of, outside
 
 FOLDERS = ("must-fail", "wrong-bodies")
 NAMED = re.compile(r"^name:[ \t]*(.*?)[ \t]*$", re.MULTILINE)
-FOUND = re.compile(r"^test: (\w+) ([\w:]+)\n", re.MULTILINE)
-CHANGED = re.compile(r"^file: crates/(\w+)/", re.MULTILINE)
+TEST_LINE = re.compile(r"^test: (\w+) ([\w:]+)\n", re.MULTILINE)
+CRATE_PATH = re.compile(r"^file: crates/(\w+)/", re.MULTILINE)
 
 
 class Unfit(Exception):
@@ -85,13 +85,13 @@ def edits_that_tests_find(file, top):
     test."""
     found, names = [], set()
     for name, line, text in parts_of(read(file)):
-        crates, tests, fault = {*CHANGED.findall(text)}, FOUND.findall(text), None
+        crates, tests, fault = {*CRATE_PATH.findall(text)}, TEST_LINE.findall(text), None
         if not name or name in names:
             fault = "it has no name, or another's"
         elif len(crates) != 1 or len(tests) != 1:
             fault = "it needs one 'test:' line, and 'file:' lines of one crate"
         names.add(name)
-        text = FOUND.sub("", CHANGED.sub("file: ", text))
+        text = TEST_LINE.sub("", CRATE_PATH.sub("file: ", text))
         edit = Edit(name, f"{os.path.relpath(file, top)}:{line}", text, f"{top}/crates/{min(crates, default='')}", fault)
         found.append((edit, *(tests or [("", "")])[0]))
     return found

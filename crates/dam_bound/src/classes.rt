@@ -41,7 +41,8 @@ fn first_of(blocks: &[Block], at: usize) -> usize
 pub(crate) fn firsts_of(blocks: &[Block], count: usize) -> [u32; MOST_PERIODS]
     requires { count ≤ last_period }
     ensures long { length result ≡ last_period }
-    ensures each { (i d : ℕ) → i < count → slice_index_or result i d ≡ first_of blocks.now i }
+    ensures each { (i d : ℕ) → i < count
+        → slice_index_or result i d ≡ first_of blocks.now i }
 {
     let mut firsts = [0; MOST_PERIODS];
     for at in 0..count {

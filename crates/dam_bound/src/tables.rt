@@ -247,7 +247,8 @@ fn by_stake<A: Allocator>(touches: Vec<Touch, A>) -> Lot<A>
 /// Puts the places of the block's own net volumes, and its own curves, instead of those that its classes have before
 /// it.
 fn take_over(places: &mut [u32; MOST_PERIODS], ends: &mut [Curve], touches: &[Touch])
-    requires { (problem : ProblemState) × (all : CurvesState) × (kept : ℕ) × (k : ℕ) × (b : Block)
+    requires { (problem : ProblemState) × (all : CurvesState) × (kept : ℕ)
+        × (k : ℕ) × (b : Block)
         × (slice_get problem.blocks k ≡ Some b) × (k < most_blocks)
         × (length problem.hours ≤ last_period)
         × AreTouches problem all k b kept touches.now

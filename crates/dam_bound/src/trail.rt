@@ -47,7 +47,8 @@ impl Trail {
 /// Writes the net volumes of the root, on a day of `count` periods.
 pub(crate) fn write_root(trail: &mut Trail, count: usize)
     requires { count ≤ last_period }
-    ensures nets { (i : ℕ) (d : ℤ) → i < count → slice_index_or trail.new.nets i d ≡ pos 0 }
+    ensures nets { (i : ℕ) (d : ℤ) → i < count
+        → slice_index_or trail.new.nets i d ≡ pos 0 }
     ensures room { length trail.new.nets ≡ net_count }
 {
     trail.nets[..count].fill(0);
@@ -108,7 +109,8 @@ fn floor_of(least: u64) -> i64
 
 /// The total, if it isn't under the floor.
 fn reached(total: i64, floor: i64) -> Option<i64>
-    ensures { MatchOption result (total <ℤ floor) (λ left. (left ≡ total) × (floor ≤ℤ left)) }
+    ensures { MatchOption result (total <ℤ floor)
+        (λ left. (left ≡ total) × (floor ≤ℤ left)) }
 {
     if total < floor {
         return None;
@@ -127,7 +129,8 @@ fn is_near(total: i64, floor: i64) -> bool
 /// The rest of a total after a loss. A total under the floor stays as it is. Without a welfare afterwards (`None`) it
 /// is -1, which is under every floor.
 fn lowered(total: i64, loss: Option<i64>, floor: i64) -> i64
-    requires { floor ≤ℤ total → IfSome loss (λ fall. (neg_ℤ (pos (2 ^ 63)) ≤ℤ (total -ℤ fall))
+    requires { floor ≤ℤ total
+        → IfSome loss (λ fall. (neg_ℤ (pos (2 ^ 63)) ≤ℤ (total -ℤ fall))
         × ((total -ℤ fall) <ℤ pos (2 ^ 63))) }
     ensures { MatchOption loss (result ≡ neg_ℤ (pos 1))
         (λ fall. (floor ≤ℤ total → result ≡ total -ℤ fall) × (total <ℤ floor → result ≡ total)) }

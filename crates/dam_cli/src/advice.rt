@@ -180,7 +180,8 @@ fn is_command(word: &str) -> bool
 
 /// The first of these words that is neither an option nor an option's number.
 fn first_file(words: &[String]) -> Option<&str>
-    ensures { option_map (λ file. file.now) result ≡ first_file false (map string_bytes words.now) }
+    ensures { option_map (λ file. file.now) result
+        ≡ first_file false (map string_bytes words.now) }
 {
     let mut is_number = false;
     for word in words {

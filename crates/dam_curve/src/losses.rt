@@ -123,7 +123,8 @@ impl<A: Allocator> Curves<A> {
     /// The loss that is kept for the net volume, by the offset that `keep_losses` returned.
     #[inline(always)]
     pub fn loss(&self, offset: i64, net: i64) -> Loss
-        requires { (place : ℕ) × (pos place ≡ net +ℤ offset) × (place < length self.now.losses) }
+        requires { (place : ℕ) × (pos place ≡ net +ℤ offset)
+            × (place < length self.now.losses) }
         ensures { (place : ℕ) (d : Loss) → pos place ≡ net +ℤ offset
             → result ≡ slice_index_or self.now.losses place d }
     {

@@ -71,7 +71,8 @@ impl<A: Allocator> Sum<A> {
     /// Adds a period, at the same net volumes. On an error, which is out of memory, the sum is
     /// unchanged.
     pub fn add<B: Allocator>(&mut self, supply: &Supply<B>) -> Result<(), AllocError>
-        requires { (periods : List (List Step)) × (least : ℤ) × (most : ℤ) × (steps : List Step)
+        requires { (periods : List (List Step)) × (least : ℤ) × (most : ℤ)
+            × (steps : List Step)
             × IsCurve periods least most self.old × IsSupplyOf steps supply.now
             × (length periods < last_period) }
         ensures added { (periods : List (List Step)) (least most : ℤ) (steps : List Step)
@@ -150,7 +151,8 @@ fn write_segments<A: Allocator>(
 
 /// The sum of two segments, at the net volumes at which both hold, up to this one.
 fn joined(a: Segment, b: Segment, most: i32) -> Segment
-    requires { (n : ℕ) × (m : ℕ) × IsSmallSegment n a × IsSmallSegment m b × (n + m ≤ last_period) }
+    requires { (n : ℕ) × (m : ℕ) × IsSmallSegment n a × IsSmallSegment m b
+        × (n + m ≤ last_period) }
     ensures { result ≡ joined a b most }
 {
     Segment {
@@ -199,9 +201,11 @@ fn add_segments<A: Allocator>(
     ensures segments { (f g : ℤ → Option ℤ) → AreSegments f a.now (bottom_of a.now)
         → AreSegments g b.now (bottom_of b.now) → OnOk result
         (AreSegments (λ net. both (f net) (g net)) sum.new.items (bottom_of sum.new.items)) }
-    ensures within { (g : ℤ → Option ℤ) (least most : ℤ) → AreSegments g b.now (bottom_of b.now)
+    ensures within { (g : ℤ → Option ℤ) (least most : ℤ)
+        → AreSegments g b.now (bottom_of b.now)
         → AreWithin b.now least most → OnOk result (AreWithin sum.new.items least most) }
-    ensures outside { (f g : ℤ → Option ℤ) (net : ℤ) → AreSegments f a.now (bottom_of a.now)
+    ensures outside { (f g : ℤ → Option ℤ) (net : ℤ)
+        → AreSegments f a.now (bottom_of a.now)
         → AreSegments g b.now (bottom_of b.now) → OnOk result
         (IsOutside sum.new.items net → IsOutside a.now net ⊎ IsOutside b.now net) }
     ensures small { (n m : ℕ) → AreSmallSegments n a.now → AreSmallSegments m b.now

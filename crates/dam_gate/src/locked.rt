@@ -131,7 +131,8 @@ fn next_slot<J: GateName, R: Wait + Drop>(
 /// it. It waits for the looks at that version.
 fn let_go<J: GateName, R: Wait + Drop>(writer: &mut WriteHandle<Shown<J>, NextShown<J>, R>)
     requires { pending writer.old ≡ [] }
-    ensures shown { slot_name (published writer.new).slot ≡ slot_name (published writer.old).slot }
+    ensures shown { slot_name (published writer.new).slot
+        ≡ slot_name (published writer.old).slot }
     ensures waiting { pending writer.new ≡ [] }
 {
     // Nothing waits, so an `Err` would change nothing either.

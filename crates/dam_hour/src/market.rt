@@ -14,13 +14,15 @@ ghost use Rattle.dam_hour.specs.Market.{order_surplus, IsExecutedAt};
 /// orders of one side and limit, the later in book order gets nothing before the earlier has its whole
 /// volume.
 pub fn fair_in_a_period()
-    ensures better { (steps : List Step) (net price : ℤ) (place : ℕ) (step : Step) (volume : ℕ)
+    ensures better { (steps : List Step) (net price : ℤ)
+        (place : ℕ) (step : Step) (volume : ℕ)
         → IsExecutedAt steps net price place step volume
         → IsBetter step.side step.price price → volume ≡ step.qty }
     ensures worse { (steps : List Step) (net price : ℤ) (place : ℕ) (step : Step) (volume : ℕ)
         → IsExecutedAt steps net price place step volume
         → IsWorse step.side step.price price → volume ≡ 0 }
-    ensures no_loss { (steps : List Step) (net price : ℤ) (place : ℕ) (step : Step) (volume : ℕ)
+    ensures no_loss { (steps : List Step) (net price : ℤ)
+        (place : ℕ) (step : Step) (volume : ℕ)
         → IsExecutedAt steps net price place step volume
         → pos 0 ≤ℤ order_surplus price step volume }
     ensures no_better_volume { (steps : List Step) (net price : ℤ) (place : ℕ) (step : Step)

@@ -175,7 +175,7 @@ fn unsettled_again(
     Err(Stop::Wrong)
 }
 
-/// Accounts of passes, and how many of their calls were refused memory.
+/// A journal, the accounts of its passes, and how many calls were refused memory.
 #[derive(Drop)]
 struct Held {
     journal: Journal,
