@@ -98,8 +98,8 @@ fn has_given_all<J: GateName, H: Wait + Drop>(
     gate: &Gate<J, H>,
     who: &Participant,
 ) -> bool {
-    let used = Some(PassFault::PassesUsed);
-    gate.pass(rt, who.copy()).err() == used && gate.operator(rt).err() == used
+    matches!(gate.pass(rt, who.copy()), Err(PassFault::PassesUsed))
+        && matches!(gate.operator(rt), Err(PassFault::PassesUsed))
 }
 
 /// The calls at a gate of this opening that are refused for who makes them, and the journal that nobody closed.
@@ -190,8 +190,10 @@ fn enter_each<J: GateName, H: Wait + Drop>(
     round: &mut Round<J>,
     commands: &[Command],
 ) -> Result<(), Stop> {
-    for (earlier, command) in (0..).zip(commands) {
+    let mut earlier = 0_u32;
+    for command in commands {
         round.enter(rt, gate, command, earlier)?;
+        earlier = earlier.wrapping_add(1);
     }
     Ok(())
 }
