@@ -98,8 +98,8 @@ fn has_given_all<J: GateName, H: Wait + Drop>(
     gate: &Gate<J, H>,
     who: &Participant,
 ) -> bool {
-    matches!(gate.pass(rt, who.copy()), Err(PassFault::PassesUsed))
-        && matches!(gate.operator(rt), Err(PassFault::PassesUsed))
+    let used = Some(PassFault::PassesUsed);
+    gate.pass(rt, who.copy()).err() == used && gate.operator(rt).err() == used
 }
 
 /// The calls at a gate of this opening that are refused for who makes them, and the journal that nobody closed.
@@ -190,10 +190,8 @@ fn enter_each<J: GateName, H: Wait + Drop>(
     round: &mut Round<J>,
     commands: &[Command],
 ) -> Result<(), Stop> {
-    let mut earlier = 0_u32;
-    for command in commands {
+    for (earlier, command) in (0..).zip(commands) {
         round.enter(rt, gate, command, earlier)?;
-        earlier = earlier.wrapping_add(1);
     }
     Ok(())
 }
