@@ -48,10 +48,10 @@ def expected_lines(problem):
 
 
 def line_values(line, known, behind):
-    """The values of a line after its known fields: numbers, and for an `a` whether the word is `accepted`. None if it isn't
-    such a line."""
+    """The values of a line that begins with its known fields, after these: numbers, and for an `a` whether the word is `accepted`.
+    None if they have another form."""
     fields = line.split(b",")
-    if fields[: len(known)] != [field.encode() for field in known] or len(fields) != len(known) + len(behind):
+    if len(fields) != len(known) + len(behind):
         return None
     values = []
     for field, kind in zip(fields[len(known) :], behind):
@@ -153,7 +153,7 @@ def read_results(problem, data):
         if place is None or place in away:
             wrong.append(missing_line(last + (place is None), len(found), about))
             continue
-        read = line_values(found[place], known, behind)
+        read = line_values(found[place], known, behind) if beginnings[place] == wanted[at] else None
         lines[about] = last
         if read is None:
             wrong.append(of_line("form", last, about, form_words(about, found[place], known, behind)))

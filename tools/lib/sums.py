@@ -19,10 +19,11 @@ class Published(NamedTuple):
 def differences(problem, said):
     """Each sum that isn't as the laws say, as a line with its place."""
     day = Published(problem, said)
+    gains = list(trades.gains(day))
     yield from volume_differences(day)
-    yield from losing_hourly_orders(day)
-    yield from losing_participants(day)
-    yield from welfare_difference(day)
+    yield from losing_hourly_orders(day, gains)
+    yield from losing_participants(day, gains)
+    yield from welfare_difference(day, gains)
 
 
 def fault(day, kind, about, words):
@@ -39,28 +40,28 @@ def volume_differences(day):
             yield fault(day, "money", f"period {number}", words)
 
 
-def losing_hourly_orders(day):
-    for row, gain in trades.gains(day):
+def losing_hourly_orders(day, gains):
+    for row, gain in gains:
         if row.order.kind == "hour" and gain < 0:
             about = f"hour {row}"
             yield fault(day, "loss", about, f"{about}: at the price it loses {-gain} with its executed volume")
 
 
-def losing_participants(day):
+def losing_participants(day, gains):
     """The participants whose surpluses add up to less than 0, each at the line of the order that loses most."""
     own = {}
-    for row, gain in trades.gains(day):
+    for row, gain in gains:
         own.setdefault(row.who, []).append((gain, row))
-    for who, gains in own.items():
-        total = sum(gain for gain, _ in gains)
+    for who, pairs in own.items():
+        total = sum(gain for gain, _ in pairs)
         if total < 0:
-            _, row = min(gains, key=lambda pair: pair[0])
+            _, row = min(pairs, key=lambda pair: pair[0])
             about = f"{row.order.kind} {row}"
             yield fault(day, "loss", about, f"{about}: {who} loses {-total} with all its orders, and most with this one")
 
 
-def welfare_difference(day):
-    total = sum(gain for _, gain in trades.gains(day))
+def welfare_difference(day, gains):
+    total = sum(gain for _, gain in gains)
     if day.said.welfare != total:
         yield fault(day, "sum", "the welfare", f"the welfare is {day.said.welfare}, and the surpluses add up to {total}")
 

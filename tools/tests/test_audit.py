@@ -43,14 +43,13 @@ class Results(unittest.TestCase):
                 self.assertEqual(differences(data, text), [])
 
     def test_each_changed_number_is_refused_at_its_line(self):
-        """Whether the sums find it too or not: they never are the only check that does."""
+        """Without the sums: they never are the only check that finds a number."""
         refused = 0
         for name, data, text in cleared_cases():
             day = problem(data)
             for other, line in changed_numbers(text):
-                wrong = [fault for fault in check.differences(day, other)[1] if fault.kind not in ("money", "sum")]
-                with self.subTest(name, line=line):
-                    self.assertRegex("\n".join(wrong), rf"results line {line}\b")
+                with self.subTest(name, line=line), unittest.mock.patch.object(check.sums, "differences", return_value=()):
+                    self.assertRegex("\n".join(check.differences(day, other)[1]), rf"results line {line}\b")
                 refused += 1
         self.assertGreater(refused, 1_000)
 
