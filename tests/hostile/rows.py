@@ -121,7 +121,7 @@ def rows_of_calls(program):
     days += [(f"the commands of {name}", worked[f"replay/{name}"][1]) for name in ["stored-run", "closed", "links"]]
     yield from again.days([*days, ("the auction day", OPEN_AUCTION)])
     yield from again.gates()
-    texts = [(name, data) for name, (words, data) in worked.items() if words == ["replay"]]
+    texts = [(name, data) for name, (words, data) in worked.items() if words == ["replay"] or name == "clear/quoted-crlf"]
     yield from again.texts(program, texts, [("two orders", TWO_ORDERS + CLOSE), ("the auction day", AUCTION)])
     yield from again.searches(worked["clear/two-equal-blocks"][1], worked["clear/group"][1])
     yield from again.lines()

@@ -48,8 +48,8 @@ def expected_lines(problem):
 
 
 def line_values(line, known, behind):
-    """The values of a line that begins with its known fields, after these: numbers, and for an `a` whether the word is `accepted`.
-    None if they have another form."""
+    """The values after the known fields of a line that begins with these: numbers, and for an `a` whether the word is `accepted`. None if
+    their form is wrong."""
     fields = line.split(b",")
     if len(fields) != len(known) + len(behind):
         return None

@@ -43,7 +43,7 @@ class Results(unittest.TestCase):
                 self.assertEqual(differences(data, text), [])
 
     def test_each_changed_number_is_refused_at_its_line(self):
-        """Without the sums: they never are the only check that finds a number."""
+        """The other checks find each changed number without the sums."""
         refused = 0
         for name, data, text in cleared_cases():
             day = problem(data)
