@@ -22,6 +22,7 @@ pub mod AdmissionDecided
 pub mod Fronts
 pub mod ResultExists
 pub mod Hindering
+pub mod Conflicting
 pub mod BestSelection
 pub mod Sharing
 pub mod Participants

@@ -17,6 +17,10 @@ use Rattle.dam_blocks.specs.Problem.{IsParent}
 abbrev pub accepts : List Bool → ℕ → Bool
 accepts selection i = slice_index_or selection i false
 
+-- both accept some place
+abbrev pub Meets : List Bool → List Bool → Type 0
+Meets selection other = (i : ℕ) × (accepts selection i ≡ true) × (accepts other i ≡ true)
+
 -- the acceptances of the first places, with no other place accepted
 abbrev pub padded : List Bool → List Bool
 padded decided = decided ++ replicate (most_blocks - length decided) false

@@ -3,7 +3,7 @@
 //!
 //! A caller that needs one of them in a proof calls the function, at no cost.
 
-ghost use Rattle.std.specs.Prelude.{◌≡◌, ◌≢◌, ◌↔◌, true, ◌+◌, ◌*◌, ◌<◌, ◌^◌, ◌+ℤ◌, ◌≤ℤ◌, ◌<ℤ◌, ◌⊎◌, ℕ, ℤ, pos, Some, List, ◌++◌, Bool, ◌&&◌, length, drop};
+ghost use Rattle.std.specs.Prelude.{◌≡◌, ◌≢◌, ◌↔◌, true, false, ◌+◌, ◌*◌, ◌<◌, ◌^◌, ◌+ℤ◌, ◌≤ℤ◌, ◌<ℤ◌, ◌⊎◌, ℕ, ℤ, pos, Some, List, ◌++◌, Bool, ◌&&◌, length, drop, slice_get};
 ghost use Rattle.dam_book.specs.Terms.{BlockTerms};
 ghost use Rattle.dam_book.specs.Limits.{greatest_volume, last_period, most_hourly, most_blocks};
 ghost use Rattle.dam_hour.specs.Limits.{greatest_price, price_span};
@@ -11,7 +11,7 @@ ghost use Rattle.dam_blocks.specs.declared.problem.Block.{Block};
 ghost use Rattle.dam_blocks.specs.declared.scoring.Verdict.{Verdict};
 ghost use Rattle.dam_blocks.specs.declared.scoring.Verdict.TheVariants.{Eligible};
 ghost use Rattle.dam_blocks.specs.Problem.{ProblemState, IsProblem, IsParent};
-ghost use Rattle.dam_blocks.specs.Selection.{accepts, padded, empty_selection, choice, over_accepted, IsAdmissible};
+ghost use Rattle.dam_blocks.specs.Selection.{accepts, padded, empty_selection, choice, over_accepted, are_of_one_group, IsAdmissible};
 ghost use Rattle.dam_blocks.specs.Family.{names, parent_place, descends, accepted_descendants, IsChildAt, Descends};
 ghost use Rattle.dam_blocks.specs.Eligible.{selection_welfare, IsEligible};
 ghost use Rattle.dam_blocks.specs.Magnitude.{IsWithin, greatest_hourly_value, greatest_block_value, greatest_surplus, greatest_selection_welfare};
@@ -154,6 +154,19 @@ pub fn families()
         → (parent_place problem.blocks j ≡ Some i) ↔ IsChildAt problem.blocks i j }
     ensures descends { (problem : ProblemState) (i j : ℕ) → IsProblem problem
         → (descends problem.blocks i j ≡ true) ↔ Descends problem.blocks i j }
+{}
+
+/// An admissible selection that accepts a block accepts each block that this one descends from, and no other one of its
+/// exclusive group.
+pub fn conflicts()
+    ensures ancestors { (problem : ProblemState) (selection : List Bool) (i j : ℕ)
+        → IsProblem problem → IsAdmissible problem.blocks selection
+        → descends problem.blocks i j ≡ true → accepts selection j ≡ true
+        → accepts selection i ≡ true }
+    ensures group { (blocks : List Block) (selection : List Bool) (i j : ℕ) (a b : Block)
+        → IsAdmissible blocks selection → slice_get blocks i ≡ Some a → slice_get blocks j ≡ Some b
+        → i ≢ j → are_of_one_group a b ≡ true → accepts selection i ≡ true
+        → accepts selection j ≡ false }
 {}
 
 /// If a selection is admissible, so is each front of it with no other block: a block's parent stands

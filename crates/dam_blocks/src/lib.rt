@@ -40,7 +40,7 @@ pub use accepted::{
 };
 pub use family::descends;
 pub use gain::{family_surplus, surplus, surplus_at_price};
-pub use links::{admissible, is_allowed};
+pub use links::{admissible, are_of_one_group, is_allowed};
 pub use problem::{Block, MOST_PERIODS, Place, Problem, ProblemFault, ProblemRow};
 pub use result::{best_of_all, best_of_none, ranks_above};
 pub use scoring::{Verdict, score};

@@ -8,7 +8,7 @@ use dam_book::{MOST_BLOCKS, MOST_OF_GROUP};
 use std::alloc::Allocator;
 
 /// Whether both are in one exclusive group of one participant.
-pub(crate) fn are_of_one_group(first: &Block, second: &Block) -> bool
+pub fn are_of_one_group(first: &Block, second: &Block) -> bool
     ensures { result ≡ are_of_one_group first.now second.now }
 {
     match (first.order.group(), second.order.group()) {

@@ -1,6 +1,6 @@
-ghost use Rattle.std.specs.Prelude.{◌≡◌, ◌<◌, ◌≤◌, ◌^◌, true, length, slice_set};
+ghost use Rattle.std.specs.Prelude.{◌≡◌, ◌↔◌, ◌<◌, ◌≤◌, ◌^◌, true, not, IsTrue, length, slice_set};
 ghost use Rattle.dam_book.specs.Limits.{most_blocks};
-ghost use Rattle.dam_blocks.specs.Selection.{accepts, padded, empty_selection, choice};
+ghost use Rattle.dam_blocks.specs.Selection.{accepts, padded, empty_selection, choice, Meets};
 
 use dam_book::MOST_BLOCKS;
 use std::marker::Model;
@@ -56,6 +56,15 @@ impl Selection {
         self
     }
 
+    /// The selection with the decision on the block at this place reversed.
+    pub fn turned(mut self, place: usize) -> Selection
+        requires { place < most_blocks }
+        ensures { result ≡ slice_set self place (not (accepts self place)) }
+    {
+        self.accepted ^= 1 << place;
+        self
+    }
+
     /// Whether the block at this place is accepted. A selection has a place for each block that
     /// a book may have; no place past the last is accepted.
     pub fn has(self, place: usize) -> bool
@@ -63,6 +72,13 @@ impl Selection {
         ensures places { length self ≡ most_blocks }
     {
         place < MOST_BLOCKS && (self.accepted >> place) & 1 == 1
+    }
+
+    /// Whether both accept the block at some place.
+    pub fn meets(self, other: Selection) -> bool
+        ensures { IsTrue result ↔ Meets self other }
+    {
+        self.accepted & other.accepted != 0
     }
 
     /// For proofs: the call computes nothing. A selection has a place for each block that a book may have.

@@ -13,7 +13,7 @@ use Rattle.dam_blocks.specs.Selection.{accepts, over_accepted}
 use Rattle.dam_blocks.specs.Family.{descends}
 use Rattle.dam_blocks.specs.Eligible.{surplus_of, surplus_at}
 use Rattle.dam_bound.specs.inside.Families.{IsFamily, AreFamilies}
-use Rattle.dam_bound.proofs.Extending.{if_accepted}
+use Rattle.dam_bound.proofs.Accepted.{if_accepted}
 
 -- ---- the descendants among the first places
 pub record IsFamilySoFar (blocks : List Block) (place other : ℕ) (family : List Bool) (is_empty : Bool) : Type 0 where

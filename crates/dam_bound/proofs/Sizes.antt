@@ -12,7 +12,7 @@ use Rattle.dam_blocks.specs.Selection.{over_accepted, value_of, block_value}
 use Rattle.dam_blocks.specs.Magnitude.{IsWithin}
 use Rattle.dam_blocks.proofs.Magnitudes.{value_within}
 
-over_within : (f : BlockTerms → ℤ) (most periods : ℕ) → ((o : BlockTerms) → IsBlockOrder o → IsWithin most (f o))
+pub over_within : (f : BlockTerms → ℤ) (most periods : ℕ) → ((o : BlockTerms) → IsBlockOrder o → IsWithin most (f o))
     → (bs : List Block) (sel : List Bool) → AreBlocks periods bs
     → IsWithin (length bs * most) (over_accepted f bs sel)
 over_within f most periods each [] sel are = record { at_least = omega (arith, ints); at_most = omega (arith, ints) }

@@ -1,6 +1,7 @@
 -- The classes of a day's periods: two periods are in one class if every block has the same volume in both. So the net
 -- volume of a selection is the same in all periods of a class, and their welfare is a function of one number.
-use Rattle.std.specs.Prelude.{ℕ, zero, suc, ◌==◌, Bool, true, ◌&&◌, if◌then◌else◌, ℤ, pos, ◌+ℤ◌, Option, List, [], ◌∷◌, drop}
+use Rattle.std.specs.Prelude.{◌≡◌, ℕ, zero, suc, ◌<◌, ◌==◌, Bool, true, ◌&&◌, if◌then◌else◌, ℤ, pos, ◌+ℤ◌, Option, List, [], ◌∷◌, length, drop, slice_index_or}
+use Rattle.dam_book.specs.Limits.{last_period}
 use Rattle.dam_hour.specs.declared.step.Step.{Step}
 use Rattle.dam_curve.specs.Curve.{joint_welfare}
 use Rattle.dam_blocks.specs.declared.problem.Block.{Block}
@@ -41,3 +42,8 @@ class_hours problem depth c = members problem.blocks c 0 (relaxed_hours (drop de
 -- their greatest welfares at the same net volume, added up; None if one of them doesn't balance
 abbrev pub class_welfare : ProblemState → ℕ → ℕ → ℤ → Option ℤ
 class_welfare problem depth c net = joint_welfare (class_hours problem depth c) net
+
+-- the first period of each class
+pub record AreFirsts (problem : ProblemState) (firsts : List ℕ) : Type 0 where
+  pub long : length firsts ≡ last_period
+  pub each : (i d : ℕ) → i < length problem.hours → slice_index_or firsts i d ≡ first_of problem.blocks i

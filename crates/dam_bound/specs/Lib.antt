@@ -1,7 +1,8 @@
 pub mod Prefix
 pub mod Relaxed
 pub mod Classes
-pub mod Positions
-pub mod Trail
-pub mod Tables
+pub mod Sums
+pub mod ClassCurves
+pub mod Prices
+pub mod Open
 pub mod inside

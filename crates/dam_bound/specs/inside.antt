@@ -1,5 +1,4 @@
 -- Only contracts inside this crate cite these.
 pub mod Levels
-pub mod Change
 pub mod Families
-pub mod Building
+pub mod Numbers

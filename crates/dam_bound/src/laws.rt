@@ -2,7 +2,7 @@
 //!
 //! A caller that needs one of them in a proof calls the function, at no cost.
 
-ghost use Rattle.std.specs.Prelude.{◌≡◌, ◌<◌, ◌≤◌, ◌≤ℤ◌, ◌⊎◌, ℕ, ℤ, true, false, Some, None};
+ghost use Rattle.std.specs.Prelude.{◌≡◌, ◌<◌, ◌≤◌, ◌≤ℤ◌, ◌+ℤ◌, ◌⊎◌, ℕ, ℤ, true, false, Some, None};
 ghost use Rattle.std.specs.Prelude.{List, [], ◌∷◌, ◌++◌, Bool, length};
 ghost use Rattle.dam_book.specs.Limits.{most_blocks};
 ghost use Rattle.dam_blocks.specs.Problem.{ProblemState, IsProblem};
@@ -10,7 +10,10 @@ ghost use Rattle.dam_blocks.specs.Selection.{padded, IsAdmissible};
 ghost use Rattle.dam_blocks.specs.Eligible.{selection_welfare, ArePrices};
 ghost use Rattle.dam_blocks.specs.Magnitude.{IsWithin, greatest_selection_welfare};
 ghost use Rattle.dam_bound.specs.Prefix.{IsCompletion};
+ghost use Rattle.dam_bound.specs.Open.{IsOpen, AreFree};
+ghost use Rattle.dam_bound.specs.Prices.{IsByLines, IsPriceBound, most_of, over_gains};
 ghost use Rattle.dam_bound.specs.Relaxed.{relaxed_welfare};
+ghost use Rattle.dam_bound.specs.declared.price_bound.PriceBound.{PriceBound};
 
 /// The bound law: no completion of a prefix, admissible or not, has a welfare above the relaxed
 /// welfare of the prefix; and if there is no relaxed welfare, no completion balances every
@@ -82,6 +85,14 @@ pub fn magnitude()
     dam_blocks::laws::sums();
 }
 
+/// At the prices of lines over the classes, the surplus of all hourly orders and of the blocks of a selection is no
+/// less than the welfare of the selection.
+pub fn price_bound()
+    ensures { (problem : ProblemState) (bound : PriceBound) (selection : List Bool) (w : ℤ)
+        → IsByLines problem bound → selection_welfare problem selection ≡ Some w
+        → w ≤ℤ (bound.base +ℤ over_gains bound.gains selection) }
+{}
+
 /// A selection with which every period balances has a price in each of them.
 pub fn prices()
     ensures { (problem : ProblemState) (sel : List Bool) (w : ℤ) → IsProblem problem
@@ -92,3 +103,12 @@ pub fn prices()
     dam_hour::laws::balance();
     dam_hour::laws::existence();
 }
+
+/// An open selection has no more welfare than the bound by prices, with each open place at its gain if that is above 0.
+pub fn open_bound()
+    ensures { (problem : ProblemState) (bound : PriceBound) (taken selection : List Bool)
+        (left : List ℕ) (w : ℤ)
+        → IsPriceBound problem bound → length taken ≡ most_blocks → AreFree taken left
+        → IsOpen taken left selection → selection_welfare problem selection ≡ Some w
+        → w ≤ℤ most_of bound taken left }
+{}

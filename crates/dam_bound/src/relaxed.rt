@@ -5,14 +5,10 @@ ghost use Rattle.dam_blocks.specs.Selection.{padded};
 ghost use Rattle.dam_blocks.specs.Eligible.{period_welfare, ArePrices, family_surplus};
 ghost use Rattle.dam_blocks.specs.Magnitude.{IsWithin};
 ghost use Rattle.dam_bound.specs.Relaxed.{as_steps, relaxed_welfare, without_rows};
-ghost use Rattle.dam_bound.specs.Positions.{ArePositions, IsUnder};
-ghost use Rattle.dam_bound.specs.Trail.{ArePositionsIn, KeepsPositions};
 ghost use Rattle.dam_bound.specs.inside.Levels.{AreLevels, AreLevelsAt, last_steps, AreDayLevels};
 ghost use Rattle.dam_bound.specs.inside.Levels.{greatest_period_bound};
 
 use crate::levels::Levels;
-use crate::tables::Tables;
-use crate::walk::{Bounds, Walk};
 use dam_blocks::{Block, Problem, Selection, block_value, laws, net_volume};
 use dam_book::Period;
 use std::alloc::{AllocError, Allocator, Global};
@@ -20,30 +16,26 @@ use std::marker::Model;
 
 /// The source of the bounds of a problem's prefixes: at each depth each period's hourly orders,
 /// and with them every undecided block as an order of its own in each of its periods. `bound` clears them
-/// as hours, and a walk reads tables of them, which are made once.
+/// as hours.
 ///
 /// A contract sees the problem that it was built of, without its rows.
 #[derive(Drop)]
 pub struct Relaxed<A: Allocator = Global> {
     periods: Vec<Levels<A>, A>,
     blocks: Vec<Block, A>,
-    /// The tables that a walk reads.
-    tables: Tables<A>,
 }
 
 impl<A: Allocator> Model for Relaxed<A> {
     ghost use Rattle.std.specs.Prelude.{length};
     ghost use Rattle.dam_blocks.specs.Problem.{ProblemState, AreBlocks};
     ghost use Rattle.dam_bound.specs.inside.Levels.{AreDayLevels, problem_kept};
-    ghost use Rattle.dam_bound.specs.Tables.{AreTablesOf};
 
     ghost Value = { ProblemState };
 
     ghost view = { λ r. problem_kept r.periods.items r.blocks.items };
 
     ghost invariant = { λ r. AreDayLevels r.blocks.items r.periods.items
-        × AreBlocks (length r.periods.items) r.blocks.items
-        × AreTablesOf (problem_kept r.periods.items r.blocks.items) r.tables };
+        × AreBlocks (length r.periods.items) r.blocks.items };
 }
 
 fn copies_of<A: Allocator>(alloc: A, blocks: &[Block]) -> Result<Vec<Block, A>, AllocError>
@@ -90,18 +82,13 @@ fn periods_of<A: Allocator + Copy, B: Allocator>(
 }
 
 impl<A: Allocator + Copy> Relaxed<A> {
-    /// The levels and the tables of a problem. The error is out of memory.
+    /// The levels of a problem. The error is out of memory.
     pub fn build<B: Allocator>(alloc: A, problem: &Problem<B>) -> Result<Relaxed<A>, AllocError>
         ensures { IfOk result (λ relaxed. relaxed ≡ without_rows problem.now) }
     {
         let periods = periods_of(alloc, problem)?;
         let blocks = copies_of(alloc, problem.blocks())?;
-        let tables = Tables::of(alloc, problem)?;
-        Ok(Relaxed {
-            periods,
-            blocks,
-            tables,
-        })
+        Ok(Relaxed { periods, blocks })
     }
 }
 
@@ -151,13 +138,5 @@ impl<A: Allocator> Relaxed<A> {
             total += welfare;
         }
         Some(total)
-    }
-}
-
-impl<A: Allocator> Bounds<A> for Relaxed<A> {
-    ghost bounded = { λ problem. problem };
-
-    fn walk<'a, B: Allocator>(&'a self, problem: &'a Problem<B>) -> Walk<'a, B, A> {
-        Walk::new(problem, &self.tables)
     }
 }

@@ -6,10 +6,11 @@ use Rattle.std.proofs.lemmas.Int.{ints, by_lt_z, int_min_is, int_max_is}
 use Rattle.std.proofs.lemmas.Bool.{cases_lt}
 use Rattle.std.proofs.lemmas.List.{get_or_default}
 use Rattle.dam_curve.specs.declared.segment.Segment.{Segment}
-use Rattle.dam_curve.specs.Curve.{both, IsSegment, end_of, AreSegments, bottom_of, AreWithin, IsOutside, AreSmallSegments}
+use Rattle.dam_curve.specs.Curve.{both, IsSegment, end_of, AreSegments, bottom_of, IsUnderEach, IsPriced, ArePriced, AreWithin, IsOutside, AreSmallSegments}
+use Rattle.dam_hour.specs.declared.step.Step.{Step}
 use Rattle.dam_curve.specs.inside.Segments.{joined, IsPast}
-use Rattle.dam_curve.proofs.ListsOfSegments.{end_more, segments_more, bottom_more, small_more, segment_inside, segment_last, bottom_at, small_at, joined_is}
-use Rattle.dam_curve.proofs.ListsOfSegments.{joined_small}
+use Rattle.dam_curve.proofs.ListsOfSegments.{end_more, segments_more, bottom_more, small_more, under_more, priced_more, under_at, priced_inside, priced_last, segment_inside, segment_last, bottom_at, small_at, joined_is}
+use Rattle.dam_curve.proofs.ListsOfSegments.{joined_under, joined_priced, joined_small}
 
 -- ---- the place of a segment
 -- a place among the segments; if it is the last one, they hold down to no more than the net volume
@@ -21,6 +22,21 @@ pub record IsPlace (ls : List Segment) (at : ℤ) (place : ℕ) : Type 0 where
 pub record StandsAt (ls : List Segment) (at : ℤ) (place : ℕ) : Type 0 where
   pub holds : (d : Segment) → at ≤ℤ (get_or ls place d).most
   pub next : (d : Segment) → suc place < length ls → (get_or ls (suc place) d).most ≤ℤ at
+
+-- no later segment holds there, or the segment there ends there
+pub record IsLastAt (ls : List Segment) (at : ℤ) (place : ℕ) : Type 0 where
+  pub apart : (d : Segment) → suc place < length ls → ((get_or ls (suc place) d).most <ℤ at) ⊎ ((get_or ls place d).most ≡ at)
+
+pub priced_here : (ps : List (List Step)) (ls : List Segment) (at : ℤ) (place : ℕ) (d : Segment) → ArePriced ps ls (bottom_of ls)
+    → IsPlace ls at place → StandsAt ls at place → IsLastAt ls at place
+    → (x : ℤ) × IsPriced ps (get_or ls place d) x × (x ≤ℤ at) × ((x <ℤ at) ⊎ ((get_or ls place d).most ≡ at))
+priced_here ps ls at place d are p s t = elim (cases_lt (suc place) (length ls)) [
+  | inl l ↦ ((get_or ls (suc place) d).most, priced_inside ps ls (bottom_of ls) place d are l, s.next d l, t.apart d l)
+  | inr m ↦
+      (let inside = p.inside in let e : suc place ≡ length ls = omega (arith, m, inside) in
+      let under = p.last e in let over = s.holds d in let bottom = bottom_at ls place d e in
+      (bottom_of ls, priced_last ps ls (bottom_of ls) place d are e, under, inr (omega (arith, ints, under, over, bottom))))
+]
 
 pub segment_here : (f : ℤ → Option ℤ) (ls : List Segment) (at : ℤ) (place : ℕ) (d : Segment) → AreSegments f ls (bottom_of ls)
     → IsPlace ls at place → StandsAt ls at place → (x : ℤ) × IsSegment f (get_or ls place d) x × (x ≤ℤ at)
@@ -56,6 +72,15 @@ stands_from ls at place holds under = record {
       let less = under d (omega (arith, l)) in omega (arith, ints, same, less));
 }
 
+pub last_from : (ls : List Segment) (at : ℤ) (place : ℕ)
+    → ((d : Segment) → place + 1 < length ls → (get_or ls (place + 1) d).most <ℤ at) → IsLastAt ls at place
+last_from ls at place under = record {
+  apart = λ d l.
+      (let one : place + 1 ≡ suc place = omega arith in
+      let same = ap (λ (n : ℕ). (get_or ls n d).most) one in
+      let less = under d (omega (arith, l)) in inl (omega (arith, ints, same, less)));
+}
+
 most_at : (ls : List Segment) (place next : ℕ) (d e : Segment) → place < length ls → next ≡ place
     → (get_or ls next e).most ≡ (get_or ls place d).most
 most_at ls place next d e l same =
@@ -82,18 +107,36 @@ past_stands f ls at lower place next are s l under (inr (e, differs)) = record {
   next = λ d more. (let own = under d in let same = ap (λ (n : ℕ). (get_or ls (suc n) d).most) e in omega (arith, ints, own, same));
 }
 
+past_last : (ls : List Segment) (lower : ℤ) (place next : ℕ) → ((d : Segment) → (get_or ls (suc place) d).most ≤ℤ lower)
+    → IsPast ls place lower next → IsLastAt ls lower next
+past_last ls lower place next under (inl (e, is)) = record { apart = λ d more. inr (is d) }
+past_last ls lower place next under (inr (e, differs)) = record {
+  apart = λ d more.
+      (let own = under d in let apart = differs d in
+      let same = ap (λ (n : ℕ). (get_or ls (suc n) d).most) e in
+      let one : place + 1 ≡ suc place = omega arith in
+      let after = ap (λ (n : ℕ). (get_or ls n d).most) one in
+      by_lt_z (get_or ls (suc next) d).most lower (λ less. inl less)
+      (λ more. absurd (apart (omega (arith, ints, own, same, after, more)))));
+}
+
 -- ---- the sum so far
 -- from this net volume on down to that one
 pub record IsAdded (a b sum : List Segment) (start at : ℤ) (left right : ℕ) : Type 0 where
   pub left_is : IsPlace a at left
   pub right_is : IsPlace b at right
+  pub left_last : IsLastAt a at left
+  pub right_last : IsLastAt b at right
   pub begins : end_of sum at ≡ start
   pub over : (f : ℤ → Option ℤ) → AreSegments f b (bottom_of b) → bottom_of b ≤ℤ at
   pub small : (n m : ℕ) → AreSmallSegments n a → AreSmallSegments m b → AreSmallSegments (n + m) sum
   pub are_segments : (f g : ℤ → Option ℤ) → AreSegments f a (bottom_of a) → AreSegments g b (bottom_of b)
       → StandsAt a at left × StandsAt b at right × AreSegments (λ net. both (f net) (g net)) sum at
+  pub under : (f g : ℤ → Option ℤ) → IsUnderEach f a → IsUnderEach g b → IsUnderEach (λ net. both (f net) (g net)) sum
+  pub priced : (f g : ℤ → Option ℤ) (ss : List Step) (ps : List (List Step)) → AreSegments f a (bottom_of a)
+      → AreSegments g b (bottom_of b) → ArePriced (ss ∷ []) a (bottom_of a) → ArePriced ps b (bottom_of b) → ArePriced (ss ∷ ps) sum at
 
-bottom_under : (f : ℤ → Option ℤ) (ls : List Segment) (i : ℕ) (d : Segment) → AreSegments f ls (bottom_of ls) → i < length ls
+pub bottom_under : (f : ℤ → Option ℤ) (ls : List Segment) (i : ℕ) (d : Segment) → AreSegments f ls (bottom_of ls) → i < length ls
     → bottom_of ls ≤ℤ (get_or ls i d).most
 bottom_under f [] i d are l = absurd (omega (arith, l))
 bottom_under f (a ∷ []) zero d are l = omega (arith, ints)
@@ -103,8 +146,12 @@ bottom_under f (a ∷ b ∷ ls) zero d are l =
 bottom_under f (a ∷ b ∷ ls) (suc i) d are l = bottom_under f (b ∷ ls) i d are.1 (omega (arith, l))
 
 pub none_added : (a b : List Segment) (at : ℤ) (left right : ℕ) → IsPlace a at left → IsPlace b at right → bottom_of b ≤ℤ at
-    → StandsAt a at left → StandsAt b at right → IsAdded a b [] at at left right
-none_added a b at left right la lb over sa sb = record {
+    → StandsAt a at left → StandsAt b at right → IsLastAt a at left → IsLastAt b at right → IsAdded a b [] at at left right
+none_added a b at left right la lb over sa sb ta tb = record {
+  left_last = ta;
+  right_last = tb;
+  under = λ f g s t. tt;
+  priced = λ f g ss ps s t p q. tt;
   over = λ f t. over;
   left_is = la;
   right_is = lb;
@@ -121,6 +168,14 @@ small_added n m a b sum start at left right d is s t =
     small_more (n + m) sum (joined (get_or a left d) (get_or b right d) at) (is.small n m s t)
     (joined_small n m (get_or a left d) (get_or b right d) at (small_at n a left d s is.left_is.inside) (small_at m b right d t is.right_is.inside))
 
+pub under_added : (f g : ℤ → Option ℤ) (a b sum : List Segment) (start at : ℤ) (left right : ℕ) (d : Segment)
+    → IsAdded a b sum start at left right → IsUnderEach f a → IsUnderEach g b
+    → IsUnderEach (λ net. both (f net) (g net)) (sum ++ joined (get_or a left d) (get_or b right d) at ∷ [])
+under_added f g a b sum start at left right d is s t =
+    under_more (λ net. both (f net) (g net)) sum (joined (get_or a left d) (get_or b right d) at) (is.under f g s t)
+    (joined_under f g (get_or a left d) (get_or b right d) at (under_at f a left d s is.left_is.inside)
+    (under_at g b right d t is.right_is.inside))
+
 begins_added : (sum : List Segment) (segment : Segment) (start at next : ℤ) → end_of sum at ≡ start → segment.most ≡ at
     → end_of (sum ++ segment ∷ []) next ≡ start
 begins_added sum segment start at next e own = end_more sum segment next ∙ ap (end_of sum) own ∙ e
@@ -136,21 +191,33 @@ pub next_added : (a b sum : List Segment) (start at lower : ℤ) (left right nex
 next_added a b sum start at lower left right next_left next_right d is la lb top pa pb =
     let sa : suc left < length a = omega (arith, la) in
     let sb : suc right < length b = omega (arith, lb) in
+    let x = most_at a (left + 1) (suc left) d d la (omega arith) in
+    let y = most_at b (right + 1) (suc right) d d lb (omega arith) in
+    let greatest = int_max_is (get_or a (left + 1) d).most (get_or b (right + 1) d).most in
     record {
+      left_last = past_last a lower left next_left
+          (λ e. (let m = most_at a (left + 1) (suc left) d e la (omega arith) in omega (arith, ints, m, top, greatest))) pa;
+      right_last = past_last b lower right next_right
+          (λ e. (let m = most_at b (right + 1) (suc right) d e lb (omega arith) in omega (arith, ints, m, top, greatest))) pb;
+      under = λ f g s t. under_added f g a b sum start at left right d is s t;
+      priced = λ f g ss ps s t p q.
+          (let was = is.are_segments f g s t in
+          priced_more (ss ∷ ps) sum (joined (get_or a left d) (get_or b right d) at) lower (is.priced f g ss ps s t p q)
+          (joined_priced ss ps (get_or a left d) (get_or b right d) (get_or a (suc left) d).most (get_or b (suc right) d).most at lower
+          (priced_inside (ss ∷ []) a (bottom_of a) left d p sa) (priced_inside ps b (bottom_of b) right d q sb)
+          (omega (arith, ints, x, top, greatest)) (omega (arith, ints, y, top, greatest)) (was.0.holds d) (was.1.holds d)
+          (is.left_last.apart d sa) (is.right_last.apart d sb)));
       left_is = past_place a lower left next_left d sa pa;
       right_is = past_place b lower right next_right d sb pb;
       begins = begins_added sum (joined (get_or a left d) (get_or b right d) at) start at lower is.begins refl;
       over = λ f t.
           (let under = bottom_under f b (right + 1) d t lb in
-          let greatest = int_max_is (get_or a (left + 1) d).most (get_or b (right + 1) d).most in
           omega (arith, ints, under, top, greatest));
       small = λ n m s t. small_added n m a b sum start at left right d is s t;
       are_segments = λ f g s t.
           (let was = is.are_segments f g s t in
           let first = segment_inside f a (bottom_of a) left d s sa in
           let second = segment_inside g b (bottom_of b) right d t sb in
-          let x = most_at a (left + 1) (suc left) d d la (omega arith) in
-          let y = most_at b (right + 1) (suc right) d d lb (omega arith) in
           let under_a = was.0.next d sa in let under_b = was.1.next d sb in
           let falls = max_least (get_or a (left + 1) d).most (get_or b (right + 1) d).most lower at top (omega (arith, ints, under_a, x))
           (omega (arith, ints, under_b, y)) in (
@@ -193,6 +260,22 @@ all_segments f g a b sum start at left right d is s t =
     (segments_more (λ net. both (f net) (g net)) sum segment at was.2
     (joined_is f g (get_or a left d) (get_or b right d) first.0 second.0 at at first.1 second.1 first.2 second.2 (omega (arith, ints))
     (was.0.holds d) (was.1.holds d)))
+
+pub all_priced : (f g : ℤ → Option ℤ) (ss : List Step) (ps : List (List Step)) (a b sum : List Segment) (start at : ℤ) (left right : ℕ)
+    (d : Segment)
+    → IsAdded a b sum start at left right → AreSegments f a (bottom_of a) → AreSegments g b (bottom_of b)
+    → ArePriced (ss ∷ []) a (bottom_of a) → ArePriced ps b (bottom_of b)
+    → ArePriced (ss ∷ ps) (sum ++ joined (get_or a left d) (get_or b right d) at ∷ [])
+    (bottom_of (sum ++ joined (get_or a left d) (get_or b right d) at ∷ []))
+all_priced f g ss ps a b sum start at left right d is s t p q =
+    let segment = joined (get_or a left d) (get_or b right d) at in
+    let was = is.are_segments f g s t in
+    let first = priced_here (ss ∷ []) a at left d p is.left_is was.0 is.left_last in
+    let second = priced_here ps b at right d q is.right_is was.1 is.right_last in
+    subst (ArePriced (ss ∷ ps) (sum ++ segment ∷ [])) (sym (bottom_more sum segment))
+    (priced_more (ss ∷ ps) sum segment at (is.priced f g ss ps s t p q)
+    (joined_priced ss ps (get_or a left d) (get_or b right d) first.0 second.0 at at first.1 second.1 first.2 second.2
+    (was.0.holds d) (was.1.holds d) first.3 second.3))
 
 outside_parts : (ls : List Segment) (net : ℤ) → 0 < length ls → IsOutside ls net → (net <ℤ bottom_of ls) ⊎ (end_of ls (pos 0) <ℤ net)
 outside_parts [] net l o = absurd (omega (arith, l))

@@ -1,5 +1,5 @@
 -- The greatest welfare of a period is read off the part taken of its supply.
-use Rattle.std.proofs.Common.{◌≡◌, ℕ, ◌+◌, ◌-◌, ◌*◌, ◌≤◌, ℤ, pos, ◌+ℤ◌, ◌-ℤ◌, ◌*ℤ◌, ◌≤ℤ◌, Some, List, [], ◌∷◌, ap, ◌∙◌}
+use Rattle.std.proofs.Common.{◌≡◌, ℕ, ◌+◌, ◌-◌, ◌*◌, ◌≤◌, ℤ, pos, ◌+ℤ◌, ◌-ℤ◌, ◌*ℤ◌, ◌≤ℤ◌, Some, List, [], ◌∷◌, ap, ◌∙◌, sym, subst}
 use Rattle.std.proofs.Common.{arith}
 use Rattle.std.proofs.lemmas.Int.{ints}
 use Rattle.dam_book.specs.Limits.{lowest_price, highest_price}
@@ -9,11 +9,11 @@ use Rattle.dam_hour.specs.declared.step.Step.{Step}
 use Rattle.dam_hour.specs.Limits.{price_span}
 use Rattle.dam_hour.specs.Execution.{AreInRange, IsExecution, executed_volume, offered_volume, Balances, IsBalanced}
 use Rattle.dam_hour.specs.Best.{welfare_of, execution_surplus, greatest_welfare}
-use Rattle.dam_hour.specs.Price.{Supports, IsSupporting}
+use Rattle.dam_hour.specs.Price.{Supports, IsSupporting, AreEnds, price_between}
 use Rattle.dam_curve.specs.Supply.{height_of}
 use Rattle.dam_curve.specs.inside.Supply.{all_units, units_under, units_up_to, gain_under, AreUnitsAt, worth_of, Reaches, IsCostOf}
 use Rattle.dam_curve.proofs.Parts.{up_to_full, part_most, times_net}
-use Rattle.dam_curve.proofs.Supplying.{taken, spent, taken_total, supported_spent, reached_execution, welfare_spent}
+use Rattle.dam_curve.proofs.Supplying.{taken, spent, height_is, taken_total, supported_spent, supported_reaches, reached_execution, welfare_spent}
 
 -- ---- all of the supply
 pub under_all : (h : ℕ) (ss : List Step) → units_under h ss ≤ all_units ss
@@ -31,6 +31,9 @@ all_up_to (s ∷ ss) a =
     let rest = all_up_to ss a.2 in
     omega (arith, here, rest)
 
+pub lowest_in_range : IsPrice lowest_price
+lowest_in_range = record { at_least = omega (arith, ints); at_most = omega (arith, ints) }
+
 pub highest_in_range : IsPrice highest_price
 highest_in_range = record { at_least = omega (arith, ints); at_most = omega (arith, ints) }
 
@@ -42,7 +45,7 @@ taken_units net x t o b s u e f = omega (arith, ints, u, e, f)
 units_balance : (net : ℤ) (x t o b s : ℕ) → pos x +ℤ net ≡ pos o → t + b ≡ o + s → t ≡ x → pos s +ℤ net ≡ pos b
 units_balance net x t o b s u e f = omega (arith, ints, u, e, f)
 
-reaches_supporting : (ss : List Step) (net p : ℤ) (x : ℕ) → AreInRange ss → AreUnitsAt ss net x → IsPrice p → Reaches ss x (height_of p)
+pub reaches_supporting : (ss : List Step) (net p : ℤ) (x : ℕ) → AreInRange ss → AreUnitsAt ss net x → IsPrice p → Reaches ss x (height_of p)
     → IsSupporting ss net p
 reaches_supporting ss net p x a u r h =
     let found = reached_execution p ss x r a h in
@@ -55,8 +58,36 @@ reaches_supporting ss net p x a u r h =
       support = found.2;
     }
 
+supporting_reaches : (ss : List Step) (net p : ℤ) (x : ℕ) → AreInRange ss → AreUnitsAt ss net x → IsSupporting ss net p
+    → Reaches ss x (height_of p)
+supporting_reaches ss net p x a u s =
+    let same = taken_units net x (taken ss s.volumes) (offered_volume Buy ss) (executed_volume Buy ss s.volumes)
+    (executed_volume Sell ss s.volumes) u.balance (taken_total ss s.volumes s.execution) s.balance in
+    subst (λ n. Reaches ss n (height_of p)) same (supported_reaches p ss s.volumes s.in_range a s.execution s.support)
+
+-- ---- the ends of the supporting prices
+-- the heights up to which this number of units reaches are those from the low one to the high one
+pub record IsGap (ss : List Step) (x low high : ℕ) : Type 0 where
+  pub low_reaches : Reaches ss x low
+  pub high_reaches : Reaches ss x high
+  pub least : (h : ℕ) → Reaches ss x h → low ≤ h
+  pub greatest : (h : ℕ) → h ≤ price_span → Reaches ss x h → h ≤ high
+
+pub ends_are : (ss : List Step) (net low high : ℤ) (x : ℕ) → AreInRange ss → AreUnitsAt ss net x → IsPrice low → IsPrice high
+    → IsGap ss x (height_of low) (height_of high) → AreEnds ss net low high
+ends_are ss net low high x a u rl rh gap = record {
+  low_supports = reaches_supporting ss net low x a u rl gap.low_reaches;
+  high_supports = reaches_supporting ss net high x a u rh gap.high_reaches;
+  least = λ p s.
+      (let l = gap.least (height_of p) (supporting_reaches ss net p x a u s) in
+      let e = height_is low rl in let k = height_is p s.in_range in omega (arith, ints, l, e, k));
+  greatest = λ p s.
+      (let l = gap.greatest (height_of p) (height_most p s.in_range) (supporting_reaches ss net p x a u s) in
+      let e = height_is high rh in let k = height_is p s.in_range in omega (arith, ints, l, e, k));
+}
+
 -- ---- the welfare
--- the law of the welfare
+-- the laws of the welfare and of the price
 pub record Laws : Type 0 where
   pub reached : (ss : List Step) (net w : ℤ) → greatest_welfare ss net ≡ Some w
       → (xs : List ℕ) × IsExecution ss xs × Balances ss net xs × (welfare_of ss xs ≡ w)
@@ -66,6 +97,7 @@ pub record Laws : Type 0 where
   pub welfare : (p net : ℤ) (ss : List Step) (xs : List ℕ) → Balances ss net xs → welfare_of ss xs ≡ execution_surplus p ss xs +ℤ p *ℤ net
   pub greatest : (p : ℤ) (ss : List Step) (xs ys : List ℕ) → IsExecution ss xs → Supports p ss xs → IsExecution ss ys
       → execution_surplus p ss ys ≤ℤ execution_surplus p ss xs
+  pub between : (low high : ℤ) → low ≤ℤ high → (low ≤ℤ price_between low high) × (price_between low high ≤ℤ high)
 
 -- an execution that a price supports has the greatest welfare
 supporting_welfare : Laws → (ss : List Step) (net p : ℤ) (s : IsSupporting ss net p)
@@ -80,6 +112,19 @@ supporting_welfare laws ss net p s =
     let is = best.3 in
     let same : found.0 ≡ welfare_of ss s.volumes = omega (arith, ints, above, own, other, below, is) in
     found.1 ∙ ap (λ (z : ℤ). Some z) same
+
+-- the line of a supporting price lies over the greatest welfare
+pub line_above : Laws → (ss : List Step) (net p surplus : ℤ) → IsSupporting ss net p → greatest_welfare ss net ≡ Some (surplus +ℤ p *ℤ net)
+    → (at w : ℤ) → greatest_welfare ss at ≡ Some w → w ≤ℤ (surplus +ℤ p *ℤ at)
+line_above laws ss net p surplus s e at w f =
+    let own = laws.welfare p net ss s.volumes s.balance in
+    let both : Some (welfare_of ss s.volumes) ≡ Some (surplus +ℤ p *ℤ net) = sym (supporting_welfare laws ss net p s) ∙ e in
+    let same : welfare_of ss s.volumes ≡ surplus +ℤ p *ℤ net = cc in
+    let best = laws.reached ss at w f in
+    let other = laws.welfare p at ss best.0 best.2 in
+    let below = laws.greatest p ss s.volumes best.0 s.execution s.support best.1 in
+    let is = best.3 in
+    omega (arith, ints, own, same, other, below, is)
 
 spent_is : (s g h t x cost : ℕ) → s + g ≡ h * t → t ≡ x → cost + g ≡ h * x → s ≡ cost
 spent_is s g h t x cost e f k = let m = ap (λ n. h * n) f in omega (arith, e, k, m)

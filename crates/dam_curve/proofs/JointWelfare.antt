@@ -9,33 +9,47 @@ use Rattle.dam_hour.specs.Limits.{most_steps, greatest_value}
 use Rattle.dam_hour.specs.Execution.{AreInRange, IsExecution, Balances, IsHour, IsNetVolume, executed_volume}
 use Rattle.dam_hour.specs.Best.{greatest_welfare, welfare_of, AreSmall}
 use Rattle.dam_curve.specs.declared.segment.Segment.{Segment}
-use Rattle.dam_curve.specs.Curve.{both, joint_welfare, IsSegment, AreSegments, bottom_of, IsOutside, AreHours, IsSmallSegment, AreSmallSegments, IsCurve, AreWithin}
+use Rattle.dam_curve.specs.Curve.{both, joint_welfare, IsSegment, AreSegments, IsUnder, IsUnderEach, IsPriced, ArePriced, bottom_of, IsOutside, AreHours, IsSmallSegment, AreSmallSegments, IsCurve, AreWithin}
+use Rattle.dam_curve.proofs.ListsOfSegments.{parts_of}
 use Rattle.dam_curve.proofs.PeriodSegments.{IsPeriodCurve}
 
 -- ---- no period
-flat_is : (most least : ℤ) → least ≤ℤ most → IsSegment (joint_welfare []) (record { most = most; price = pos 0; surplus = pos 0 }) least
+abbrev pub flat : ℤ → Segment
+flat most = record { most = most; price = pos 0; dot = pos 0; surplus = pos 0 }
+
+flat_is : (most least : ℤ) → least ≤ℤ most → IsSegment (joint_welfare []) (flat most) least
 flat_is most least l = record {
   ordered = l;
   each = λ net low high. ap (λ (z : ℤ). Some z) (let same : pos 0 ≡ pos 0 +ℤ pos 0 *ℤ net = omega (arith, ints) in same);
 }
 
-flat_small : (most : ℤ) → IsSmallSegment 0 (record { most = most; price = pos 0; surplus = pos 0 })
+flat_under : (most : ℤ) → IsUnder (joint_welfare []) (flat most)
+flat_under most net w e = let is : w ≡ pos 0 = cc in omega (arith, ints, is)
+
+flat_priced : (most least : ℤ) → IsPriced [] (flat most) least
+flat_priced most least = record { dot = refl; inside = λ net low high. refl }
+
+flat_small : (most : ℤ) → IsSmallSegment 0 (flat most)
 flat_small most = record {
   price_at_least = omega (arith, ints);
   price_at_most = omega (arith, ints);
+  dot_at_least = omega (arith, ints);
+  dot_at_most = omega (arith, ints);
   surplus_at_least = omega (arith, ints);
   surplus_at_most = omega (arith, ints);
 }
 
 pub flat_curve : (least most : ℤ) → IsNetVolume least → IsNetVolume most → least ≤ℤ most
     → IsCurve [] least most
-    (record { most = most; price = pos 0; surplus = pos 0 } ∷ record { most = least; price = pos 0; surplus = pos 0 } ∷ [])
+    (flat most ∷ flat least ∷ [])
 flat_curve least most a b l = record {
   few = omega arith;
   are_hours = tt;
   least_is = a;
   most_is = b;
   are_segments = (flat_is most least l, (flat_is least least (omega (arith, ints)), tt));
+  under = (flat_under most, (flat_under least, tt));
+  priced = (flat_priced most least, (flat_priced least least, tt));
   within = λ some. (omega (arith, ints), omega (arith, ints));
   small = (flat_small most, (flat_small least, tt));
   outside = λ net low high o. absurd (beyond net low high o);
@@ -59,15 +73,19 @@ no_right (Some x) (Some y) e = absurd (cc)
 pub curve_more : (ss : List Step) (ps : List (List Step)) (least most : ℤ) (own old new : List Segment) → IsHour ss → IsPeriodCurve ss own
     → IsCurve ps least most old → length ps < last_period
     → AreSegments (λ net. both (greatest_welfare ss net) (joint_welfare ps net)) new (bottom_of new)
+    → IsUnderEach (λ net. both (greatest_welfare ss net) (joint_welfare ps net)) new
+    → ArePriced (ss ∷ ps) new (bottom_of new)
     → AreWithin new least most → ((net : ℤ) → IsOutside new net → IsOutside own net ⊎ IsOutside old net)
     → AreSmallSegments (1 + length ps) new → IsCurve (ss ∷ ps) least most new
-curve_more ss ps least most own old new hour period curve few segments within outside small = record {
+curve_more ss ps least most own old new hour period curve few segments under priced within outside small = record {
   within = within;
   few = omega (arith, few);
   are_hours = (hour, curve.are_hours);
   least_is = curve.least_is;
   most_is = curve.most_is;
   are_segments = segments;
+  under = under;
+  priced = priced;
   small = subst (λ n. AreSmallSegments n new) (let same : 1 + length ps ≡ suc (length ps) = omega arith in same) small;
   outside = λ net low high o. none net low high (outside net o);
 }
@@ -91,19 +109,6 @@ one_small laws ss net w hour e =
     let small = laws.small ss best.0 hour.in_range best.1 in
     let few = hour.few in let low = small.welfare_at_least in let high = small.welfare_at_most in let is = best.3 in
     (omega (arith, ints, few, low, is), omega (arith, ints, few, high, is))
-
-record AreParts (x y : Option ℤ) (w : ℤ) : Type 0 where
-  left : ℤ
-  right : ℤ
-  left_is : x ≡ Some left
-  right_is : y ≡ Some right
-  sum : w ≡ left +ℤ right
-
-parts_of : (x y : Option ℤ) (w : ℤ) → both x y ≡ Some w → AreParts x y w
-parts_of None None w e = absurd (cc)
-parts_of (Some x) None w e = absurd (cc)
-parts_of None (Some y) w e = absurd (cc)
-parts_of (Some x) (Some y) w e = record { left = x; right = y; left_is = refl; right_is = refl; sum = cc }
 
 pub joint_small : SizeLaws → (ps : List (List Step)) (net w : ℤ) → AreHours ps → joint_welfare ps net ≡ Some w
     → (neg_ℤ (pos (length ps * (most_steps * greatest_value))) ≤ℤ w) × (w ≤ℤ pos (length ps * (most_steps * greatest_value)))

@@ -2,14 +2,9 @@
 pub mod Parts
 pub mod Supplying
 pub mod Clearing
-pub mod Removing
+pub mod Sorting
 pub mod PeriodSegments
 pub mod ListsOfSegments
 pub mod Adding
 pub mod JointWelfare
 pub mod LookingUp
-pub mod Reading
-pub mod Losing
-pub mod Ramps
-pub mod Stretches
-pub mod ExactLosses

@@ -2,7 +2,8 @@
 use Rattle.std.proofs.Common.{◌≡◌, ℕ, suc, ◌+◌, ◌-◌, ◌*◌, ◌<◌, ◌≤◌, ℤ, pos, negsuc, neg_ℤ, ◌+ℤ◌, ◌*ℤ◌, ◌≤ℤ◌, ◌<ℤ◌, ◌⊎◌, Option, Some, None}
 use Rattle.std.proofs.Common.{FitsSigned, to_z, of_z, w32, w64, List, [], ◌∷◌, ◌++◌, length, length-append, length-drop, take, drop, get_or, ap, ◌∙◌, sym, subst, inl, inr, arith}
 use Rattle.std.specs.List.{slice_range}
-use Rattle.std.proofs.lemmas.Int.{ints}
+use Rattle.std.proofs.lemmas.Int.{ints, by_lt_z, int_min_is, int_max_is}
+use Rattle.std.specs.Int.{int_min, int_max}
 use Rattle.std.proofs.lemmas.Bool.{cases_lt}
 use Rattle.std.proofs.lemmas.List.{take_all, drop_at, length-take-le, take-append-le, drop-append-le}
 use Rattle.dam_book.specs.Limits.{last_period}
@@ -10,12 +11,13 @@ use Rattle.dam_hour.specs.declared.step.Step.{Step}
 use Rattle.dam_hour.specs.Limits.{greatest_price}
 use Rattle.dam_curve.specs.declared.segment.Segment.{Segment}
 use Rattle.dam_curve.specs.declared.curves.Curve.{Curve}
-use Rattle.dam_curve.specs.Curve.{joint_welfare, segment_at, end_of, AreSegments, bottom_of, IsOutside, greatest_segment_surplus, IsCurve, segments_at}
-use Rattle.dam_curve.specs.Curve.{IsSmallSegment, CurvesState, IsCurveAt}
-use Rattle.dam_curve.specs.Losses.{Keeps}
-use Rattle.dam_curve.proofs.ListsOfSegments.{bottom_at, small_at}
+use Rattle.dam_curve.specs.Curve.{joint_welfare, segment_at, end_of, AreSegments, ArePriced, bottom_of, IsOutside, greatest_segment_surplus, IsCurve, segments_at}
+use Rattle.dam_curve.specs.Curve.{IsSmallSegment, CurvesState, IsCurveAt, Keeps}
+use Rattle.dam_curve.proofs.ListsOfSegments.{any_segment, bottom_at, small_at, price_is}
 use Rattle.dam_curve.proofs.PeriodSegments.{times_small}
-use Rattle.dam_curve.proofs.Adding.{segment_here, place_from, stands_from, end_at, outside_from}
+use Rattle.dam_curve.proofs.Adding.{segment_here, priced_here, place_from, stands_from, last_from, bottom_under, end_at, outside_from}
+use Rattle.dam_curve.specs.JointPrice.{IsJointPrice}
+use Rattle.dam_curve.specs.inside.Segments.{price_at}
 
 -- ---- the segments of one curve
 part_behind : (xs ys : List Segment) (n m : ℕ) → n ≡ length xs → m ≡ n + length ys → slice_range (xs ++ ys) n m ≡ ys
@@ -61,8 +63,8 @@ curve_kept old new ls segments curve ps least most is =
     }
 
 pub keeps_more : (old new : CurvesState) (ls : List Segment) → new.segments ≡ old.segments ++ ls
-    → take (length old.losses) new.losses ≡ old.losses → Keeps old new
-keeps_more old new ls segments losses = record { curves = curve_kept old new ls segments; losses = losses }
+    → Keeps old new
+keeps_more old new ls segments = record { curves = curve_kept old new ls segments }
 
 count_is : (segments : List Segment) (curve : Curve) → curve.first + curve.count ≤ length segments
     → length (segments_at segments curve) ≡ curve.count
@@ -92,6 +94,41 @@ none_there curves curve ps least most net is low high o =
     moved b t x y (inl less) e k = inl (omega (arith, ints, less, e))
     moved b t x y (inr more) e k = inr (omega (arith, ints, more, k))
 
+pub some_there : (curves : CurvesState) (curve : Curve) (ps : List (List Step)) (least most net w : ℤ)
+    → IsCurveAt curves curve ps least most → joint_welfare ps net ≡ Some w → least ≤ℤ net → net ≤ℤ most → (curve.bottom ≤ℤ net) × (net ≤ℤ curve.top)
+some_there curves curve ps least most net w is e low high = (
+  by_lt_z net curve.bottom (λ less. absurd (none (none_there curves curve ps least most net is low high (inl less)))) (λ more. more),
+  by_lt_z curve.top net (λ more. absurd (none (none_there curves curve ps least most net is low high (inr more)))) (λ less. less),
+)
+  where
+    none : None ≡ joint_welfare ps net → ⊥
+    none k = absurd cc
+
+pub ordered_there : (curves : CurvesState) (curve : Curve) (ps : List (List Step)) (least most : ℤ) → IsCurveAt curves curve ps least most
+    → 0 < curve.count → curve.bottom ≤ℤ curve.top
+ordered_there curves curve ps least most is some =
+    let ls = segments_at curves.segments curve in
+    let ends = is.ends some in let long = count_is curves.segments curve is.within in
+    let under = bottom_under (joint_welfare ps) ls 0 any_segment is.is_curve.are_segments (omega (arith, some, long)) in
+    let first = end_at ls any_segment (omega (arith, some, long)) in
+    omega (arith, ints, ends.0, ends.1, under, first)
+
+-- the nearest net volume to one between the two ends
+pub nearest : (bottom top net b t low at : ℤ) → bottom ≤ℤ top → b ≡ bottom → t ≡ top → low ≡ int_max net b → at ≡ int_min low t
+    → (bottom ≤ℤ at) × (at ≤ℤ top)
+nearest bottom top net b t low at ordered e k over under =
+    let greatest = int_max_is net b in let least = int_min_is low t in
+    (omega (arith, ints, ordered, e, k, over, under, greatest, least), omega (arith, ints, ordered, e, k, over, under, greatest, least))
+
+-- the net volume lies between the ends of the segments
+pub ends_there : (curves : CurvesState) (curve : Curve) (ps : List (List Step)) (least most net at : ℤ)
+    → IsCurveAt curves curve ps least most → at ≡ net → curve.bottom ≤ℤ net → net ≤ℤ curve.top
+    → (bottom_of (segments_at curves.segments curve) ≤ℤ at) × (at ≤ℤ end_of (segments_at curves.segments curve) (pos 0))
+ends_there curves curve ps least most net at is same low high = elim (cases_lt 0 curve.count) [
+  | inl some ↦ (let ends = is.ends some in (omega (arith, ints, ends.0, low, same), omega (arith, ints, ends.1, high, same)))
+  | inr none ↦ (let apart = is.none (omega (arith, none)) in absurd (omega (arith, ints, apart, low, high)))
+]
+
 -- ---- the segment at a net volume
 pub record IsWithin (ls : List Segment) (net : ℤ) : Type 0 where
   pub some : 0 < length ls
@@ -120,6 +157,15 @@ pub value_at : (f : ℤ → Option ℤ) (ls : List Segment) (net : ℤ) (place :
     → ((e : Segment) → place + 1 < length ls → (get_or ls (place + 1) e).most ≤ℤ net)
     → Some (segment_at (get_or ls place d) net) ≡ f net
 value_at f ls net place d are within l holds next = value_from f ls net place d are (within.last d) l holds next
+
+pub price_there : (ps : List (List Step)) (ls : List Segment) (net : ℤ) (place : ℕ) (d : Segment) → ArePriced ps ls (bottom_of ls)
+    → IsWithin ls net → place < length ls → ((e : Segment) → net ≤ℤ (get_or ls place e).most)
+    → ((e : Segment) → place + 1 < length ls → (get_or ls (place + 1) e).most <ℤ net)
+    → IsJointPrice ps net (price_at (get_or ls place d) net)
+price_there ps ls net place d are within l holds next =
+    let stands = stands_from ls net place holds (λ e k. (let less = next e k in omega (arith, ints, less))) in
+    let here = priced_here ps ls net place d are (place_from ls net place d l (within.last d)) stands (last_from ls net place next) in
+    price_is ps (get_or ls place d) here.0 net here.1 (holds d) here.3
 
 -- ---- how large the numbers are
 product_small : (x y : ℤ) (n m : ℕ) → neg_ℤ (pos n) ≤ℤ x → x ≤ℤ pos n → neg_ℤ (pos m) ≤ℤ y → y ≤ℤ pos m
@@ -159,9 +205,12 @@ small_wide ps least most ls place d is l =
     let small = small_at (length ps) ls place d is.small l in
     let few = is.few in
     let p = small.price_at_least in let q = small.price_at_most in let s = small.surplus_at_least in let t = small.surplus_at_most in
+    let d1 = small.dot_at_least in let d2 = small.dot_at_most in
     record {
       price_at_least = omega (arith, ints, few, p);
       price_at_most = omega (arith, ints, few, q);
+      dot_at_least = omega (arith, ints, few, d1);
+      dot_at_most = omega (arith, ints, few, d2);
       surplus_at_least = omega (arith, ints, few, s);
       surplus_at_most = omega (arith, ints, few, t);
     }

@@ -41,6 +41,26 @@ pub part_most : (g q : ℕ) → if_any g q ≤ q
 part_most zero q = omega arith
 part_most (suc g) q = omega arith
 
+any_rises : (g k q : ℕ) → g ≤ k → if_any g q ≤ if_any k q
+any_rises zero k q l = omega arith
+any_rises (suc g) zero q l = absurd (omega (arith, l))
+any_rises (suc g) (suc k) q l = omega arith
+
+pub under_rises : (a h k q : ℕ) → h ≤ k → if_any (h - a) q ≤ if_any (k - a) q
+under_rises a h k q l = any_rises (h - a) (k - a) q (omega (arith, l))
+
+-- a part that is whole under the height, and none over it
+pub part_reached : (a h q y : ℕ) → y ≤ q → (a < h → y ≡ q) → (h < a → y ≡ 0) → (if_any (h - a) q ≤ y) × (y ≤ if_any (suc h - a) q)
+part_reached a h q y f b w = elim (cases_lt a h) [
+  | inl l ↦
+      (let u = under_full a h q l in let v = up_to_full a h q (omega (arith, l)) in let e = b l in
+      (omega (arith, u, e), omega (arith, v, e)))
+  | inr m ↦ elim (cases_lt h a) [
+    | inl l ↦ (let u = under_none a h q m in let e = w l in (omega (arith, u), omega (arith, e)))
+    | inr n ↦ (let u = under_none a h q m in let v = up_to_full a h q n in (omega (arith, u), omega (arith, v, f)))
+  ]
+]
+
 -- ---- the part taken of a step as supply
 abbrev pub taken_of : Side → ℕ → ℕ → ℕ
 taken_of Buy q x = q - x

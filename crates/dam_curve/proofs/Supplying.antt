@@ -13,7 +13,7 @@ use Rattle.dam_hour.specs.Best.{welfare_of}
 use Rattle.dam_hour.specs.Price.{Supports}
 use Rattle.dam_curve.specs.Supply.{height_of}
 use Rattle.dam_curve.specs.inside.Supply.{if_any, all_units, units_under, units_up_to, gain_under, worth_of, Reaches}
-use Rattle.dam_curve.proofs.Parts.{under_up_to, under_full, up_to_none, part_most, taken_of, taken_back, taken_fits, taken_full, taken_none}
+use Rattle.dam_curve.proofs.Parts.{under_up_to, under_full, up_to_none, part_most, part_reached, taken_of, taken_back, taken_fits, taken_full, taken_none}
 use Rattle.dam_curve.proofs.Parts.{better_full, worse_none, part_cost, part_welfare}
 
 -- the units that an execution takes of the supply: the volume that it sells, and the volume of the
@@ -76,6 +76,21 @@ supported_spent p (s ∷ ss) (x ∷ xs) r a e h =
   where
     spent_sum : (h c g y d k t : ℕ) → c + g ≡ h * y → d + k ≡ h * t → (c + d) + (g + k) ≡ h * (y + t)
     spent_sum h c g y d k t e f = omega (arith, e, f)
+
+-- the units that such an execution takes reach up to the price
+pub supported_reaches : (p : ℤ) (ss : List Step) (xs : List ℕ) → IsPrice p → AreInRange ss → IsExecution ss xs → Supports p ss xs
+    → Reaches ss (taken ss xs) (height_of p)
+supported_reaches p [] [] r a e h = record { under = omega arith; up_to = omega arith }
+supported_reaches p [] (x ∷ xs) r a e h = absurd e
+supported_reaches p (s ∷ ss) [] r a e h = absurd e
+supported_reaches p (s ∷ ss) (x ∷ xs) r a e h =
+    let el = height_is s.price a.0 in let ep = height_is p r in
+    let here = part_reached (height_of s.price) (height_of p) s.qty (taken_of s.side s.qty x) (taken_fits s.side s.qty x e.0)
+    (taken_full s.side s.price p lowest_price (height_of s.price) (height_of p) s.qty x el ep e.0 h.0 h.1)
+    (taken_none s.side s.price p lowest_price (height_of s.price) (height_of p) s.qty x el ep e.0 h.0 h.1) in
+    let rest = supported_reaches p ss xs r a.2 e.1 h.2 in
+    let under = rest.under in let up_to = rest.up_to in
+    record { under = omega (arith, here, under); up_to = omega (arith, here, up_to) }
 
 -- ---- a number of units of the supply, as an execution that the price supports
 under_most : (h : ℕ) (ss : List Step) → units_under h ss ≤ units_up_to h ss

@@ -8,7 +8,7 @@ use Rattle.dam_hour.specs.Limits.{most_steps, greatest_price, greatest_value, pr
 use Rattle.dam_hour.specs.declared.step.Step.{Step}
 use Rattle.dam_curve.specs.declared.segment.Segment.{Segment}
 use Rattle.dam_curve.specs.declared.curves.Curve.{Curve}
-use Rattle.dam_curve.specs.declared.losses.Loss.{Loss}
+use Rattle.dam_curve.specs.JointPrice.{IsJointPrice}
 
 -- the sum of two welfares, if there are both
 abbrev pub both : Option ℤ → Option ℤ → Option ℤ
@@ -50,6 +50,26 @@ abbrev pub IsOutside : List Segment → ℤ → Type 0
 IsOutside [] net = Unit {0}
 IsOutside (segment ∷ segments) net = (net <ℤ bottom_of (segment ∷ segments)) ⊎ (segment.most <ℤ net)
 
+-- at no net volume is the function above the segment's line
+abbrev pub IsUnder : (ℤ → Option ℤ) → Segment → Type 0
+IsUnder f segment = (net w : ℤ) → f net ≡ Some w → w ≤ℤ segment_at segment net
+
+-- at no net volume is the function above the line of any of the segments
+abbrev pub IsUnderEach : (ℤ → Option ℤ) → List Segment → Type 0
+IsUnderEach f [] = Unit {0}
+IsUnderEach f (segment ∷ segments) = IsUnder f segment × IsUnderEach f segments
+
+-- the clearing prices of the periods, added up, are the segment's dot at its greatest net volume, and its price at each
+-- net volume between this one and its greatest
+pub record IsPriced (periods : List (List Step)) (segment : Segment) (least : ℤ) : Type 0 where
+  pub dot : IsJointPrice periods segment.most segment.dot
+  pub inside : (net : ℤ) → least <ℤ net → net <ℤ segment.most → IsJointPrice periods net segment.price
+
+-- the prices of each segment are those of the periods down to the next one, and of the last down to this net volume
+abbrev pub ArePriced : List (List Step) → List Segment → ℤ → Type 0
+ArePriced periods [] least = Unit {0}
+ArePriced periods (segment ∷ segments) least = IsPriced periods segment (end_of segments least) × ArePriced periods segments least
+
 -- each of the periods is an hour
 abbrev pub AreHours : List (List Step) → Type 0
 AreHours [] = Unit {0}
@@ -64,6 +84,8 @@ greatest_segment_surplus = 3 * (most_steps * (price_span * greatest_volume))
 pub record IsSmallSegment (count : ℕ) (segment : Segment) : Type 0 where
   pub price_at_least : neg_ℤ (pos (count * greatest_price)) ≤ℤ segment.price
   pub price_at_most : segment.price ≤ℤ pos (count * greatest_price)
+  pub dot_at_least : neg_ℤ (pos (count * greatest_price)) ≤ℤ segment.dot
+  pub dot_at_most : segment.dot ≤ℤ pos (count * greatest_price)
   pub surplus_at_least : neg_ℤ (pos (count * greatest_segment_surplus)) ≤ℤ segment.surplus
   pub surplus_at_most : segment.surplus ≤ℤ pos (count * greatest_segment_surplus)
 
@@ -77,21 +99,22 @@ abbrev pub AreWithin : List Segment → ℤ → ℤ → Type 0
 AreWithin segments least most = 0 < length segments → (least ≤ℤ bottom_of segments) × (end_of segments (pos 0) ≤ℤ most)
 
 -- the segments are the joint welfare of the periods at each net volume from the least to the most, and at no other: if no
--- segment holds at one of these, there is none
+-- segment holds at one of these, there is none; the welfare is under the line of each, and their prices are the periods'
 pub record IsCurve (periods : List (List Step)) (least most : ℤ) (segments : List Segment) : Type 0 where
   pub few : length periods ≤ last_period
   pub are_hours : AreHours periods
   pub least_is : IsNetVolume least
   pub most_is : IsNetVolume most
   pub are_segments : AreSegments (joint_welfare periods) segments (bottom_of segments)
+  pub under : IsUnderEach (joint_welfare periods) segments
+  pub priced : ArePriced periods segments (bottom_of segments)
   pub within : AreWithin segments least most
   pub small : AreSmallSegments (length periods) segments
   pub outside : (net : ℤ) → least ≤ℤ net → net ≤ℤ most → IsOutside segments net → joint_welfare periods net ≡ None
 
--- the segments of many curves, one curve after another, and the losses of choices, one choice after another
+-- the segments of many curves, one curve after another
 pub record CurvesState : Type 0 where
   pub segments : List Segment
-  pub losses : List Loss
 
 -- the segments of one curve among those of many
 abbrev pub segments_at : List Segment → Curve → List Segment
@@ -104,6 +127,11 @@ pub record IsCurveAt (curves : CurvesState) (curve : Curve) (periods : List (Lis
   pub ends : 0 < curve.count
       → (curve.bottom ≡ bottom_of (segments_at curves.segments curve)) × (curve.top ≡ end_of (segments_at curves.segments curve) (pos 0))
   pub none : curve.count ≡ 0 → curve.top <ℤ curve.bottom
+
+-- every curve that stood there still does
+pub record Keeps (old new : CurvesState) : Type 0 where
+  pub curves : (curve : Curve) (periods : List (List Step)) (least most : ℤ)
+      → IsCurveAt old curve periods least most → IsCurveAt new curve periods least most
 
 -- the size of the welfare of a day's periods
 abbrev pub greatest_joint_welfare : ℕ

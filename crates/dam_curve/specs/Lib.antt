@@ -1,4 +1,5 @@
 pub mod Supply
+pub mod JointPrice
 pub mod Curve
-pub mod Losses
+pub mod Line
 pub mod inside

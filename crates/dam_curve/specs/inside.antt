@@ -1,5 +1,3 @@
 -- Only contracts inside this crate cite these.
 pub mod Supply
 pub mod Segments
-pub mod Reading
-pub mod Ramp

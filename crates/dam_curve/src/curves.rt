@@ -1,11 +1,13 @@
-ghost use Rattle.std.specs.Prelude.{◌≡◌, ◌+◌, ◌-◌, ◌^◌, ◌≤◌, ◌<◌, ℕ, ℤ, pos, neg_ℤ, ◌+ℤ◌, ◌-ℤ◌, ◌≤ℤ◌, ◌<ℤ◌, Some, List, [], length, take, IsOk, IfOk, OnOk, OnErr, IfSome, slice_index_or};
+ghost use Rattle.std.specs.Prelude.{◌≡◌, ◌+◌, ◌-◌, ◌*◌, ◌^◌, ◌≤◌, ◌<◌, ℕ, ℤ, pos, neg_ℤ, ◌+ℤ◌, ◌-ℤ◌, ◌≤ℤ◌, ◌<ℤ◌, Some, List, [], length, take, IsOk, IfOk, OnOk, OnErr, IfSome, slice_index_or};
 ghost use Rattle.dam_book.specs.Limits.{last_period};
+ghost use Rattle.dam_hour.specs.Limits.{greatest_price};
 ghost use Rattle.dam_hour.specs.declared.step.Step.{Step};
 ghost use Rattle.dam_curve.specs.declared.segment.Segment.{Segment};
-ghost use Rattle.dam_curve.specs.Curve.{joint_welfare, segment_at, end_of, bottom_of, IsSmallSegment, IsCurve, CurvesState, IsCurveAt, greatest_joint_welfare};
-ghost use Rattle.dam_curve.specs.Losses.{Keeps};
+ghost use Rattle.dam_curve.specs.Curve.{joint_welfare, segment_at, end_of, bottom_of, IsSmallSegment, IsCurve, segments_at, CurvesState, IsCurveAt, Keeps, greatest_joint_welfare};
+ghost use Rattle.dam_curve.specs.JointPrice.{IsJointPrice};
+ghost use Rattle.dam_curve.specs.Line.{IsAbove, IsSmallLine};
 
-use crate::losses::Loss;
+use crate::line::Line;
 use crate::segment::Segment;
 use crate::sum::Sum;
 use dam_hour::laws;
@@ -35,15 +37,12 @@ pub struct Curve {
     pub(crate) hints: Hints,
 }
 
-/// The segments of many curves, one curve after another, and the losses of choices between them.
+/// The segments of many curves, one curve after another.
 ///
-/// A contract sees the list of the segments and the list of the losses. It asks of a curve which periods it is of, and
-/// of a choice whether its losses stand there.
+/// A contract sees the list of the segments. It asks of a curve which periods it is of.
 #[derive(Drop)]
 pub struct Curves<A: Allocator = Global> {
-    pub(crate) segments: Vec<Segment, A>,
-    /// The losses of the choices that keep them, one choice after another.
-    pub(crate) losses: Vec<Loss, A>,
+    segments: Vec<Segment, A>,
     /// Places of segments near which a net volume is. They need not be right: a look-up goes on from there.
     hints: Vec<u16, A>,
 }
@@ -53,14 +52,13 @@ impl<A: Allocator> Model for Curves<A> {
 
     ghost Value = { CurvesState };
 
-    ghost view = { λ c. record { segments = c.segments.items; losses = c.losses.items } };
+    ghost view = { λ c. record { segments = c.segments.items } };
 }
 
-/// The number in 32 bits. If it doesn't fit, there are more segments, hints or losses than can be kept, which is
+/// The number in 32 bits. If it doesn't fit, there are more segments or hints than can be kept, which is
 /// reported as out of memory.
-pub(crate) fn narrow(number: usize) -> Result<u32, AllocError>
-    ensures value { IfOk result (λ narrow. narrow ≡ number) }
-    ensures fits { number < 2 ^ 32 → IsOk result }
+fn narrow(number: usize) -> Result<u32, AllocError>
+    ensures { IfOk result (λ narrow. narrow ≡ number) }
 {
     let Ok(narrow) = u32::try_from(number) else {
         return Err(AllocError);
@@ -105,22 +103,30 @@ fn write_hints<A: Allocator>(
     Ok(Hints { first, shift })
 }
 
+/// The segments of one curve among many.
+#[inline(always)]
+fn segments_of(segments: &[Segment], curve: Curve) -> &[Segment]
+    requires { curve.first + curve.count ≤ length segments.now }
+    ensures { result.now ≡ segments_at segments.now curve }
+{
+    let first = curve.first as usize;
+    &segments[first..first + curve.count as usize]
+}
+
 /// The welfare that a segment gives at a net volume.
 #[inline(always)]
-pub(crate) fn value_of(segment: Segment, net: i64) -> i64
+fn value_of(segment: Segment, net: i64) -> i64
     requires segment { IsSmallSegment last_period segment }
     requires least { neg_ℤ (pos (2 ^ 31)) ≤ℤ net }
     requires most { net ≤ℤ pos (2 ^ 31) }
-    ensures value { result ≡ segment_at segment net }
-    ensures at_least { neg_ℤ (pos (2 ^ 58)) ≤ℤ result }
-    ensures at_most { result ≤ℤ pos (2 ^ 58) }
+    ensures { result ≡ segment_at segment net }
 {
     segment.surplus + i64::from(segment.price) * net
 }
 
-/// The place of the segment that holds at the net volume, looked for from a place near by, and the joint welfare there.
+/// The joint welfare at the net volume. The segment that holds there is looked for from a place near by.
 #[inline(always)]
-fn value_in(segments: &[Segment], net: i64, near: usize) -> (usize, i64)
+fn value_in(segments: &[Segment], net: i64, near: usize) -> i64
     requires curve { (periods : List (List Step)) × (least : ℤ) × (most : ℤ)
         × IsCurve periods least most segments.now }
     requires some { 0 < length segments.now }
@@ -128,21 +134,50 @@ fn value_in(segments: &[Segment], net: i64, near: usize) -> (usize, i64)
     requires top { net ≤ℤ end_of segments.now (pos 0) }
     requires least { neg_ℤ (pos (2 ^ 31)) ≤ℤ net }
     requires most { net ≤ℤ pos (2 ^ 31) }
-    ensures value { (periods : List (List Step)) (least most : ℤ)
-        → IsCurve periods least most segments.now → Some result.1 ≡ joint_welfare periods net }
+    ensures { (periods : List (List Step)) (least most : ℤ)
+        → IsCurve periods least most segments.now → Some result ≡ joint_welfare periods net }
 {
-    let place = place_of(segments, net, near);
-    (place, value_of(segments[place], net))
+    value_of(segments[place_of(segments, net, near)], net)
+}
+
+/// The joint price at the net volume. The segment that holds there is looked for from a place near by.
+#[inline(always)]
+fn price_in(segments: &[Segment], net: i64, near: usize) -> i32
+    requires curve { (periods : List (List Step)) × (least : ℤ) × (most : ℤ)
+        × IsCurve periods least most segments.now }
+    requires some { 0 < length segments.now }
+    requires bottom { bottom_of segments.now ≤ℤ net }
+    requires top { net ≤ℤ end_of segments.now (pos 0) }
+    ensures price { (periods : List (List Step)) (least most : ℤ)
+        → IsCurve periods least most segments.now → IsJointPrice periods net result }
+    ensures at_least { neg_ℤ (pos (last_period * greatest_price)) ≤ℤ result }
+    ensures at_most { result ≤ℤ pos (last_period * greatest_price) }
+{
+    segments[place_of(segments, net, near)].price_at(net)
+}
+
+/// The line of the segment that holds at the net volume, or at the nearer end if none does.
+#[inline(always)]
+fn line_in(segments: &[Segment], net: i64, near: usize) -> Line
+    requires curve { (periods : List (List Step)) × (least : ℤ) × (most : ℤ)
+        × IsCurve periods least most segments.now }
+    requires some { 0 < length segments.now }
+    requires bottom { bottom_of segments.now ≤ℤ net }
+    requires top { net ≤ℤ end_of segments.now (pos 0) }
+    ensures above { (periods : List (List Step)) (least most : ℤ)
+        → IsCurve periods least most segments.now → IsAbove periods least most result }
+    ensures small { IsSmallLine last_period result }
+{
+    segments[place_of(segments, net, near)].line()
 }
 
 impl<A: Allocator + Copy> Curves<A> {
     /// No curve yet.
     pub fn new(alloc: A) -> Curves<A>
-        ensures { result ≡ record { segments = []; losses = [] } }
+        ensures { result ≡ record { segments = [] } }
     {
         Curves {
             segments: Vec::new(alloc),
-            losses: Vec::new(alloc),
             hints: Vec::new(alloc),
         }
     }
@@ -172,26 +207,6 @@ impl<A: Allocator> Curves<A> {
             top: segments[0].most,
             hints,
         })
-    }
-
-    /// The price of a segment near the net volume, in cents per MWh summed over the curve's periods. It is only a hint,
-    /// without a contract. It is 0 if there is none.
-    pub fn price_near(&self, curve: Curve, net: i64) -> i64 {
-        let first = curve.first as usize;
-        let Some(segments) = self
-            .segments
-            .get(first..first.saturating_add(curve.count as usize))
-        else {
-            return 0;
-        };
-        let mut price = 0;
-        for segment in segments {
-            if i64::from(segment.most) < net {
-                return price;
-            }
-            price = i64::from(segment.price);
-        }
-        price
     }
 
     /// A place near the segment for the net volume; it may be any.
@@ -240,9 +255,45 @@ impl<A: Allocator> Curves<A> {
             → IsCurveAt self.now curve periods least most
             → Some result ≡ joint_welfare periods net }
     {
-        let first = curve.first as usize;
-        let segments = &self.segments[first..first + curve.count as usize];
-        value_in(segments, net, self.near(curve, net)).1
+        let segments = segments_of(&self.segments, curve);
+        value_in(segments, net, self.near(curve, net))
+    }
+
+    /// The clearing prices of the curve's periods at the net volume, at which each of them balances, added up; in cents
+    /// per MWh. Takes no memory.
+    #[inline(always)]
+    pub fn price(&self, curve: Curve, net: i64) -> i32
+        requires { (periods : List (List Step)) × (least : ℤ) × (most : ℤ) × (w : ℤ)
+            × IsCurveAt self.now curve periods least most
+            × (joint_welfare periods net ≡ Some w) × (least ≤ℤ net) × (net ≤ℤ most) }
+        ensures price { (periods : List (List Step)) (least most : ℤ)
+            → IsCurveAt self.now curve periods least most → IsJointPrice periods net result }
+        ensures at_least { neg_ℤ (pos (last_period * greatest_price)) ≤ℤ result }
+        ensures at_most { result ≤ℤ pos (last_period * greatest_price) }
+    {
+        let segments = segments_of(&self.segments, curve);
+        price_in(segments, net, self.near(curve, net))
+    }
+
+    /// A line over the joint welfare of the curve's periods, which touches it at the net volume; if some period doesn't
+    /// balance there, it touches it at the nearest net volume at which they do. Takes no memory.
+    #[inline(always)]
+    pub fn line_near(&self, curve: Curve, net: i64) -> Line
+        requires { (periods : List (List Step)) × (least : ℤ) × (most : ℤ)
+            × IsCurveAt self.now curve periods least most }
+        ensures above { (periods : List (List Step)) (least most : ℤ)
+            → IsCurveAt self.now curve periods least most → IsAbove periods least most result }
+        ensures small { IsSmallLine last_period result }
+    {
+        if curve.count == 0 {
+            return Line {
+                price: 0,
+                surplus: 0,
+            };
+        }
+        let segments = segments_of(&self.segments, curve);
+        let net = net.max(i64::from(curve.bottom)).min(i64::from(curve.top));
+        line_in(segments, net, self.near(curve, net))
     }
 }
 
@@ -262,8 +313,8 @@ impl Curve {
     }
 }
 
-/// The segment that holds at the net volume; looked for from a place near by, which may be any.
-pub(crate) fn place_of(segments: &[Segment], net: i64, near: usize) -> usize
+/// The last segment that holds at the net volume; looked for from a place near by, which may be any.
+fn place_of(segments: &[Segment], net: i64, near: usize) -> usize
     requires some { 0 < length segments.now }
     requires first { (d : Segment) → net ≤ℤ (slice_index_or segments.now 0 d).most }
     requires last { (d : Segment)
@@ -271,13 +322,13 @@ pub(crate) fn place_of(segments: &[Segment], net: i64, near: usize) -> usize
     ensures inside { result < length segments.now }
     ensures holds { (d : Segment) → net ≤ℤ (slice_index_or segments.now result d).most }
     ensures next { (d : Segment) → result + 1 < length segments.now
-        → (slice_index_or segments.now (result + 1) d).most ≤ℤ net }
+        → (slice_index_or segments.now (result + 1) d).most <ℤ net }
 {
     let mut place = near.min(segments.len() - 1);
     while i64::from(segments[place].most) < net {
         place -= 1;
     }
-    while place + 1 < segments.len() && i64::from(segments[place + 1].most) > net {
+    while place + 1 < segments.len() && i64::from(segments[place + 1].most) >= net {
         place += 1;
     }
     place

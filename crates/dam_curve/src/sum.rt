@@ -1,12 +1,12 @@
 ghost use Rattle.std.specs.Prelude.{◌≡◌, ◌⊎◌, ℕ, ◌+◌, ◌*◌, ◌<◌, ◌≤◌, ◌≤ℤ◌, ◌<ℤ◌, ℤ, pos, Option, List, [], ◌∷◌, length, slice_index_or, OnOk, OnErr};
 ghost use Rattle.dam_book.specs.declared.order.Side.TheVariants.{Buy};
-ghost use Rattle.dam_book.specs.Limits.{last_period, greatest_volume};
+ghost use Rattle.dam_book.specs.Limits.{last_period, lowest_price, greatest_volume};
 ghost use Rattle.dam_hour.specs.Execution.{IsNetVolume, offered_volume};
 ghost use Rattle.dam_hour.specs.Limits.{most_steps, price_span};
 ghost use Rattle.dam_hour.specs.declared.step.Step.{Step};
 ghost use Rattle.dam_curve.specs.declared.segment.Segment.{Segment};
 ghost use Rattle.dam_curve.specs.Supply.{IsSupplyOf};
-ghost use Rattle.dam_curve.specs.Curve.{both, AreSegments, bottom_of, AreWithin, IsOutside, AreSmallSegments, IsSmallSegment, IsCurve};
+ghost use Rattle.dam_curve.specs.Curve.{both, AreSegments, bottom_of, AreWithin, IsOutside, AreSmallSegments, IsSmallSegment, IsUnderEach, ArePriced, IsCurve};
 ghost use Rattle.dam_curve.specs.inside.Supply.{worth_of};
 ghost use Rattle.dam_curve.specs.inside.Segments.{segment_of, segments_from, joined, IsPast};
 
@@ -14,7 +14,7 @@ use crate::row::height;
 use crate::segment::Segment;
 use crate::supply::{Demand, Supply};
 use dam_book::Price;
-use dam_hour::{Step, laws};
+use dam_hour::{Step, laws, price_between};
 use std::alloc::{AllocError, Allocator, Global};
 use std::marker::Model;
 use std::mem;
@@ -84,6 +84,7 @@ impl<A: Allocator> Sum<A> {
         laws::welfare();
         laws::surplus();
         laws::balance();
+        laws::price();
         write_segments(&mut self.own, supply.steps())?;
         add_segments(&self.own, &self.segments, &mut self.next)?;
         mem::swap(&mut self.segments, &mut self.next);
@@ -100,27 +101,29 @@ impl<A: Allocator> Sum<A> {
 
 /// The segment of no period.
 fn flat(most: i32) -> Segment
-    ensures { result ≡ record { most = most; price = pos 0; surplus = pos 0 } }
+    ensures { result ≡ record { most = most; price = pos 0; dot = pos 0; surplus = pos 0 } }
 {
     Segment {
         most,
         price: 0,
+        dot: 0,
         surplus: 0,
     }
 }
 
-/// The segment at a price, if this volume at this cost is taken of the supply.
-fn segment_of(demand: Demand, price: Price, before: u64, cost: u64) -> Segment
+/// The segment at a price, after one at the previous price, if this volume at this cost is taken of the supply.
+fn segment_of(demand: Demand, previous: Price, price: Price, before: u64, cost: u64) -> Segment
     requires volume { demand.volume ≤ most_steps * greatest_volume }
     requires worth { demand.worth ≤ most_steps * (price_span * greatest_volume) }
     requires before { before ≤ most_steps * greatest_volume }
     requires cost { cost ≤ most_steps * (price_span * greatest_volume) }
-    ensures { result ≡ segment_of demand.volume demand.worth price before cost }
+    ensures { result ≡ segment_of demand.volume demand.worth previous price before cost }
 {
     let most = demand.volume as i64 - before as i64;
     Segment {
         most: most as i32,
         price: price.get(),
+        dot: price_between(previous, price).get(),
         surplus: demand.worth as i64 - cost as i64 - i64::from(height(price)) * most,
     }
 }
@@ -132,20 +135,22 @@ fn write_segments<A: Allocator>(
 ) -> Result<(), AllocError>
     requires { length steps.now ≤ most_steps }
     ensures { OnOk result (segments.new.items
-        ≡ segments_from (offered_volume Buy steps.now) (worth_of steps.now) 0 0 steps.now) }
+        ≡ segments_from (offered_volume Buy steps.now) (worth_of steps.now) lowest_price 0 0 steps.now) }
 {
     let demand = Demand::of(steps);
+    let mut previous = Price::lowest();
     let mut before = 0u64;
     let mut cost = 0u64;
     segments.clear();
     segments.reserve(steps.len() + 1)?;
     for step in steps {
-        segments.push(segment_of(demand, step.price, before, cost))?;
+        segments.push(segment_of(demand, previous, step.price, before, cost))?;
+        previous = step.price;
         let volume = u64::from(step.qty.get());
         before += volume;
         cost += u64::from(height(step.price)) * volume;
     }
-    segments.push(segment_of(demand, Price::highest(), before, cost))?;
+    segments.push(segment_of(demand, previous, Price::highest(), before, cost))?;
     Ok(())
 }
 
@@ -158,6 +163,7 @@ fn joined(a: Segment, b: Segment, most: i32) -> Segment
     Segment {
         most,
         price: a.price + b.price,
+        dot: a.price_at(i64::from(most)) + b.price_at(i64::from(most)),
         surplus: a.surplus + b.surplus,
     }
 }
@@ -210,6 +216,13 @@ fn add_segments<A: Allocator>(
         (IsOutside sum.new.items net → IsOutside a.now net ⊎ IsOutside b.now net) }
     ensures small { (n m : ℕ) → AreSmallSegments n a.now → AreSmallSegments m b.now
         → OnOk result (AreSmallSegments (n + m) sum.new.items) }
+    ensures under { (f g : ℤ → Option ℤ) → IsUnderEach f a.now → IsUnderEach g b.now
+        → OnOk result (IsUnderEach (λ net. both (f net) (g net)) sum.new.items) }
+    ensures priced { (f g : ℤ → Option ℤ) (steps : List Step) (periods : List (List Step))
+        → AreSegments f a.now (bottom_of a.now) → AreSegments g b.now (bottom_of b.now)
+        → ArePriced (steps ∷ []) a.now (bottom_of a.now)
+        → ArePriced periods b.now (bottom_of b.now) → OnOk result
+        (ArePriced (steps ∷ periods) sum.new.items (bottom_of sum.new.items)) }
 {
     sum.clear();
     if a.is_empty() || b.is_empty() {

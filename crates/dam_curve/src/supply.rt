@@ -41,36 +41,12 @@ impl<A: Allocator> Supply<A> {
         Ok(Supply { rising })
     }
 
-    /// Takes one of the steps away, in time that grows with their number. Of several equal ones it doesn't matter
-    /// which goes.
-    pub fn remove(&mut self, step: Step)
-        requires { (us : List Step) × (vs : List Step) × IsSupplyOf (us ++ step ∷ vs) self.old }
-        ensures { (us vs : List Step) → IsSupplyOf (us ++ step ∷ vs) self.old
-            → IsSupplyOf (us ++ vs) self.new }
-    {
-        let place = place_of(&self.rising, step);
-        self.rising.remove(place);
-    }
-
     /// The steps by rising limit.
     pub(crate) fn steps(&self) -> &[Step]
         ensures { result.now ≡ self.now }
     {
         self.rising.as_slice()
     }
-}
-
-/// Where the first step that equals this one stands.
-fn place_of(steps: &[Step], step: Step) -> usize
-    requires { (us : List Step) × (vs : List Step) × IsSupplyOf (us ++ step ∷ vs) steps.now }
-    ensures inside { result < length steps.now }
-    ensures equal { (d : Step) → slice_index_or steps.now result d ≡ step }
-{
-    let mut place = 0;
-    while steps[place] != step {
-        place += 1;
-    }
-    place
 }
 
 /// The volume that the buys of a period ask for.

@@ -8,6 +8,17 @@ use Rattle.dam_curve.proofs.ListsOfSegments.{same_segment}
 use Rattle.dam_curve.proofs.PeriodSegments.{times_small}
 use Rattle.dam_curve.proofs.sum.segment_of.Goals as goal
 
+pub overflow_mul-result : goal.overflow_mul-result
+overflow_mul-result c =
+    let volume = c.requires.volume in let before = c.requires.before in
+    let high : to_z w64 (of_z w64 c.from.result) ≡ pos c.height.result = search rules in
+    let most : to_z w64 (of_z w64 (to_z w64 c.args.demand.volume -ℤ to_z w64 c.args.before)) ≡ pos c.args.demand.volume -ℤ pos c.args.before
+    = omega (arith, ints, volume, before) in
+    let t = times_small c.height.result price_span (most_steps * greatest_volume) (pos c.args.demand.volume -ℤ pos c.args.before)
+    c.height.ensures.small (omega (arith, ints, volume, before)) (omega (arith, ints, volume, before)) in
+    let same = ap₂ (λ (x y : ℤ). x *ℤ y) high most in
+    omega (arith, ints, same, t.0, t.1)
+
 pub overflow_sub-result-2 : goal.overflow_sub-result-2
 overflow_sub-result-2 c =
     let volume = c.requires.volume in let worth = c.requires.worth in let before = c.requires.before in let cost = c.requires.cost in
@@ -32,4 +43,5 @@ returns c =
     (omega (arith, ints, volume, before)) (omega (arith, ints, volume, before)) in
     let own = ap (λ (n : ℕ). pos n *ℤ (pos c.args.demand.volume -ℤ pos c.args.before)) c.height.ensures.value in
     let same = ap₂ (λ (x y : ℤ). x *ℤ y) high most in
-    same_segment _ _ _ _ _ _ (omega (arith, ints, volume, before)) (search rules) (omega (arith, ints, same, t.0, t.1, own, worth, cost))
+    same_segment _ _ _ _ _ _ _ _ (omega (arith, ints, volume, before)) (search rules) (search rules)
+    (omega (arith, ints, same, t.0, t.1, own, worth, cost))

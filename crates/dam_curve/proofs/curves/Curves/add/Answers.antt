@@ -1,6 +1,7 @@
 -- The segments stand after those of the other curves.
-use Rattle.std.proofs.Common.{◌≡◌, pos, [], sym, subst, rules}
+use Rattle.std.proofs.Common.{◌≡◌, [], sym, subst, rules}
 use Rattle.dam_curve.specs.Curve.{IsCurve}
+use Rattle.dam_curve.proofs.ListsOfSegments.{any_segment}
 use Rattle.dam_curve.proofs.LookingUp.{curve_added}
 use Rattle.dam_curve.proofs.curves.Curves.add.Goals as goal
 
@@ -12,6 +13,6 @@ returns-then-is_empty-clause-added g c ps least most is =
 pub returns-clause-added : goal.returns-clause-added
 returns-clause-added g c ps least most is =
     curve_added c.args.self.now.segments c.segments-segments.result.now _ _ ps least most
-    (record { most = pos 0; price = pos 0; surplus = pos 0 })
+    any_segment
     (search rules) (search rules) (search rules) (search rules) (search rules) (search rules)
     (subst (IsCurve ps least most) (sym c.segments-segments.ensures) is)

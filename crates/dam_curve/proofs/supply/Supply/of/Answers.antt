@@ -2,7 +2,7 @@
 use Rattle.std.proofs.Common.{rules}
 use Rattle.std.proofs.lemmas.List.Sorted.{IsNonDecreasingBy-from_sort_by_key}
 use Rattle.dam_curve.specs.Supply.{height_of}
-use Rattle.dam_curve.proofs.Removing.{same_total}
+use Rattle.dam_curve.proofs.Sorting.{same_total}
 use Rattle.dam_curve.proofs.supply.Supply.of.Goals as goal
 
 pub returns : goal.returns

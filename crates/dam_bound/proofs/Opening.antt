@@ -1,0 +1,134 @@
+-- The selections that are open, by a decision on one place more.
+use Rattle.std.proofs.Common.{◌≡◌, ◌≢◌, ℕ, zero, suc, ◌<◌, inl, inr, ℤ, pos, ◌+ℤ◌, ◌≤ℤ◌, Bool, true, false, ◌==◌, ◌||◌, List, [], ◌∷◌}
+use Rattle.std.proofs.Common.{length, slice_set, slice_index_or, ◌∙◌, ap, sym, subst, refl, arith}
+use Rattle.std.proofs.lemmas.Int.{ints, clamps}
+use Rattle.std.proofs.lemmas.Bool.{cases_eq, eqb-true}
+use Rattle.std.proofs.lemmas.Bool.Decides.{nat_tests}
+use Rattle.std.proofs.lemmas.List.{length-set, get_or-set_same, get_or-set_other}
+use Rattle.dam_book.specs.Limits.{most_blocks}
+use Rattle.dam_blocks.specs.Selection.{accepts}
+use Rattle.dam_bound.specs.Prices.{over_gains, over_open}
+use Rattle.dam_bound.specs.Open.{is_among, IsOpen, AreFree}
+
+or_false : (a b : Bool) → (a || b) ≡ false → (a ≡ false) × (b ≡ false)
+or_false true b e = absurd (cc)
+or_false false b e = (refl, e)
+
+unlike : (m n : ℕ) → (m == n) ≡ false → m ≢ n
+unlike m n e f = grind (arith, nat_tests, e, f)
+
+differ : (m n : ℕ) → m ≢ n → (m == n) ≡ false
+differ m n ne = elim (m == n) as (λ b. (m == n) ≡ b → b ≡ false) [
+  | true ↦ λ e. absurd (ne (eqb-true m n e))
+  | false ↦ λ e. refl
+] refl
+
+-- a place apart from the first one is not among the places
+pub not_among : (place other : ℕ) (left : List ℕ) → place ≢ other → is_among place left ≡ false → is_among place (other ∷ left) ≡ false
+not_among place other left ne e = ap (λ (b : Bool). b || is_among place left) (differ place other ne) ∙ e
+
+pub among_rest : (place other : ℕ) (left : List ℕ) → is_among place (other ∷ left) ≡ false → (place ≢ other) × (is_among place left ≡ false)
+among_rest place other left e =
+    let both = or_false (place == other) (is_among place left) e in
+    (unlike place other both.0, both.1)
+
+-- ---- what a selection accepts with one place more
+
+pub accepts_here : (taken : List Bool) (place : ℕ) → place < length taken → accepts (slice_set taken place true) place ≡ true
+accepts_here taken place inside = get_or-set_same taken place true false inside
+
+pub accepts_there : (taken : List Bool) (place other : ℕ) → other ≢ place → accepts (slice_set taken place true) other ≡ accepts taken other
+accepts_there taken place other ne = get_or-set_other taken place other true false ne
+
+-- the places that are left are free after a decision on another
+pub still_free : (taken : List Bool) (place : ℕ) (left : List ℕ) → is_among place left ≡ false → AreFree taken left
+    → AreFree (slice_set taken place true) left
+still_free taken place [] e free = tt
+still_free taken place (other ∷ left) e free =
+    let apart = among_rest place other left e in
+    (free.0, accepts_there taken place other (λ f. apart.0 (sym f)) ∙ free.1, free.2, still_free taken place left apart.1 free.3)
+
+-- ---- an open selection that accepts the first place, and one that rejects it
+
+pub open_accepted : (taken : List Bool) (place : ℕ) (left : List ℕ) (selection : List Bool) → length taken ≡ most_blocks → place < most_blocks
+    → IsOpen taken (place ∷ left) selection → accepts selection place ≡ true → IsOpen (slice_set taken place true) left selection
+open_accepted taken place left selection long few is e = record {
+  as_long = is.as_long;
+  agrees = λ other apart. elim (cases_eq other place) [
+    | inl same ↦ subst (λ (k : ℕ). accepts selection k ≡ accepts (slice_set taken place true) k) (sym same)
+        (e ∙ sym (accepts_here taken place (subst (λ (n : ℕ). place < n) (sym long) few)))
+    | inr ne ↦ is.agrees other (not_among other place left ne apart) ∙ sym (accepts_there taken place other ne)
+  ];
+}
+
+pub open_rejected : (taken : List Bool) (place : ℕ) (left : List ℕ) (selection : List Bool) → accepts taken place ≡ false
+    → IsOpen taken (place ∷ left) selection → accepts selection place ≡ false → IsOpen taken left selection
+open_rejected taken place left selection free is e = record {
+  as_long = is.as_long;
+  agrees = λ other apart. elim (cases_eq other place) [
+    | inl same ↦ subst (λ (k : ℕ). accepts selection k ≡ accepts taken k) (sym same) (e ∙ sym free)
+    | inr ne ↦ is.agrees other (not_among other place left ne apart)
+  ];
+}
+
+-- the same the other way round
+pub accepted_open : (taken : List Bool) (place : ℕ) (left : List ℕ) (selection : List Bool) → IsOpen (slice_set taken place true) left selection
+    → IsOpen taken (place ∷ left) selection
+accepted_open taken place left selection is = record {
+  as_long = is.as_long;
+  agrees = λ other apart. (let rest = among_rest other place left apart in is.agrees other rest.1 ∙ accepts_there taken place other rest.0);
+}
+
+pub rejected_open : (taken : List Bool) (place : ℕ) (left : List ℕ) (selection : List Bool) → IsOpen taken left selection
+    → IsOpen taken (place ∷ left) selection
+rejected_open taken place left selection is = record {
+  as_long = is.as_long;
+  agrees = λ other apart. (let rest = among_rest other place left apart in is.agrees other rest.1);
+}
+
+-- ---- the gains that a selection adds up
+
+-- of selections that accept the same
+same_gains : (gains : List ℤ) (xs ys : List Bool) → length xs ≡ length ys → ((place : ℕ) → accepts xs place ≡ accepts ys place)
+    → over_gains gains xs ≡ over_gains gains ys
+same_gains [] xs ys long same = refl
+same_gains (g ∷ gains) [] [] long same = refl
+same_gains (g ∷ gains) [] (y ∷ ys) long same = absurd (omega (arith, long))
+same_gains (g ∷ gains) (x ∷ xs) [] long same = absurd (omega (arith, long))
+same_gains (g ∷ gains) (true ∷ xs) (true ∷ ys) long same =
+    ap (λ (z : ℤ). g +ℤ z) (same_gains gains xs ys (omega (arith, long)) (λ place. same (suc place)))
+same_gains (g ∷ gains) (false ∷ xs) (false ∷ ys) long same = same_gains gains xs ys (omega (arith, long)) (λ place. same (suc place))
+same_gains (g ∷ gains) (true ∷ xs) (false ∷ ys) long same = (let e : true ≡ false = same 0 in absurd (cc))
+same_gains (g ∷ gains) (false ∷ xs) (true ∷ ys) long same = (let e : false ≡ true = same 0 in absurd (cc))
+
+-- with one place more
+pub more_gains : (gains : List ℤ) (taken : List Bool) (place : ℕ) → place < length gains → place < length taken
+    → accepts taken place ≡ false
+    → over_gains gains (slice_set taken place true) ≡ over_gains gains taken +ℤ slice_index_or gains place (pos 0)
+more_gains [] taken place inside inside' free = absurd (omega (arith, inside))
+more_gains (g ∷ gains) [] place inside inside' free = absurd (omega (arith, inside'))
+more_gains (g ∷ gains) (true ∷ taken) zero inside inside' free = absurd (cc)
+more_gains (g ∷ gains) (false ∷ taken) zero inside inside' free = omega (arith, ints)
+more_gains (g ∷ gains) (true ∷ taken) (suc place) inside inside' free =
+    let rest = more_gains gains taken place (omega (arith, inside)) (omega (arith, inside')) free in omega (arith, ints, rest)
+more_gains (g ∷ gains) (false ∷ taken) (suc place) inside inside' free =
+    more_gains gains taken place (omega (arith, inside)) (omega (arith, inside')) free
+
+-- an open selection adds up no more than what is taken, and the gains above 0 of the places that are left
+pub open_gains : (gains : List ℤ) (left : List ℕ) (taken selection : List Bool) → length gains ≡ most_blocks → length taken ≡ most_blocks
+    → AreFree taken left → IsOpen taken left selection
+    → over_gains gains selection ≤ℤ (over_gains gains taken +ℤ over_open gains left)
+open_gains gains [] taken selection many long free is =
+    let same = same_gains gains selection taken (is.as_long ∙ sym long) (λ place. is.agrees place refl) in
+    omega (arith, ints, same)
+open_gains gains (place ∷ left) taken selection many long free is =
+    elim (accepts selection place) as (λ b. accepts selection place ≡ b → over_gains gains selection ≤ℤ (over_gains gains taken +ℤ over_open gains (place ∷ left))) [
+      | true ↦ λ e.
+          (let rest = open_gains gains left (slice_set taken place true) selection many (length-set taken place true ∙ long)
+          (still_free taken place left free.2 free.3) (open_accepted taken place left selection long free.0 is e) in
+          let more = more_gains gains taken place (subst (λ (n : ℕ). place < n) (sym many) free.0) (subst (λ (n : ℕ). place < n) (sym long) free.0) free.1 in
+          omega (arith, ints, clamps, rest, more))
+      | false ↦ λ e.
+          (let rest = open_gains gains left taken selection many long free.3 (open_rejected taken place left selection free.1 is e) in
+          omega (arith, ints, clamps, rest))
+    ] refl

@@ -1,0 +1,21 @@
+-- The selections that are open once some blocks are decided.
+use Rattle.std.specs.Prelude.{◌≡◌, ℕ, ◌<◌, Bool, false, ◌==◌, ◌||◌, List, [], ◌∷◌, length}
+use Rattle.dam_book.specs.Limits.{most_blocks}
+use Rattle.dam_blocks.specs.Selection.{accepts}
+
+-- whether the place is one of these
+abbrev pub is_among : ℕ → List ℕ → Bool
+is_among place [] = false
+is_among place (other ∷ places) = (place == other) || is_among place places
+
+-- a selection that accepts what is taken and nothing else, apart from any of the places that are left
+pub record IsOpen (taken : List Bool) (left : List ℕ) (selection : List Bool) : Type 0 where
+  pub as_long : length selection ≡ most_blocks
+  pub agrees : (place : ℕ) → is_among place left ≡ false → accepts selection place ≡ accepts taken place
+
+-- the places that are left: no two are the same, and none is taken
+abbrev pub AreFree : List Bool → List ℕ → Type 0
+AreFree taken [] = Unit {0}
+AreFree taken (place ∷ left) =
+    (place < most_blocks) × (accepts taken place ≡ false) × (is_among place left ≡ false)
+    × AreFree taken left

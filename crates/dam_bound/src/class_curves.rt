@@ -1,0 +1,160 @@
+//! The classes of a problem's periods with their curves, by which selections are bounded and valued.
+
+ghost use Rattle.std.specs.Prelude.{◌≡◌, ◌↔◌, ◌<◌, ℤ, ◌≤ℤ◌, ◌<ℤ◌, false, List, Some, None, All, IfOk, IfSome};
+ghost use Rattle.dam_book.specs.Limits.{most_blocks};
+ghost use Rattle.dam_blocks.specs.Eligible.{ArePrices, HasNoLoss, selection_welfare, surplus_of};
+ghost use Rattle.dam_bound.specs.Prices.{IsPriceBound, greatest_priced_gain};
+ghost use Rattle.dam_bound.specs.Relaxed.{without_rows};
+ghost use Rattle.dam_bound.specs.Sums.{at_places};
+ghost use Rattle.dam_bound.specs.inside.Numbers.{AreWithin};
+
+use crate::class_making::{classes_of, values_of};
+use crate::families::{families_of, family_gain};
+use crate::numbers::{add_priced, counts_of, line_at, weighted, weights_of};
+use crate::price_bound::PriceBound;
+use dam_blocks::{Problem, Selection};
+use dam_book::MOST_BLOCKS;
+use dam_curve::{Curve, Curves};
+use std::alloc::{AllocError, Allocator};
+use std::marker::Model;
+
+/// A class of periods: those in which every block has the same volume.
+#[derive(Clone, Copy)]
+pub(crate) struct Class {
+    /// The place of its first period.
+    pub(crate) at: u32,
+    /// The joint welfare of its hourly orders over the net volume.
+    pub(crate) curve: Curve,
+    /// The net volume of each block in each of its periods, in tenths of a MW; 0 at the places past the last block.
+    pub(crate) nets: [i32; MOST_BLOCKS],
+}
+
+/// The classes of a problem's periods with the curves of their hourly orders. They give bounds by prices, the welfare of a
+/// selection, and whether one of its blocks loses.
+///
+/// A contract sees the problem, without its rows.
+#[derive(Drop)]
+pub struct ClassCurves<'a, A: Allocator, B: Allocator> {
+    problem: &'a Problem<A>,
+    curves: Curves<B>,
+    /// The classes in the order of their first periods.
+    classes: Vec<Class, B>,
+    /// The value of each block over the day; 0 at the places past the last block.
+    values: [i64; MOST_BLOCKS],
+    /// For each block those that descend from it.
+    families: Vec<Option<Selection>, B>,
+}
+
+impl<'a, A: Allocator, B: Allocator> Model for ClassCurves<'a, A, B> {
+    ghost use Rattle.dam_blocks.specs.Problem.{ProblemState};
+    ghost use Rattle.dam_bound.specs.Relaxed.{without_rows};
+    ghost use Rattle.dam_bound.specs.ClassCurves.{AreClassCurves};
+
+    ghost Value = { ProblemState };
+
+    ghost view = { λ c. without_rows c.problem.now };
+
+    ghost invariant = { λ c. AreClassCurves (without_rows c.problem.now) c.curves c.classes.items c.values c.families.items };
+}
+
+impl<'a, A: Allocator, B: Allocator + Copy> ClassCurves<'a, A, B> {
+    /// The classes of a problem. The error is out of memory.
+    pub fn of(alloc: B, problem: &'a Problem<A>) -> Result<ClassCurves<'a, A, B>, AllocError>
+        ensures { IfOk result (λ curves. curves ≡ without_rows problem.now) }
+    {
+        let mut curves = Curves::new(alloc);
+        let classes = classes_of(alloc, problem, &mut curves)?;
+        let values = values_of(problem.blocks(), usize::from(problem.periods().get()));
+        let families = families_of(alloc, problem.blocks())?;
+        Ok(ClassCurves {
+            problem,
+            curves,
+            classes,
+            values,
+            families,
+        })
+    }
+}
+
+impl<A: Allocator, B: Allocator> ClassCurves<'_, A, B> {
+    /// Writes a bound by prices. Its prices are those at which the taken blocks, and half of the volume of those that are
+    /// left open, would clear, so that it is near for selections that accept the taken blocks and some of the open ones.
+    /// But it bounds every selection. Takes no memory.
+    pub fn bound_by_prices(&self, taken: Selection, left: &[u8], bound: &mut PriceBound)
+        requires { All (λ place. place < most_blocks) left.now }
+        ensures { IsPriceBound self.now bound.new }
+    {
+        let weights = weights_of(taken, left);
+        bound.base = 0;
+        bound.gains = self.values;
+        for class in &self.classes {
+            let middle = weighted(&weights, &class.nets).div_euclid(2);
+            let line = self.curves.line_near(class.curve, i64::from(middle));
+            bound.base += line.surplus;
+            bound.lines[class.at as usize] = line;
+            add_priced(&mut bound.gains, &class.nets, line.price);
+        }
+    }
+
+    /// The welfare of a selection, in cents per MWh times tenths of a MW; `None` exactly if it is under `least`, or if some
+    /// period doesn't balance. The bound may be any of this problem: it is lowered class by class, and given up once it is
+    /// under `least`. Takes no memory.
+    pub fn welfare(&self, selection: Selection, bound: &PriceBound, least: i64) -> Option<i64>
+        requires { IsPriceBound self.now bound.now }
+        ensures some { IfSome result (λ w. (selection_welfare self.now selection ≡ Some w)
+            × (least ≤ℤ w)) }
+        ensures none { result ≡ None → (w : ℤ) → selection_welfare self.now selection ≡ Some w
+            → w <ℤ least }
+    {
+        let counts = counts_of(selection);
+        let mut total = bound.most(selection, &[]);
+        for class in &self.classes {
+            let net = i64::from(weighted(&counts, &class.nets));
+            let Some(welfare) = self.curves.welfare(class.curve, net) else {
+                return None;
+            };
+            total -= line_at(bound.lines[class.at as usize], net) - welfare;
+            if total < least {
+                return None;
+            }
+        }
+        if total < least { None } else { Some(total) }
+    }
+
+    /// Whether an accepted block loses at the prices of a selection with which every period balances. Takes no memory.
+    pub fn has_loss(&self, selection: Selection) -> bool
+        requires { (w : ℤ) × (selection_welfare self.now selection ≡ Some w) }
+        ensures { (prices : List ℤ) → ArePrices self.now.blocks selection 1 self.now.hours prices
+            → (result ≡ false) ↔ HasNoLoss self.now.blocks selection prices }
+    {
+        dam_blocks::laws::descendants();
+        let gains = self.gains_at(selection);
+        for place in 0..self.families.len() {
+            if selection.has(place)
+                && family_gain(&gains, selection, place, self.families[place]) < 0
+            {
+                return true;
+            }
+        }
+        false
+    }
+
+    /// The surplus of each block at the prices of a selection with which every period balances.
+    fn gains_at(&self, selection: Selection) -> [i64; MOST_BLOCKS]
+        requires { (w : ℤ) × (selection_welfare self.now selection ≡ Some w) }
+        ensures gains { (prices : List ℤ)
+            → ArePrices self.now.blocks selection 1 self.now.hours prices
+            → result ≡ at_places most_blocks (surplus_of prices) self.now.blocks }
+        ensures size { AreWithin greatest_priced_gain result }
+    {
+        dam_hour::laws::uniqueness();
+        let counts = counts_of(selection);
+        let mut gains = self.values;
+        for class in &self.classes {
+            let net = i64::from(weighted(&counts, &class.nets));
+            let price = self.curves.price(class.curve, net);
+            add_priced(&mut gains, &class.nets, price);
+        }
+        gains
+    }
+}

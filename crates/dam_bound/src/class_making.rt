@@ -1,0 +1,129 @@
+//! The making of the classes of a problem with their curves.
+
+ghost use Rattle.std.specs.Prelude.{◌≡◌, ◌<◌, ◌≤◌, ◌+◌, ℕ, [], length, IfOk, OnOk};
+ghost use Rattle.dam_book.specs.Limits.{most_blocks, last_period, greatest_volume};
+ghost use Rattle.dam_curve.specs.Curve.{IsCurve, IsCurveAt, Keeps};
+ghost use Rattle.dam_blocks.specs.Problem.{AreBlocks};
+ghost use Rattle.dam_blocks.specs.Selection.{net_volume_of, value_of};
+ghost use Rattle.dam_bound.specs.ClassCurves.{class_orders, AreClasses};
+ghost use Rattle.dam_bound.specs.Classes.{AreFirsts};
+ghost use Rattle.dam_bound.specs.Relaxed.{without_rows};
+ghost use Rattle.dam_bound.specs.Sums.{at_places, over_periods};
+ghost use Rattle.dam_bound.specs.inside.Numbers.{AreWithin, negative_sum, positive_sum};
+
+use crate::class_curves::Class;
+use crate::classes::firsts_of;
+use dam_blocks::{Block, MOST_PERIODS, Problem, net_volume_of, value_of};
+use dam_book::{BlockOrder, MOST_BLOCKS, Period};
+use dam_curve::{Curve, Curves, Sum, Supply};
+use std::alloc::{AllocError, Allocator};
+
+/// The net volume of each block in the period at the place, in tenths of a MW.
+fn nets_in(blocks: &[Block], at: usize) -> [i32; MOST_BLOCKS]
+    requires orders { (periods : ℕ) × AreBlocks periods blocks.now }
+    requires few { length blocks.now ≤ most_blocks }
+    requires place { at < last_period }
+    ensures value { result ≡ at_places most_blocks (net_volume_of (at + 1)) blocks.now }
+    ensures size { AreWithin greatest_volume result }
+{
+    let period = Period::at(at);
+    let mut nets = [0; MOST_BLOCKS];
+    for (place, block) in blocks.iter().enumerate() {
+        nets[place] = net_volume_of(&block.order, period) as i32;
+    }
+    nets
+}
+
+/// The value of a block in the first `count` periods.
+fn value_over(order: &BlockOrder, count: usize) -> i64
+    requires { count ≤ last_period }
+    ensures value { result ≡ over_periods (λ t. value_of t order.now) 1 count }
+{
+    let mut total = 0;
+    for at in 0..count {
+        total += value_of(order, Period::at(at));
+    }
+    total
+}
+
+/// The value of each block in the first `count` periods.
+pub(crate) fn values_of(blocks: &[Block], count: usize) -> [i64; MOST_BLOCKS]
+    requires few { length blocks.now ≤ most_blocks }
+    requires count { count ≤ last_period }
+    ensures { result ≡ at_places most_blocks (λ o. over_periods (λ t. value_of t o) 1 count) blocks.now }
+{
+    let mut values = [0; MOST_BLOCKS];
+    for (place, block) in blocks.iter().enumerate() {
+        values[place] = value_over(&block.order, count);
+    }
+    values
+}
+
+/// Begins the sum of a class at the net volumes that selections of blocks with these net volumes make. The error is out of
+/// memory.
+fn clear_for<A: Allocator>(sum: &mut Sum<A>, nets: &[i32; MOST_BLOCKS]) -> Result<(), AllocError>
+    requires { AreWithin greatest_volume nets.now }
+    ensures { OnOk result (IsCurve [] (negative_sum nets.now) (positive_sum nets.now) sum.new) }
+{
+    let mut least = 0;
+    let mut most = 0;
+    for net in nets {
+        least += i64::from((*net).min(0));
+        most += i64::from((*net).max(0));
+    }
+    sum.clear(least, most)
+}
+
+/// Adds the curve of the class that begins at the place, over its hourly orders. The error is out of memory.
+fn curve_of<A: Allocator, B: Allocator + Copy>(
+    alloc: B,
+    problem: &Problem<A>,
+    firsts: &[u32; MOST_PERIODS],
+    nets: &[i32; MOST_BLOCKS],
+    class: usize,
+    curves: &mut Curves<B>,
+) -> Result<Curve, AllocError>
+    requires firsts { AreFirsts problem.now firsts.now }
+    requires nets { AreWithin greatest_volume nets.now }
+    ensures curve { IfOk result (λ curve. IsCurveAt curves.new curve (class_orders problem.now class)
+        (negative_sum nets.now) (positive_sum nets.now)) }
+    ensures kept { Keeps curves.old curves.new }
+{
+    let mut sum = Sum::new(alloc);
+    clear_for(&mut sum, nets)?;
+    let mut at = usize::from(problem.periods().get());
+    while at > 0 {
+        at -= 1;
+        if firsts[at] as usize == class {
+            let supply = Supply::of(alloc, problem.steps(Period::at(at)).unwrap())?;
+            sum.add(&supply)?;
+        }
+    }
+    curves.add(&sum)
+}
+
+/// Adds the curves of all classes, and returns the classes in the order of their first periods. The error is out of memory.
+pub(crate) fn classes_of<A: Allocator, B: Allocator + Copy>(
+    alloc: B,
+    problem: &Problem<A>,
+    curves: &mut Curves<B>,
+) -> Result<Vec<Class, B>, AllocError>
+    ensures { IfOk result (λ classes. AreClasses (without_rows problem.now) curves.new classes.items) }
+{
+    let blocks = problem.blocks();
+    let count = usize::from(problem.periods().get());
+    let firsts = firsts_of(blocks, count);
+    let mut classes = Vec::with_capacity(alloc, count)?;
+    for at in 0..count {
+        if firsts[at] as usize == at {
+            let nets = nets_in(blocks, at);
+            let curve = curve_of(alloc, problem, &firsts, &nets, at, curves)?;
+            classes.push(Class {
+                at: at as u32,
+                curve,
+                nets,
+            })?;
+        }
+    }
+    Ok(classes)
+}

@@ -1,0 +1,61 @@
+//! A bound by prices.
+
+ghost use Rattle.std.specs.Prelude.{◌≡◌, ◌<◌, ◌≤◌, ℕ, length, All};
+ghost use Rattle.dam_book.specs.Limits.{most_blocks};
+ghost use Rattle.dam_blocks.specs.Problem.{ProblemState};
+ghost use Rattle.dam_bound.specs.Prices.{most_of, IsPriceBound};
+
+use dam_blocks::{MOST_PERIODS, Selection};
+use dam_book::MOST_BLOCKS;
+use dam_curve::Line;
+
+/// A bound by prices: at some prices, the surplus of all hourly orders, and the surplus of each block.
+///
+/// At any prices, the welfare of a selection is at most the surplus of all hourly orders plus the surpluses of the
+/// selection's blocks (`laws::price_bound`). So the prices need not be clearing prices of anything. All numbers are in
+/// cents per MWh times tenths of a MW.
+#[derive(Clone, Copy)]
+pub struct PriceBound {
+    /// The surplus of all hourly orders at the prices.
+    pub base: i64,
+    /// The surplus of each block at the prices, below 0 if it loses; 0 at the places past the last block.
+    pub gains: [i64; MOST_BLOCKS],
+    /// For each class of periods, at the place of its first period, the line over its welfare at the prices. The lines
+    /// at other places are unspecified.
+    pub lines: [Line; MOST_PERIODS],
+}
+
+impl PriceBound {
+    /// A bound to be written over, which need not bound anything.
+    pub fn empty() -> PriceBound {
+        PriceBound {
+            base: 0,
+            gains: [0; MOST_BLOCKS],
+            lines: [Line {
+                price: 0,
+                surplus: 0,
+            }; MOST_PERIODS],
+        }
+    }
+
+    /// The greatest bound of the selections that accept `taken`, any of the blocks at the places that are left open, and no
+    /// others:
+    /// the base, the gain of each block that is taken, and each gain above 0 of an open one.
+    pub fn most(&self, taken: Selection, left: &[u8]) -> i64
+        requires bound { (problem : ProblemState) × IsPriceBound problem self.now }
+        requires places { All (λ place. place < most_blocks) left.now }
+        requires few { length left.now ≤ most_blocks }
+        ensures { result ≡ most_of self.now taken left.now }
+    {
+        let mut total = self.base;
+        for place in 0..MOST_BLOCKS {
+            if taken.has(place) {
+                total += self.gains[place];
+            }
+        }
+        for place in left {
+            total += self.gains[usize::from(*place)].max(0);
+        }
+        total
+    }
+}
