@@ -2,6 +2,7 @@
 use Rattle.std.proofs.Common.{◌≡◌, ℕ, ◌^◌, ◌-◌, ◌<◌, ◌≤◌, max, ◌⊎◌, inl, inr, ℤ, pos, ◌≤ℤ◌, Bool, true, Option, Some, None, List, [], ◌∷◌, ◌++◌}
 use Rattle.std.proofs.Common.{length, take, drop, ◌∙◌, ap, sym, subst, refl, arith}
 use Rattle.std.specs.List.{All, Contains}
+use Rattle.std.proofs.lemmas.Bool.{cases_lt}
 use Rattle.std.proofs.lemmas.Int.{ints}
 use Rattle.std.proofs.lemmas.List.{length-take-le, take-append-drop}
 use Rattle.std.proofs.lemmas.List.Elements.{All-contains, All-head, All-tail, All-weaker}
@@ -13,10 +14,10 @@ use Rattle.dam_blocks.specs.Eligible.{IsEligible}
 use Rattle.dam_blocks.specs.Result.{RanksAtOrBelow, IsResult}
 use Rattle.dam_bound.specs.Prefix.{IsCompletion}
 use Rattle.dam_search.specs.declared.answer.PieceAnswer.{PieceAnswer}
-use Rattle.dam_search.specs.Piece.{IsFind, IsMatched, Rises, welfare_found, HasNeeded, IsSpent}
+use Rattle.dam_search.specs.Piece.{IsFind, IsMatched, Rises, welfare_found, all_nodes, HasNeeded, IsSpent}
 use Rattle.dam_search.specs.Search.{LimitHasNeeded}
 use Rattle.dam_search.specs.inside.Collect.{IsWorked}
-use Rattle.dam_search.proofs.Walks.{needed_more}
+use Rattle.dam_search.proofs.Walks.{needed_more, all_needed}
 use Rattle.dam_search.specs.Answer.{IsSoundAnswer, AreAnswered, IsReached, greatest_found, IsHighest}
 use Rattle.dam_search.proofs.Ranks.{IsTransitive}
 
@@ -189,12 +190,16 @@ reached_at_most problem value b r result =
     let reaches = r.reaches in let below = result.others r.selection r.welfare r.eligible in let most = below.by_welfare in
     omega (arith, ints, reaches, most)
 
--- an answer that is done visited as many nodes as its piece needs, which the limit allows
-pub answer_needed : (problem : ProblemState) (prefix : List Bool) (left told nodes visited read : ℕ) (b : Best)
-    → IsSpent problem prefix left told nodes visited read true → IsReached problem read
+-- the limit allows as many nodes as the piece of an answer that is done needs
+pub answer_needed : (problem : ProblemState) (prefix : List Bool) (left nodes visited read : ℕ) (done : Bool) (b : Best)
+    → (nodes < all_nodes left → IsSpent problem prefix left 0 nodes visited read done) → done ≡ true → IsReached problem read
     → IsResult problem b.selection (pos b.welfare) → HasNeeded problem prefix left b.welfare nodes
-answer_needed problem prefix left told nodes visited read b s reached result =
-    needed_more problem prefix left read b.welfare visited nodes (reached_at_most problem read b reached result) s.within (s.needed refl)
+answer_needed problem prefix left nodes visited read done b spent is reached result = elim (cases_lt nodes (all_nodes left)) [
+  | inl few ↦
+      (let s = spent few in
+      needed_more problem prefix left read b.welfare visited nodes (reached_at_most problem read b reached result) s.within (s.needed is))
+  | inr many ↦ all_needed problem prefix left b.welfare nodes (omega (arith, many))
+]
 
 pub limit_needed : (problem : ProblemState) (depth nodes : ℕ) (answers : List PieceAnswer) (b : Best)
     → All (λ (a : PieceAnswer). IsWorked problem depth nodes a) answers → AreAnswered problem depth answers
@@ -203,6 +208,5 @@ limit_needed problem depth nodes answers b worked are result piece less =
     let found = are.each piece less in let left = length problem.blocks - depth in
     let work = All-contains (λ (a : PieceAnswer). IsWorked problem depth nodes a) answers found.0 worked found.1 in
     let done = All-contains (λ (a : PieceAnswer). a.done ≡ true) answers found.0 are.done found.1 in
-    let spent = subst (λ (b : Bool). IsSpent problem (choice depth found.0.piece) left 0 nodes found.0.visited found.0.read b) done work.spent in
     subst (λ (n : ℕ). HasNeeded problem (choice depth n) left b.welfare nodes) found.2
-    (answer_needed problem (choice depth found.0.piece) left 0 nodes found.0.visited found.0.read b spent work.reached result)
+    (answer_needed problem (choice depth found.0.piece) left nodes found.0.visited found.0.read found.0.done b work.spent done work.reached result)

@@ -8,5 +8,9 @@ pub mod Answers
 pub mod Sums
 pub mod Rule
 pub mod Shares
-pub mod Leaf
+pub mod Opens
+pub mod FirstNode
 pub mod OneAnswer
+pub mod Sets
+pub mod RulingOut
+pub mod Ordering

@@ -1,5 +1,5 @@
 -- One answer, about the one piece of an uncut search.
-use Rattle.std.proofs.Common.{◌≡◌, ℕ, ◌≤◌, max, ◌-◌, pos, true, Some, [], ◌∷◌, length, sym, subst, refl, arith}
+use Rattle.std.proofs.Common.{◌≡◌, ℕ, ◌≤◌, max, pos, true, Some, [], ◌∷◌, sym, subst, refl, arith}
 use Rattle.std.specs.List.{All}
 use Rattle.std.proofs.lemmas.List.Elements.{All-push}
 use Rattle.dam_blocks.specs.declared.selection.Best.{Best}
@@ -7,9 +7,9 @@ use Rattle.dam_blocks.specs.Problem.{ProblemState}
 use Rattle.dam_search.specs.declared.answer.PieceAnswer.{PieceAnswer}
 use Rattle.dam_search.specs.Piece.{Rises, welfare_found, IsSound}
 use Rattle.dam_search.specs.Answer.{IsSoundAnswer, AreAnswered, greatest_found, IsHighest, IsReached}
-use Rattle.dam_search.specs.Piece.{IsSpent}
+use Rattle.dam_search.specs.Work.{IsExplored}
 use Rattle.dam_search.specs.inside.Collect.{IsWorked}
-use Rattle.dam_search.proofs.Collecting.{reached_less, reached_greater, reached_found, spent_less}
+use Rattle.dam_search.proofs.Collecting.{reached_less, reached_greater, reached_found}
 use Rattle.dam_search.proofs.Ranks.{ranks_with_itself}
 
 pub all_one : (P : PieceAnswer → Type 0) (a : PieceAnswer) → P a → All P (a ∷ [])
@@ -34,15 +34,17 @@ highest a b e = record {
       (subst (λ o. Rises o (Some b)) (sym e) (ranks_with_itself (pos b.welfare) b.selection));
 }
 
--- the answer of the walk over the whole
-pub worked_is : (problem : ProblemState) (first told nodes : ℕ) (a : PieceAnswer) → a.piece ≡ 0 → IsSound problem [] a.best a.read a.done
-    → IsReached problem first → a.read ≤ max first (welfare_found a.best)
-    → IsSpent problem [] (length problem.blocks - 0) told nodes a.visited a.read a.done → IsWorked problem 0 nodes a
-worked_is problem first told nodes a zero sound reached read spent = record {
-  in_cutting = omega (arith, zero);
-  sound = sound;
-  reached = reached_less problem (max first (welfare_found a.best)) a.read read
-      (reached_greater problem first (welfare_found a.best) reached
-      (reached_found problem [] a.best (reached_less problem first 0 (omega arith) reached) sound.found));
-  spent = spent_less problem [] (length problem.blocks - 0) told nodes a.visited a.read a.done spent;
-}
+-- the answer about the whole
+pub worked_is : (problem explored : ProblemState) (first nodes : ℕ) (a : PieceAnswer) → explored ≡ problem → IsExplored explored 0 nodes a
+    → IsReached problem first → a.read ≤ max first (welfare_found a.best) → IsWorked problem 0 nodes a
+worked_is problem explored first nodes a same answer reached read =
+    let own = subst (λ (p : ProblemState). IsExplored p 0 nodes a) same answer in
+    record {
+      in_cutting = own.in_cutting;
+      sound = own.sound;
+      reached = reached_less problem (max first (welfare_found a.best)) a.read read
+          (reached_greater problem first (welfare_found a.best) reached
+          (reached_found problem [] a.best (reached_less problem first 0 (omega arith) reached) own.sound.found));
+      spent = own.spent;
+      done = own.done;
+    }

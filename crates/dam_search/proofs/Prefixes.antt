@@ -1,10 +1,8 @@
 -- A prefix of decisions, and the selection that accepts no other block.
-use Rattle.std.proofs.Common.{◌≡◌, ◌≢◌, inl, inr, not, Some, get_or, slice_set, ap₂, ℕ, zero, suc, ◌+◌, ◌-◌, ◌^◌, ◌<◌, ◌≤◌, Bool, true}
+use Rattle.std.proofs.Common.{◌≡◌, ℕ, zero, suc, ◌+◌, ◌-◌, ◌^◌, ◌<◌, ◌≤◌, Bool, true}
 use Rattle.std.proofs.Common.{false, cond, nat_lt, List, [], ◌∷◌, ◌++◌, length, replicate, take, length-append, ap, ◌∙◌, sym, refl, arith}
 use Rattle.std.proofs.Math.ListN.{set}
-use Rattle.std.specs.List.{slice_get}
-use Rattle.std.proofs.lemmas.Bool.{cases_lt}
-use Rattle.std.proofs.lemmas.List.{length-take-le, length-replicate, length-set, get_or-set_same, get_or-set_other, take_more}
+use Rattle.std.proofs.lemmas.List.{length-take-le, length-replicate}
 use Rattle.std.proofs.Math.Seq.{take-append_seam}
 use Rattle.dam_book.specs.Limits.{most_blocks}
 use Rattle.dam_blocks.specs.Selection.{padded, choice}
@@ -82,55 +80,3 @@ pub length_next : (prefix taken : List Bool) (n : ℕ) (accept : Bool) → take 
     → n ≤ most_blocks → length (prefix ++ accept ∷ []) ≡ n + 1
 length_next prefix taken n accept view is few =
     let long = (prefix_of taken prefix n view is few).0 in omega (arith, length_more prefix accept, long)
-
--- ---- a decision
-at_front : (xs ys : List Bool) (i : ℕ) → i < length xs → slice_get xs i ≡ Some (get_or (xs ++ ys) i false)
-at_front [] ys i l = absurd (omega (arith, l))
-at_front (x ∷ xs) ys zero l = refl
-at_front (x ∷ xs) ys (suc i) l = at_front xs ys i (omega (arith, l))
-
-pub decision_at : (taken prefix : List Bool) (n i : ℕ) → take n taken ≡ prefix → taken ≡ padded (take n taken) → i < length prefix
-    → slice_get prefix i ≡ Some (get_or taken i false)
-decision_at taken prefix n i view is l =
-    at_front prefix (replicate (most_blocks - length prefix) false) i l
-    ∙ ap (λ (xs : List Bool). Some (get_or xs i false)) (sym (is ∙ ap padded view))
-
-some_is : (a b : Bool) → Some a ≡ Some b → a ≡ b
-some_is a b e = cc
-
-read_at : (xs : List Bool) (i : ℕ) (a : Bool) → slice_get xs i ≡ Some a → get_or xs i false ≡ a
-read_at [] i a e = absurd (cc)
-read_at (x ∷ xs) zero a e = some_is x a e
-read_at (x ∷ xs) (suc i) a e = read_at xs i a e
-
--- one decision more of those with one reversed
-pub turned_more : (xs done : List Bool) (place own : ℕ) (a b : Bool) → place < length xs → own < length xs → slice_get xs own ≡ Some a
-    → (own ≡ place → b ≡ not a) → (own ≢ place → b ≡ a) → done ≡ take own (slice_set xs place (not (get_or xs place false)))
-    → done ++ b ∷ [] ≡ take (own + 1) (slice_set xs place (not (get_or xs place false)))
-turned_more xs done place own a b inside less at here apart is =
-    let other = not (get_or xs place false) in let ys = slice_set xs place other in let long = length-set xs place other in
-    let stays : own ≢ place → get_or ys own false ≡ a = λ ne. get_or-set_other xs place own other false ne ∙ read_at xs own a at in
-    ap₂ (λ (zs : List Bool) (c : Bool). zs ++ c ∷ []) is (elim (cases_lt own place) [
-      | inl l ↦ (let ne : own ≢ place = omega (arith, l) in apart ne ∙ sym (stays ne))
-      | inr m ↦ elim (cases_lt place own) [
-        | inl l ↦ (let ne : own ≢ place = omega (arith, l) in apart ne ∙ sym (stays ne))
-        | inr k ↦ (let same : own ≡ place = omega (arith, m, k) in
-            here same ∙ ap not (sym (read_at xs own a at) ∙ ap (λ (n : ℕ). get_or xs n false) same)
-            ∙ sym (ap (λ (n : ℕ). get_or ys n false) same ∙ get_or-set_same xs place other false inside))
-      ]
-    ])
-    ∙ sym (take_more ys own false (omega (arith, less, long)))
-
--- one decision more of a prefix
-pub decided_more : (taken prefix : List Bool) (n i : ℕ) → take n taken ≡ prefix → taken ≡ padded (take n taken) → n ≤ most_blocks → i < n
-    → take (i + 1) prefix ≡ take i prefix ++ get_or taken i false ∷ []
-decided_more taken prefix n i view is few l =
-    let long = (prefix_of taken prefix n view is few).0 in
-    take_more prefix i false (omega (arith, long, l))
-    ∙ ap (λ (b : Bool). take i prefix ++ b ∷ []) (read_at prefix i (get_or taken i false)
-    (decision_at taken prefix n i view is (omega (arith, long, l))))
-
-pub front_long : (taken prefix : List Bool) (n i : ℕ) → take n taken ≡ prefix → taken ≡ padded (take n taken) → n ≤ most_blocks → i < n
-    → length (take i prefix) ≡ i
-front_long taken prefix n i view is few l =
-    let long = (prefix_of taken prefix n view is few).0 in length-take-le i prefix (omega (arith, long, l))

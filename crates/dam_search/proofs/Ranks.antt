@@ -63,6 +63,11 @@ pub rises_twice : (a b c : Option Best) → IsTransitive → IsLong a → IsLong
 rises_twice None b c through la lb lc h g = tt
 rises_twice (Some a) b c through la lb lc h g = matched_rises (pos a.welfare) a.selection b c through la lb lc h g
 
+-- the selection that is matched, with its welfare
+pub matched_as : (w v : ℤ) (sel found : List Bool) (best : Option Best) → sel ≡ found → w ≡ v → IsMatched v found best → IsMatched w sel best
+matched_as w v sel found best e f m =
+    subst (λ (xs : List Bool). IsMatched w xs best) (sym e) (subst (λ (z : ℤ). IsMatched z found best) (sym f) m)
+
 -- ---- the selection found among fewer completions
 
 pub shorter : (prefix extra sel : List Bool) → IsCompletion (prefix ++ extra) sel → IsCompletion prefix sel

@@ -1,5 +1,5 @@
 -- Answers of a seat that draws one piece more, and of two seats that are joined.
-use Rattle.std.proofs.Common.{◌≡◌, ℕ, pos, cond, ◌==◌, ◌+◌, ◌-◌, ◌<◌, ◌≤◌, ◌^◌, max, List, [], ◌∷◌, ◌++◌, map, length, slice_index_or, ◌∙◌}
+use Rattle.std.proofs.Common.{true, ◌≡◌, ℕ, pos, cond, ◌==◌, ◌+◌, ◌-◌, ◌<◌, ◌≤◌, ◌^◌, max, List, [], ◌∷◌, ◌++◌, map, length, slice_index_or, ◌∙◌}
 use Rattle.std.proofs.Common.{ap, ap₂, sym, subst, refl, arith, length-append}
 use Rattle.std.specs.List.{All}
 use Rattle.std.specs.Result.{IsErrOf}
@@ -12,7 +12,7 @@ use Rattle.std.proofs.lemmas.List.Elements.{All-push, All-append, All-weaker}
 use Rattle.dam_blocks.specs.Problem.{ProblemState}
 use Rattle.dam_search.specs.declared.answer.PieceAnswer.{PieceAnswer}
 use Rattle.dam_search.specs.declared.view.View.{View}
-use Rattle.dam_search.specs.Piece.{welfare_found, IsSound, IsSpent}
+use Rattle.dam_search.specs.Piece.{all_nodes, welfare_found, IsSound, IsSpent}
 use Rattle.dam_blocks.specs.Selection.{choice}
 use Rattle.dam_search.specs.Answer.{IsReached, greatest_found}
 use Rattle.dam_search.specs.inside.Collect.{IsWorked, answers_about, AreOneEach, IsCollected}
@@ -67,8 +67,20 @@ pub explored_is : (problem : ProblemState) (depth nodes piece told : ℕ) (a : P
 explored_is problem depth nodes piece told a same within sound spent = record {
   in_cutting = subst (λ (n : ℕ). n < 2 ^ depth) (sym same) within;
   sound = subst (λ (n : ℕ). IsSound problem (choice depth n) a.best a.read a.done) (sym same) sound;
-  spent = subst (λ (n : ℕ). IsSpent problem (choice depth n) (length problem.blocks - depth) 0 nodes a.visited a.read a.done) (sym same)
-      (spent_less problem (choice depth piece) (length problem.blocks - depth) told nodes a.visited a.read a.done spent);
+  spent = λ few. subst (λ (n : ℕ). IsSpent problem (choice depth n) (length problem.blocks - depth) 0 nodes a.visited a.read a.done)
+      (sym same) (spent_less problem (choice depth piece) (length problem.blocks - depth) told nodes a.visited a.read a.done spent);
+  done = spent.done_by_all;
+}
+
+-- the answer of a walk to the end of a piece that was drawn, if the limit can't bind
+pub explored_whole : (problem : ProblemState) (depth nodes piece : ℕ) (a : PieceAnswer) → a.piece ≡ piece → piece < 2 ^ depth
+    → IsSound problem (choice depth piece) a.best a.read a.done → a.done ≡ true → all_nodes (length problem.blocks - depth) ≤ nodes
+    → IsExplored problem depth nodes a
+explored_whole problem depth nodes piece a same within sound done many = record {
+  in_cutting = subst (λ (n : ℕ). n < 2 ^ depth) (sym same) within;
+  sound = subst (λ (n : ℕ). IsSound problem (choice depth n) a.best a.read a.done) (sym same) sound;
+  spent = λ few. absurd (omega (arith, few, many));
+  done = λ h. done;
 }
 
 pub none_yet : (problem : ProblemState) (depth nodes : ℕ) (v : View) → v.drawn ≡ [] → v.greatest_offer ≡ 0
@@ -192,6 +204,7 @@ all_worked problem depth nodes first answers reached h =
       sound = explored.sound;
       reached = reached_less problem (max first (greatest_found answers)) (slice_index_or answers k d).read (h.greatest_read k d l) both;
       spent = explored.spent;
+      done = explored.done;
     })
 
 pub first_reached : (problem : ProblemState) (b : Best) → IsEligible problem b.selection (pos b.welfare) → IsReached problem b.welfare

@@ -1,5 +1,5 @@
 -- The cost of one step of a walk, and of two walks after one another.
-use Rattle.std.proofs.Common.{◌≡◌, ℕ, zero, suc, ◌+◌, ◌-◌, ◌^◌, ◌<◌, ◌≤◌, ◌⊎◌, inl, inr, ℤ, pos, negsuc, ◌<ℤ◌, Bool, true, false, not, Option, Some, None, List}
+use Rattle.std.proofs.Common.{◌≡◌, ℕ, zero, suc, ◌+◌, ◌-◌, ◌^◌, ◌<◌, ◌≤◌, ◌⊎◌, inl, inr, ℤ, pos, negsuc, ◌<ℤ◌, ◌≤ℤ◌, Bool, true, false, not, Option, Some, None, List}
 use Rattle.std.proofs.Common.{[], ◌∷◌, ◌++◌, length, if◌then◌else◌, ◌∙◌, ap, sym, subst, refl, arith}
 use Rattle.std.proofs.lemmas.Bool.Decides.{nat_tests}
 use Rattle.std.proofs.lemmas.Int.{ints}
@@ -9,7 +9,7 @@ use Rattle.dam_blocks.specs.Problem.{ProblemState}
 use Rattle.dam_book.specs.Limits.{most_blocks}
 use Rattle.dam_blocks.specs.Selection.{padded, IsAdmissible}
 use Rattle.dam_bound.specs.Relaxed.{relaxed_welfare, reaches, live_count}
-use Rattle.dam_search.specs.Piece.{needed_nodes, AdmitsOnly, HasNeeded, IsSpent}
+use Rattle.dam_search.specs.Piece.{all_nodes, needed_nodes, AdmitsOnly, HasNeeded, IsSpent}
 use Rattle.dam_search.specs.inside.Walk.{Spends, Reads}
 use Rattle.dam_search.proofs.LastBlock.{still_rejected}
 use Rattle.dam_search.proofs.Prefixes.{length_more}
@@ -184,12 +184,16 @@ pub needed_more : (problem : ProblemState) (prefix : List Bool) (left read later
 needed_more problem prefix left read later nodes more h h' needed admissible admits value only le =
     let least = needed admissible admits value only (omega (arith, h, le)) in omega (arith, least, h')
 
--- a relaxed welfare under the greatest value read reaches no greater value
-pub unreached : (w : Option ℤ) (value least : ℕ) → ((x : ℤ) → w ≡ Some x → x <ℤ pos least) → least ≤ value → reaches w value ≡ false
-unreached None value least under h = refl
-unreached (Some (pos n)) value least under h =
-    let u = under (pos n) refl in let less : n < value = omega (arith, ints, u, h) in grind (arith, nat_tests)
-unreached (Some (negsuc n)) value least under h = refl
+-- a relaxed welfare that doesn't reach the value reaches no greater one
+pub unreached : (w : Option ℤ) (value least : ℕ) → reaches w least ≡ false → least ≤ value → reaches w value ≡ false
+unreached None value least e h = refl
+unreached (Some (pos n)) value least e h = let less : n < least = grind (arith, nat_tests) in grind (arith, nat_tests)
+unreached (Some (negsuc n)) value least e h = refl
+
+-- and no welfare under it
+pub less : (w bound : ℤ) (value : ℕ) → w ≤ℤ bound → reaches (Some bound) value ≡ false → w <ℤ pos value
+less w (pos n) value h e = let under : n < value = grind (arith, nat_tests) in omega (arith, ints)
+less w (negsuc n) value h e = omega (arith, ints)
 
 -- the nodes that both extensions of a prefix need
 abbrev further_nodes : ProblemState → (List Bool → Bool) → ℕ → List Bool → ℕ → ℕ
@@ -262,6 +266,31 @@ needed_both problem prefix first n read later before middle after few fits more 
     (both_needed problem prefix first admits value next (middle - (before + 1)) (after - middle) (after - before)
     (omega (arith, more, more')) only (still_rejected problem.blocks prefix fits admissible)
     (λ fine. one fine admits value only (omega (arith, h, le))) (λ fine. two fine admits value only le))
+
+-- no more than there are
+twice_all : (left : ℕ) → 1 + ((2 ^ (left + 1) - 1) + (2 ^ (left + 1) - 1)) ≤ 2 ^ (suc left + 1) - 1
+twice_all left = let e : suc left + 1 ≡ (left + 1) + 1 = omega arith in let same = ap (λ (k : ℕ). 2 ^ k) e in
+    let twice = doubled (left + 1) in let some = two_or_more left in omega (arith, same, twice, some)
+
+some_of : (reached admitted : Bool) (a b most total : ℕ) → a ≤ most → b ≤ most → 1 + (most + most) ≤ total
+    → 1 + (if reached then a + (if admitted then b else 0) else 0) ≤ total
+some_of true true a b most total h h' le = omega (arith, h, h', le)
+some_of true false a b most total h h' le = omega (arith, h, h', le)
+some_of false admitted a b most total h h' le = omega (arith, le)
+
+pub needed_at_most : (problem : ProblemState) (admits : List Bool → Bool) (value : ℕ) (prefix : List Bool) (left : ℕ)
+    → needed_nodes problem admits value prefix left ≤ all_nodes left
+needed_at_most problem admits value prefix zero = omega arith
+needed_at_most problem admits value prefix (suc left) =
+    some_of (reaches (relaxed_welfare problem prefix) value) (admits (padded (prefix ++ true ∷ [])))
+    (needed_nodes problem admits value (prefix ++ false ∷ []) left) (needed_nodes problem admits value (prefix ++ true ∷ []) left)
+    (all_nodes left) (all_nodes (suc left)) (needed_at_most problem admits value (prefix ++ false ∷ []) left)
+    (needed_at_most problem admits value (prefix ++ true ∷ []) left) (twice_all left)
+
+-- a limit of as many nodes as there are
+pub all_needed : (problem : ProblemState) (prefix : List Bool) (left read nodes : ℕ) → all_nodes left ≤ nodes → HasNeeded problem prefix left read nodes
+all_needed problem prefix left read nodes h admissible admits value only le =
+    let most = needed_at_most problem admits value prefix left in omega (arith, most, h)
 
 -- a whole walk, before which nothing was visited
 pub spent_from : (problem : ProblemState) (prefix : List Bool) (left told nodes visited read : ℕ) (done : Bool)

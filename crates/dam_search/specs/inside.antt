@@ -1,4 +1,7 @@
 -- Only contracts inside this crate cite these.
 pub mod Walk
+pub mod Conflicts
+pub mod PriceWalk
+pub mod Order
 pub mod Share
 pub mod Collect

@@ -1,20 +1,23 @@
 ghost use Rattle.std.specs.Prelude.{◌≡◌, ◌≤◌, max, ℕ, pos, true, [], IfOk, IsErrOf};
 ghost use Rattle.dam_blocks.specs.Result.{IsResult};
+ghost use Rattle.dam_bound.specs.Relaxed.{without_rows};
 ghost use Rattle.dam_search.specs.Answer.{IsReached};
 ghost use Rattle.dam_search.specs.Piece.{IsSound, welfare_found};
 ghost use Rattle.dam_search.specs.Search.{IsUnfinished, LimitHasNeeded};
 ghost use Rattle.dam_search.specs.inside.Collect.{IsWorked};
 
 use crate::answer::PieceAnswer;
+use crate::conflicts::Conflicts;
+use crate::explorer::{ByPrices, Explorer, can_bind};
 use crate::fault::SearchFault;
 use crate::first::first_selection;
 use crate::incumbent::{Incumbent, Private};
 use crate::laws;
-use crate::piece::search_piece;
-use crate::space::kept;
-use crate::trial::tables_for;
+use crate::order::order_of;
+use crate::prices::Prices;
+use crate::space::{SearchSpace, kept};
 use dam_blocks::{Best, Problem};
-use dam_bound::{Tables, Walk};
+use dam_bound::{ClassCurves, Relaxed};
 use std::alloc::Global;
 
 /// The selection that a finished walk over the one piece found, if this welfare was offered before it.
@@ -60,12 +63,67 @@ fn concluded(
     Ok(only_best(problem, first, answer))
 }
 
+/// The result of the explorer's problem, if this welfare is offered first.
+fn searched_alone<E: Explorer>(
+    problem: &Problem,
+    explorer: &E,
+    first: u64,
+    nodes: u32,
+) -> Result<Best, SearchFault>
+    requires same { E.explored explorer.now ≡ problem.now }
+    requires suits { E.suits explorer.now 0 nodes ≡ true }
+    requires first { IsReached problem.now first }
+    ensures ok { IfOk result (λ best. IsResult problem.now best.selection (pos best.welfare)) }
+    ensures unfinished { (piece visited : ℕ)
+        → IsErrOf result (SearchFault.Unfinished piece visited)
+        → IsUnfinished problem.now 0 nodes piece visited }
+    ensures needed { IfOk result (λ best. LimitHasNeeded problem.now 0 nodes best.welfare) }
+    ensures whole { (piece : ℕ) → ¬ (IsErrOf result (SearchFault.Collected piece)) }
+{
+    let mut incumbent = Private::new();
+    incumbent.offer(first);
+    let answer = explorer.explore(0, 0, nodes, &mut incumbent);
+    concluded(problem, first, nodes, &answer)
+}
+
+/// The result of the problem, by the explorer that suits the limit.
+fn search_alone_with<P: Prices>(
+    alloc: Global,
+    problem: &Problem,
+    prices: &P,
+    nodes: u32,
+) -> Result<Best, SearchFault>
+    requires { P.problem prices.now ≡ without_rows problem.now }
+    ensures ok { IfOk result (λ best. IsResult problem.now best.selection (pos best.welfare)) }
+    ensures unfinished { (piece visited : ℕ)
+        → IsErrOf result (SearchFault.Unfinished piece visited)
+        → IsUnfinished problem.now 0 nodes piece visited }
+    ensures needed { IfOk result (λ best. LimitHasNeeded problem.now 0 nodes best.welfare) }
+    ensures whole { (piece : ℕ) → ¬ (IsErrOf result (SearchFault.Collected piece)) }
+{
+    let first = first_selection(problem, prices).welfare;
+    if can_bind(problem, 0, nodes) {
+        let relaxed = &Relaxed::build(alloc, problem)?;
+        let space = &SearchSpace { problem, relaxed };
+        return searched_alone(problem, space, first, nodes);
+    }
+    let conflicts = &Conflicts::of(problem);
+    let order = &order_of(alloc, problem, 0)?;
+    let by_prices = &ByPrices {
+        problem,
+        prices,
+        conflicts,
+        depth: 0,
+        order,
+    };
+    searched_alone(problem, by_prices, first, nodes)
+}
+
 /// The result of a problem, found on the calling thread alone, without other threads, locks or shared
 /// words. It is for callers that can't start threads.
 ///
 /// It finds the result of `search`, whose clauses it has for a plan that cuts nothing. The whole search
-/// is piece 0, which visits at most `nodes` nodes; 67,108,864 are enough for any problem. If `nodes` is
-/// more than a trial visits, it first makes the trial that `search` makes, whose nodes aren't counted.
+/// is piece 0, which visits at most `nodes` nodes; 67,108,864 are enough for any problem.
 pub fn search_alone(alloc: Global, problem: &Problem, nodes: u32) -> Result<Best, SearchFault>
     ensures ok { IfOk result (λ best. IsResult problem.now best.selection (pos best.welfare)) }
     ensures unfinished { (piece visited : ℕ)
@@ -74,12 +132,6 @@ pub fn search_alone(alloc: Global, problem: &Problem, nodes: u32) -> Result<Best
     ensures needed { IfOk result (λ best. LimitHasNeeded problem.now 0 nodes best.welfare) }
     ensures whole { (piece : ℕ) → ¬ (IsErrOf result (SearchFault.Collected piece)) }
 {
-    let tables = Tables::of(alloc, problem)?;
-    let first = first_selection(problem, &Walk::new(problem, &tables));
-    let tables = tables_for(alloc, problem, tables, first.welfare, nodes);
-    let walk = &Walk::new(problem, &tables);
-    let mut incumbent = Private::new();
-    incumbent.offer(first.welfare);
-    let answer = search_piece(problem, walk, 0, 0, nodes, &mut incumbent);
-    concluded(problem, first.welfare, nodes, &answer)
+    let curves = ClassCurves::of(alloc, problem)?;
+    search_alone_with(alloc, problem, &curves, nodes)
 }

@@ -3,15 +3,15 @@ ghost use Rattle.dam_blocks.specs.Problem.{IsProblem};
 ghost use Rattle.dam_bound.specs.Relaxed.{without_rows};
 
 use dam_blocks::Problem;
-use dam_bound::Walk;
+use dam_bound::Relaxed;
 use std::alloc::Allocator;
 
-/// The input of a search: a problem, and the walk over its tables.
+/// A problem, and the source of the bounds of its prefixes.
 #[derive(Drop)]
 pub(crate) struct SearchSpace<'a, A: Allocator, B: Allocator> {
     pub(crate) problem: &'a Problem<A>,
-    pub(crate) walk: &'a Walk<'a, A, B>,
-    ghost same: { walk.now ≡ without_rows problem.now },
+    pub(crate) relaxed: &'a Relaxed<B>,
+    ghost same: { relaxed.now ≡ without_rows problem.now },
 }
 
 /// The invariant of a problem, for proofs: the call computes nothing.

@@ -1,14 +1,11 @@
-ghost use Rattle.std.specs.Prelude.{◌≡◌, ◌^◌, ◌≤◌, [], length, IfOk, IfErr};
-ghost use Rattle.dam_bound.specs.Relaxed.{without_rows};
+ghost use Rattle.std.specs.Prelude.{◌≡◌, ◌^◌, ◌≤◌, true, [], length, IfOk, IfErr};
 ghost use Rattle.dam_search.specs.Answer.{greatest_found};
 ghost use Rattle.dam_search.specs.Work.{IsFresh, AreAnswersOf};
 ghost use Rattle.dam_search.specs.Words.{view_of};
 
 use crate::answer::PieceAnswer;
-use crate::piece::search_piece;
+use crate::explorer::Explorer;
 use crate::shared::Shared;
-use dam_blocks::Problem;
-use dam_bound::Bounds;
 use dam_plan::Turnstile;
 use std::alloc::{AllocError, Allocator};
 
@@ -20,24 +17,22 @@ use std::alloc::{AllocError, Allocator};
 /// draw: after a refusal nothing was drawn, and it asks for nothing more later.
 ///
 /// Only [`search`](crate::search) makes seats, and so it alone can call this, once for each worker, on a
-/// thread of its own. It gives a fresh seat, made for the pieces of a cutting of this depth, and the
-/// bounds of this very problem. Every piece is answered only if all seats of the words have worked and
-/// none was refused memory. A worker waits for nothing but the turnstile.
-pub fn work<A: Allocator, B: Allocator, C: Allocator, R: Bounds<B>, T: Turnstile>(
-    alloc: C,
-    problem: &Problem<A>,
-    relaxed: &R,
+/// thread of its own. It gives a fresh seat, made for the pieces of a cutting of this depth. Every piece is
+/// answered only if all seats of the words have worked and none was refused memory. A worker waits for
+/// nothing but the turnstile.
+pub fn work<A: Allocator, E: Explorer, T: Turnstile>(
+    alloc: A,
+    explorer: &E,
     depth: usize,
     nodes: u32,
     seat: &mut Shared,
     turnstile: &T,
-) -> Result<Vec<PieceAnswer, C>, AllocError>
-    requires same { R.bounded relaxed.now ≡ without_rows problem.now }
-    requires depth { depth ≤ length problem.now.blocks }
-
+) -> Result<Vec<PieceAnswer, A>, AllocError>
+    requires suits { E.suits explorer.now depth nodes ≡ true }
+    requires depth { depth ≤ length (E.explored explorer.now).blocks }
     requires fresh { IsFresh (2 ^ depth) (view_of seat.old.seat) }
     ensures answers { IfOk result (λ answers.
-        AreAnswersOf problem.now depth nodes 0 (view_of seat.new.seat) answers.items) }
+        AreAnswersOf (E.explored explorer.now) depth nodes 0 (view_of seat.new.seat) answers.items) }
     ensures offered { IfOk result (λ answers.
         (view_of seat.new.seat).greatest_offer ≡ greatest_found answers.items) }
     ensures stopped { IfOk result (λ _. (view_of seat.new.seat).draws_past_the_end ≡ 1) }
@@ -51,7 +46,7 @@ pub fn work<A: Allocator, B: Allocator, C: Allocator, R: Bounds<B>, T: Turnstile
     let mut answers = Vec::with_capacity(alloc, seat.pieces() as usize)?;
     while let Some(piece) = seat.draw() {
         turnstile.before(piece);
-        answers.push_reserved(search_piece(problem, relaxed, piece, depth, nodes, seat));
+        answers.push_reserved(explorer.explore(piece, depth, nodes, seat));
         turnstile.after(piece);
     }
     Ok(answers)

@@ -1,24 +1,29 @@
-ghost use Rattle.std.specs.Prelude.{◌≡◌, ◌<◌, ◌≤◌, ◌-◌, ◌^◌, min, ℕ, pos, [], length};
+ghost use Rattle.std.specs.Prelude.{◌≡◌, ◌<◌, ◌≤◌, ◌-◌, ◌^◌, min, ℕ, pos, true, [], length};
 ghost use Rattle.std.specs.Prelude.{vec_len, All, IfOk, IsErrOf};
 ghost use Rattle.atomic_table.specs.Seated.{TableId};
 ghost use Rattle.dam_blocks.specs.Result.{IsResult};
 ghost use Rattle.dam_bound.specs.Relaxed.{without_rows};
 ghost use Rattle.dam_plan.specs.Limits.{most_workers, most_cut};
+ghost use Rattle.dam_search.specs.Answer.{IsReached};
 ghost use Rattle.dam_search.specs.Search.{IsUnfinished, LimitHasNeeded};
 ghost use Rattle.dam_search.specs.Words.{view_of};
 ghost use Rattle.dam_search.specs.inside.Share.{IsNewSeat, IsShare, AreJoined, AreWhole};
 
 use crate::answer::PieceAnswer;
 use crate::collect::{collected, pieces};
+use crate::conflicts::Conflicts;
+use crate::explorer::{ByPrices, Explorer, can_bind};
 use crate::fault::SearchFault;
 use crate::first::first_selection;
 use crate::incumbent::Incumbent;
+use crate::order::order_of;
+use crate::prices::Prices;
 use crate::shared::Shared;
-use crate::trial::tables_for;
+use crate::space::SearchSpace;
 use crate::words::{ClosedWords, close, new_words};
 use crate::worker::work;
 use dam_blocks::{Best, Problem};
-use dam_bound::{Tables, Walk};
+use dam_bound::{ClassCurves, Relaxed};
 use dam_plan::{Plan, Turnstile};
 use std::alloc::{AllocError, Global};
 use std::thread;
@@ -33,17 +38,18 @@ pub(crate) struct Share<'a> {
 
 /// The state that all workers share.
 #[derive(Drop)]
-pub(crate) struct Task<'a> {
+pub(crate) struct Task<'a, E: Explorer> {
     pub(crate) alloc: Global,
     pub(crate) problem: &'a Problem,
-    pub(crate) walk: &'a Walk<'a, Global, Global>,
+    pub(crate) explorer: &'a E,
     pub(crate) depth: usize,
     pub(crate) nodes: u32,
     pub(crate) workers: u8,
     /// The welfare that is offered before any worker starts.
     pub(crate) first: u64,
     ghost inside: { depth ≤ length problem.now.blocks },
-    ghost same: { walk.now ≡ without_rows problem.now },
+    ghost same: { E.explored explorer.now ≡ problem.now },
+    ghost suits: { E.suits explorer.now depth nodes ≡ true },
 }
 
 /// A seat for each worker, split off the first one.
@@ -69,7 +75,11 @@ fn seats_for<'a>(
 }
 
 /// A worker's work at its seat.
-fn share_of<'a, T: Turnstile>(task: &Task, turnstile: &T, seat: Shared<'a>) -> Share<'a>
+fn share_of<'a, E: Explorer, T: Turnstile>(
+    task: &Task<E>,
+    turnstile: &T,
+    seat: Shared<'a>,
+) -> Share<'a>
     requires new { IsNewSeat seat.seat.table_id (2 ^ task.now.depth) seat }
     ensures { IsShare task.now.problem.now task.now.depth task.now.nodes
         seat.entry.seat.table_id result }
@@ -77,8 +87,7 @@ fn share_of<'a, T: Turnstile>(task: &Task, turnstile: &T, seat: Shared<'a>) -> S
     let mut seat = seat;
     let answers = work(
         task.alloc,
-        task.problem,
-        task.walk,
+        task.explorer,
         task.depth,
         task.nodes,
         &mut seat,
@@ -88,9 +97,9 @@ fn share_of<'a, T: Turnstile>(task: &Task, turnstile: &T, seat: Shared<'a>) -> S
 }
 
 /// Runs the workers, each on a thread of its own if threads can be made.
-fn work_all<'a, R: Threads + Sync, T: Turnstile + Sync>(
+fn work_all<'a, R: Threads + Sync, E: Explorer + Sync, T: Turnstile + Sync>(
     rt: &R,
-    task: &Task,
+    task: &Task<E>,
     turnstile: &T,
     seats: Vec<Shared<'a>>,
 ) -> Result<Vec<Share<'a>>, AllocError>
@@ -114,8 +123,8 @@ fn work_all<'a, R: Threads + Sync, T: Turnstile + Sync>(
 
 /// Joins the workers' seats into the first one, and their answers into one list, which was made with
 /// room for them before the work.
-fn gathered<'a>(
-    task: &Task,
+fn gathered<'a, E: Explorer>(
+    task: &Task<E>,
     first: &mut Shared<'a>,
     mut shares: Vec<Share<'a>>,
     mut answers: Vec<PieceAnswer>,
@@ -142,9 +151,9 @@ fn gathered<'a>(
 
 /// Has the workers share out the pieces among them, at seats that are split off the first one and
 /// joined into it again.
-fn shared_out<'a, R: Threads + Sync, T: Turnstile + Sync>(
+fn shared_out<'a, R: Threads + Sync, E: Explorer + Sync, T: Turnstile + Sync>(
     rt: &R,
-    task: &Task,
+    task: &Task<E>,
     turnstile: &T,
     first: &mut Shared<'a>,
 ) -> Result<Vec<PieceAnswer>, AllocError>
@@ -173,9 +182,9 @@ pub(crate) struct Explored {
 }
 
 /// Explores every piece, each of them once, beginning with the first welfare as offered.
-pub(crate) fn explore_all<R: Threads + Sync, T: Turnstile + Sync>(
+pub(crate) fn explore_all<R: Threads + Sync, E: Explorer + Sync, T: Turnstile + Sync>(
     rt: &R,
-    task: &Task,
+    task: &Task<E>,
     turnstile: &T,
 ) -> Result<Explored, AllocError>
     requires few { task.now.depth ≤ most_cut }
@@ -194,17 +203,89 @@ pub(crate) fn explore_all<R: Threads + Sync, T: Turnstile + Sync>(
     Ok(Explored { answers, totals })
 }
 
+/// The result of the explorer's problem, if this welfare is offered before any worker starts.
+fn searched<R: Threads + Sync, E: Explorer + Sync, T: Turnstile + Sync>(
+    rt: &R,
+    alloc: Global,
+    problem: &Problem,
+    explorer: &E,
+    plan: Plan,
+    first: u64,
+    turnstile: &T,
+) -> Result<Best, SearchFault>
+    requires same { E.explored explorer.now ≡ problem.now }
+    requires suits { E.suits explorer.now (min plan.cut (length problem.now.blocks)) plan.nodes
+        ≡ true }
+    requires first { IsReached problem.now first }
+    ensures ok { IfOk result (λ best. IsResult problem.now best.selection (pos best.welfare)) }
+    ensures unfinished { (piece visited : ℕ)
+        → IsErrOf result (SearchFault.Unfinished piece visited)
+        → IsUnfinished problem.now (min plan.cut (length problem.now.blocks))
+        plan.nodes piece visited }
+    ensures needed { IfOk result (λ best. LimitHasNeeded problem.now
+        (min plan.cut (length problem.now.blocks)) plan.nodes best.welfare) }
+    ensures whole { (piece : ℕ) → ¬ (IsErrOf result (SearchFault.Collected piece)) }
+{
+    let task = Task {
+        alloc,
+        problem,
+        explorer,
+        depth: plan.depth(problem.block_count()),
+        nodes: plan.nodes(),
+        workers: plan.workers(),
+        first,
+    };
+    let explored = explore_all(rt, &task, turnstile)?;
+    collected(problem, task.depth, task.nodes, &explored.answers)
+}
+
+/// The result of the problem, by the explorer that suits the plan.
+fn search_with<R: Threads + Sync, P: Prices + Sync, T: Turnstile + Sync>(
+    rt: &R,
+    alloc: Global,
+    problem: &Problem,
+    prices: &P,
+    plan: Plan,
+    turnstile: &T,
+) -> Result<Best, SearchFault>
+    requires { P.problem prices.now ≡ without_rows problem.now }
+    ensures ok { IfOk result (λ best. IsResult problem.now best.selection (pos best.welfare)) }
+    ensures unfinished { (piece visited : ℕ)
+        → IsErrOf result (SearchFault.Unfinished piece visited)
+        → IsUnfinished problem.now (min plan.cut (length problem.now.blocks))
+        plan.nodes piece visited }
+    ensures needed { IfOk result (λ best. LimitHasNeeded problem.now
+        (min plan.cut (length problem.now.blocks)) plan.nodes best.welfare) }
+    ensures whole { (piece : ℕ) → ¬ (IsErrOf result (SearchFault.Collected piece)) }
+{
+    let first = first_selection(problem, prices).welfare;
+    let depth = plan.depth(problem.block_count());
+    if can_bind(problem, depth, plan.nodes()) {
+        let relaxed = &Relaxed::build(alloc, problem)?;
+        let space = &SearchSpace { problem, relaxed };
+        return searched(rt, alloc, problem, space, plan, first, turnstile);
+    }
+    let conflicts = &Conflicts::of(problem);
+    let order = &order_of(alloc, problem, depth)?;
+    let by_prices = &ByPrices {
+        problem,
+        prices,
+        conflicts,
+        depth,
+        order,
+    };
+    searched(rt, alloc, problem, by_prices, plan, first, turnstile)
+}
+
 /// The result of a problem (`IsResult`): the eligible selection that no eligible one ranks above. Ties go to the one
 /// that accepts the block at the first place where two differ. No plan and no order in which the workers happen to
 /// run changes it.
 ///
-/// The search first finds a good selection, and offers its welfare before any worker starts. If a piece may visit
-/// more nodes than a trial (4,096 to 46,875, one for every 16 losses that tables could keep), a trial comes next.
-/// Unless it finishes, tables of some MiB are made, which are quicker to read, if there is memory. The limit
-/// on nodes doesn't count the trial. The cutting decides as many of the first blocks as the plan says, or all of them
-/// if there are fewer. The workers, each on a thread of its own, draw its pieces as they come free, and prune by the
-/// greatest welfare that any of them has found. If a thread can't be made, the calling one does its work. Of the
-/// faults, `Memory` comes first, then `Collected`, and then `Unfinished`.
+/// The search first finds a good selection, and offers its welfare before any worker starts. The cutting decides as
+/// many of the first blocks as the plan says, or all of them if there are fewer. The workers, each on a thread of its
+/// own, draw its pieces as they come free, and prune by the greatest welfare that any of them has found. If a thread
+/// can't be made, the calling one does its work. Of the faults, `Memory` comes first, then `Collected`, and then
+/// `Unfinished`.
 pub fn search<R: Threads + Sync, T: Turnstile + Sync>(
     rt: &R,
     alloc: Global,
@@ -225,19 +306,6 @@ pub fn search<R: Threads + Sync, T: Turnstile + Sync>(
     // It never ends in the fault of a piece that lacks its answer or has two.
     ensures whole { (piece : ℕ) → ¬ (IsErrOf result (SearchFault.Collected piece)) }
 {
-    let tables = Tables::of(alloc, problem)?;
-    let first = first_selection(problem, &Walk::new(problem, &tables)).welfare;
-    let tables = tables_for(alloc, problem, tables, first, plan.nodes());
-    let walk = Walk::new(problem, &tables);
-    let task = Task {
-        alloc,
-        problem,
-        walk: &walk,
-        depth: plan.depth(problem.block_count()),
-        nodes: plan.nodes(),
-        workers: plan.workers(),
-        first,
-    };
-    let explored = explore_all(rt, &task, turnstile)?;
-    collected(problem, task.depth, task.nodes, &explored.answers)
+    let curves = ClassCurves::of(alloc, problem)?;
+    search_with(rt, alloc, problem, &curves, plan, turnstile)
 }

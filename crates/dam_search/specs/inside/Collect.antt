@@ -9,18 +9,20 @@ use Rattle.dam_blocks.specs.Selection.{choice}
 use Rattle.dam_search.specs.declared.answer.PieceAnswer.{PieceAnswer}
 use Rattle.dam_search.specs.declared.fault.SearchFault.{SearchFault}
 use Rattle.dam_search.specs.declared.fault.SearchFault.TheVariants.{Memory, Collected, Unfinished}
-use Rattle.dam_search.specs.Piece.{IsSpent}
+use Rattle.dam_search.specs.Piece.{all_nodes, IsSpent}
 use Rattle.dam_search.specs.Answer.{IsSoundAnswer, IsReached, IsHighest}
 use Rattle.dam_search.specs.Words.{most_pieces}
 
--- a worker's answer about a piece of the cutting: it is sound, read no more than some eligible
--- selection has, and kept to the limit
+-- a worker's answer about a piece of the cutting: it is sound, and read no more than some eligible
+-- selection has. If a piece can have more nodes than the limit, it kept to it. Otherwise it is done
 pub record IsWorked (problem : ProblemState) (depth nodes : ℕ) (a : PieceAnswer) : Type 0 where
   pub in_cutting : a.piece < 2 ^ depth
   pub sound : IsSoundAnswer problem depth a
   pub reached : IsReached problem a.read
-  pub spent : IsSpent problem (choice depth a.piece) (length problem.blocks - depth) 0 nodes
+  pub spent : nodes < all_nodes (length problem.blocks - depth)
+      → IsSpent problem (choice depth a.piece) (length problem.blocks - depth) 0 nodes
       a.visited a.read a.done
+  pub done : all_nodes (length problem.blocks - depth) ≤ nodes → a.done ≡ true
 
 -- how many answers there are about the piece
 abbrev pub answers_about : List PieceAnswer → ℕ → ℕ

@@ -1,16 +1,12 @@
 -- The account of a walk from a prefix: the selection that it finds, its cost, and its effect on the
 -- incumbent.
-use Rattle.std.specs.Prelude.{◌≡◌, ℕ, ◌+◌, ◌-◌, ◌*◌, ◌^◌, ◌<◌, ◌≤◌, max, ℤ, pos, ◌<ℤ◌, ◌⊎◌, Bool, true, false, not, Option, Some, None}
-use Rattle.std.specs.Prelude.{List, [], length, slice_set, slice_index_or, MatchOption}
+use Rattle.std.specs.Prelude.{◌≡◌, ℕ, ◌+◌, ◌-◌, ◌*◌, ◌^◌, ◌<◌, ◌≤◌, max, ℤ, pos, ◌<ℤ◌, ◌⊎◌, Bool, true, false, Option}
+use Rattle.std.specs.Prelude.{List, [], length}
 use Rattle.dam_blocks.specs.declared.selection.Best.{Best}
 use Rattle.dam_blocks.specs.Problem.{ProblemState}
 use Rattle.dam_blocks.specs.Eligible.{IsEligible}
 use Rattle.dam_bound.specs.Prefix.{IsCompletion}
 use Rattle.dam_bound.specs.Relaxed.{live_count}
-use Rattle.dam_bound.specs.declared.positions.Positions.{Positions}
-use Rattle.dam_bound.specs.Positions.{ArePositions, IsUnder}
-use Rattle.dam_bound.specs.Trail.{ArePositionsIn}
-use Rattle.dam_bound.specs.declared.trail.Trail.{Trail}
 use Rattle.dam_search.specs.declared.piece.Progress.{Progress}
 use Rattle.dam_search.specs.Piece.{IsFind, IsMatched, Rises, welfare_found, HasNeeded}
 
@@ -73,18 +69,3 @@ pub record IsWalked (problem : ProblemState) (prefix : List Bool)
   pub reads : Reads (length problem.blocks - length prefix) before.visited after.visited
       before.read after.read greatest_read_before greatest_read_after
   pub offered : greatest_offer_after ≡ max greatest_offer_before (welfare_found after.best)
-
--- the total is the prefix's relaxed welfare, and its positions are in the trail; or there is no total, and the prefix
--- has no relaxed welfare or one that is less than the value
-abbrev pub IsBoundIn : ProblemState → List Bool → ℕ → Trail → Option ℤ → Type 0
-IsBoundIn problem prefix least trail total = MatchOption total (IsUnder problem prefix least) (ArePositionsIn problem prefix trail)
-
--- the decisions with the one at the place reversed
-abbrev pub turned_at : List Bool → ℕ → List Bool
-turned_at decisions place = slice_set decisions place (not (slice_index_or decisions place false))
-
--- the positions of the prefix; or there are none, and then its relaxed welfare, if it has one, is under
--- the value
-abbrev pub ArePositionsFrom : ProblemState → List Bool → ℕ → Option Positions → Type 0
-ArePositionsFrom problem prefix least None = IsUnder problem prefix least
-ArePositionsFrom problem prefix least (Some positions) = ArePositions problem prefix positions

@@ -1,5 +1,5 @@
 -- The walk from the decisions of the piece, with nothing found before.
-use Rattle.std.proofs.Common.{◌≡◌, inl, inr, ℕ, ◌-◌, List, Bool, true, Option, None, length, ◌∙◌, ap, sym, subst, rules, arith}
+use Rattle.std.proofs.Common.{◌≡◌, inl, inr, ℕ, ◌-◌, List, Bool, true, Option, None, length, ◌∙◌, ap, sym, subst, arith}
 use Rattle.dam_blocks.specs.declared.selection.Best.{Best}
 use Rattle.dam_blocks.specs.Problem.{ProblemState}
 use Rattle.dam_blocks.specs.Selection.{choice}
@@ -19,51 +19,42 @@ sound problem prefix best read done f covers = record {
   others = covers;
 }
 
-pub walked-total-requires : goal.walked-total-requires
-walked-total-requires g c =
-    let long = as_long c.of_piece-prefix.result c.args.depth c.args.piece c.of_piece-prefix.ensures in
-    let blocks = ap (λ (p : ProblemState). length p.blocks) c.walk.ensures in
-    omega (arith, long, blocks, c.requires.depth)
-
-pub explore-done-requires-clause-depth : goal.explore-done-requires-clause-depth
-explore-done-requires-clause-depth g c =
+pub walk-done-requires-clause-depth : goal.walk-done-requires-clause-depth
+walk-done-requires-clause-depth g c =
     let long = as_long c.of_piece-prefix.result c.args.depth c.args.piece c.of_piece-prefix.ensures in
     omega (arith, long, c.requires.depth)
 
-pub explore-done-requires-clause-admissible : goal.explore-done-requires-clause-admissible
-explore-done-requires-clause-admissible g c = c.is_admissible.ensures.value.0 (search rules)
-
-pub explore-done-requires-clause-going : goal.explore-done-requires-clause-going
-explore-done-requires-clause-going g c = record { room = omega arith; read = omega arith; best = tt; offered = omega arith }
+pub walk-done-requires-clause-going : goal.walk-done-requires-clause-going
+walk-done-requires-clause-going g c = record { room = omega arith; read = omega arith; best = tt; offered = omega arith }
 
 pub returns-clause-sound : goal.returns-clause-sound
 returns-clause-sound g c =
-    let found = c.explore-done.new.found in
-    subst (λ (prefix : List Bool). IsSound c.args.problem.now prefix found.best found.read c.explore-done.result) c.of_piece-prefix.ensures
-    (sound c.args.problem.now c.of_piece-prefix.result found.best found.read c.explore-done.result c.explore-done.ensures.walked.finds
-    c.explore-done.ensures.walked.covers)
+    let found = c.walk-done.new.found in
+    subst (λ (prefix : List Bool). IsSound c.args.problem.now prefix found.best found.read c.walk-done.result) c.of_piece-prefix.ensures
+    (sound c.args.problem.now c.of_piece-prefix.result found.best found.read c.walk-done.result c.walk-done.ensures.walked.finds
+    c.walk-done.ensures.walked.covers)
 
 pub returns-clause-spent : goal.returns-clause-spent
 returns-clause-spent g c =
     let told = g.I.Incumbent.greatest_read c.args.incumbent.now in let n = length c.args.problem.now.blocks in
     let long = as_long c.of_piece-prefix.result c.args.depth c.args.piece c.of_piece-prefix.ensures in
-    let found = c.explore-done.new.found in let walked = c.explore-done.ensures.walked in
+    let found = c.walk-done.new.found in let walked = c.walk-done.ensures.walked in
     subst (λ (left : ℕ). IsSpent c.args.problem.now (choice c.args.depth c.args.piece) (n - left) told c.args.nodes found.visited
-    found.read c.explore-done.result) long
+    found.read c.walk-done.result) long
     (subst (λ (prefix : List Bool). IsSpent c.args.problem.now prefix (n - length c.of_piece-prefix.result) told c.args.nodes
-    found.visited found.read c.explore-done.result) c.of_piece-prefix.ensures
+    found.visited found.read c.walk-done.result) c.of_piece-prefix.ensures
     (spent_from c.args.problem.now c.of_piece-prefix.result (n - length c.of_piece-prefix.result) told c.args.nodes found.visited
-    found.read c.explore-done.result walked.spends walked.needed))
+    found.read c.walk-done.result walked.spends walked.needed))
 
 pub returns-clause-read : goal.returns-clause-read
 returns-clause-read g c some few =
     let long = as_long c.of_piece-prefix.result c.args.depth c.args.piece c.of_piece-prefix.ensures in
-    c.explore-done.ensures.walked.reads.asked some (omega (arith, long, few))
+    c.walk-done.ensures.walked.reads.asked some (omega (arith, long, few))
 
 pub returns-clause-unread : goal.returns-clause-unread
 returns-clause-unread g c h =
     let long = as_long c.of_piece-prefix.result c.args.depth c.args.piece c.of_piece-prefix.ensures in
     elim h [
-      | inl none ↦ c.explore-done.ensures.walked.reads.unvisited none
-      | inr full ↦ c.explore-done.ensures.walked.reads.full (omega (arith, long, full))
+      | inl none ↦ c.walk-done.ensures.walked.reads.unvisited none
+      | inr full ↦ c.walk-done.ensures.walked.reads.full (omega (arith, long, full))
     ]

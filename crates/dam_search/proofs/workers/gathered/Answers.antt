@@ -14,7 +14,7 @@ use Rattle.dam_search.proofs.Shares.{none_joined, one_joined}
 use Rattle.dam_search.proofs.workers.gathered.Goals as goal
 
 pub loop-share-init : goal.loop-share-init
-loop-share-init c =
+loop-share-init g c =
     let task = c.args.task.now in let v = c.args.first.now.seat.me.0 in
     record {
       table = refl;
@@ -30,14 +30,14 @@ loop-share-init c =
     nothing n = omega arith
 
 pub join-requires : goal.join-requires
-join-requires c =
+join-requires g c =
     let task = c.args.task.now in let i = c.loop-share.invariant in
     let popped = All-pop (λ (s : Share). IsShare task.problem.now task.depth task.nodes c.args.first.now.seat.table_id s)
     c.loop-share.shares.items c.pop.new.self.items (Some c.in-Some.share) c.in-Some.ensures.items i.shares in
     popped.1.table_is ∙ sym i.table
 
 pub loop-share-preserved : goal.loop-share-preserved
-loop-share-preserved c =
+loop-share-preserved g c =
     let task = c.args.task.now in let i = c.loop-share.invariant in
     let popped = All-pop (λ (s : Share). IsShare task.problem.now task.depth task.nodes c.args.first.now.seat.table_id s)
     c.loop-share.shares.items c.pop.new.self.items (Some c.in-Some.share) c.in-Some.ensures.items i.shares in

@@ -6,7 +6,7 @@ use Rattle.dam_search.specs.inside.Share.{IsShare, AreJoined}
 use Rattle.dam_search.proofs.workers.gathered.Given as goal
 
 abbrev pub invariant-loop-share : goal.invariant-loop-share
-invariant-loop-share l = record {
+invariant-loop-share g l = record {
   table : l.first.seat.table_id ≡ l.fn.first.seat.table_id;
   few : vec_len l.shares ≤ vec_len l.fn.shares;
   joined : AreJoined l.task.problem.now l.task.depth l.task.nodes l.fn.first.seat.me.0 (vec_len l.fn.shares - vec_len l.shares)
@@ -15,4 +15,4 @@ invariant-loop-share l = record {
 }
 
 abbrev pub decreases-loop-share : goal.decreases-loop-share
-decreases-loop-share l = vec_len l.shares
+decreases-loop-share g l = vec_len l.shares

@@ -1,0 +1,166 @@
+-- The node that decides the blocks of a piece: its open selections are the completions that may be eligible.
+use Rattle.std.proofs.Common.{◌≡◌, ℕ, zero, suc, ◌-◌, ◌<◌, ◌≤◌, inl, inr, Bool, true, false, Option, Some, None, List, [], ◌∷◌, ◌++◌}
+use Rattle.std.proofs.Common.{◌==◌, ◌||◌, length, length-append, replicate, drop, ◌∙◌, ap, sym, subst, refl, arith}
+use Rattle.std.proofs.lemmas.Bool.{cases_lt}
+use Rattle.std.proofs.lemmas.Bool.Decides.{nat_tests}
+use Rattle.std.proofs.lemmas.Option.{slice_get_within}
+use Rattle.std.proofs.lemmas.List.{length-replicate}
+use Rattle.dam_book.specs.Limits.{most_blocks}
+use Rattle.dam_blocks.specs.declared.selection.Best.{Best}
+use Rattle.dam_blocks.specs.Problem.{ProblemState}
+use Rattle.dam_blocks.specs.Selection.{accepts, padded, choice, IsAdmissible}
+use Rattle.dam_bound.specs.Open.{is_among, IsOpen, AreFree}
+use Rattle.dam_bound.specs.Prefix.{IsCompletion}
+use Rattle.dam_search.specs.Piece.{IsFind, IsSound}
+use Rattle.dam_search.specs.inside.PriceWalk.{AreDistinct, IsOrder, IsNode, IsOpenFind, FindsOpen, CoversOpen}
+use Rattle.dam_search.proofs.Prefixes.{length-choice}
+
+-- ---- the decisions of the piece
+
+none_past : (n i : ℕ) → accepts (replicate n false) i ≡ false
+none_past zero i = refl
+none_past (suc n) zero = refl
+none_past (suc n) (suc i) = none_past n i
+
+accepts_past : (prefix : List Bool) (n i : ℕ) → length prefix ≤ i → accepts (prefix ++ replicate n false) i ≡ false
+accepts_past [] n i h = none_past n i
+accepts_past (x ∷ prefix) n zero h = absurd (omega (arith, h))
+accepts_past (x ∷ prefix) n (suc i) h = accepts_past prefix n i (omega (arith, h))
+
+accepts_front : (prefix rest : List Bool) (i : ℕ) → i < length prefix → accepts (prefix ++ rest) i ≡ accepts prefix i
+accepts_front [] rest i h = absurd (omega (arith, h))
+accepts_front (x ∷ prefix) rest zero h = refl
+accepts_front (x ∷ prefix) rest (suc i) h = accepts_front prefix rest i (omega (arith, h))
+
+long_padded : (prefix : List Bool) → length prefix ≤ most_blocks → length (padded prefix) ≡ most_blocks
+long_padded prefix few =
+    let parts = length-append prefix (replicate (most_blocks - length prefix) false) in
+    let rest = length-replicate (most_blocks - length prefix) false in
+    omega (arith, parts, rest, few)
+
+or_right : (a b : Bool) → b ≡ true → (a || b) ≡ true
+or_right true b e = refl
+or_right false b e = e
+
+same_place : (place : ℕ) → (place == place) ≡ true
+same_place place = grind (arith, nat_tests)
+
+among_first : (place : ℕ) (places : List ℕ) → is_among place (place ∷ places) ≡ true
+among_first place places = ap (λ (b : Bool). b || is_among place places) (same_place place)
+
+free_from : (taken : List Bool) (order : List ℕ) → AreDistinct order
+    → ((place : ℕ) → is_among place order ≡ true → (place < most_blocks) × (accepts taken place ≡ false)) → AreFree taken order
+free_from taken [] distinct h = tt
+free_from taken (place ∷ order) distinct h =
+    let here = h place (among_first place order) in (
+      here.0,
+      here.1,
+      distinct.0,
+      free_from taken order distinct.1
+          (λ other e. h other (or_right (other == place) (is_among other order) e)),
+    )
+
+-- ---- the node
+
+not_among_before : (depth count : ℕ) (order : List ℕ) (place : ℕ) → IsOrder depth count order → place < depth → is_among place order ≡ false
+not_among_before depth count order place is less = elim (is_among place order) as (λ b. is_among place order ≡ b → b ≡ false) [
+  | true ↦ λ e. (let within = is.within place e in let from = within.0 in absurd (omega (arith, from, less)))
+  | false ↦ λ e. refl
+] refl
+
+pub first_node : (prefix rejected : List Bool) (count : ℕ) (order : List ℕ) → length prefix ≤ count → count ≤ most_blocks
+    → IsOrder (length prefix) count order
+    → ((place : ℕ) → accepts rejected place ≡ true → (place < length prefix) × (accepts (padded prefix) place ≡ false))
+    → IsNode (padded prefix) rejected order
+first_node prefix rejected count order deep few is apart = record {
+  as_long = long_padded prefix (omega (arith, deep, few));
+  free = free_from (padded prefix) order is.distinct
+      (λ place e. (let within = is.within place e in let from = within.0 in let to = within.1 in
+      (omega (arith, to, few), accepts_past prefix (most_blocks - length prefix) place from)));
+  few = is.few;
+  apart = λ place e. (let own = apart place e in (own.1, not_among_before (length prefix) count order place is own.0));
+}
+
+pub piece_node : (depth piece count : ℕ) (taken rejected : List Bool) (order : List ℕ) → taken ≡ padded (choice depth piece) → depth ≤ count
+    → count ≤ most_blocks → IsOrder depth count order
+    → ((place : ℕ) → accepts rejected place ≡ true → (place < depth) × (accepts taken place ≡ false)) → IsNode taken rejected order
+piece_node depth piece count taken rejected order is deep few ordered apart =
+    let long = length-choice depth piece in
+    subst (λ (xs : List Bool). IsNode xs rejected order) (sym is)
+    (first_node (choice depth piece) rejected count order (omega (arith, long, deep)) few
+    (subst (λ (n : ℕ). IsOrder n count order) (sym long) ordered)
+    (λ place e. (let own = apart place e in let less = own.0 in
+    (omega (arith, less, long), subst (λ (xs : List Bool). accepts xs place ≡ false) is own.1))))
+
+-- a list that accepts in front what another does begins with it
+begins_with : (prefix selection : List Bool) → length prefix ≤ length selection
+    → ((i : ℕ) → i < length prefix → accepts selection i ≡ accepts prefix i) → selection ≡ prefix ++ drop (length prefix) selection
+begins_with [] selection long h = refl
+begins_with (x ∷ prefix) [] long h = absurd (omega (arith, long))
+begins_with (x ∷ prefix) (y ∷ selection) long h =
+    ap (λ (b : Bool). b ∷ selection) (h 0 (omega arith))
+    ∙ ap (λ (ys : List Bool). x ∷ ys) (begins_with prefix selection (omega (arith, long)) (λ i l. h (suc i) (omega (arith, l))))
+
+open_completion : (prefix selection : List Bool) (count : ℕ) (order : List ℕ) → length prefix ≤ most_blocks
+    → IsOrder (length prefix) count order → IsOpen (padded prefix) order selection → IsCompletion prefix selection
+open_completion prefix selection count order few is opened = record {
+  as_long = opened.as_long;
+  rest = drop (length prefix) selection;
+  agrees =
+      let long = opened.as_long in
+      begins_with prefix selection (omega (arith, few, long))
+      (λ i l. opened.agrees i (not_among_before (length prefix) count order i is l)
+      ∙ accepts_front prefix (replicate (most_blocks - length prefix) false) i l);
+}
+
+-- an admissible completion accepts no place past the last block
+completion_open : (problem : ProblemState) (prefix selection : List Bool) (order : List ℕ)
+    → IsOrder (length prefix) (length problem.blocks) order → IsAdmissible problem.blocks selection → IsCompletion prefix selection
+    → IsOpen (padded prefix) order selection
+completion_open problem prefix selection order is admissible whole = record {
+  as_long = whole.as_long;
+  agrees = λ place apart. elim (cases_lt place (length prefix)) [
+    | inl less ↦
+        ap (λ (xs : List Bool). accepts xs place) whole.agrees
+        ∙ (accepts_front prefix whole.rest place less ∙ sym (accepts_front prefix (replicate (most_blocks - length prefix) false) place less))
+    | inr more ↦ rejected place apart more (accepts selection place) refl ∙ sym (accepts_past prefix (most_blocks - length prefix) place more)
+  ];
+}
+  where
+    rejected : (place : ℕ) → is_among place order ≡ false → length prefix ≤ place → (b : Bool) → accepts selection place ≡ b
+        → accepts selection place ≡ false
+    rejected place apart more true e =
+        let allowed = admissible.each place e in
+        let inside = slice_get_within problem.blocks place allowed.block allowed.stands in
+        let no : true ≡ false = sym (is.whole place more inside) ∙ apart in
+        absurd (cc)
+    rejected place apart more false e = e
+
+-- ---- the answer
+
+find_completion : (problem : ProblemState) (prefix : List Bool) (order : List ℕ) (best : Option Best) → length prefix ≤ most_blocks
+    → IsOrder (length prefix) (length problem.blocks) order → IsOpenFind problem (padded prefix) order best → IsFind problem prefix best
+find_completion problem prefix order None few is h = tt
+find_completion problem prefix order (Some b) few is h =
+    (open_completion prefix b.selection (length problem.blocks) order few is h.0, h.1)
+
+pub sound_from : (problem : ProblemState) (prefix : List Bool) (order : List ℕ) (best : Option Best) (read : ℕ) → length prefix ≤ most_blocks
+    → IsOrder (length prefix) (length problem.blocks) order → FindsOpen problem (padded prefix) order None best
+    → CoversOpen problem (padded prefix) order best read → IsSound problem prefix best read true
+sound_from problem prefix order best read few is finds covers = record {
+  found = elim finds.found [
+    | inl e ↦ subst (λ (o : Option Best). IsFind problem prefix o) (sym e) tt
+    | inr h ↦ find_completion problem prefix order best few is h
+  ];
+  others = λ done sel w whole e. covers sel w (completion_open problem prefix sel order is e.admissible whole) e;
+}
+
+pub piece_sound : (problem : ProblemState) (depth piece : ℕ) (taken : List Bool) (order : List ℕ) (best : Option Best) (read : ℕ)
+    → taken ≡ padded (choice depth piece) → depth ≤ most_blocks → IsOrder depth (length problem.blocks) order
+    → FindsOpen problem taken order None best → CoversOpen problem taken order best read → IsSound problem (choice depth piece) best read true
+piece_sound problem depth piece taken order best read is few ordered finds covers =
+    let long = length-choice depth piece in
+    sound_from problem (choice depth piece) order best read (omega (arith, long, few))
+    (subst (λ (n : ℕ). IsOrder n (length problem.blocks) order) (sym long) ordered)
+    (subst (λ (xs : List Bool). FindsOpen problem xs order None best) is finds)
+    (subst (λ (xs : List Bool). CoversOpen problem xs order best read) is covers)

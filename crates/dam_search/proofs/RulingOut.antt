@@ -1,0 +1,143 @@
+-- What accepting or rejecting a block rules out, block by block.
+use Rattle.std.proofs.Common.{◌≡◌, ◌≢◌, ◌⊎◌, ℕ, zero, suc, ℤ, ◌==◌, Bool, true, false, not, Option, Some, None, List, [], ◌∷◌, length, replicate, slice_set, ap, ◌∙◌, sym, subst, refl, inl, inr}
+use Rattle.std.specs.List.{slice_get}
+use Rattle.std.proofs.lemmas.Bool.{and_parts, eq-eqb}
+use Rattle.dam_book.specs.Limits.{most_blocks}
+use Rattle.dam_blocks.specs.declared.problem.Block.{Block}
+use Rattle.dam_blocks.specs.Problem.{ProblemState, IsProblem}
+use Rattle.dam_blocks.specs.Selection.{accepts, empty_selection, are_of_one_group, IsAdmissible}
+use Rattle.dam_blocks.specs.Family.{descends}
+use Rattle.dam_blocks.specs.Eligible.{IsEligible}
+use Rattle.dam_search.specs.declared.conflicts.Conflicts.{Conflicts}
+use Rattle.dam_search.specs.inside.Conflicts.{AcceptsAll, AcceptsNone, Needs, IsNeededBy, Excludes, AreConflicts, IsSetOf, are_two_of_group, is_other_of_group}
+use Rattle.dam_search.proofs.Sets.{accepts-none, passes_test}
+
+-- what the laws of admissible selections say
+pub record ConflictLaws : Type 0 where
+  pub ancestors : (problem : ProblemState) (selection : List Bool) (i j : ℕ) → IsProblem problem → IsAdmissible problem.blocks selection
+      → descends problem.blocks i j ≡ true → accepts selection j ≡ true → accepts selection i ≡ true
+  pub group : (blocks : List Block) (selection : List Bool) (i j : ℕ) (a b : Block) → IsAdmissible blocks selection
+      → slice_get blocks i ≡ Some a → slice_get blocks j ≡ Some b → i ≢ j → are_of_one_group a b ≡ true → accepts selection i ≡ true
+      → accepts selection j ≡ false
+
+-- ---- rows
+-- an element of a list in which one was replaced
+at_set : (rows : List (List Bool)) (i j : ℕ) (row found : List Bool) → slice_get (slice_set rows i row) j ≡ Some found
+    → ((i ≡ j) × (row ≡ found)) ⊎ (slice_get rows j ≡ Some found)
+at_set [] i j row found e = cc
+at_set (r ∷ rows) zero zero row found e = inl (refl, cc)
+at_set (r ∷ rows) zero (suc j) row found e = inr e
+at_set (r ∷ rows) (suc i) zero row found e = inr e
+at_set (r ∷ rows) (suc i) (suc j) row found e =
+    elim (at_set rows i j row found e) [ inl here ↦ inl (ap suc here.0, here.1) | inr else ↦ inr else ]
+
+at_replicate : (n j : ℕ) (row found : List Bool) → slice_get (replicate n row) j ≡ Some found → row ≡ found
+at_replicate zero j row found e = cc
+at_replicate (suc n) zero row found e = cc
+at_replicate (suc n) (suc j) row found e = at_replicate n j row found e
+
+-- a fact about each row
+abbrev pub AreEach : (ℕ → List Bool → Type 0) → List (List Bool) → Type 0
+AreEach P rows = (place : ℕ) (places : List Bool) → slice_get rows place ≡ Some places → P place places
+
+one_row_more : (P : ℕ → List Bool → Type 0) (rows after : List (List Bool)) (place : ℕ) (row : List Bool) → after ≡ slice_set rows place row
+    → P place row → AreEach P rows → AreEach P after
+one_row_more P rows after place row e holds each at found stands =
+    elim (at_set rows place at row found (ap (λ (rs : List (List Bool)). slice_get rs at) (sym e) ∙ stands)) [
+      | inl here ↦ subst (λ (m : ℕ). P m found) here.0 (subst (λ (r : List Bool). P place r) here.1 holds)
+      | inr before ↦ each at found before
+    ]
+
+-- ---- no rows yet
+nothing_accepted : (j n : ℕ) (found : List Bool) → slice_get (replicate most_blocks empty_selection) n ≡ Some found
+    → accepts found j ≡ true → ⊥
+nothing_accepted j n found e on =
+    let off = ap (λ (r : List Bool). accepts r j) (sym (at_replicate most_blocks n empty_selection found e)) ∙ accepts-none most_blocks j in
+    cc
+
+pub no_conflicts : (problem : ProblemState) (conflicts : Conflicts) → conflicts.needs ≡ replicate most_blocks empty_selection
+    → conflicts.needed_by ≡ replicate most_blocks empty_selection → conflicts.excludes ≡ replicate most_blocks empty_selection
+    → AreConflicts problem conflicts
+no_conflicts problem conflicts e f h = record {
+  needs = λ place places at selection w eligible on j among.
+      absurd (nothing_accepted j place places (ap (λ (rs : List (List Bool)). slice_get rs place) (sym e) ∙ at) among);
+  needed_by = λ place places at selection w eligible j among on.
+      absurd (nothing_accepted j place places (ap (λ (rs : List (List Bool)). slice_get rs place) (sym f) ∙ at) among);
+  excludes = λ place places at selection w eligible on j among.
+      absurd (nothing_accepted j place places (ap (λ (rs : List (List Bool)). slice_get rs place) (sym h) ∙ at) among);
+}
+
+-- ---- the rows of one block more
+needs_ancestors : ConflictLaws → (problem : ProblemState) (place : ℕ) (row : List Bool) → IsProblem problem
+    → IsSetOf (length problem.blocks) (λ at. descends problem.blocks at place) row → Needs problem place row
+needs_ancestors laws problem place row is set selection w eligible on j among =
+    laws.ancestors problem selection j place is eligible.admissible
+    (passes_test (length problem.blocks) (λ at. descends problem.blocks at place) row j set among) on
+
+needed_by_descendants : ConflictLaws → (problem : ProblemState) (place : ℕ) (row : List Bool) → IsProblem problem
+    → IsSetOf (length problem.blocks) (λ at. descends problem.blocks place at) row → IsNeededBy problem place row
+needed_by_descendants laws problem place row is set selection w eligible j among on =
+    laws.ancestors problem selection place j is eligible.admissible
+    (passes_test (length problem.blocks) (λ at. descends problem.blocks place at) row j set among) on
+
+apart_from : (at place : ℕ) → not (at == place) ≡ true → place ≢ at
+apart_from at place e same = let is = eq-eqb at place (sym same) in cc
+
+no_other : ConflictLaws → (blocks : List Block) (selection : List Bool) (place at : ℕ) (o p : Option Block) → IsAdmissible blocks selection
+    → slice_get blocks place ≡ o → slice_get blocks at ≡ p → place ≢ at → are_two_of_group o p ≡ true → accepts selection place ≡ true
+    → accepts selection at ≡ false
+no_other laws blocks selection place at None p is e f apart two on = cc
+no_other laws blocks selection place at (Some a) None is e f apart two on = cc
+no_other laws blocks selection place at (Some a) (Some b) is e f apart two on = laws.group blocks selection place at a b is e f apart two on
+
+excludes_others : ConflictLaws → (problem : ProblemState) (place : ℕ) (row : List Bool)
+    → IsSetOf (length problem.blocks) (λ at. is_other_of_group problem.blocks place at) row → Excludes problem place row
+excludes_others laws problem place row set selection w eligible on j among =
+    let is = and_parts (not (j == place)) (are_two_of_group (slice_get problem.blocks place) (slice_get problem.blocks j))
+    (passes_test (length problem.blocks) (λ at. is_other_of_group problem.blocks place at) row j set among) in
+    no_other laws problem.blocks selection place j (slice_get problem.blocks place) (slice_get problem.blocks j) eligible.admissible refl refl
+    (apart_from j place is.0) is.1 on
+
+pub conflicts_more : ConflictLaws → (problem : ProblemState) (blocks : List Block) (before after : Conflicts) (place : ℕ)
+    (ancestors descendants others : List Bool) → IsProblem problem → blocks ≡ problem.blocks
+    → IsSetOf (length blocks) (λ at. descends blocks at place) ancestors
+    → IsSetOf (length blocks) (λ at. descends blocks place at) descendants
+    → IsSetOf (length blocks) (λ at. is_other_of_group blocks place at) others
+    → after.needs ≡ slice_set before.needs place ancestors → after.needed_by ≡ slice_set before.needed_by place descendants
+    → after.excludes ≡ slice_set before.excludes place others → AreConflicts problem before → AreConflicts problem after
+conflicts_more laws problem blocks before after place ancestors descendants others is same a d o e f h are = record {
+  needs = one_row_more (Needs problem) before.needs after.needs place ancestors e
+      (needs_ancestors laws problem place ancestors is
+      (subst (λ (bs : List Block). IsSetOf (length bs) (λ at. descends bs at place) ancestors) same a)) are.needs;
+  needed_by = one_row_more (IsNeededBy problem) before.needed_by after.needed_by place descendants f
+      (needed_by_descendants laws problem place descendants is
+      (subst (λ (bs : List Block). IsSetOf (length bs) (λ at. descends bs place at) descendants) same d)) are.needed_by;
+  excludes = one_row_more (Excludes problem) before.excludes after.excludes place others h
+      (excludes_others laws problem place others
+      (subst (λ (bs : List Block). IsSetOf (length bs) (λ at. is_other_of_group bs place at) others) same o)) are.excludes;
+}
+
+-- ---- what a row forbids
+not_true : (x : Bool) → (x ≡ true → ⊥) → x ≡ false
+not_true true never = absurd (never refl)
+not_true false never = refl
+
+pub lacks_one : (problem : ProblemState) (conflicts : Conflicts) (place j : ℕ) (places rejected selection : List Bool) (w : ℤ)
+    → AreConflicts problem conflicts → slice_get conflicts.needs place ≡ Some places → accepts places j ≡ true → accepts rejected j ≡ true
+    → IsEligible problem selection w → AcceptsNone rejected selection → accepts selection place ≡ false
+lacks_one problem conflicts place j places rejected selection w are at among off eligible none =
+    not_true (accepts selection place) (λ on.
+    (let here = are.needs place places at selection w eligible on j among in let there = none j off in cc))
+
+pub beside_one : (problem : ProblemState) (conflicts : Conflicts) (place j : ℕ) (places taken selection : List Bool) (w : ℤ)
+    → AreConflicts problem conflicts → slice_get conflicts.excludes place ≡ Some places → accepts places j ≡ true → accepts taken j ≡ true
+    → IsEligible problem selection w → AcceptsAll taken selection → accepts selection place ≡ false
+beside_one problem conflicts place j places taken selection w are at among on_too eligible all =
+    not_true (accepts selection place) (λ on.
+    (let here = are.excludes place places at selection w eligible on j among in let there = all j on_too in cc))
+
+pub needed_by_one : (problem : ProblemState) (conflicts : Conflicts) (place j : ℕ) (places taken selection : List Bool) (w : ℤ)
+    → AreConflicts problem conflicts → slice_get conflicts.needed_by place ≡ Some places → accepts places j ≡ true → accepts taken j ≡ true
+    → IsEligible problem selection w → AcceptsAll taken selection → accepts selection place ≡ true
+needed_by_one problem conflicts place j places taken selection w are at among on_too eligible all =
+    are.needed_by place places at selection w eligible j among (all j on_too)

@@ -1,0 +1,28 @@
+-- A welfare greater than another one is above 0, and the selection is eligible with it.
+use Rattle.std.proofs.Common.{ℤ, pos, List, Bool, ◌∙◌, sym, subst, rules, arith}
+use Rattle.std.proofs.lemmas.Int.{ints, to_z-of_z}
+use mir.Syntax.{w64}
+use mir.Val.{SFits}
+use Rattle.dam_blocks.specs.Eligible.{IsEligible}
+use Rattle.dam_search.proofs.Opens.{eligible_leaf, with_rows}
+use Rattle.dam_search.proofs.first.Climb.greater.Goals as goal
+
+pub next_above-least-requires : goal.next_above-least-requires
+next_above-least-requires g c =
+    let within = c.magnitude.ensures c.args.self.now.problem.now c.args.best.selection (pos c.args.best.welfare) c.kept.ensures
+    c.requires.eligible.welfare_is in
+    let most = within.at_most in
+    omega (arith, ints, most)
+
+pub returns-clause-eligible : goal.returns-clause-eligible
+returns-clause-eligible g c =
+    let problem = c.args.self.now.problem.now in let relaxed = g.P.Prices.problem c.args.self.now.prices.now in
+    let selection = c.args.selection in
+    let w = c.in-Some.welfare in
+    let fits : SFits w64 w = search rules in
+    let value = to_z-of_z w64 w fits in
+    let welfare = with_rows problem relaxed selection w c.args.self.now.same c.in-Some.ensures.some.0 in
+    let is = eligible_leaf problem relaxed selection c.has_loss.result w c.args.self.now.same c.requires.long c.if-has_loss.false
+    c.has_loss.ensures (c.admissible.ensures.0 (search rules)) welfare (c.prices.ensures problem selection w c.kept.ensures welfare) in
+    subst (λ (z : ℤ). IsEligible problem c.best_of.result.selection z) (sym (c.best_of.ensures.welfare ∙ value))
+    (subst (λ (xs : List Bool). IsEligible problem xs w) (sym c.best_of.ensures.selection) is)

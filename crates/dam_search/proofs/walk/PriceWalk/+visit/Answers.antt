@@ -1,0 +1,101 @@
+-- One node, and the walks from its two decisions.
+use Rattle.std.proofs.Common.{◌≡◌, ℕ, ℤ, pos, List, ◌∷◌, length, get_or, ◌∙◌, ap, sym, subst, refl, rules, arith}
+use Rattle.std.proofs.lemmas.Int.{ints, to_z-of_z}
+use mir.Syntax.{w64}
+use mir.Val.{SFits}
+use Rattle.dam_search.specs.inside.PriceWalk.{IsNode, IsBounded, IsWalkedOpen, with_if, bound_after}
+use Rattle.dam_search.proofs.Opens.{all_within, accepts_taken, accepts_none_rejected, node_after, bounded_after, open_any, open_here, not_both}
+use Rattle.dam_search.proofs.Opens.{walked_nothing, walked_over, walked_both, node_is, bounded_is, under_bound}
+use Rattle.dam_search.proofs.walk.PriceWalk.+visit.Goals as goal
+
+-- ---- both decisions
+
+pub branch-returns-clause-walked : goal.branch-returns-clause-walked
+branch-returns-clause-walked g t c =
+    let problem = c.args.self.now.problem.now in let node = c.args.node.now in let left = c.in-Some.left.now in
+    let place = c.from-place.result in
+    let split : node.left.now ≡ place ∷ left = c.in-Some.ensures.cases.0 ∙ ap (λ (k : ℕ). k ∷ left) (sym c.from-place.ensures) in
+    let is = subst (λ (xs : List ℕ). IsNode node.taken node.rejected xs) split c.requires.node in
+    let told = g.I.Incumbent.greatest_read in let top = g.I.Incumbent.greatest_offer in
+    let before = c.args.incumbent.now in let middle = c.decide.new.incumbent in let after = c.decide-2.new.incumbent in
+    subst (λ (xs : List ℕ). IsWalkedOpen problem node.taken xs (top before) (told after) (top after) c.args.found.now c.decide-2.new.found)
+    (sym split)
+    (walked_both _ problem node.taken node.rejected place left (told before) (top before) (told middle) (top middle) (told after) (top after)
+    c.args.found.now c.decide.new.found
+    c.decide-2.new.found c.ranking.ensures.transitive is c.requires.ready c.decide.ensures.walked c.decide-2.ensures.walked)
+
+-- ---- one decision
+
+pub decide-forbids-requires : goal.decide-forbids-requires
+decide-forbids-requires g t c =
+    let node = c.args.node.now in
+    (subst (λ (xs : List ℕ). IsNode node.taken node.rejected xs) c.requires.split c.requires.node).free.0
+
+pub decide-returns-then-forbids-clause-walked : goal.decide-returns-then-forbids-clause-walked
+decide-returns-then-forbids-clause-walked g t c =
+    let problem = c.args.self.now.problem.now in let node = c.args.node.now in
+    let accept = c.args.accept in let place = c.args.place in let left = c.args.left.now in
+    let is = subst (λ (xs : List ℕ). IsNode node.taken node.rejected xs) c.requires.split c.requires.node in
+    walked_nothing problem (with_if accept node.taken place) left _ _ c.args.found.now c.requires.ready
+    (λ sel w opened e.
+    (let any = open_any accept node.taken place left sel opened in
+    let here = open_here accept node.taken node.rejected place left sel is opened in
+    let other = c.forbids.ensures c.if-forbids.true sel w e (accepts_taken node.taken (place ∷ left) sel is.free any)
+    (accepts_none_rejected node.taken node.rejected (place ∷ left) sel is any) in
+    absurd (not_both _ accept here other)))
+
+pub decide-visit-requires : goal.decide-visit-requires
+decide-visit-requires g t c κs within =
+    let node = c.args.node.now in let next = c.decided-next.result in let relaxed = g.P.Prices.problem c.args.self.now.prices.now in
+    let accept = c.args.accept in let place = c.args.place in let left = c.args.left.now in
+    let is = subst (λ (xs : List ℕ). IsNode node.taken node.rejected xs) c.requires.split c.requires.node in
+    let bounded = subst (λ (xs : List ℕ). IsBounded relaxed c.args.prices.now node.taken xs node.bound) c.requires.split c.requires.bounded in
+    let ensured = c.decided-next.ensures in
+    let gain = get_or c.args.prices.now.gains place (pos 0) in
+    let own = bounded.is_price_bound.small_gains place (pos 0) is.free.0 in
+    let low = own.at_least in let high = own.at_most in
+    let value = to_z-of_z w64 gain (omega (arith, ints, low, high)) in
+    let bound = ensured.bound ∙ ap (λ (z : ℤ). bound_after accept node.bound z) value in
+    let node' : IsNode next.taken next.rejected next.left.now =
+    node_is _ _ next.taken next.rejected left next.left.now ensured.taken ensured.rejected ensured.left
+    (node_after accept node.taken node.rejected place left is) in
+    let bounded' : IsBounded relaxed c.args.prices.now next.taken next.left.now next.bound =
+    bounded_is relaxed c.args.prices.now _ next.taken left next.left.now _ next.bound ensured.taken ensured.left bound
+    (bounded_after accept relaxed c.args.prices.now node.taken node.rejected place left node.bound is bounded) in
+    let long = ap (λ (xs : List ℕ). length xs) ensured.left in
+    search rules
+
+-- ---- prices of its own
+
+pub examine-bound_by_prices-requires : goal.examine-bound_by_prices-requires
+examine-bound_by_prices-requires g t c = all_within c.args.node.now.taken c.args.node.now.left.now c.requires.node.free
+
+pub examine-most-bound-requires-clause-places : goal.examine-most-bound-requires-clause-places
+examine-most-bound-requires-clause-places g t c = all_within c.args.node.now.taken c.args.node.now.left.now c.requires.node.free
+
+pub examine-returns-then-is_passed-clause-walked : goal.examine-returns-then-is_passed-clause-walked
+examine-returns-then-is_passed-clause-walked g t c =
+    let problem = c.args.self.now.problem.now in let relaxed = g.P.Prices.problem c.args.self.now.prices.now in
+    let node = c.args.node.now in let own = c.bound_by_prices.new.bound in
+    let fits : SFits w64 c.most-bound.result = search rules in
+    let value = to_z-of_z w64 c.most-bound.result fits in let most = c.most-bound.ensures in
+    walked_nothing problem node.taken node.left.now _ _ c.args.found.now c.requires.ready
+    (λ sel w opened e. c.is_passed.ensures.passed c.if-is_passed.true sel w opened
+    (under_bound problem relaxed own node.taken node.rejected sel node.left.now _ w c.open_bound.ensures c.args.self.now.same c.requires.node
+    (record { is_price_bound = c.bound_by_prices.ensures; most = omega (arith, ints, value, most) }) opened e))
+
+pub examine-branch-self-requires-2 : goal.examine-branch-self-requires-2
+examine-branch-self-requires-2 g t c = search rules
+
+-- ---- the node
+
+pub visit-returns-then-is_passed-clause-walked : goal.visit-returns-then-is_passed-clause-walked
+visit-returns-then-is_passed-clause-walked g t c =
+    let problem = c.args.self.now.problem.now in let relaxed = g.P.Prices.problem c.args.self.now.prices.now in
+    let node = c.args.node.now in let was = c.requires.ready.read in
+    let read = c.read-found.ensures in let rises = read.rises in
+    walked_over problem node.taken node.left.now _ _ _ _ c.args.found.now _ c.requires.ready refl (omega (arith, was, rises))
+    (sym read.greatest_read) read.greatest_offer
+    (λ sel w opened e. c.is_passed.ensures.passed c.if-is_passed.true sel w opened
+    (under_bound problem relaxed c.args.prices.now node.taken node.rejected sel node.left.now _ w c.open_bound.ensures c.args.self.now.same
+    c.requires.node c.requires.bounded opened e))

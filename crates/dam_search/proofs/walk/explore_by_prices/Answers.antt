@@ -1,0 +1,28 @@
+-- The walk from the decisions of the piece, with nothing found before.
+use Rattle.std.proofs.Common.{[], length, arith}
+use Rattle.dam_search.proofs.Opens.{all_within}
+use Rattle.dam_search.proofs.FirstNode.{piece_node, piece_sound}
+use Rattle.dam_search.proofs.walk.explore_by_prices.Goals as goal
+
+pub bound_by_prices-requires : goal.bound_by_prices-requires
+bound_by_prices-requires g c =
+    let node = piece_node c.args.depth c.args.piece (length c.args.problem.now.blocks) c.choice-taken.result [] c.args.order.now
+    c.choice-taken.ensures c.requires.depth c.kept.ensures.few_blocks c.requires.order (λ place e. absurd (cc)) in
+    all_within c.choice-taken.result c.args.order.now node.free
+
+pub most-requires-clause-places : goal.most-requires-clause-places
+most-requires-clause-places g c =
+    let node = piece_node c.args.depth c.args.piece (length c.args.problem.now.blocks) c.choice-taken.result [] c.args.order.now
+    c.choice-taken.ensures c.requires.depth c.kept.ensures.few_blocks c.requires.order (λ place e. absurd (cc)) in
+    all_within c.choice-taken.result c.args.order.now node.free
+
+pub visit-requires-clause-node : goal.visit-requires-clause-node
+visit-requires-clause-node g c =
+    piece_node c.args.depth c.args.piece (length c.args.problem.now.blocks) c.choice-taken.result c.rejected_under.result c.args.order.now
+    c.choice-taken.ensures c.requires.depth c.kept.ensures.few_blocks c.requires.order c.rejected_under.ensures
+
+pub returns-clause-sound : goal.returns-clause-sound
+returns-clause-sound g c =
+    let found = c.visit.new.found in let few = c.kept.ensures.few_blocks in let deep = c.requires.depth in
+    piece_sound c.args.problem.now c.args.depth c.args.piece c.choice-taken.result c.args.order.now found.best found.read
+    c.choice-taken.ensures (omega (arith, few, deep)) c.requires.order c.visit.ensures.walked.finds c.visit.ensures.walked.covers

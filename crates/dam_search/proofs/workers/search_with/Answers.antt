@@ -1,0 +1,7 @@
+-- The welfare of the first selection is reached, and the explorer suits the plan.
+use Rattle.dam_search.proofs.Shares.{first_reached}
+use Rattle.dam_search.proofs.workers.search_with.Goals as goal
+
+pub searched-requires-clause-first : goal.searched-requires-clause-first
+searched-requires-clause-first g c κs within =
+    first_reached c.args.problem.now c.first_selection-first.result c.first_selection-first.ensures.eligible

@@ -1,0 +1,104 @@
+-- A walk by prices: its nodes, and the account of it.
+use Rattle.std.specs.Prelude.{◌≡◌, ℕ, ◌<◌, ◌≤◌, max, ℤ, pos, ◌+ℤ◌, ◌-ℤ◌, ◌≤ℤ◌, ◌<ℤ◌, ◌⊎◌, Bool, true, false}
+use Rattle.std.specs.Prelude.{Option, Some, None, List, [], ◌∷◌, length, slice_set}
+use Rattle.std.specs.Coded.{×_prop, Unit-prop}
+use Rattle.std.specs.Int.{int_min, int_max}
+use mathlib.Core.Bool.{Bool-set}
+use Rattle.dam_book.specs.Limits.{most_blocks}
+use Rattle.dam_blocks.specs.declared.selection.Best.{Best}
+use Rattle.dam_blocks.specs.Problem.{ProblemState}
+use Rattle.dam_blocks.specs.Selection.{accepts}
+use Rattle.dam_blocks.specs.Eligible.{IsEligible}
+use Rattle.dam_bound.specs.declared.price_bound.PriceBound.{PriceBound}
+use Rattle.dam_bound.specs.Open.{is_among, IsOpen, AreFree}
+use Rattle.dam_bound.specs.Prices.{most_of, IsPriceBound}
+use Rattle.dam_search.specs.declared.piece.Progress.{Progress}
+use Rattle.dam_search.specs.Piece.{IsMatched, Rises, welfare_found}
+use Rattle.dam_search.specs.inside.Collect.{IsLong}
+
+-- ---- the nodes
+
+-- the decisions of a node: no place that is left is taken, and no rejected one is taken or left
+pub record IsNode (taken rejected : List Bool) (left : List ℕ) : Type 0 where
+  pub as_long : length taken ≡ most_blocks
+  pub free : AreFree taken left
+  pub few : length left ≤ most_blocks
+  pub apart : (place : ℕ) → accepts rejected place ≡ true
+      → (accepts taken place ≡ false) × (is_among place left ≡ false)
+
+-- the prices bound the welfare of each selection, and that of the open ones is at most this number
+pub record IsBounded (problem : ProblemState) (prices : PriceBound) (taken : List Bool) (left : List ℕ)
+    (bound : ℤ) : Type 0 where
+  pub is_price_bound : IsPriceBound problem prices
+  pub most : most_of prices taken left ≤ℤ bound
+
+-- the places with this one too, if it is so decided
+abbrev pub with_if : Bool → List Bool → ℕ → List Bool
+with_if true taken place = slice_set taken place true
+with_if false taken place = taken
+
+-- the places with all of these too
+abbrev pub with_all : List Bool → List ℕ → List Bool
+with_all taken [] = taken
+with_all taken (place ∷ left) = with_all (slice_set taken place true) left
+
+-- a bound after a decision on a block with this gain: one against its sign costs its size
+abbrev pub bound_after : Bool → ℤ → ℤ → ℤ
+bound_after true bound gain = bound +ℤ int_min gain (pos 0)
+bound_after false bound gain = bound -ℤ int_max gain (pos 0)
+
+-- ---- the account of the walk
+
+-- a find: none, or an eligible open selection with its welfare
+abbrev pub IsOpenFind : ProblemState → List Bool → List ℕ → Option Best → Type 0
+IsOpenFind problem taken left None = Unit {0}
+IsOpenFind problem taken left (Some b) =
+    IsOpen taken left b.selection × IsEligible problem b.selection (pos b.welfare)
+
+-- the find changes to an eligible open selection, or not at all, and only rises
+pub record FindsOpen (problem : ProblemState) (taken : List Bool) (left : List ℕ)
+    (before after : Option Best) : Type 0 where
+  pub found : (after ≡ before) ⊎ IsOpenFind problem taken left after
+  pub rises : Rises before after
+
+-- each eligible open selection has less welfare than the value read or ranks at or below the selection that was found
+abbrev pub CoversOpen : ProblemState → List Bool → List ℕ → Option Best → ℕ → Type 0
+CoversOpen problem taken left best read =
+    (selection : List Bool) (w : ℤ) → IsOpen taken left selection → IsEligible problem selection w
+    → (w <ℤ pos read) ⊎ IsMatched w selection best
+
+-- a walk before it goes on, if these are the greatest value read of its incumbent and the greatest that was offered
+pub record IsReady (greatest_read greatest_offer : ℕ) (found : Progress) : Type 0 where
+  pub read : found.read ≡ greatest_read
+  pub long : IsLong found.best
+  pub offered : welfare_found found.best ≤ greatest_offer
+
+-- a walk over the open selections: its find and value read before and after, the greatest value offered to its
+-- incumbent before, and the greatest value read of it and offered to it after
+pub record IsWalkedOpen (problem : ProblemState) (taken : List Bool) (left : List ℕ)
+    (greatest_offer_before greatest_read_after greatest_offer_after : ℕ) (before after : Progress)
+    : Type 0 where
+  pub finds : FindsOpen problem taken left before.best after.best
+  pub covers : CoversOpen problem taken left after.best after.read
+  pub grows : before.read ≤ after.read
+  pub read : after.read ≡ greatest_read_after
+  pub offered : greatest_offer_after ≡ max greatest_offer_before (welfare_found after.best)
+
+-- ---- the order of the decisions
+
+-- no two of the places are the same
+abbrev pub AreDistinct : List ℕ → Type 0
+AreDistinct [] = Unit {0}
+AreDistinct (place ∷ places) = (is_among place places ≡ false) × AreDistinct places
+
+-- a list has one proof of it at most
+pub AreDistinct-prop : (places : List ℕ) → IsProp (AreDistinct places)
+AreDistinct-prop [] = Unit-prop
+AreDistinct-prop (place ∷ places) = ×_prop (Bool-set _ _) (AreDistinct-prop places)
+
+-- the places from `depth` on of this number of blocks, each once
+pub record IsOrder (depth count : ℕ) (order : List ℕ) : Type 0 where
+  pub few : length order ≤ most_blocks
+  pub distinct : AreDistinct order
+  pub within : (place : ℕ) → is_among place order ≡ true → (depth ≤ place) × (place < count)
+  pub whole : (place : ℕ) → depth ≤ place → place < count → is_among place order ≡ true

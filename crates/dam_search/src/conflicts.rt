@@ -1,0 +1,123 @@
+ghost use Rattle.std.specs.Prelude.{◌≡◌, ◌<◌, ◌≤◌, ℤ, true, false, List, Bool, length};
+ghost use Rattle.dam_book.specs.Limits.{most_blocks};
+ghost use Rattle.dam_blocks.specs.Problem.{ProblemState};
+ghost use Rattle.dam_blocks.specs.Selection.{accepts};
+ghost use Rattle.dam_blocks.specs.Family.{descends};
+ghost use Rattle.dam_blocks.specs.Eligible.{IsEligible};
+ghost use Rattle.dam_search.specs.inside.Conflicts.{AcceptsAll, AcceptsNone, AreConflicts, IsSetOf, is_other_of_group};
+
+use dam_blocks::{Block, Problem, Selection, are_of_one_group, descends};
+use dam_book::MOST_BLOCKS;
+use std::alloc::Allocator;
+
+/// Which decisions on blocks rule each other out, by links and exclusive groups. A search asks for them at each of its
+/// nodes, so they are made once, as sets of places.
+#[derive(Drop)]
+pub(crate) struct Conflicts {
+    /// For each block those that it descends from. It can't be accepted without them.
+    needs: [Selection; MOST_BLOCKS],
+    /// For each block those that descend from it. They can't be accepted without it.
+    needed_by: [Selection; MOST_BLOCKS],
+    /// For each block the others of its exclusive group. They can't be accepted beside it.
+    excludes: [Selection; MOST_BLOCKS],
+}
+
+impl Conflicts {
+    /// The conflicts of a problem's blocks.
+    pub(crate) fn of<A: Allocator>(problem: &Problem<A>) -> Conflicts
+        ensures { AreConflicts problem.now result }
+    {
+        dam_blocks::laws::conflicts();
+        let blocks = problem.blocks();
+        let mut conflicts = Conflicts {
+            needs: [Selection::none(); MOST_BLOCKS],
+            needed_by: [Selection::none(); MOST_BLOCKS],
+            excludes: [Selection::none(); MOST_BLOCKS],
+        };
+        for place in 0..blocks.len() {
+            conflicts.needs[place] = ancestors_of(blocks, place);
+            conflicts.needed_by[place] = descendants_of(blocks, place);
+            conflicts.excludes[place] = others_of_group(blocks, place);
+        }
+        conflicts
+    }
+
+    /// Whether links or groups forbid accepting the block at the place beside those taken and without those rejected. They
+    /// may forbid it even if this is `false`.
+    pub(crate) fn forbids_accepting(
+        &self,
+        place: usize,
+        taken: Selection,
+        rejected: Selection,
+    ) -> bool
+        requires { place < most_blocks }
+        ensures { result ≡ true → (problem : ProblemState) (selection : List Bool) (w : ℤ)
+            → AreConflicts problem self.now → IsEligible problem selection w
+            → AcceptsAll taken selection → AcceptsNone rejected selection
+            → accepts selection place ≡ false }
+    {
+        self.needs[place].meets(rejected) || self.excludes[place].meets(taken)
+    }
+
+    /// Whether links forbid rejecting the block at the place beside those taken.
+    pub(crate) fn forbids_rejecting(&self, place: usize, taken: Selection) -> bool
+        requires { place < most_blocks }
+        ensures { result ≡ true → (problem : ProblemState) (selection : List Bool) (w : ℤ)
+            → AreConflicts problem self.now → IsEligible problem selection w
+            → AcceptsAll taken selection → accepts selection place ≡ true }
+    {
+        self.needed_by[place].meets(taken)
+    }
+}
+
+/// The places of the blocks that the one at a place descends from.
+fn ancestors_of(blocks: &[Block], place: usize) -> Selection
+    requires { length blocks.now ≤ most_blocks }
+    ensures { IsSetOf (length blocks.now) (λ at. descends blocks.now at place) result }
+{
+    let mut ancestors = Selection::none();
+    for at in 0..blocks.len() {
+        if descends(blocks, at, place) {
+            ancestors = ancestors.with(at);
+        }
+    }
+    ancestors
+}
+
+/// The places of the blocks that descend from the one at a place.
+fn descendants_of(blocks: &[Block], place: usize) -> Selection
+    requires { length blocks.now ≤ most_blocks }
+    ensures { IsSetOf (length blocks.now) (λ at. descends blocks.now place at) result }
+{
+    let mut descendants = Selection::none();
+    for at in 0..blocks.len() {
+        if descends(blocks, place, at) {
+            descendants = descendants.with(at);
+        }
+    }
+    descendants
+}
+
+/// Whether another block of the exclusive group of the one at a place stands here.
+fn is_other_of_group(blocks: &[Block], place: usize, at: usize) -> bool
+    requires place { place < length blocks.now }
+    requires at { at < length blocks.now }
+    ensures { result ≡ is_other_of_group blocks.now place at }
+{
+    at != place && are_of_one_group(&blocks[place], &blocks[at])
+}
+
+/// The places of the other blocks of the exclusive group of the one at a place.
+fn others_of_group(blocks: &[Block], place: usize) -> Selection
+    requires few { length blocks.now ≤ most_blocks }
+    requires place { place < length blocks.now }
+    ensures { IsSetOf (length blocks.now) (λ at. is_other_of_group blocks.now place at) result }
+{
+    let mut others = Selection::none();
+    for at in 0..blocks.len() {
+        if is_other_of_group(blocks, place, at) {
+            others = others.with(at);
+        }
+    }
+    others
+}

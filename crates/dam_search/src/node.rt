@@ -1,0 +1,85 @@
+ghost use Rattle.std.specs.Prelude.{◌≡◌, ◌<◌, pos, ◌≤ℤ◌, not, All};
+ghost use Rattle.dam_book.specs.Limits.{most_blocks};
+ghost use Rattle.dam_bound.specs.Prices.{greatest_priced_gain};
+ghost use Rattle.dam_blocks.specs.Magnitude.{IsWithin};
+ghost use Rattle.dam_search.specs.inside.PriceWalk.{with_if, with_all, bound_after};
+
+use dam_blocks::Selection;
+
+/// A node of a walk by prices: decisions on some blocks, and the places of the others.
+///
+/// Its open selections are those that accept what is taken, any of the blocks that are left, and nothing else.
+#[derive(Drop)]
+pub(crate) struct Node<'a> {
+    /// The blocks that are accepted.
+    pub(crate) taken: Selection,
+    /// The blocks that are rejected.
+    pub(crate) rejected: Selection,
+    /// The places that are left, in the order of the decisions on them.
+    pub(crate) left: &'a [u8],
+    /// At least the welfare of each open selection.
+    pub(crate) bound: i64,
+}
+
+/// The selection with the block at this place accepted too, if it is so decided.
+fn with_if(decided: bool, selection: Selection, place: usize) -> Selection
+    requires { place < most_blocks }
+    ensures { result ≡ with_if decided selection place }
+{
+    if decided {
+        selection.with(place)
+    } else {
+        selection
+    }
+}
+
+/// The bound after a decision on a block with this gain. One against the sign of the gain costs its size.
+fn bound_after(accept: bool, bound: i64, gain: i64) -> i64
+    requires bound { pos 0 ≤ℤ bound }
+    requires gain { IsWithin greatest_priced_gain gain }
+    ensures { result ≡ bound_after accept bound gain }
+{
+    if accept {
+        bound + gain.min(0)
+    } else {
+        bound - gain.max(0)
+    }
+}
+
+impl Node<'_> {
+    /// The open selection that accepts every block that is left. None ranks above it in the order of ties.
+    pub(crate) fn top(&self) -> Selection
+        requires { All (λ place. place < most_blocks) self.now.left.now }
+        ensures { result ≡ with_all self.now.taken self.now.left.now }
+    {
+        let mut top = self.taken;
+        for place in self.left {
+            top = top.with(usize::from(*place));
+        }
+        top
+    }
+
+    /// The node with a decision on the block at `place`, which has this gain, and `left` left.
+    pub(crate) fn decided<'b>(
+        &self,
+        place: usize,
+        left: &'b [u8],
+        accept: bool,
+        gain: i64,
+    ) -> Node<'b>
+        requires place { place < most_blocks }
+        requires bound { pos 0 ≤ℤ self.now.bound }
+        requires gain { IsWithin greatest_priced_gain gain }
+        ensures taken { result.taken ≡ with_if accept self.now.taken place }
+        ensures rejected { result.rejected ≡ with_if (not accept) self.now.rejected place }
+        ensures left { result.left.now ≡ left.now }
+        ensures bound { result.bound ≡ bound_after accept self.now.bound gain }
+    {
+        Node {
+            taken: with_if(accept, self.taken, place),
+            rejected: with_if(!accept, self.rejected, place),
+            left,
+            bound: bound_after(accept, self.bound, gain),
+        }
+    }
+}

@@ -1,0 +1,52 @@
+ghost use Rattle.std.specs.Prelude.{◌≡◌, ◌<◌, ◌≤ℤ◌, ◌<ℤ◌, ◌↔◌, ℤ, List, Some, None, false, All, IfSome};
+ghost use Rattle.dam_book.specs.Limits.{most_blocks};
+ghost use Rattle.dam_blocks.specs.Problem.{ProblemState};
+ghost use Rattle.dam_blocks.specs.Eligible.{selection_welfare, ArePrices, HasNoLoss};
+ghost use Rattle.dam_bound.specs.Prices.{IsPriceBound};
+
+use dam_blocks::Selection;
+use dam_bound::{ClassCurves, PriceBound};
+use std::alloc::Allocator;
+
+/// The hourly orders and blocks of a problem, as a walk by prices asks for them.
+pub trait Prices {
+    /// The problem, without its rows.
+    ghost problem: { Self → ProblemState };
+
+    /// Makes a bound by the prices that suit the selections that accept `taken`, any of the blocks that are left, and
+    /// nothing else.
+    fn bound_by_prices(&self, taken: Selection, left: &[u8], bound: &mut PriceBound)
+        requires { All (λ place. place < most_blocks) left.now }
+        ensures { IsPriceBound (problem self.now) bound.new };
+
+    /// The welfare of a selection, unless it has none or less than `least`.
+    fn welfare(&self, selection: Selection, bound: &PriceBound, least: i64) -> Option<i64>
+        requires { IsPriceBound (problem self.now) bound.now }
+        ensures some { IfSome result (λ w.
+            (selection_welfare (problem self.now) selection ≡ Some w) × (least ≤ℤ w)) }
+        ensures none { result ≡ None → (w : ℤ)
+            → selection_welfare (problem self.now) selection ≡ Some w → w <ℤ least };
+
+    /// Whether some accepted block, together with its accepted descendants, loses at the selection's prices.
+    fn has_loss(&self, selection: Selection) -> bool
+        requires { (w : ℤ) × (selection_welfare (problem self.now) selection ≡ Some w) }
+        ensures { (prices : List ℤ)
+            → ArePrices (problem self.now).blocks selection 1 (problem self.now).hours prices
+            → (result ≡ false) ↔ HasNoLoss (problem self.now).blocks selection prices };
+}
+
+impl<A: Allocator, B: Allocator> Prices for ClassCurves<'_, A, B> {
+    ghost problem = { λ problem. problem };
+
+    fn bound_by_prices(&self, taken: Selection, left: &[u8], bound: &mut PriceBound) {
+        self.bound_by_prices(taken, left, bound);
+    }
+
+    fn welfare(&self, selection: Selection, bound: &PriceBound, least: i64) -> Option<i64> {
+        self.welfare(selection, bound, least)
+    }
+
+    fn has_loss(&self, selection: Selection) -> bool {
+        self.has_loss(selection)
+    }
+}

@@ -1,0 +1,377 @@
+//! The walk by prices, with which a search explores a piece if its limit on nodes can't bind.
+
+ghost use Rattle.std.specs.Prelude.{◌≡◌, ◌^◌, ◌<◌, ◌≤◌, ◌⊎◌, max, ℕ, ℤ, pos, ◌≤ℤ◌, ◌<ℤ◌, true, false, not};
+ghost use Rattle.std.specs.Prelude.{Some, List, Bool, [], ◌∷◌, length, IsTrue, ◌↔◌, IfSome, IfNone};
+ghost use Rattle.dam_book.specs.Limits.{most_blocks};
+ghost use Rattle.dam_blocks.specs.Selection.{accepts, choice};
+ghost use Rattle.dam_blocks.specs.Eligible.{IsEligible};
+ghost use Rattle.dam_bound.specs.Relaxed.{without_rows};
+ghost use Rattle.dam_bound.specs.Open.{IsOpen};
+ghost use Rattle.dam_search.specs.Piece.{IsMatched, Rises, welfare_found, IsSound};
+ghost use Rattle.dam_search.specs.inside.Conflicts.{AcceptsAll, AcceptsNone, AreConflicts};
+ghost use Rattle.dam_search.specs.inside.PriceWalk.{IsNode, IsBounded, IsReady, IsWalkedOpen, IsOrder, with_if};
+
+use crate::answer::PieceAnswer;
+use crate::conflicts::Conflicts;
+use crate::incumbent::Incumbent;
+use crate::node::Node;
+use crate::piece::{Progress, equals, surpasses};
+use crate::prices::Prices;
+use crate::space::kept;
+use dam_blocks::{Best, Problem, Selection, admissible, ranks_above};
+use dam_bound::PriceBound;
+use std::alloc::Allocator;
+
+/// How many places must be left for a node to get prices of its own.
+const EXAMINED: usize = 8;
+
+/// The input of a walk by prices.
+#[derive(Drop)]
+struct PriceWalk<'a, A: Allocator, P: Prices> {
+    problem: &'a Problem<A>,
+    prices: &'a P,
+    conflicts: &'a Conflicts,
+    ghost same: { P.problem prices.now ≡ without_rows problem.now },
+    ghost are_conflicts: { AreConflicts problem.now conflicts.now },
+}
+
+/// Whether the bound is at least the value.
+fn reaches(bound: i64, value: u64) -> bool
+    ensures { IsTrue result ↔ (pos value ≤ℤ bound) }
+{
+    bound >= 0 && value <= bound as u64
+}
+
+/// The selection with its welfare, if that is at least the value read and the selection, if it is eligible, is the best
+/// so far. The welfare of an eligible selection is never below 0.
+fn candidate(selection: Selection, welfare: i64, found: &Progress) -> Option<Best>
+    ensures none { IfNone result
+        ((welfare <ℤ pos found.now.read) ⊎ IsMatched welfare selection found.now.best) }
+    ensures some { IfSome result (λ b. (b.selection ≡ selection) × (pos b.welfare ≡ welfare)
+        × Rises found.now.best (Some b)) }
+{
+    if welfare < 0 {
+        return None;
+    }
+    let best = Best {
+        selection,
+        welfare: welfare as u64,
+    };
+    if found.read <= best.welfare && surpasses(&best, &found.best) {
+        Some(best)
+    } else {
+        None
+    }
+}
+
+/// Whether a node is passed over, since no open selection can change the find: its bound is less than the value read,
+/// or it is the welfare of the selection found, and no open selection ranks above that one in the order of ties.
+fn is_passed(node: &Node, found: &Progress) -> bool
+    requires { IsNode node.now.taken node.now.rejected node.now.left.now }
+    ensures passed { result ≡ true → (selection : List Bool) (w : ℤ)
+        → IsOpen node.now.taken node.now.left.now selection → w ≤ℤ node.now.bound
+        → (w <ℤ pos found.now.read) ⊎ IsMatched w selection found.now.best }
+    ensures reached { result ≡ false
+        → (pos found.now.read ≤ℤ node.now.bound) × (found.now.read < 2 ^ 63) }
+{
+    if !reaches(node.bound, found.read) {
+        return true;
+    }
+    let Some(best) = found.best else {
+        return false;
+    };
+    let top = Best {
+        selection: node.top(),
+        welfare: best.welfare,
+    };
+    equals(node.bound, best.welfare) && !ranks_above(top, best)
+}
+
+impl<A: Allocator, P: Prices> PriceWalk<'_, A, P> {
+    /// Takes the selection of a node that leaves no place, and offers its welfare, if it is eligible and the best so
+    /// far.
+    fn try_selection<I: Incumbent>(
+        &self,
+        taken: Selection,
+        prices: &PriceBound,
+        incumbent: &mut I,
+        found: &mut Progress,
+    )
+        requires long { length taken ≡ most_blocks }
+        requires fits { found.old.read < 2 ^ 63 }
+        requires prices { (bound : ℤ)
+            × IsBounded (P.problem self.now.prices.now) prices.now taken [] bound }
+        requires ready { IsReady
+            (I.greatest_read incumbent.old) (I.greatest_offer incumbent.old) found.old }
+        ensures walked { IsWalkedOpen self.now.problem.now taken []
+            (I.greatest_offer incumbent.old)
+            (I.greatest_read incumbent.new) (I.greatest_offer incumbent.new)
+            found.old found.new }
+        ensures kept { I.kept incumbent.new ≡ I.kept incumbent.old }
+    {
+        dam_blocks::laws::ranking();
+        dam_bound::laws::prices();
+        kept(self.problem);
+        let Some(welfare) = self.prices.welfare(taken, prices, found.read as i64) else {
+            return;
+        };
+        let Some(best) = candidate(taken, welfare, found) else {
+            return;
+        };
+        if !admissible(self.problem, taken) {
+            return;
+        }
+        if self.prices.has_loss(taken) {
+            return;
+        }
+        let offer = best.welfare;
+        found.best = Some(best);
+        incumbent.offer(offer);
+    }
+
+    /// Whether no eligible open selection of the node has this decision on the block at the place.
+    fn forbids(&self, node: &Node, place: usize, accept: bool) -> bool
+        requires { place < most_blocks }
+        ensures { result ≡ true → (selection : List Bool) (w : ℤ)
+            → IsEligible self.now.problem.now selection w
+            → AcceptsAll node.now.taken selection → AcceptsNone node.now.rejected selection
+            → accepts selection place ≡ not accept }
+    {
+        if accept {
+            self.conflicts
+                .forbids_accepting(place, node.taken, node.rejected)
+        } else {
+            self.conflicts.forbids_rejecting(place, node.taken)
+        }
+    }
+
+    /// Visits a node: reads the incumbent, and explores the node unless it is passed over.
+    #[cycle(visit)]
+    #[inline(always)]
+    fn visit<I: Incumbent>(
+        &self,
+        node: &Node,
+        prices: &PriceBound,
+        incumbent: &mut I,
+        found: &mut Progress,
+    )
+        requires node { IsNode node.now.taken node.now.rejected node.now.left.now }
+        requires bounded { IsBounded (P.problem self.now.prices.now) prices.now
+            node.now.taken node.now.left.now node.now.bound }
+        requires ready { IsReady
+            (I.greatest_read incumbent.old) (I.greatest_offer incumbent.old) found.old }
+        ensures walked { IsWalkedOpen self.now.problem.now node.now.taken node.now.left.now
+            (I.greatest_offer incumbent.old)
+            (I.greatest_read incumbent.new) (I.greatest_offer incumbent.new)
+            found.old found.new }
+        ensures kept { I.kept incumbent.new ≡ I.kept incumbent.old }
+    {
+        dam_bound::laws::open_bound();
+        found.visited = found.visited.saturating_add(1);
+        found.read = incumbent.read();
+        if is_passed(node, found) {
+            return;
+        }
+        if node.left.len() < EXAMINED {
+            self.branch(node, prices, incumbent, found);
+        } else {
+            self.examine(node, prices, incumbent, found);
+        }
+    }
+
+    /// Explores a node with prices of its own, if they give it a lesser bound.
+    ///
+    /// It isn't inlined, since the prices take room on the stack.
+    #[cycle(visit)]
+    #[inline(never)]
+    fn examine<I: Incumbent>(
+        &self,
+        node: &Node,
+        prices: &PriceBound,
+        incumbent: &mut I,
+        found: &mut Progress,
+    )
+        requires node { IsNode node.now.taken node.now.rejected node.now.left.now }
+        requires bounded { IsBounded (P.problem self.now.prices.now) prices.now
+            node.now.taken node.now.left.now node.now.bound }
+        requires reached { (pos found.old.read ≤ℤ node.now.bound) × (found.old.read < 2 ^ 63) }
+        requires ready { IsReady
+            (I.greatest_read incumbent.old) (I.greatest_offer incumbent.old) found.old }
+        ensures walked { IsWalkedOpen self.now.problem.now node.now.taken node.now.left.now
+            (I.greatest_offer incumbent.old)
+            (I.greatest_read incumbent.new) (I.greatest_offer incumbent.new)
+            found.old found.new }
+        ensures kept { I.kept incumbent.new ≡ I.kept incumbent.old }
+    {
+        dam_bound::laws::open_bound();
+        let mut own = PriceBound::empty();
+        self.prices.bound_by_prices(node.taken, node.left, &mut own);
+        let bound = own.most(node.taken, node.left);
+        if bound >= node.bound {
+            self.branch(node, prices, incumbent, found);
+            return;
+        }
+        let node = Node {
+            taken: node.taken,
+            rejected: node.rejected,
+            left: node.left,
+            bound,
+        };
+        if is_passed(&node, found) {
+            return;
+        }
+        self.branch(&node, &own, incumbent, found);
+    }
+
+    /// Explores both decisions on the next place, first the one that the sign of the block's gain is for. If no place
+    /// is left, it tries the selection.
+    #[cycle(visit)]
+    fn branch<I: Incumbent>(
+        &self,
+        node: &Node,
+        prices: &PriceBound,
+        incumbent: &mut I,
+        found: &mut Progress,
+    )
+        requires node { IsNode node.now.taken node.now.rejected node.now.left.now }
+        requires bounded { IsBounded (P.problem self.now.prices.now) prices.now
+            node.now.taken node.now.left.now node.now.bound }
+        requires reached { (pos found.old.read ≤ℤ node.now.bound) × (found.old.read < 2 ^ 63) }
+        requires ready { IsReady
+            (I.greatest_read incumbent.old) (I.greatest_offer incumbent.old) found.old }
+        ensures walked { IsWalkedOpen self.now.problem.now node.now.taken node.now.left.now
+            (I.greatest_offer incumbent.old)
+            (I.greatest_read incumbent.new) (I.greatest_offer incumbent.new)
+            found.old found.new }
+        ensures kept { I.kept incumbent.new ≡ I.kept incumbent.old }
+    {
+        dam_blocks::laws::ranking();
+        let Some((place, left)) = node.left.split_first() else {
+            self.try_selection(node.taken, prices, incumbent, found);
+            return;
+        };
+        let place = usize::from(*place);
+        let accept = prices.gains[place] >= 0;
+        self.decide(node, place, left, accept, prices, incumbent, found);
+        self.decide(node, place, left, !accept, prices, incumbent, found);
+    }
+
+    /// Explores the node with this decision on the block at `place`, unless no eligible selection has it. `left` are
+    /// the places that are left then.
+    #[cycle(visit)]
+    fn decide<I: Incumbent>(
+        &self,
+        node: &Node,
+        place: usize,
+        left: &[u8],
+        accept: bool,
+        prices: &PriceBound,
+        incumbent: &mut I,
+        found: &mut Progress,
+    )
+        requires split { node.now.left.now ≡ place ∷ left.now }
+        requires node { IsNode node.now.taken node.now.rejected node.now.left.now }
+        requires bounded { IsBounded (P.problem self.now.prices.now) prices.now
+            node.now.taken node.now.left.now node.now.bound }
+        requires reached { pos 0 ≤ℤ node.now.bound }
+        requires ready { IsReady
+            (I.greatest_read incumbent.old) (I.greatest_offer incumbent.old) found.old }
+        ensures walked { IsWalkedOpen self.now.problem.now
+            (with_if accept node.now.taken place) left.now
+            (I.greatest_offer incumbent.old)
+            (I.greatest_read incumbent.new) (I.greatest_offer incumbent.new)
+            found.old found.new }
+        ensures kept { I.kept incumbent.new ≡ I.kept incumbent.old }
+    {
+        if self.forbids(node, place, accept) {
+            return;
+        }
+        let next = node.decided(place, left, accept, prices.gains[place]);
+        self.visit(&next, prices, incumbent, found);
+    }
+}
+
+/// The places under `depth` that the selection rejects.
+fn rejected_under(depth: usize, selection: Selection) -> Selection
+    requires { depth ≤ most_blocks }
+    ensures { (place : ℕ) → accepts result place ≡ true
+        → (place < depth) × (accepts selection place ≡ false) }
+{
+    let mut rejected = Selection::none();
+    for place in 0..depth {
+        if !selection.has(place) {
+            rejected = rejected.with(place);
+        }
+    }
+    rejected
+}
+
+/// Explores a piece of the cutting that decides the first `depth` blocks, and finds its best eligible selection, apart
+/// from those with less welfare than was read of the incumbent. The answer is always done.
+///
+/// The other blocks are decided in this order. A node is visited when the incumbent is read for it, and its bound is
+/// compared with that.
+pub(crate) fn explore_by_prices<A: Allocator, P: Prices, I: Incumbent>(
+    problem: &Problem<A>,
+    prices: &P,
+    conflicts: &Conflicts,
+    order: &[u8],
+    piece: u32,
+    depth: usize,
+    incumbent: &mut I,
+) -> PieceAnswer
+    requires same { P.problem prices.now ≡ without_rows problem.now }
+    requires conflicts { AreConflicts problem.now conflicts.now }
+    requires order { IsOrder depth (length problem.now.blocks) order.now }
+    requires depth { depth ≤ length problem.now.blocks }
+    requires piece { piece < 2 ^ depth }
+    ensures piece { result.piece ≡ piece }
+    ensures sound { IsSound problem.now (choice depth piece) result.best result.read result.done }
+    ensures done { result.done ≡ true }
+
+    // The incumbent after the call.
+    ensures offered { I.greatest_offer incumbent.new
+        ≡ max (I.greatest_offer incumbent.old) (welfare_found result.best) }
+    ensures greatest_read { I.greatest_read incumbent.new
+        ≡ max (I.greatest_read incumbent.old) result.read }
+    ensures kept { I.kept incumbent.new ≡ I.kept incumbent.old }
+{
+    dam_blocks::laws::fronts();
+    kept(problem);
+    let taken = Selection::choice(depth, piece);
+    if !admissible(problem, taken) {
+        return PieceAnswer {
+            piece,
+            best: None,
+            read: 0,
+            visited: 0,
+            done: true,
+        };
+    }
+    let mut bound = PriceBound::empty();
+    prices.bound_by_prices(taken, order, &mut bound);
+    let node = Node {
+        taken,
+        rejected: rejected_under(depth, taken),
+        left: order,
+        bound: bound.most(taken, order),
+    };
+    let mut found = Progress {
+        best: None,
+        read: incumbent.read(),
+        visited: 0,
+    };
+    let walk = PriceWalk {
+        problem,
+        prices,
+        conflicts,
+    };
+    walk.visit(&node, &bound, incumbent, &mut found);
+    PieceAnswer {
+        piece,
+        best: found.best,
+        read: found.read,
+        visited: found.visited,
+        done: true,
+    }
+}
