@@ -1,12 +1,12 @@
 #!/usr/bin/env python3
 """The search on hard books, with 24 blocks and 500 or 4,000 hourly orders on days of 24 periods, under three plans, compared with a plain
-twin of the walk, and with HiGHS, which finds the same selection by adding cuts that exclude losing selections.
+twin of the search, and with HiGHS, which finds the same selection by adding cuts that exclude losing selections.
 
-A plan is a number of workers and a cut; `2 3` is the default. In the twin a bound is a sum of look-ups in
-tables, one for each class of periods in which every block has the same volume; links and groups are sets of bits in the twin, and lists
-of places in `dam`. HiGHS is asked only for the greatest welfare, and not for the tie rule, for which every node of `ties` has to be
-visited. A run ends after 60 s, and HiGHS after 20 s, or after the seconds of LIMIT and HIGHS_LIMIT in the environment. A piece begins
-with net volumes that are filled once, 40 kB, which counts if a walk ends after some hundred nodes, as the walk of `links` does."""
+A plan is a number of workers and a cut; `2 3` is the default. No run has a limit on nodes: with one that can stop a search, `dam` counts
+nodes by a weaker bound, and is slower. The twin's bounds are by prices, as those of `dam` are, and a selection is a set of bits in both.
+`dam` reads and prints more than the twin does, which counts in a search of a few milliseconds. HiGHS is asked only for the greatest
+welfare, and not for the tie rule. A run ends after 60 s, and HiGHS after 20 s, or after the seconds of LIMIT and HIGHS_LIMIT in the
+environment."""
 
 # families.py [ORDERS [FAMILY..]]: only with this number of orders, and only these families. `bench/run families` builds the files.
 
@@ -14,23 +14,19 @@ import statistics
 import sys
 
 import make_family
-from figures import BEFORE, DAM, HIGHS_LIMIT, LIMIT, TWIN, at_most, by_turns, count_nodes, line, ratio, run, seconds, write
+from clearing import GAVE_UP, MISSING, SPARE, left_out
+from figures import BEFORE, DAM, HIGHS_LIMIT, LIMIT, TWIN, at_most, by_turns, line, ratio, run, seconds, write
 
 ORDERS = ["500", "4000"]
 # Workers, and how many of the first blocks are cut. The first is the default plan.
 PLANS = [("2", "3"), ("1", "0"), ("4", "3")]
-CUTS = ["0", "3"]
 SHORT, DOUBLE = 0.15, 0.3  # seconds of the twin, and of dam compared with it
-# Every selection of its books is visited, which takes as long as all other families together.
-LONG = "ties"
-SPARE = 15.0  # seconds that HiGHS's program may take to be written
 
 
 class Book:
     """A book of a family, and its figures."""
 
     def __init__(self, family, orders):
-        self.family = family
         self.name = f"{family} {orders}"
         self.path = write(f"out/{family}-{orders}.csv", "./make_family.py", family, orders)
 
@@ -42,50 +38,34 @@ class Book:
         runs = by_turns(words, self.path, most=9, seconds=2.5)
         what = f"{self.name}, plan {workers} {cut}: dam clear"
         is_default = (workers, cut) == PLANS[0]
-        must_end = is_default and self.family != LONG
         if not runs["dam"]:
-            line(what, f"> {LIMIT:g} s", "ends" if must_end else "", False if must_end else None)
+            line(what, f"> {LIMIT:g} s", "ends" if is_default else "", False if is_default else None)
             return None
         dam, twin = ([each.wall for each in runs[name]] for name in ("dam", "twin"))
         median = statistics.median(dam)
-        line(what, seconds(median), "ends" if must_end else "", True if must_end else None)
+        line(what, seconds(median), "ends" if is_default else "", True if is_default else None)
         if runs.get("before"):
             ratio(f"{what} compared with the program before", dam, [each.wall for each in runs["before"]])
         if twin:
             ratio(f"{what} compared with the twin", dam, twin, 2 if is_default else None)
-            if must_end and statistics.median(twin) <= SHORT:
+            if is_default and statistics.median(twin) <= SHORT:
                 at_most(f"{what}, since the twin is within {seconds(SHORT)}", median, DOUBLE)
         return median
 
-    def nodes(self, cut):
-        """Counts and times the nodes of one worker."""
-        counted = count_nodes(f"{self.name}, plan 1 {cut}:", self.path, cut)
-        if counted and cut == "0" and self.family != LONG:
-            self.ends_at(counted[0])
-
-    def ends_at(self, count):
-        """Whether `dam clear` itself visits that many nodes: with one less, it ends unfinished."""
-        words = [DAM, "clear", "--workers", "1", "--cut", "0", "--nodes"]
-        enough = run([*words, str(count)], self.path)
-        short = run([*words, str(count - 1)], self.path, statuses=range(256))
-        holds = None not in (enough, short) and b"unfinished" in short.stderr
-        line(f"{self.name}: dam clear ends with {count:,} nodes, and not with fewer", "yes" if holds else "no", "yes", holds)
-
     def highs(self, cleared):
         """Prints how long HiGHS takes for the same welfare, compared with `dam clear` under each plan."""
-        found = run(["./highs.py", self.path, str(HIGHS_LIMIT)], limit=HIGHS_LIMIT + SPARE)
-        if found is not None and found.text == b"no scipy\n":
-            line(f"{self.name}: dam clear compared with HiGHS", "?", detail="scipy is missing")
+        found = run(["./peer.py", "highs", self.path, str(HIGHS_LIMIT)], limit=HIGHS_LIMIT + SPARE)
+        if found is not None and found.text.startswith(MISSING):
+            line(f"{self.name}: dam clear compared with HiGHS", "?", detail=left_out(found))
             return
-        ended = found is not None and found.text != b"gave up\n"
+        ended = found is not None and found.text != GAVE_UP
         wrong = ", with another welfare" if ended and found.text != self.welfare() else ""
         for plan, dam in cleared.items():
             what = f"{self.name}, plan {' '.join(plan)}: dam clear compared with HiGHS"
             if ended:
                 highs = found.lap("highs")
                 shown, holds = (f"> {LIMIT:g} s", False) if dam is None else (seconds(dam), dam <= highs + 0.05)
-                target = ("", None) if self.family == LONG and not wrong else ("at most 50 ms more", holds and not wrong)
-                line(what, shown, *target, f"HiGHS {seconds(highs)}{wrong}")
+                line(what, shown, "at most 50 ms more", holds and not wrong, f"HiGHS {seconds(highs)}{wrong}")
             elif dam is not None:
                 line(what, seconds(dam), "ends", True, f"HiGHS gave up after {HIGHS_LIMIT:g} s")
 
@@ -101,10 +81,7 @@ def main():
     for family in families:
         for count in orders:
             book = Book(family, count)
-            cleared = {plan: book.clear(*plan) for plan in PLANS}
-            for cut in CUTS[: 1 if family == LONG else None]:
-                book.nodes(cut)
-            book.highs(cleared)
+            book.highs({plan: book.clear(*plan) for plan in PLANS})
 
 
 main()

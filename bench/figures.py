@@ -1,6 +1,7 @@
-"""The common parts of the scripts of the bench: programs run and timed by turns, among them the walk of one worker and the enumeration of
-all selections, and a line for each figure."""
+"""The common parts of the scripts of the bench: programs run and timed by turns, among them the enumeration of all selections, and a line
+for each figure."""
 
+import math
 import os
 import statistics
 import subprocess
@@ -32,9 +33,6 @@ HIGHS_LIMIT = float(os.environ.get("HIGHS_LIMIT", "20"))
 
 # By how many bytes a program's stack moves from turn to turn, and over how many places.
 STACKS, PLACES = 32, 32
-
-LONG_WALK = 5.0  # seconds of a walk of which one run stands for many
-MOST_OF_TWIN = 1.2  # how many times as long as the twin's a node may take
 
 
 class Run(NamedTuple):
@@ -84,16 +82,22 @@ def write(path, *words):
     return path
 
 
-def by_turns(programs, given=os.devnull, most=31, seconds=5.0):
+def by_turns(programs, given=os.devnull, most=31, seconds=5.0, once=math.inf, inputs=None, limit=LIMIT):
     """Runs programs in turns. Returns for each name its runs: at most `most`, and no further one after `seconds`. A program that didn't end
-    in time has no runs. Each turn has their stacks at another place, because a walk's time varies with that by half."""
+    in time has no runs, and one that takes longer than `once` has one run, which doesn't count among the seconds. A program reads the file
+    of its name among the inputs, or else the given one. Each turn has their stacks at another place, because the time of a walk varies with
+    that."""
     runs = {name: [] for name in programs}
-    begun = time.perf_counter()
+    left = seconds
     for turn in range(most):
         for name, words in programs.items():
-            if turn == 0 or runs[name]:
-                runs[name] += [each for each in [run(words, given, padding=STACKS * (turn % PLACES))] if each]
-        if time.perf_counter() - begun > seconds:
+            if turn == 0 or runs[name] and runs[name][0].wall <= once:
+                begun = time.perf_counter()
+                done = run(words, (inputs or {}).get(name, given), limit=limit, padding=STACKS * (turn % PLACES))
+                runs[name] += [done] if done else []
+                taken = time.perf_counter() - begun
+                left -= taken if taken <= once else 0
+        if left < 0:
             break
     return runs
 
@@ -129,7 +133,8 @@ def at_most(what, value, target, shown=seconds, detail=""):
 
 
 def times(value):
-    return f"{value:.2f} x"
+    """A multiple, with two digits at least that aren't 0."""
+    return f"{value:.2g} x" if value < 0.1 else f"{value:.2f} x" if value < 100 else f"{value:,.0f} x"
 
 
 def ratio(what, ones, others, most=None, least=None, shown=seconds, note=""):
@@ -144,33 +149,6 @@ def ratio(what, ones, others, most=None, least=None, shown=seconds, note=""):
     if note:
         detail += f"; {note}"
     line(what, times(value), target, holds, detail)
-
-
-def walks(path, cut):
-    """Runs one worker of `dam` and of the twin, in turns, on a book that is cut into pieces. Returns the nodes of both, and the seconds of
-    many walks of both; None if one takes too long."""
-    programs = {"dam": [MEASURES, "nodes", cut], "twin": [TWIN, "1", cut]}
-    once = {name: [run([*words, "1"], path)] for name, words in programs.items()}
-    if [None] in once.values():
-        return None
-    walk = once["dam"][0].lap("walk")
-    timed = {name: [*words, str(max(1, min(200, int(0.2 / walk))))] for name, words in programs.items()}
-    runs = once if walk > LONG_WALK else by_turns(timed, path, most=5, seconds=1.5)
-    counts = [int(once[name][0].text.split()[-1]) for name in programs]
-    return *counts, *([lap for each in runs[name] for lap in each.laps("walk")] for name in programs)
-
-
-def count_nodes(what, path, cut):
-    """Counts the nodes of one worker, which must be as many as the twin visits, and times a node. Returns how many there are, and the
-    seconds of each walk; None if that takes too long."""
-    found = walks(path, cut)
-    if found is None:
-        line(f"{what} nodes", "?", detail=f"not counted in {LIMIT:g} s")
-        return None
-    count, twins, laps, twins_laps = found
-    line(f"{what} nodes", f"{count:,}", "as the twin", count == twins, f"twin {twins:,}")
-    ratio(f"{what} a node compared with the twin", [lap / count for lap in laps], [lap / twins for lap in twins_laps], MOST_OF_TWIN)
-    return count, laps
 
 
 def enumeration(path):

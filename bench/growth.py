@@ -2,10 +2,10 @@
 """How a search grows with its book: each family with 8 to 24 blocks and 500 hourly orders, and `base`, with baseload blocks within 50 cents
 of the mean price and 3,800 hourly orders; on days of 24 and of 96 periods. An enumeration would try 2^n selections of n blocks.
 
-Nodes are those of one worker that walks without a cut. A node stands for the selections that agree in its first blocks, so a walk that
-leaves nothing out visits 2^(n+1) - 1 nodes. Time and memory are those of a whole `dam clear` by the default plan; the time is the median
-of up to nine runs. With 24 blocks that is compared with one run of an enumeration with numpy, `tools/audit --best` by four threads, which
-also checks the results."""
+Nodes are those of the twin, by one worker without a cut. A node stands for the selections that agree on the blocks that are decided there,
+so a walk that leaves nothing out visits 2^(n+1) - 1 nodes. Time and memory are those of a whole `dam clear` by the default plan; the time
+is the median of up to nine runs. With 24 blocks that is compared with one run of an enumeration with numpy, `tools/audit --best` by four
+threads, which also checks the results."""
 
 import os
 import statistics
@@ -13,15 +13,14 @@ import sys
 
 import make_blocks
 import make_family
-from figures import DAM, LIMIT, MEASURES, PART, by_turns, enumeration, line, peak, ratio, run, seconds, write
+from figures import DAM, LIMIT, PART, TWIN, by_turns, enumeration, line, peak, ratio, run, seconds, write
 
 BLOCKS = (8, 12, 16, 20, 24)
 PERIODS = {"24": "1", "96": "4"}  # and how many of them an hour has
 BASE = "base"
 ORDERS = {**dict.fromkeys(make_family.FAMILIES, 500), BASE: make_blocks.HOURLY}
-# The seconds within which `dam clear` has to end, of books of which not nearly every node is visited.
+# The seconds within which `dam clear` has to end.
 MOST = {"24": 0.15, "96": 0.7}
-MOST_LONG = {"ties": {"24": 0.9}, BASE: {}}
 # How many times as long as the enumeration it may take.
 MOST_OF_ENUMERATION = {BASE: 0.2}
 PAGE, PICTURE = f"out/{PART}.md", "../docs/growth.svg"
@@ -45,8 +44,8 @@ class Book:
         self.enumeration = self.enumerated() if blocks == BLOCKS[-1] and self.seconds is not None else None
 
     def counted(self):
-        walk = run([MEASURES, "nodes", "0", "1"], self.path)
-        return walk and int(walk.text.split()[-1])
+        searched = run([TWIN, "1", "0"], self.path)
+        return searched and int(searched.text.split()[-1])
 
     def cleared(self):
         runs = by_turns({"dam": [DAM, "clear"]}, self.path, most=9, seconds=1.5)["dam"]
@@ -61,14 +60,11 @@ class Book:
         return tried and tried.wall
 
     def print(self):
-        most = MOST_LONG.get(self.family, MOST).get(self.periods)
+        most = MOST[self.periods]
         what = f"{self.family} {ORDERS[self.family]:,}, {self.periods} periods, {self.blocks} blocks: dam clear"
         detail = f"{amount(self.nodes)} nodes, 2^n is {2 ** self.blocks:,}; {mebibytes(self.memory)}"
-        shown = lasted(self.seconds)
-        if most is None:
-            line(what, shown, detail=detail)
-        else:
-            line(what, shown, f"at most {seconds(most)}", self.seconds is not None and self.seconds <= most, detail)
+        holds = self.seconds is not None and self.seconds <= most
+        line(what, lasted(self.seconds), f"at most {seconds(most)}", holds, detail)
         if self.enumeration is not None:
             most = MOST_OF_ENUMERATION.get(self.family, 1)
             ratio(f"{what} compared with an enumeration", [self.seconds], [self.enumeration], most)

@@ -16,11 +16,13 @@ import math
 import random
 import sys
 from dataclasses import dataclass, field
+from typing import NamedTuple
 
 HOURS = 24
 BLOCKS, MOST_HOURLY = 24, 4_000  # the limits of a book
 PARTICIPANTS = ["ALPHA", "BRAVO", "CHARLIE", "DELTA", "ECHO", "FOXTROT", "GOLF", "HOTEL"]
 SEED = 20_251_001
+MOST_THIN = 200  # hourly orders of a thin market
 
 
 @dataclass
@@ -132,6 +134,48 @@ def ties(day, count, _volume):
 
 
 FAMILIES = {"market": market, "paradox": paradox, "spread": spread, "nearties": nearties, "links": links, "groups": groups, "ties": ties}
+
+
+class Book(NamedTuple):
+    """The generator of a family's book with the most blocks."""
+
+    family: str
+    hourly: int
+    parts: int
+    script = "./make_family.py"
+    note = ""  # no fact about such a book explains a long search
+
+    @property
+    def words(self):
+        """The arguments that print it."""
+        return self.with_blocks(BLOCKS)
+
+    @property
+    def words_without_blocks(self):
+        return self.with_blocks(0)
+
+    def with_blocks(self, blocks):
+        return [self.family, str(self.hourly), str(blocks), str(self.parts)]
+
+    @property
+    def kind(self):
+        return self.family
+
+    @property
+    def periods(self):
+        return HOURS * self.parts
+
+    @property
+    def is_thin(self):
+        return self.hourly <= MOST_THIN
+
+    def __str__(self):
+        return f"{self.family} {self.hourly:,}, {self.periods} periods"
+
+
+HOURLY = (500, 4_000)
+BOOKS = [Book(family, hourly, parts) for family in FAMILIES for hourly in HOURLY for parts in (1, 4)]
+THIN = [Book(family, MOST_THIN, parts) for family in ("links", "groups") for parts in (1, 4)]
 
 
 def number_of(name, word, allowed, of=""):

@@ -8,6 +8,7 @@ import ast
 import collections
 import csv
 import datetime
+import math
 import os
 import re
 import subprocess
@@ -18,7 +19,8 @@ from pathlib import Path
 HERE = Path(__file__).resolve().parent
 PAGE = HERE.parent / "docs" / "MEASURED.md"
 KEPT = HERE / "measured"
-PARTS = ["quick", "families", "blocks", "growth", "workers", "looks", "quarters"]
+PARTS = ["quick", "families", "blocks", "thin", "growth", "workers", "looks", "quarters"]
+PEERS = {"families": "HiGHS", "blocks": "HiGHS and CBC each", "thin": "HiGHS and CBC each"}  # the peers of each part
 COLUMNS = ["what", "figure", "target", "holds", "details"]
 RUN_COLUMNS = ["part", "date", "commit", "machine", "load", "kit", "notes"]
 # The figures that the page shows of each part, apart from those that miss a target; the others stand in the files alone. Of two groups the
@@ -27,6 +29,7 @@ SHOWN = {
     "quick": r"(?:dam (?:replay|clear)|settle) .*(?:wall time|plain pass)|Hour::clear, 4,000.*",
     "families": r"(\w+) (\d+), plan 2 3: dam clear",
     "blocks": r"(\w+) (\d+), spread 50, seed 1: dam clear",
+    "thin": r"(base|peaks|shaped|odd|random) 96, ([\d,]+) orders, spread (?:0|20|50), seed 1: dam clear",
     "workers": r".*4 workers as fast as 1",
     "looks": r"a look compared with a plain one, while [03] threads.*|a call, 4,000 orders held|dam day.*",
     "quarters": r"dam replay of 10,000 blocks.*",
@@ -35,14 +38,18 @@ SHOWN = {
 CELLS = {
     "families": ("`dam clear` by the default plan", "{} hourly orders"),
     "blocks": ("`dam clear` by the default plan, spread 50", "{} periods"),
+    "thin": ("`dam clear` by the default plan, 96 periods", "{} hourly orders"),
 }
+# The figures of many books together, which the page shows of any part.
+TOGETHER = r"(?:deep|all thin) books together: .*"
 PICTURES = {"growth": "![Nodes of each family by the number of blocks, compared with 2^n](growth.svg)\n"}
 UNITS = {"ns": 1e-9, "us": 1e-6, "ms": 1e-3}  # of a second
 HEAD = """# Measured figures
 
 `bench/run` runs the benchmarks, and `bench/page.py` writes this page. A figure is the median of several runs; compared programs run
 alternately. `A compared with B` is A's time divided by B's. The docstring of each part's script describes its method. The load is the load
-average of the minute before. On a busy machine, figures are unreliable.
+average of the minute before. On a busy machine, figures are unreliable. A commit `with changes` had changes that weren't committed, so no
+commit has exactly that program; other figures may be of an earlier search (see the notes).
 
 A CSV file has every figure of a part, with its target and, for a comparison, both figures; this page shows some. It groups the missed
 targets by kind: how many were missed, the range of their figures, and the worst. `grep MISSED bench/measured/*.csv` prints each.
@@ -70,7 +77,7 @@ def run_of(part):
         commit += " with changes"
     machine = f"{os.cpu_count()} processors ({processor()})"
     load, limit, before = (os.environ.get(name, "") for name in ("LOAD", "HIGHS_LIMIT", "BEFORE_IS"))
-    notes = [f"HiGHS had {limit} s for each book"] if limit and part == "families" else []
+    notes = [f"{PEERS[part]} had {limit} s for each book"] if limit and part in PEERS else []
     notes += [f"the program before is {before}"] if before else []
     return [part, str(datetime.date.today()), commit, machine, load, printed(["rt", "version"]), "; ".join(notes)]
 
@@ -141,8 +148,7 @@ def shown(part, rows):
     found = [(re.fullmatch(SHOWN[part], each[0]), *each[:4]) for each in rows]
     found = [each for each in found if each[0]]
     if part not in CELLS:
-        held = [[what, figure, target] for _, what, figure, target, holds in found if holds != "MISSED"]
-        return table(["What", "Figure", "Target"], held) if held else ""
+        return held(row for _, *row in found)
     cells = {match.groups(): figure for match, _, figure, *_ in found}
     names, columns = (list(dict.fromkeys(pair[at] for pair in cells)) for at in (0, 1))
     what, column = CELLS[part]
@@ -150,10 +156,24 @@ def shown(part, rows):
     return table([what, *map(column.format, columns)], lines) if found else ""
 
 
+def held(rows):
+    """A table of figures, without those that miss a target."""
+    lines = [[what, figure, target] for what, figure, target, holds, *_ in rows if holds != "MISSED"]
+    return table(["What", "Figure", "Target"], lines) if lines else ""
+
+
+def together(rows):
+    return held(each for each in rows if re.fullmatch(TOGETHER, each[0]))
+
+
 def size(figure):
-    """A figure as a number, by which figures of one kind can be sorted: a time in seconds, any other in its own unit."""
-    number, _, unit = figure.partition(" ")
-    return float(number.replace(",", "")) * UNITS.get(unit, 1)
+    """A figure as a number, by which figures of one kind can be sorted: a time in seconds, any other in its own unit. A figure without a
+    number, such as that of a run that failed, is the greatest."""
+    number, _, unit = figure.removeprefix("> ").partition(" ")
+    try:
+        return float(number.replace(",", "")) * UNITS.get(unit, 1)
+    except ValueError:
+        return math.inf
 
 
 def span(figures):
@@ -181,8 +201,8 @@ def missed(rows):
 
 def section(part):
     """The figures that the page shows of a part; a table by books begins with the words that say which books these are."""
-    words = f"{about(part)}\n" if part in CELLS else None
-    return "\n".join(filter(None, [f"## `bench/run {part}`\n", words, shown(part, read(KEPT / f"{part}.csv")), PICTURES.get(part)]))
+    words, rows = f"{about(part)}\n" if part in CELLS else None, read(KEPT / f"{part}.csv")
+    return "\n".join(filter(None, [f"## `bench/run {part}`\n", words, shown(part, rows), together(rows), PICTURES.get(part)]))
 
 
 def counted(part, date, commit, load, notes):

@@ -10,8 +10,6 @@ from figures import BASELINE, DAM, by_turns, line, ratio, write
 
 # How many hourly orders, and how many times as long as 24 periods 96 may take at most.
 ORDERS = {"500": None, "4000": 4.5}
-# Of its books every selection is visited, which takes too long to be run in turns.
-LONG = "ties"
 
 
 def clearing(family, orders, parts):
@@ -22,7 +20,7 @@ def clearing(family, orders, parts):
 
 def families():
     for family in make_family.FAMILIES:
-        for orders, most in ORDERS.items() if family != LONG else ():
+        for orders, most in ORDERS.items():
             runs = by_turns({parts: clearing(family, orders, parts) for parts in ("1", "4")}, most=15)
             what = f"{family} {orders}: dam clear of 96 periods compared with 24"
             if all(runs.values()):

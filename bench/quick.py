@@ -1,13 +1,13 @@
 #!/usr/bin/env python3
 """`dam replay`, `dam clear` and `dam day` compared with a baseline and with one another, a settlement, clears of one period, and the
-tables that give a search its bounds.
+curves and the first selection with which a search begins.
 
 The baseline is a plain Rust program with std only: a hash map, and a list of orders with gaps. For a day it has a thread for each
 participant and one `Mutex`; it settles and prints the day, and doesn't clear a book. A day of `dam` holds each command as it was read, as
 an entry and as a receipt, all packed. The input is freed before the commands are entered, and capacity for journal and receipts is reserved
 once. A settlement is compared with a plain pass that compares each receipt with its entry. An hour finds the end of the best execution
 by one bisection over the buys' own limits, with one over the sells inside, and then both ends of the price by two look-ups among the sells.
-These tables keep no losses; a search that its trial doesn't end makes others that do, at most 750,000 losses of 8 bytes.
+A curve is the greatest welfare of a class of periods over the net volume. The first selection takes no memory but the stack's.
 
 A day of `dam` takes fewer instructions than a day of the baseline (97 and 117 million), and less memory, although it has the orders of two
 books. A replay takes 33 million instructions, and the baseline 86; the times that are compared also have the start of a process in them."""
@@ -15,7 +15,7 @@ books. A replay takes 33 million instructions, and the baseline 86; the times th
 import statistics
 import sys
 
-from figures import BASELINE, DAM, MEASURES, at_most, by_turns, peak, ratio, run, seconds
+from figures import BASELINE, DAM, MEASURES, at_most, by_turns, peak, ratio, run, seconds, write
 
 JOURNAL, HOURLY, DAY = "out/journal.csv", "out/hourly.csv", "out/day.csv"
 MIB = "{:.1f} MiB".format
@@ -63,21 +63,20 @@ def clears():
         at_most(f"Hour::clear, {steps:,} steps, net volumes that balance", each, target)
 
 
-def tables():
+def curves():
     """In a process of their own each time, so that their memory is fresh."""
     for name, length, hours, periods in SPREADS:
-        book = f"out/tables-{length}-{hours}.csv"
-        with open(book, "wb") as made:
-            made.write(run(["./make_journal.py", "clearing", "4000", "24", str(length), str(hours), str(periods)]).text)
-        what = f"tables and a first selection, 4,000 hourly orders, {name}"
-        runs = by_turns({"": [MEASURES, "nodes", "0", "0"]}, book, most=15)[""]
-        made, first = (statistics.median(one.lap(part) for one in runs) for part in ("tables", "first"))
+        book = f"out/curves-{length}-{hours}.csv"
+        write(book, "./make_journal.py", "clearing", "4000", "24", str(length), str(hours), str(periods))
+        what = f"curves and a first selection, 4,000 hourly orders, {name}"
+        runs = by_turns({"": [MEASURES, "curves", "1"]}, book, most=15)[""]
+        made, first = (statistics.median(one.lap(part) for one in runs) for part in ("curves", "first"))
         at_most(what, made + first, 0.004, detail=f"{seconds(made)} and {seconds(first)}")
-        more = peak([MEASURES, "tables", "1"], book) - peak([MEASURES, "tables", "0"], book)
+        more = peak([MEASURES, "curves", "1"], book) - peak([MEASURES, "curves", "0"], book)
         at_most(f"{what}, memory", more, 20, shown=MIB)
 
 
 journals()
 settlement()
 clears()
-tables()
+curves()

@@ -3,21 +3,19 @@
 //! and on standard error lines with the name of each timed part and its nanoseconds. It reads the journals that `make_family.py` and
 //! `make_blocks.py` print, which have only submits that are accepted.
 //!
-//! The bound of a prefix is that of the prefix before it less a look-up in a table for each class of periods. Workers draw the pieces from one shared word and
-//! prune by another, the greatest welfare that any of them has found. So one worker visits them in turn, with one incumbent for all.
+//! The bound of a node is by prices: any price for each period bounds the welfare of every selection. Some pairs of a sell and a buy are
+//! ruled out by prices too: those of which one loses at any prices. Workers draw the pieces from one shared word and prune by another, the
+//! greatest welfare that any of them has found. So one worker visits them in turn, with one incumbent for all.
 
 mod classes;
-mod losses;
+mod curve;
 mod problem;
-mod room;
-mod supply;
-mod table;
 mod walk;
 
 use std::io::Read;
 use std::time::Instant;
 
-use classes::Bounds;
+use classes::Classes;
 use problem::Problem;
 
 /// Prints the part that was timed, and the nanoseconds since the instant.
@@ -32,18 +30,18 @@ fn main() {
     std::io::stdin().read_to_string(&mut text).expect("a journal");
     let problem = Problem::read(&text);
     let begun = Instant::now();
-    let bounds = Bounds::of(&problem);
-    tell("tables", begun);
+    let classes = Classes::of(&problem);
+    tell("classes", begun);
     let begun = Instant::now();
-    let (first, scores) = walk::first_selection(&bounds);
+    let first = walk::first_selection(&classes).welfare;
     tell("first", begun);
     let mut found = None;
     for _ in 0..times {
         let begun = Instant::now();
-        found = Some(walk::search(&bounds, workers, cut.min(problem.blocks.len()), first));
+        found = Some(walk::search(&classes, workers, cut.min(problem.blocks.len()), first));
         tell("walk", begun);
     }
     let (best, nodes) = found.expect("a walk");
     let bits: String = (0..problem.blocks.len()).map(|place| if best.accepted >> place & 1 == 1 { '1' } else { '0' }).collect();
-    println!("welfare {} selection {bits} first {first} scores {scores} nodes {nodes}", best.welfare);
+    println!("welfare {} selection {bits} first {first} nodes {nodes}", best.welfare);
 }

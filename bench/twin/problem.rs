@@ -48,11 +48,6 @@ impl Block {
     pub fn change(&self, volume: i64) -> i64 {
         if self.side == Side::Sell { volume } else { -volume }
     }
-
-    /// The block in a period in which it has this volume.
-    pub fn step(&self, volume: i64) -> Step {
-        Step { side: self.side, price: self.price, volume }
-    }
 }
 
 pub struct Problem {
@@ -104,22 +99,16 @@ impl Problem {
     pub fn admits_all(&self, accepted: u32) -> bool {
         (0..self.blocks.len()).all(|place| accepted >> place & 1 == 0 || self.admits(accepted & ((1 << place) - 1), place))
     }
-
-    /// Whether an accepted block loses at these prices of the periods: its surplus and its accepted descendants' add up to less than 0.
-    pub fn loses(&self, prices: &[i64], accepted: u32) -> bool {
-        let surplus = |block: &Block| -> i64 {
-            block.volumes.iter().map(|(at, volume)| block.change(*volume) * (prices[*at] - block.price)).sum()
-        };
-        among(accepted).any(|place| {
-            let block = &self.blocks[place];
-            surplus(block) + among(block.descendants & accepted).map(|other| surplus(&self.blocks[other])).sum::<i64>() < 0
-        })
-    }
 }
 
 /// The places of a set's blocks.
 pub fn among(set: u32) -> impl Iterator<Item = usize> {
-    (0..u32::BITS as usize).filter(move |place| set >> place & 1 == 1)
+    let mut left = set;
+    std::iter::from_fn(move || {
+        let place = left.trailing_zeros() as usize;
+        left &= left.wrapping_sub(1);
+        (place < u32::BITS as usize).then_some(place)
+    })
 }
 
 /// The blocks that later ones may name, as sets of blocks by bits.

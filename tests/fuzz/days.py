@@ -135,10 +135,16 @@ class Draft:
     def trade_everywhere(self):
         """Orders in all periods, or nearly all, and blocks with profiles as users have them, some of them too large to balance."""
         rng = self.rng
-        if rng.random() < 0.75:
-            middle, wide, near = rng.randint(2_000, 9_000), rng.choice([5, 50, 500]), rng.choice([0, 1, 10, 100, 500])
-            self.price, self.block_price = (lambda: middle + rng.randint(-wide, wide)), (lambda: middle + rng.randint(-near, near))
+        market = rng.choice(["deep"] * 8 + ["thin"] * 4 + ["wide"] * 2 + [""] * 4)
+        if market == "deep":
+            self.around(rng.choice([5, 50, 500]), rng.choice([0, 1, 10, 100, 500]))
             self.volume, self.block_volume = (lambda: rng.randint(2, 60)), (lambda: rng.randint(1, 4))
+        elif market == "thin":  # a block moves the prices, so that many would lose
+            self.around(300, rng.choice([0, 20, 100]))
+            self.volume, self.block_volume = (lambda: rng.randint(20, 60)), (lambda: rng.randint(1, 15))
+        elif market == "wide":  # one price, and blocks with limits near it: many selections have equal welfare, or nearly
+            self.around(0, rng.choice([0, 1, 50]))
+            self.volume, self.block_volume = (lambda: rng.randint(50, 200)), (lambda: rng.randint(1, 30))
         self.active = list(range(1, self.periods + 1))
         idle, pairs = rng.choice([0] * 7 + [1, self.periods // 2, self.periods]), rng.choice([1, 2, 4])
         for period in rng.sample(self.active, self.periods - idle):
@@ -146,6 +152,13 @@ class Draft:
                 self.enter_hour(*self.new_name("H"), side, period)
         self.hourly = rng.choice([0, 5, self.periods])
         self.profiles = Profiles(rng, self.periods, self.block_volume)
+        if market == "wide":
+            self.profiles.kinds = [self.profiles.by_period]
+
+    def around(self, far, near):
+        """Limits that differ from one price by these amounts at most, those of hourly orders and of blocks."""
+        rng, middle = self.rng, self.rng.randint(2_000, 9_000)
+        self.price, self.block_price = (lambda: middle + rng.randint(-far, far)), (lambda: middle + rng.randint(-near, near))
 
     def name(self, prefix):
         """A name that may be taken, now and then by the participant itself."""

@@ -1,12 +1,12 @@
 #!/usr/bin/env python3
 """Runs the program on random days of up to 24 blocks, and tries every selection of each by `tools/lib/enumeration.py`.
 
-The results that the program prints must be as the rules say, and no selection may be better. Then they are altered to those of an
-eligible selection that ranks below, the best one that differs in one block and what hangs on it; and the enumeration must find
-the program's selection above it. Each case is drawn from the seed and its number alone. With --families the days are those of
-bench/make_family.py with 24 blocks, which are hard for a search: of 24 and 96 periods, with 500 and 4,000 hourly orders. With --books
-they are the 60 of bench/make_blocks.py, with 24 blocks as users have them and 3,800 hourly orders, and with --profiles random days with
-such blocks. The last line printed is 'N passed, M failed'."""
+The results that the program prints must be as the rules say, and no selection may be better. Then they are altered to those of an eligible
+selection that ranks below, the best one that differs in one block and what hangs on it; and the enumeration must find the program's
+selection above it. Each case is drawn from the seed and its number alone. With --families the days are those of bench/make_family.py with
+24 blocks, which are hard for a search: of 24 and 96 periods, with 500 and 4,000 hourly orders. With --books they are the 60 of
+bench/make_blocks.py, with 24 blocks as users have them and 3,800 hourly orders, with --thin its thin and wide markets, and with --profiles
+random days with such blocks. The last line printed is 'N passed, M failed'."""
 
 import argparse
 import itertools
@@ -41,6 +41,7 @@ def arguments():
     kinds = parser.add_mutually_exclusive_group()
     kinds.add_argument("--families", action="store_true", help="the days of bench/make_family.py instead of random ones")
     kinds.add_argument("--books", action="store_true", help="the days of bench/make_blocks.py instead of random ones")
+    kinds.add_argument("--thin", action="store_true", help="the thin and wide markets of bench/make_blocks.py instead of random days")
     kinds.add_argument("--profiles", action="store_true", help="random days with blocks as users have them")
     parser.add_argument("--jobs", type=int, default=1, help="how many threads try the selections (1)")
     return parser.parse_args()
@@ -52,11 +53,11 @@ def inputs(args):
     if args.families:
         for words in list(itertools.product(FAMILIES, ["500", "4000"], ["24"], ["1", "4"]))[wanted]:
             yield f"family {' '.join(words)}", made("make_family.py", words)
-    elif args.books:
+    elif args.books or args.thin:
         sys.path.insert(0, str(BENCH))
         import make_blocks
 
-        for drawn in make_blocks.BOOKS[wanted]:
+        for drawn in (make_blocks.MORE if args.thin else make_blocks.BOOKS)[wanted]:
             yield f"book {drawn}", made("make_blocks.py", drawn.words)
     else:
         for number in range(args.first, args.first + args.count):
