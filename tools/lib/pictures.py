@@ -12,7 +12,7 @@ import matplotlib
 matplotlib.use("Agg")
 
 from matplotlib import pyplot
-from matplotlib.collections import PolyCollection
+from matplotlib.collections import LineCollection, PolyCollection
 from matplotlib.patches import Patch, Polygon, Rectangle
 from matplotlib.ticker import AutoLocator
 

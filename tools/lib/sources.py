@@ -6,6 +6,7 @@ sums before, and the record is written only if they are the same afterwards.
 
     python3 tools/lib/sources.py CRATE                  prints the sums of a crate's sources
     python3 tools/lib/sources.py CRATE SUMS FILE..      records these files as built, if the sums are still those in the file SUMS
+    python3 tools/lib/sources.py CRATE --fault FILE     prints why a file was not built of the present sources; otherwise dates it now
 
 Python 3.8 is enough, since the launcher needs no newer one."""
 
@@ -14,6 +15,7 @@ import json
 import os
 import subprocess
 import sys
+import time
 
 if __package__:
     from . import crates
@@ -124,11 +126,29 @@ def fault(path, crate):
     return f"{name} was built of other sources: {', '.join(others)} changed since" if others else None
 
 
+def told_fault(path, crate):
+    """Prints why a file was not built of the present sources, and returns 1. Otherwise gives the file the date before they were read, so
+    that it is newer than its sources, and returns 0."""
+    began = time.time_ns()
+    found = fault(path, crate)
+    if found:
+        print(found)
+        return 1
+    try:
+        os.utime(path, ns=(began, began))
+    except OSError:
+        # in a clone that can't be written it keeps its date
+        pass
+    return 0
+
+
 def main(words):
     if len(words) == 1:
         print(json.dumps(sums(words[0])))
         return 0
     crate, before, *paths = words
+    if before == "--fault":
+        return told_fault(paths[0], crate)
     with open(before, encoding="utf-8") as file:
         return 0 if record(crate, json.load(file), *paths) else 1
 

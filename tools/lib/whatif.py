@@ -91,7 +91,7 @@ def check_program(args):
         try:
             args.program = engine.program_of(args.program)
         except engine.Fault:
-            made = "the package dam has it" if place.IS_INSTALLED else "./dam clear builds it"
+            made = "the package dam has it" if place.IS_INSTALLED else "./dam prove builds it, and --program ./dam takes one that isn't proved"
             words = f"no program was found: {made}; or name it by --program or the environment variable DAM"
             raise command.Stop(words, command.FAILED) from None
 

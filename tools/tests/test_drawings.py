@@ -1,5 +1,6 @@
 """The pictures of docs/, by the scripts that draw them; and the list of crates, which one of them shows."""
 
+import random
 import subprocess
 import sys
 import tempfile
@@ -8,7 +9,7 @@ from pathlib import Path
 
 from support import TOP
 
-from lib import command, crates, period
+from lib import command, crates, selection
 
 sys.path.insert(0, str(TOP / "docs"))
 import draw_bound
@@ -16,6 +17,7 @@ import draw_crates
 import draw_trust
 
 LIST = "# a comment\nlow:\nhigh staticlib: low kit # more\nmiddle: low\ntop: high middle low\nhigh: other\n"
+WELFARE_OF_THE_SUNNY_DAY = 245_193_556_800  # the line `welfare` of `dam clear < examples/sunny-day.csv`
 NEEDS_MATPLOTLIB = unittest.skipUnless(command.has("matplotlib"), "matplotlib is missing (Debian's python3-matplotlib)")
 
 
@@ -48,46 +50,48 @@ class Crates(unittest.TestCase):
 
 
 class Bound(unittest.TestCase):
-    """That its periods are a class, and that its lines are the greatest welfare at each net volume."""
+    """That the bound by its prices holds, and that the tree leaves out no better selection."""
 
     def setUp(self):
         self.day = draw_bound.problem()
-        self.range = draw_bound.net_volumes(self.day, draw_bound.PERIODS[0])
+        self.prices = draw_bound.prices_of(self.day)
+        self.bound, self.order = draw_bound.bound_by(self.day, self.prices), draw_bound.order_of(self.day)
 
-    def welfare(self, numbers, net):
-        return sum(period.clear(self.day.orders[number], net).welfare for number in numbers)
+    def selections(self, count, seed=1):
+        """Drawn selections, admissible or not."""
+        drawn = random.Random(seed)
+        return [frozenset(place for place in self.order if drawn.random() < 0.5) for _ in range(count)]
 
-    def check_lines(self, nets, welfares, numbers):
-        """Each net volume has the welfare that the line between the two ends around it gives."""
-        self.assertEqual((nets[-1], nets[0]), self.range)
-        for at in range(len(nets) - 1):
-            for net in range(nets[at + 1], nets[at] + 1):
-                risen = (welfares[at] - welfares[at + 1]) * (net - nets[at + 1])
-                self.assertEqual((self.welfare(numbers, net) - welfares[at + 1]) * (nets[at] - nets[at + 1]), risen)
+    def test_no_selection_is_above_its_bound(self):
+        for accepted in [frozenset(), frozenset(self.order), *self.selections(60)]:
+            welfare = selection.outcome(self.day, accepted).welfare
+            if welfare is not None:
+                self.assertLessEqual(welfare, self.bound.of(accepted, ()))
 
-    def test_its_periods_are_a_class(self):
-        volumes = {number: [dict(row.order.volumes).get(number, 0) for row in self.day.blocks] for number in self.day.orders}
-        first = volumes[draw_bound.PERIODS[0]]
-        self.assertEqual([number for number, of in volumes.items() if of == first], [*draw_bound.PERIODS])
-        self.assertTrue(any(first))
+    def test_any_prices_give_a_bound(self):
+        other = draw_bound.bound_by(self.day, {number: price + 700 * (number % 5 - 2) for number, price in self.prices.items()})
+        for accepted in self.selections(20, seed=2):
+            welfare = selection.outcome(self.day, accepted).welfare
+            if welfare is not None:
+                self.assertLessEqual(welfare, other.of(accepted, ()))
 
-    def test_the_segments_of_a_period(self):
-        for number in draw_bound.PERIODS:
-            with self.subTest(number):
-                self.check_lines(*draw_bound.ends(self.day, number, *self.range), [number])
-                for start, end, price in draw_bound.segments(self.day.orders[number], *self.range):
-                    risen = self.welfare([number], start) - self.welfare([number], end)
-                    self.assertEqual(risen, price * (start - end))
+    def test_a_bound_of_undecided_blocks(self):
+        bound = draw_bound.Bound(100, [7, -3, 5, -2])
+        self.assertEqual([bound.of({1}, [0, 3]), bound.of({0, 1, 2, 3}, []), bound.of((), [0, 1, 2, 3])], [104, 107, 112])
 
-    def test_the_lines_of_the_sum(self):
-        self.check_lines(*draw_bound.joint(self.day, *self.range), draw_bound.PERIODS)
+    def test_its_order(self):
+        volumes = [sum(volume for _, volume in self.day.blocks[place].order.volumes) for place in self.order]
+        self.assertEqual((sorted(self.order), volumes), ([*range(len(self.day.blocks))], sorted(volumes, reverse=True)))
+
+    def test_its_result_is_that_of_dam(self):
+        self.assertEqual(draw_bound.result(self.day, self.bound, self.order), WELFARE_OF_THE_SUNNY_DAY)
 
     @NEEDS_MATPLOTLIB
     def test_what_the_picture_says(self):
         from lib import pictures
 
         drawn = pictures.picture(draw_bound.figure(), "svg", words_as_text=True).decode()
-        for words in ("period 11", "period 16", "the table: their sum", ">300<", ">92<", ">600<", ">392<", ">184<"):
+        for words in ("COAL BASE", "gains at these prices", "of 8,191 nodes", "accepted (solid)"):
             self.assertIn(words, drawn)
 
 

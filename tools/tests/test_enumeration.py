@@ -52,12 +52,13 @@ class Blocks(unittest.TestCase):
             (["base", "5", "1", "2"], "PARTS is '2' and should be 1 or 4"),
             (["base", "5", "1", "1", "25"], "BLOCKS is '25' and should be a number from 0 to 24"),
             (["base", "5", "1", "1", "24", "4001"], "HOURLY is '4001' and should be a number from 0 to 4000"),
+            (["base", "5", "1", "1", "24", "200", "no"], "BONDS is 'no' and should be one of free links groups both"),
         ):
             self.assertEqual(self.made(*words), (1, "", f"make_blocks.py: {said}\n"))
 
     def test_the_classes_of_periods(self):
         """Periods in each of which every block has the same volume."""
-        for kind, hours, quarters in (("base", 1, 1), ("peaks", 2, 2), ("shaped", 24, 24), ("random", 24, 96)):
+        for kind, hours, quarters in (("base", 1, 1), ("peaks", 2, 2), ("shaped", 24, 24), ("random", 24, 96), ("wide", 24, 96)):
             for parts, wanted in (1, hours), (4, quarters):
                 status, text, _ = self.made(kind, "50", "1", str(parts), "24", "100")
                 closed, reasons = book.run(journal.read_journal(text.encode()))
@@ -71,6 +72,28 @@ class Blocks(unittest.TestCase):
         blocks = [line.split(",")[6] for line in text.splitlines() if ",block," in line]
         flat = [len({pair.split(":")[1] for pair in volumes.split(";")}) == 1 for volumes in blocks]
         self.assertEqual((len(flat), flat.count(False)), (24, 1))
+
+    def test_bonds_tie_the_same_blocks_together(self):
+        *fields, free = self.tied("free")
+        self.assertEqual((fields, len(free)), ([set(), set()], 24))
+        for bonds, linked, grouped in (("links", 20, 0), ("groups", 0, 24), ("both", 18, 18)):
+            parents, groups, blocks = self.tied(bonds)
+            self.assertEqual(blocks, free, bonds)
+            self.assertEqual((len(parents), len(groups)), (linked, grouped), bonds)
+
+    def tied(self, bonds):
+        """The blocks with a parent, those of a group, and the side, the limit and the volumes of each."""
+        status, text, _ = self.made("mixed", "20", "3", "1", "24", "200", bonds)
+        closed, reasons = book.run(journal.read_journal(text.encode()))
+        self.assertEqual((status, set(reasons)), (0, {None}))
+        day = selection.Problem(closed)
+        parents = {place for place, parent in enumerate(day.parents) if parent is not None}
+        groups = {place for members in day.groups().values() for place in members}
+        return parents, groups, [(block.order.side, block.order.price, block.order.volumes) for block in day.blocks]
+
+    def test_a_wide_book_has_one_price(self):
+        _, text, _ = self.made("wide", "0", "1", "1", "24", "96")
+        self.assertEqual({line.split(",")[5] for line in text.splitlines() if line.startswith("submit,")}, {"6000"})
 
     def test_the_same_hours_without_blocks(self):
         (_, blocks, _), (_, hours, _) = self.made("peaks", "5", "2"), self.made("peaks", "5", "2", "1", "0")

@@ -17,6 +17,7 @@ CONSTANT = re.compile(r"^pub const (\w+): \w+ = (-?[\d_]+);$", re.MULTILINE)
 # How a limit is said, and its numbers. At the first two words of a line a comment may begin.
 LIMITS = {
     rf"{NUMBER} hourly orders and {NUMBER} blocks": (rules.MOST_HOURLY, rules.MOST_BLOCKS),
+    rf"more than {NUMBER} blocks or {NUMBER} hourly orders": (rules.MOST_BLOCKS, rules.MOST_HOURLY),
     rf"(?:up to|at most|has|have) {NUMBER} hourly orders": (rules.MOST_HOURLY,),
     rf"whole cents(?: per MWh,)? from {NUMBER} to {NUMBER}": (rules.LEAST_PRICE, rules.GREATEST_PRICE),
     rf"\| {NUMBER} \| below {NUMBER} \| `high`": (rules.LEAST_PRICE, rules.GREATEST_PRICE),
@@ -47,8 +48,8 @@ ONCE = {
     r"cents per MWh times tenths of a MW, and are": ["RULES.md"],
     r"0.25 MWh, 4,000 are\b": ["RULES.md"],
     r"\b92, 96 or 100\b": ["CHANGELOG.md", "RULES.md"],
-    r"\b24 blocks \(|\bat most 4,000 hourly": ["README.md", "RULES.md"],
-    r"the launcher `\./dam` couldn't build": ["FORMATS.md"],
+    r"\b24 blocks (?:\(|or 4,000 )|\bat most 4,000 hourly": ["README.md", "RULES.md"],
+    r"the launcher `\./dam` has no program": ["FORMATS.md"],
     r"\| `device: read` \|": ["FORMATS.md"],
     r"no run is known": ["FORMATS.md"],
     r"some 20 minutes, once": ["README.md"],

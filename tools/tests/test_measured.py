@@ -23,6 +23,7 @@ ROWS = [
     ["links 4000, plan 2 3: dam clear", "8 ms", "", "", ""],
     ["links 4000, plan 1 3: a node compared with the twin", "1.46 x", "at most 1.20 x", "MISSED", "46 ns and 31 ns"],
     ["links 500: a node compared with the twin", "1.70 x", "at most 1.20 x", "MISSED", "51 ns and 30 ns"],
+    ["deep books together: dam clear", "10 ms", "", "", "2 books"],
 ]
 
 
@@ -56,10 +57,24 @@ class Measured(unittest.TestCase):
             total += len(missed)
         self.assertGreater(total, 10)
 
+    def test_the_readme_has_the_slowest_of_the_measured_books(self):
+        """It says the seconds of the slowest book, and of the slowest one whose blocks are baseload, peak and night."""
+        found, units = {}, {"us": 1e-6, "ms": 1e-3, "s": 1}
+        for what, figure, *_ in page.read(page.KEPT / "blocks.csv"):
+            kind = re.fullmatch(r"(\w+) \d+, spread [\d,]+, seed \d+: dam clear", what)
+            if kind:
+                number, unit = figure.split()
+                found.setdefault(kind[1], []).append(float(number) * units[unit])
+        plain = " ".join((TOP / "README.md").read_text(encoding="utf-8").split())
+        (said,) = re.findall(r"24 realistic blocks, the slowest took (\S+) s, and of those with baseload, peak and night blocks (\S+) s\.", plain)
+        slowest = max(map(max, found.values())), max(found["base"] + found["peaks"])
+        self.assertEqual(said, tuple(f"{seconds:.1f}" for seconds in slowest))
+
     def test_a_span(self):
         self.assertEqual(page.span(["1.90 x", "1.20 x", "1.5 x"]), "1.20 to 1.90 x")
         self.assertEqual(page.span(["1.9 ms", "800 us", "0.1 s"]), "800 us to 0.1 s")
         self.assertEqual(page.span(["1.9 ms"]), "1.9 ms")
+        self.assertEqual(page.span(["1.9 ms", "?", "> 60 s"]), "1.9 ms to ?")
 
     def test_a_part_is_taken_over(self):
         with tempfile.TemporaryDirectory() as folder:
@@ -73,9 +88,10 @@ class Measured(unittest.TestCase):
                     page.take_over(["families"])
                 text = page.page()
         self.assertIn("Notes: (1) HiGHS had 5 s for each book; (2) the program before is that of yesterday.", " ".join(text.split()))
-        self.assertRegex(text, r"\| families \| \[4\]\(../bench/measured/families.csv\) \| 2 of 3 \| .* \| \(1\) \(2\) \|\n")
+        self.assertRegex(text, r"\| families \| \[5\]\(../bench/measured/families.csv\) \| 2 of 3 \| .* \| \(1\) \(2\) \|\n")
         self.assertIn("Hard books.\n", text)
         self.assertIn("| links | 2 ms | 8 ms |\n", text)
+        self.assertIn("| deep books together: dam clear | 10 ms |  |\n", text)
         self.assertIn("| families | a node compared with the twin | 2 of 2 | 1.46 to 1.70 x | at most 1.20 x | links 500 |\n", text)
         self.assertNotIn("46 ns", text)
 

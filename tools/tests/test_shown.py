@@ -35,6 +35,7 @@ class Shown(unittest.TestCase):
                     self.assertEqual(printed, quoted or "")
 
     @NEEDS_NUMPY
+    @NEEDS_PROGRAM
     def test_trust(self):
         self.check_commands(TRUST)
 
