@@ -1,11 +1,14 @@
 #!/usr/bin/env python3
-"""draw_bound.py > docs/bound.svg: draws the picture of ARCHITECTURE.md: the greatest welfare of two periods of the auction day over the
-net volume, and their sum, which is the table of their class.
+"""draw_bound.py > docs/bound.svg: draws the picture of ARCHITECTURE.md: one price for each period of the sunny day, the gains of its
+blocks at these prices, and the tree of decisions that the bound by these prices cuts.
 
-Periods 11 and 16 are a class: each of the day's blocks has the same volume in both. It needs matplotlib, as tools/plot does."""
+Of each period, the price is the clearing price at the middle of the net volumes that its blocks can make. The tree is that of a search
+that knows the result's welfare from the start, and keeps these prices. It needs matplotlib, as
+tools/plot does."""
 
 import sys
 from pathlib import Path
+from typing import NamedTuple
 
 TOP = Path(__file__).resolve().parent.parent
 sys.dont_write_bytecode = True
@@ -13,71 +16,151 @@ sys.path.insert(0, str(TOP / "tools"))
 
 from lib import book, journal, period, selection
 
-PERIODS = 11, 16
-
 
 def problem():
-    closed, _ = book.run(journal.read_journal((TOP / "examples/auction-day.csv").read_bytes()))
+    closed, _ = book.run(journal.read_journal((TOP / "examples/sunny-day.csv").read_bytes()))
     return selection.Problem(closed)
 
 
-def net_volumes(day, number):
-    """The least and the greatest net volume that the blocks can make of a period."""
-    orders = [(row.order.side, dict(row.order.volumes).get(number, 0)) for row in day.blocks]
-    return tuple(sign * sum(volume for of, volume in orders if of == side) for side, sign in (("buy", -1), ("sell", 1)))
+def middle(day, number):
+    """The middle of the net volumes that the blocks can make of a period, rounded down."""
+    return sum(dict(selection.signed(block.order)).get(number, 0) for block in day.blocks) // 2
 
 
-def segments(orders, least, most):
-    """The straight segments of a period between two net volumes, from the greatest down: the net volume at which each ends, and its
-    slope. Sells and buys stand in one list by rising limit; the volume taken of it, from the bottom up, is all buys less the net
-    volume, so that the price is the limit of the order in which that ends."""
-    top = sum(volume for side, _, volume in orders if side == "buy")
-    found = []
-    for _, limit, volume in sorted(orders, key=lambda order: order[1]):
-        start, end = min(top, most), max(top - volume, least)
-        if end < start:
-            found.append((start, end, limit))
-        top -= volume
-    return found
+def prices_of(day):
+    return {number: period.clear(orders, middle(day, number)).price for number, orders in day.orders.items()}
 
 
-def ends(day, number, least, most):
-    """The net volumes at which the segments of a period end, and the welfare there."""
-    found = segments(day.orders[number], least, most)
-    nets = [found[0][0], *(end for _, end, _ in found)]
-    return nets, [period.clear(day.orders[number], net).welfare for net in nets]
+class Bound(NamedTuple):
+    """A bound by prices: the surplus of all hourly orders, and the gain of each block."""
+
+    base: int
+    gains: list
+
+    def of(self, taken, undecided):
+        """The greatest welfare that a selection can have that accepts the blocks taken, any of the undecided ones, and no others."""
+        return self.base + sum(self.gains[place] for place in taken) + sum(max(self.gains[place], 0) for place in undecided)
 
 
-def joint(day, least, most):
-    """The same of all periods: the sum ends a segment wherever one of them does."""
-    nets = sorted({net for number in PERIODS for net in ends(day, number, least, most)[0]}, reverse=True)
-    return nets, [sum(period.clear(day.orders[number], net).welfare for number in PERIODS) for net in nets]
+def bound_by(day, prices):
+    """The bound by these prices."""
+    base = 0
+    for number, orders in day.orders.items():
+        for side, limit, volume in orders:
+            gain = (limit - prices[number]) * volume
+            base += max(gain if side == "buy" else -gain, 0)
+    return Bound(base, [selection.surplus(block.order, prices) for block in day.blocks])
 
 
-def draw(axes, pictures, nets, welfares, name):
-    """A curve, with a dot where a segment ends, and at the middle of each its slope, in EUR/MWh."""
-    across, up = [pictures.mw(net) for net in nets], [welfare / 1_000_000 for welfare in welfares]
-    axes.plot(across, up, color=pictures.COLOURS["sell"], marker="o", markersize=4, linewidth=1.4)
-    for at in range(len(nets) - 1):
-        slope = (welfares[at] - welfares[at + 1]) / (nets[at] - nets[at + 1])
-        middle = (across[at] + across[at + 1]) / 2, (up[at] + up[at + 1]) / 2
-        axes.annotate(f"{pictures.eur(slope):g}", middle, (5, -11), textcoords="offset points", fontsize=8)
-    axes.set_title(name, loc="left", fontsize=9)
-    axes.set_xlabel("net volume, MW")
+def order_of(day):
+    """The places of the blocks by falling total volume."""
+    return sorted(range(len(day.blocks)), key=lambda place: -sum(volume for _, volume in day.blocks[place].order.volumes))
+
+
+class Node(NamedTuple):
+    """Decisions on the first blocks of the order, as a word of 'a' (accepted) and 'r' (rejected), with the bound of all selections that
+    agree with them."""
+
+    decisions: str
+    taken: frozenset
+    bound: int
+    is_cut: bool
+
+
+def nodes(day, bound, order, least):
+    """The nodes that a search by one bound visits, from the root on. A node is cut if its bound is less than `least()` at that time."""
+
+    def visit(decisions, taken):
+        undecided = order[len(decisions):]
+        own = bound.of(taken, undecided)
+        is_cut = own < least()
+        yield Node(decisions, taken, own, is_cut)
+        if is_cut or not undecided:
+            return
+        place, *later = undecided
+        for accept in (True, False):
+            if not is_forbidden(day, place, accept, taken, later):
+                yield from visit(decisions + "ra"[accept], taken | {place} if accept else taken)
+
+    yield from visit("", frozenset())
+
+
+def is_forbidden(day, place, accept, taken, later):
+    """Whether links or groups forbid this decision next to those on other blocks."""
+    if not accept:
+        return any(day.parents[other] == place for other in taken)
+    parent = day.parents[place]
+    if parent is not None and parent not in taken and parent not in later:
+        return True
+    return any(place in members and taken & set(members) for members in day.groups().values())
+
+
+def result(day, bound, order):
+    """The greatest welfare of an eligible selection, by a search by one bound that begins with the empty selection."""
+    best = selection.eligible(day, frozenset())
+    for node in nodes(day, bound, order, lambda: best):
+        if len(node.decisions) == len(order) and not node.is_cut:
+            welfare = selection.eligible(day, node.taken)
+            best = best if welfare is None else max(best, welfare)
+    return best
+
+
+def thousands(amount):
+    """An amount in cents per MWh times tenths of a MW, over hours, in 1,000 EUR."""
+    return amount / 1_000_000
+
+
+def draw_prices(axes, day, prices, pictures):
+    axes.step(list(prices), [pictures.eur(price) for price in prices.values()], where="mid", color=pictures.COLOURS["ink"], linewidth=1.4)
+    axes.set_title("one price for each period, EUR/MWh", loc="left", fontsize=9)
+    axes.set_xlabel("period")
+    axes.set_xlim(0.5, day.periods + 0.5)
+
+
+def draw_gains(axes, day, bound, order, pictures):
+    gains = [thousands(bound.gains[place]) for place in order]
+    colours = [pictures.COLOURS["sell" if gain >= 0 else "paradox"] for gain in gains]
+    axes.barh(range(len(order)), gains, color=colours, edgecolor=pictures.COLOURS["ink"], linewidth=0.6)
+    axes.set_yticks(range(len(order)), [f"{day.blocks[place].who} {day.blocks[place].name}" for place in order], fontsize=8)
+    axes.invert_yaxis()
+    axes.axvline(0, color=pictures.COLOURS["ink"], linewidth=0.8)
+    axes.set_title("the blocks' gains at these prices, 1,000 EUR", loc="left", fontsize=9)
+
+
+def draw_tree(axes, found, least, pictures):
+    """Each node at its depth and bound, with a line to its parent."""
+    height = {node.decisions: thousands(node.bound - least) for node in found}
+    for letter, style in (("a", "-"), ("r", ":")):
+        lines = [
+            [(len(word) - 1, height[word[:-1]]), (len(word), height[word])]
+            for word in (node.decisions for node in found)
+            if word.endswith(letter)
+        ]
+        axes.add_collection(pictures.LineCollection(lines, linestyle=style, color=pictures.COLOURS["soft"], linewidth=0.7, zorder=1))
+    for is_cut, colour in ((False, "sell"), (True, "paradox")):
+        words = [node.decisions for node in found if node.is_cut == is_cut]
+        axes.scatter([len(word) for word in words], [height[word] for word in words], s=18, color=pictures.COLOURS[colour],
+                     edgecolor=pictures.COLOURS["ink"], linewidth=0.5, zorder=2)
+    axes.axhline(0, color=pictures.COLOURS["ink"], linewidth=0.8)
+    blocks = max(map(len, height))
+    axes.set_title(f"the bounds of {len(found)} of {2 ** (blocks + 1) - 1:,} nodes, over the result's welfare, 1,000 EUR", loc="left",
+                   fontsize=9)
+    axes.set_xlabel("blocks decided, in the order above: accepted (solid), rejected (dotted)")
 
 
 def figure():
-    """The picture: the periods, and their sum."""
     from lib import pictures
 
     day = problem()
-    least, most = net_volumes(day, PERIODS[0])
+    prices = prices_of(day)
+    bound, order = bound_by(day, prices), order_of(day)
+    least = result(day, bound, order)
+    found = list(nodes(day, bound, order, lambda: least))
     with pictures.matplotlib.rc_context(pictures.STYLE):
-        drawn, axes = pictures.pyplot.subplots(1, len(PERIODS) + 1, figsize=(pictures.BROAD, 3))
-        for panel, number in zip(axes, PERIODS):
-            draw(panel, pictures, *ends(day, number, least, most), f"period {number}")
-        draw(axes[-1], pictures, *joint(day, least, most), "the table: their sum")
-        axes[0].set_ylabel("greatest welfare, 1,000 EUR")
+        drawn, axes = pictures.pyplot.subplot_mosaic([["prices", "gains"], ["tree", "tree"]], figsize=(pictures.BROAD, 6))
+        draw_prices(axes["prices"], day, prices, pictures)
+        draw_gains(axes["gains"], day, bound, order, pictures)
+        draw_tree(axes["tree"], found, least, pictures)
         drawn.tight_layout(w_pad=2)
     return drawn
 

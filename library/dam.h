@@ -20,9 +20,9 @@
  *
  * `length` is the length of the whole answer in bytes; a zero byte doesn't follow it.
  *
- * Stack: 512 KiB are enough for a call. Memory: a call takes a few tens of MB at most, by malloc, and frees all of it. A program that is
- * linked with the static library, and defines rattle_alloc, rattle_realloc and rattle_dealloc, gives the library its own memory instead
- * (tests/library/refusals.c).
+ * Stack: 512 KiB are enough for a call. Memory: a call takes a few tens of MB, for a hostile text up to 411 MB, by malloc, and frees all
+ * of it. A program that is linked with the static library, and defines rattle_alloc, rattle_realloc and rattle_dealloc, gives the
+ * library its own memory instead (tests/library/refusals.c of a clone).
  *
  * Preconditions, which the caller must satisfy, since a proof can't see them:
  *

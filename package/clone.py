@@ -3,6 +3,7 @@
 import datetime
 import json
 import os
+import re
 import shutil
 import subprocess
 from pathlib import Path
@@ -14,7 +15,7 @@ TOP = Path(sources.TOP)
 PROGRAM = "crates/dam_cli/out/dam_cli"
 SHARED, STATIC = "library/out/libdam.so.1", "library/out/libdam.a"
 BUILT = {PROGRAM: "dam_cli", SHARED: sources.LIBRARY, STATIC: sources.LIBRARY}
-MADE_BY = {PROGRAM: "./dam clear", SHARED: "library/build", STATIC: "library/build"}
+MADE_BY = {PROGRAM: "./dam prove", SHARED: "library/build", STATIC: "library/build"}
 CHECKED = TOP / "out" / "check.json"
 SHOWN = 3  # changes that are named
 # The commands that make a package, with Debian's package of each.
@@ -62,8 +63,9 @@ class Clone:
 
 
 def refuse_changes():
-    """Ends the tool if a file differs from the commit."""
-    changed = [line[3:] for line in git("status", "--porcelain").splitlines()]
+    """Ends the tool if a tracked file differs from the commit. Other files don't matter, unless they are among the sources of crates."""
+    lines = git("status", "--porcelain", "--untracked-files=all").splitlines()
+    changed = [line[3:] for line in lines if not line.startswith("??") or re.match(r"crates/.*/(src|specs|proofs)/", line[3:].strip('"'))]
     if changed:
         more = f" and {len(changed) - SHOWN} more" if len(changed) > SHOWN else ""
         raise command.Stop(f"the clone has changes: commit or remove {', '.join(changed[:SHOWN])}{more}")

@@ -24,6 +24,9 @@ MORE = (
     "With any other status, the shell or a signal ended the run. In the manual, docs/FORMATS.md has the line that each fault prints on"
     " standard error, and docs/OPERATING.md says how to go on after each status."
 )
+WITH_EXAMPLES = (
+    "Run these where a copy of the examples is: first copy the folder examples of share/doc/dam/, below /usr or the folder of the archive."
+)
 # The program doesn't know its version.
 VERSION = ".PP\nThis is version {}.\n.B dam\\-audit \\-\\-version\nprints it; dam itself has no such option."
 
@@ -85,7 +88,7 @@ def split(text):
         if title.lower() in LISTS:
             lists.append(listed(LISTS[title.lower()], rows))
         elif head and head[1].lower() == "examples":
-            sections.setdefault("EXAMPLES", []).append(roff(one[len(head[0]) :].strip("\n")))
+            sections.setdefault("EXAMPLES", [roff(WITH_EXAMPLES)]).append(roff(one[len(head[0]) :].strip("\n")))
         elif head:
             sections.setdefault("EXIT STATUS", []).append(statuses(one))
         else:

@@ -36,6 +36,10 @@ LINKS = {
     **{f"bin/dam-{tool}": f"../{PYTHON}/{tool}" for tool in TOOLS},
 }
 PROGRAMS = ("bin/dam", *(f"{PYTHON}/{tool}" for tool in TOOLS))
+# Pages whose commands are run where the examples are: the package has them as installed commands.
+WITH_COMMANDS = ("AUDIT.md", "EXAMPLES.md", "GUIDE.md", "TABLES.md", "TRUST.md", "USING.md", "WHATIF.md")
+COMMANDS = re.compile(r"^```sh\n.*?^```$", re.MULTILINE | re.DOTALL)
+CLONED = re.compile(rf"(?<![\w./-])(?:\./dam\b|tools/(?=(?:{'|'.join(TOOLS)})\b))")
 # A link of a page to another file.
 LINK = re.compile(r"\[([^\]]*)\]\(([^)#:\s]+)(?:#[^)\s]*)?\)")
 
@@ -46,7 +50,7 @@ def taken(clone):
     for folder, target, *endings in (
         ("tools/dam_tools", PYTHON, ".py"),
         ("tools/lib", f"{PYTHON}/lib"),
-        ("docs", f"{DOC}/docs", ".md", ".svg"),
+        ("docs", f"{DOC}/docs", ".md", ".svg", ".png"),
         ("examples", f"{DOC}/examples", ".csv"),
         ("bench/measured", f"{DOC}/bench/measured", ".csv"),
         ("crates", f"{DOC}/crates", "/README.md", "/NOTES.md"),
@@ -56,10 +60,14 @@ def taken(clone):
 
 
 def page(data, target, held):
-    """A page, with the words alone of each link to a file that the package doesn't have."""
+    """A page, with the words alone of each link to a file that the package doesn't have, and with installed commands."""
     here = os.path.dirname(target)
     kept = lambda link: link[0] if os.path.normpath(f"{here}/{link[2]}") in held else link[1]
-    return LINK.sub(kept, data.decode()).encode()
+    text = LINK.sub(kept, data.decode())
+    if os.path.basename(target) in WITH_COMMANDS:
+        installed = lambda block: CLONED.sub(lambda found: "dam" if found[0] == "./dam" else "dam-", block[0])
+        text = COMMANDS.sub(installed, text)
+    return text.encode()
 
 
 def write(path, data, mode=0o644):
