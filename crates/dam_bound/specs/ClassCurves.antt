@@ -17,11 +17,12 @@ use Rattle.dam_bound.specs.declared.class_curves.Class.{Class}
 abbrev pub class_orders : ProblemState → ℕ → List (List Step)
 class_orders problem c = members problem.blocks c 0 problem.hours
 
--- the least net volume of a period that a selection of the blocks makes, and the greatest
+-- the least net volume that selections make in a period
 abbrev pub least_net_in : ℕ → List Block → ℤ
 least_net_in t [] = pos 0
 least_net_in t (b ∷ bs) = int_min (net_volume_of t b.order) (pos 0) +ℤ least_net_in t bs
 
+-- the greatest net volume that they make there
 abbrev pub most_net_in : ℕ → List Block → ℤ
 most_net_in t [] = pos 0
 most_net_in t (b ∷ bs) = int_max (net_volume_of t b.order) (pos 0) +ℤ most_net_in t bs

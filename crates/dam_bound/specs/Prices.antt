@@ -53,10 +53,11 @@ pub record IsByLines (problem : ProblemState) (bound : PriceBound) : Type 0 wher
   pub base_is : bound.base ≡ over_places (λ c. (line_in bound.lines c).surplus) (class_places problem)
   pub gains_are : bound.gains ≡ at_places most_blocks (priced_gain problem bound.lines) problem.blocks
 
--- the sizes of a block's gain and of the surplus of all hourly orders
+-- the size of a block's gain
 abbrev pub greatest_priced_gain : ℕ
 greatest_priced_gain = (last_period + 1) * (last_period * greatest_value)
 
+-- the size of the surplus of all hourly orders
 abbrev pub greatest_base : ℕ
 greatest_base = last_period * (last_period * greatest_segment_surplus)
 
