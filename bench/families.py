@@ -14,7 +14,7 @@ import statistics
 import sys
 
 import make_family
-from clearing import GAVE_UP, MISSING, SPARE, left_out
+from clearing import GAVE_UP, MISSING, SPARE, left_out, welfare_of
 from figures import BEFORE, DAM, HIGHS_LIMIT, LIMIT, TWIN, at_most, by_turns, line, ratio, run, seconds, write
 
 ORDERS = ["500", "4000"]
@@ -47,6 +47,8 @@ class Book:
         if runs.get("before"):
             ratio(f"{what} compared with the program before", dam, [each.wall for each in runs["before"]])
         if twin:
+            if int(runs["twin"][0].text.split()[1]) != welfare_of(runs["dam"][0]):
+                sys.exit(f"{what}: the twin finds another welfare")
             ratio(f"{what} compared with the twin", dam, twin, 2 if is_default else None)
             if is_default and statistics.median(twin) <= SHORT:
                 at_most(f"{what}, since the twin is within {seconds(SHORT)}", median, DOUBLE)

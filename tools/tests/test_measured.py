@@ -21,8 +21,8 @@ TABLES = """### Time of `dam clear`
 ROWS = [
     ["links 500, plan 2 3: dam clear", "2 ms", "ends", "holds", ""],
     ["links 4000, plan 2 3: dam clear", "8 ms", "", "", ""],
-    ["links 4000, plan 1 3: a node compared with the twin", "1.46 x", "at most 1.20 x", "MISSED", "46 ns and 31 ns"],
-    ["links 500: a node compared with the twin", "1.70 x", "at most 1.20 x", "MISSED", "51 ns and 30 ns"],
+    ["links 4000, plan 2 3: dam clear compared with the twin", "2.46 x", "at most 2.00 x", "MISSED", "8.1 ms and 3.3 ms"],
+    ["links 500, plan 2 3: dam clear compared with the twin", "2.70 x", "at most 2.00 x", "MISSED", "2.7 ms and 1 ms"],
     ["deep books together: dam clear", "10 ms", "", "", "2 books"],
 ]
 
@@ -92,8 +92,9 @@ class Measured(unittest.TestCase):
         self.assertIn("Hard books.\n", text)
         self.assertIn("| links | 2 ms | 8 ms |\n", text)
         self.assertIn("| deep books together: dam clear | 10 ms |  |\n", text)
-        self.assertIn("| families | a node compared with the twin | 2 of 2 | 1.46 to 1.70 x | at most 1.20 x | links 500 |\n", text)
-        self.assertNotIn("46 ns", text)
+        kind = "dam clear compared with the twin"
+        self.assertIn(f"| families | {kind} | 2 of 2 | 2.46 to 2.70 x | at most 2.00 x | links 500, plan 2 3 |\n", text)
+        self.assertNotIn("8.1 ms", text)
 
 
 if __name__ == "__main__":
