@@ -80,11 +80,14 @@ fn is_passed(node: &Node, found: &Progress) -> bool
     let Some(best) = found.best else {
         return false;
     };
+    if !equals(node.bound, best.welfare) {
+        return false;
+    }
     let top = Best {
         selection: node.top(),
         welfare: best.welfare,
     };
-    equals(node.bound, best.welfare) && !ranks_above(top, best)
+    !ranks_above(top, best)
 }
 
 impl<A: Allocator, P: Prices> PriceWalk<'_, A, P> {

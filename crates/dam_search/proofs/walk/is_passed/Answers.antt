@@ -13,8 +13,8 @@ use Rattle.dam_search.proofs.walk.is_passed.Goals as goal
 pub top-requires : goal.top-requires
 top-requires c = all_within c.args.node.now.taken c.args.node.now.left.now c.requires.free
 
-pub returns-then-equals-clause-passed : goal.returns-then-equals-clause-passed
-returns-then-equals-clause-passed c passed sel w is le =
+pub returns-clause-passed : goal.returns-clause-passed
+returns-clause-passed c passed sel w is le =
     let node = c.args.node.now in let best = c.in-Some.best in
     let fits : SFits w64 node.bound = search rules in
     let same : node.bound ≡ pos best.welfare = sym (to_z-of_z w64 node.bound fits) ∙ c.equals.ensures.0 (search rules) in
