@@ -42,6 +42,10 @@ pub over_plus : (f g : ℕ → ℤ) (places : List ℕ) → over_places (λ c. f
 over_plus f g [] = refl
 over_plus f g (c ∷ places) = let rest = over_plus f g places in omega (arith, ints, rest)
 
+pub over_times : (f : ℕ → ℤ) (z : ℤ) (places : List ℕ) → over_places (λ c. z *ℤ f c) places ≡ z *ℤ over_places f places
+over_times f z [] = omega (arith, ints)
+over_times f z (c ∷ places) = ap (λ (x : ℤ). z *ℤ f c +ℤ x) (over_times f z places) ∙ sym (times_plus z (f c) (over_places f places))
+
 pub over_within : (f : ℕ → ℤ) (places : List ℕ) (most : ℕ) → ((j c : ℕ) → slice_get places j ≡ Some c → IsWithin most (f c))
     → IsWithin (length places * most) (over_places f places)
 over_within f [] most each = record { at_least = omega (arith, ints); at_most = omega (arith, ints) }

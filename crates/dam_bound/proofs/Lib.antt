@@ -23,3 +23,5 @@ pub mod LineByLine
 pub mod Lowering
 pub mod LossPrices
 pub mod MakingClasses
+pub mod PricesByClass
+pub mod Rivalry

@@ -2,3 +2,4 @@
 pub mod Levels
 pub mod Families
 pub mod Numbers
+pub mod Rivals

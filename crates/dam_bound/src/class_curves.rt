@@ -36,13 +36,13 @@ pub(crate) struct Class {
 #[derive(Drop)]
 pub struct ClassCurves<'a, A: Allocator, B: Allocator> {
     problem: &'a Problem<A>,
-    curves: Curves<B>,
+    pub(crate) curves: Curves<B>,
     /// The classes in the order of their first periods.
-    classes: Vec<Class, B>,
+    pub(crate) classes: Vec<Class, B>,
     /// The value of each block over the day; 0 at the places past the last block.
-    values: [i64; MOST_BLOCKS],
+    pub(crate) values: [i64; MOST_BLOCKS],
     /// For each block those that descend from it.
-    families: Vec<Option<Selection>, B>,
+    pub(crate) families: Vec<Option<Selection>, B>,
 }
 
 impl<'a, A: Allocator, B: Allocator> Model for ClassCurves<'a, A, B> {

@@ -10,6 +10,7 @@
 //! if let Some(welfare) = curves.welfare(selection, &bound, 0) { // None if it is under 0, or doesn't balance
 //!     let loses = curves.has_loss(selection);
 //! }
+//! let rivals = curves.are_rivals(0, 1); // if true, no eligible selection accepts both
 //!
 //! let relaxed = Relaxed::build(alloc, &problem)?;
 //! let weaker = relaxed.bound(Selection::none().with(0), 1); // block 0 accepted, the others open
@@ -28,8 +29,8 @@
 //! welfare, the live count, and the classes. A contract sees a [`ClassCurves`] or a [`Relaxed`] as the problem that it was
 //! built from, without its rows. Only tests show that a call reports out of memory only if memory was refused.
 //!
-//! The crate doesn't know exclusive groups, or which selections are admissible or eligible. The only links it knows are
-//! which block descends from which.
+//! The crate doesn't know exclusive groups, or which selections are admissible. The only links it knows are which block
+//! descends from which.
 #![tactic(auto)]
 
 mod class_curves;
@@ -41,6 +42,7 @@ mod levels;
 mod numbers;
 mod price_bound;
 mod relaxed;
+mod rivals;
 
 pub use class_curves::ClassCurves;
 pub use price_bound::PriceBound;

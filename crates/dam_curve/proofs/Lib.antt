@@ -8,3 +8,4 @@ pub mod ListsOfSegments
 pub mod Adding
 pub mod JointWelfare
 pub mod LookingUp
+pub mod Falling

@@ -66,7 +66,7 @@ pub keeps_more : (old new : CurvesState) (ls : List Segment) → new.segments �
     → Keeps old new
 keeps_more old new ls segments = record { curves = curve_kept old new ls segments }
 
-count_is : (segments : List Segment) (curve : Curve) → curve.first + curve.count ≤ length segments
+pub count_is : (segments : List Segment) (curve : Curve) → curve.first + curve.count ≤ length segments
     → length (segments_at segments curve) ≡ curve.count
 count_is segments curve l =
     let long = length-drop curve.first segments in

@@ -2,4 +2,5 @@ pub mod Supply
 pub mod JointPrice
 pub mod Curve
 pub mod Line
+pub mod PriceRange
 pub mod inside

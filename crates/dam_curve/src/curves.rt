@@ -42,7 +42,7 @@ pub struct Curve {
 /// A contract sees the list of the segments. It asks of a curve which periods it is of.
 #[derive(Drop)]
 pub struct Curves<A: Allocator = Global> {
-    segments: Vec<Segment, A>,
+    pub(crate) segments: Vec<Segment, A>,
     /// Places of segments near which a net volume is. They need not be right: a look-up goes on from there.
     hints: Vec<u16, A>,
 }
@@ -105,7 +105,7 @@ fn write_hints<A: Allocator>(
 
 /// The segments of one curve among many.
 #[inline(always)]
-fn segments_of(segments: &[Segment], curve: Curve) -> &[Segment]
+pub(crate) fn segments_of(segments: &[Segment], curve: Curve) -> &[Segment]
     requires { curve.first + curve.count ≤ length segments.now }
     ensures { result.now ≡ segments_at segments.now curve }
 {

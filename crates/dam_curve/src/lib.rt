@@ -18,6 +18,7 @@
 //! let curve = curves.add(&sum)?;
 //! let welfare = curves.welfare(curve, 120); // the welfare of `Hour::clear` at this net volume
 //! let price = curves.price(curve, 120); // its price, if there is a welfare
+//! let range = curves.price_range(curve); // from the price at the greatest net volume to that at the least
 //! let line = curves.line_near(curve, 120); // over the welfare at each net volume from -500 to 500
 //! ```
 //!
@@ -29,7 +30,9 @@
 #![tactic(auto)]
 
 mod curves;
+pub mod laws;
 mod line;
+mod price_range;
 mod row;
 mod segment;
 mod sum;
@@ -37,5 +40,6 @@ mod supply;
 
 pub use curves::{Curve, Curves};
 pub use line::Line;
+pub use price_range::PriceRange;
 pub use sum::Sum;
 pub use supply::Supply;

@@ -20,3 +20,4 @@ pub mod Extension
 pub mod Answering
 pub mod Fairness
 pub mod Reordering
+pub mod Falling

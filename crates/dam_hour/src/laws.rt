@@ -154,3 +154,13 @@ pub fn support()
         → AreEnds steps net low high → IsBest steps net xs
         → Supports (price_between low high) steps xs }
 {}
+
+/// The prices fall as the net volume rises: no price that supports a balanced execution is above one that supports an
+/// execution at a smaller net volume, and so it is with the prices of the period.
+pub fn falling()
+    ensures supporting { (steps : List Step) (net other p q : ℤ)
+        → IsSupporting steps net p → IsSupporting steps other q → net <ℤ other → q ≤ℤ p }
+    ensures price { (steps : List Step) (net other low high other_low other_high : ℤ)
+        → AreEnds steps net low high → AreEnds steps other other_low other_high → net ≤ℤ other
+        → price_between other_low other_high ≤ℤ price_between low high }
+{}

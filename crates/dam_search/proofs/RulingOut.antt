@@ -1,13 +1,15 @@
 -- What accepting or rejecting a block rules out, block by block.
 use Rattle.std.proofs.Common.{◌≡◌, ◌≢◌, ◌⊎◌, ℕ, zero, suc, ℤ, ◌==◌, Bool, true, false, not, Option, Some, None, List, [], ◌∷◌, length, replicate, slice_set, ap, ◌∙◌, sym, subst, refl, inl, inr}
 use Rattle.std.specs.List.{slice_get}
-use Rattle.std.proofs.lemmas.Bool.{and_parts, eq-eqb}
+use Rattle.std.proofs.lemmas.Bool.{and_parts, cases_eq, eq-eqb}
+use Rattle.std.proofs.lemmas.List.{get_or-set_other}
 use Rattle.dam_book.specs.Limits.{most_blocks}
 use Rattle.dam_blocks.specs.declared.problem.Block.{Block}
 use Rattle.dam_blocks.specs.Problem.{ProblemState, IsProblem}
 use Rattle.dam_blocks.specs.Selection.{accepts, empty_selection, are_of_one_group, IsAdmissible}
 use Rattle.dam_blocks.specs.Family.{descends}
 use Rattle.dam_blocks.specs.Eligible.{IsEligible}
+use Rattle.dam_bound.specs.Relaxed.{without_rows}
 use Rattle.dam_search.specs.declared.conflicts.Conflicts.{Conflicts}
 use Rattle.dam_search.specs.inside.Conflicts.{AcceptsAll, AcceptsNone, Needs, IsNeededBy, Excludes, AreConflicts, IsSetOf, are_two_of_group, is_other_of_group}
 use Rattle.dam_search.proofs.Sets.{accepts-none, passes_test}
@@ -98,11 +100,72 @@ excludes_others laws problem place row set selection w eligible on j among =
     no_other laws problem.blocks selection place j (slice_get problem.blocks place) (slice_get problem.blocks j) eligible.admissible refl refl
     (apart_from j place is.0) is.1 on
 
+-- ---- rivals
+pub not_true : (x : Bool) → (x ≡ true → ⊥) → x ≡ false
+not_true true never = absurd (never refl)
+not_true false never = refl
+
+-- the rows of a problem have no part in what is eligible
+without_rows_eligible : (problem : ProblemState) (selection : List Bool) (w : ℤ) → IsEligible (without_rows problem) selection w
+    → IsEligible problem selection w
+without_rows_eligible problem selection w is = record {
+  as_long = is.as_long;
+  admissible = is.admissible;
+  prices = is.prices;
+  are_prices = is.are_prices;
+  no_loss = is.no_loss;
+  welfare_is = is.welfare_is;
+}
+
+with_rows_eligible : (problem : ProblemState) (selection : List Bool) (w : ℤ) → IsEligible problem selection w
+    → IsEligible (without_rows problem) selection w
+with_rows_eligible problem selection w is = record {
+  as_long = is.as_long;
+  admissible = is.admissible;
+  prices = is.prices;
+  are_prices = is.are_prices;
+  no_loss = is.no_loss;
+  welfare_is = is.welfare_is;
+}
+
+pub excludes_without_rows : (problem priced : ProblemState) (place : ℕ) (places : List Bool) → priced ≡ without_rows problem
+    → Excludes problem place places → Excludes priced place places
+excludes_without_rows problem priced place places same is =
+    subst (λ (p : ProblemState). Excludes p place places) (sym same)
+    (λ selection w eligible. is selection w (without_rows_eligible problem selection w eligible))
+
+pub excludes_with_rows : (problem priced : ProblemState) (place : ℕ) (places : List Bool) → priced ≡ without_rows problem
+    → Excludes priced place places → Excludes problem place places
+excludes_with_rows problem priced place places same is selection w eligible =
+    (subst (λ (p : ProblemState). Excludes p place places) same is) selection w (with_rows_eligible problem selection w eligible)
+
+pub group_excluded : ConflictLaws → (problem : ProblemState) (blocks : List Block) (place : ℕ) (row : List Bool) → blocks ≡ problem.blocks
+    → IsSetOf (length blocks) (λ at. is_other_of_group blocks place at) row → Excludes problem place row
+group_excluded laws problem blocks place row same set =
+    excludes_others laws problem place row
+    (subst (λ (bs : List Block). IsSetOf (length bs) (λ at. is_other_of_group bs place at) row) same set)
+
+pub as_many_blocks : (problem priced : ProblemState) (blocks : List Block) → priced ≡ without_rows problem → blocks ≡ problem.blocks
+    → length blocks ≡ length priced.blocks
+as_many_blocks problem priced blocks same is =
+    ap (λ (bs : List Block). length bs) is ∙ sym (ap (λ (p : ProblemState). length p.blocks) same)
+
+-- a rival more
+pub rival_more : (problem : ProblemState) (place at : ℕ) (places after : List Bool) → after ≡ slice_set places at true
+    → ((selection : List Bool) (w : ℤ) → IsEligible problem selection w → accepts selection place ≡ true → accepts selection at ≡ false)
+    → Excludes problem place places → Excludes problem place after
+rival_more problem place at places after e rival is selection w eligible on j among = elim (cases_eq j at) [
+  | inl same ↦ ap (accepts selection) same ∙ rival selection w eligible on
+  | inr apart ↦
+      is selection w eligible on j
+      (sym (get_or-set_other places at j true false apart) ∙ ap (λ (r : List Bool). accepts r j) (sym e) ∙ among)
+]
+
 pub conflicts_more : ConflictLaws → (problem : ProblemState) (blocks : List Block) (before after : Conflicts) (place : ℕ)
     (ancestors descendants others : List Bool) → IsProblem problem → blocks ≡ problem.blocks
     → IsSetOf (length blocks) (λ at. descends blocks at place) ancestors
     → IsSetOf (length blocks) (λ at. descends blocks place at) descendants
-    → IsSetOf (length blocks) (λ at. is_other_of_group blocks place at) others
+    → Excludes problem place others
     → after.needs ≡ slice_set before.needs place ancestors → after.needed_by ≡ slice_set before.needed_by place descendants
     → after.excludes ≡ slice_set before.excludes place others → AreConflicts problem before → AreConflicts problem after
 conflicts_more laws problem blocks before after place ancestors descendants others is same a d o e f h are = record {
@@ -112,16 +175,10 @@ conflicts_more laws problem blocks before after place ancestors descendants othe
   needed_by = one_row_more (IsNeededBy problem) before.needed_by after.needed_by place descendants f
       (needed_by_descendants laws problem place descendants is
       (subst (λ (bs : List Block). IsSetOf (length bs) (λ at. descends bs place at) descendants) same d)) are.needed_by;
-  excludes = one_row_more (Excludes problem) before.excludes after.excludes place others h
-      (excludes_others laws problem place others
-      (subst (λ (bs : List Block). IsSetOf (length bs) (λ at. is_other_of_group bs place at) others) same o)) are.excludes;
+  excludes = one_row_more (Excludes problem) before.excludes after.excludes place others h o are.excludes;
 }
 
 -- ---- what a row forbids
-not_true : (x : Bool) → (x ≡ true → ⊥) → x ≡ false
-not_true true never = absurd (never refl)
-not_true false never = refl
-
 pub lacks_one : (problem : ProblemState) (conflicts : Conflicts) (place j : ℕ) (places rejected selection : List Bool) (w : ℤ)
     → AreConflicts problem conflicts → slice_get conflicts.needs place ≡ Some places → accepts places j ≡ true → accepts rejected j ≡ true
     → IsEligible problem selection w → AcceptsNone rejected selection → accepts selection place ≡ false

@@ -107,7 +107,7 @@ fn search_alone_with<P: Prices>(
         let space = &SearchSpace { problem, relaxed };
         return searched_alone(problem, space, first, nodes);
     }
-    let conflicts = &Conflicts::of(problem);
+    let conflicts = &Conflicts::of(problem, prices);
     let order = &order_of(alloc, problem, 0)?;
     let by_prices = &ByPrices {
         problem,

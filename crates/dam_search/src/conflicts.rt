@@ -4,27 +4,30 @@ ghost use Rattle.dam_blocks.specs.Problem.{ProblemState};
 ghost use Rattle.dam_blocks.specs.Selection.{accepts};
 ghost use Rattle.dam_blocks.specs.Family.{descends};
 ghost use Rattle.dam_blocks.specs.Eligible.{IsEligible};
-ghost use Rattle.dam_search.specs.inside.Conflicts.{AcceptsAll, AcceptsNone, AreConflicts, IsSetOf, is_other_of_group};
+ghost use Rattle.dam_bound.specs.Relaxed.{without_rows};
+ghost use Rattle.dam_search.specs.inside.Conflicts.{AcceptsAll, AcceptsNone, AreConflicts, Excludes, IsSetOf, is_other_of_group};
 
+use crate::prices::Prices;
 use dam_blocks::{Block, Problem, Selection, are_of_one_group, descends};
 use dam_book::MOST_BLOCKS;
 use std::alloc::Allocator;
 
-/// Which decisions on blocks rule each other out, by links and exclusive groups. A search asks for them at each of its
-/// nodes, so they are made once, as sets of places.
+/// Which decisions on blocks rule each other out, by links, by exclusive groups and by prices. A search asks for them at
+/// each of its nodes, so they are made once, as sets of places.
 #[derive(Drop)]
 pub(crate) struct Conflicts {
     /// For each block those that it descends from. It can't be accepted without them.
     needs: [Selection; MOST_BLOCKS],
     /// For each block those that descend from it. They can't be accepted without it.
     needed_by: [Selection; MOST_BLOCKS],
-    /// For each block the others of its exclusive group. They can't be accepted beside it.
+    /// For each block the others of its exclusive group, and its rivals by prices. They can't be accepted beside it.
     excludes: [Selection; MOST_BLOCKS],
 }
 
 impl Conflicts {
-    /// The conflicts of a problem's blocks.
-    pub(crate) fn of<A: Allocator>(problem: &Problem<A>) -> Conflicts
+    /// The conflicts of a problem's blocks. The prices tell which blocks are rivals.
+    pub(crate) fn of<A: Allocator, P: Prices>(problem: &Problem<A>, prices: &P) -> Conflicts
+        requires { P.problem prices.now ≡ without_rows problem.now }
         ensures { AreConflicts problem.now result }
     {
         dam_blocks::laws::conflicts();
@@ -37,13 +40,18 @@ impl Conflicts {
         for place in 0..blocks.len() {
             conflicts.needs[place] = ancestors_of(blocks, place);
             conflicts.needed_by[place] = descendants_of(blocks, place);
-            conflicts.excludes[place] = others_of_group(blocks, place);
+            conflicts.excludes[place] = with_rivals(
+                prices,
+                place,
+                blocks.len(),
+                others_of_group(blocks, place),
+            );
         }
         conflicts
     }
 
-    /// Whether links or groups forbid accepting the block at the place beside those taken and without those rejected. They
-    /// may forbid it even if this is `false`.
+    /// Whether the block at the place can't be accepted beside those taken and without those rejected. It may be impossible
+    /// even if this is `false`.
     pub(crate) fn forbids_accepting(
         &self,
         place: usize,
@@ -120,4 +128,33 @@ fn others_of_group(blocks: &[Block], place: usize) -> Selection
         }
     }
     others
+}
+
+/// Whether no eligible selection accepts the block at the one place beside that at the other, since one of them would lose
+/// at any prices. It may be `false` even then.
+fn exclude_each_other<P: Prices>(prices: &P, place: usize, at: usize) -> bool
+    requires place { place < length (P.problem prices.now).blocks }
+    requires at { at < length (P.problem prices.now).blocks }
+    ensures { result ≡ true → (selection : List Bool) (w : ℤ)
+        → IsEligible (P.problem prices.now) selection w
+        → accepts selection place ≡ true → accepts selection at ≡ false }
+{
+    prices.are_rivals(place, at) || prices.are_rivals(at, place)
+}
+
+/// The places that can't be accepted beside a block, with its rivals among the first `count` blocks added.
+fn with_rivals<P: Prices>(prices: &P, place: usize, count: usize, others: Selection) -> Selection
+    requires few { count ≤ most_blocks }
+    requires count { count ≤ length (P.problem prices.now).blocks }
+    requires place { place < length (P.problem prices.now).blocks }
+    requires others { Excludes (P.problem prices.now) place others }
+    ensures { Excludes (P.problem prices.now) place result }
+{
+    let mut excluded = others;
+    for at in 0..count {
+        if exclude_each_other(prices, place, at) {
+            excluded = excluded.with(at);
+        }
+    }
+    excluded
 }

@@ -1,7 +1,8 @@
-ghost use Rattle.std.specs.Prelude.{◌≡◌, ◌<◌, ◌≤ℤ◌, ◌<ℤ◌, ◌↔◌, ℤ, List, Some, None, false, All, IfSome};
+ghost use Rattle.std.specs.Prelude.{◌≡◌, ◌<◌, ◌≤ℤ◌, ◌<ℤ◌, ◌↔◌, ℤ, List, Bool, Some, None, true, false, length, All, IfSome};
 ghost use Rattle.dam_book.specs.Limits.{most_blocks};
 ghost use Rattle.dam_blocks.specs.Problem.{ProblemState};
-ghost use Rattle.dam_blocks.specs.Eligible.{selection_welfare, ArePrices, HasNoLoss};
+ghost use Rattle.dam_blocks.specs.Selection.{accepts};
+ghost use Rattle.dam_blocks.specs.Eligible.{selection_welfare, ArePrices, HasNoLoss, IsEligible};
 ghost use Rattle.dam_bound.specs.Prices.{IsPriceBound};
 
 use dam_blocks::Selection;
@@ -33,6 +34,15 @@ pub trait Prices {
         ensures { (prices : List ℤ)
             → ArePrices (problem self.now).blocks selection 1 (problem self.now).hours prices
             → (result ≡ false) ↔ HasNoLoss (problem self.now).blocks selection prices };
+
+    /// Whether one of two blocks loses at the prices of any selection that accepts both, so that no eligible one does. It
+    /// may be `false` even then.
+    fn are_rivals(&self, sell: usize, buy: usize) -> bool
+        requires sell { sell < length (problem self.now).blocks }
+        requires buy { buy < length (problem self.now).blocks }
+        ensures { result ≡ true → (selection : List Bool) (w : ℤ)
+            → IsEligible (problem self.now) selection w
+            → accepts selection sell ≡ true → accepts selection buy ≡ false };
 }
 
 impl<A: Allocator, B: Allocator> Prices for ClassCurves<'_, A, B> {
@@ -48,5 +58,9 @@ impl<A: Allocator, B: Allocator> Prices for ClassCurves<'_, A, B> {
 
     fn has_loss(&self, selection: Selection) -> bool {
         self.has_loss(selection)
+    }
+
+    fn are_rivals(&self, sell: usize, buy: usize) -> bool {
+        self.are_rivals(sell, buy)
     }
 }

@@ -265,7 +265,7 @@ fn search_with<R: Threads + Sync, P: Prices + Sync, T: Turnstile + Sync>(
         let space = &SearchSpace { problem, relaxed };
         return searched(rt, alloc, problem, space, plan, first, turnstile);
     }
-    let conflicts = &Conflicts::of(problem);
+    let conflicts = &Conflicts::of(problem, prices);
     let order = &order_of(alloc, problem, depth)?;
     let by_prices = &ByPrices {
         problem,

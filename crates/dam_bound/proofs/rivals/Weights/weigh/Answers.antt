@@ -1,0 +1,18 @@
+-- The two products and their sum fit.
+use Rattle.std.proofs.Common.{◌*◌, sym, subst}
+use Rattle.dam_book.specs.Limits.{greatest_volume}
+use Rattle.dam_blocks.specs.Magnitude.{IsWithin}
+use Rattle.dam_bound.proofs.Rivalry.{weigh_exact, weigh_within}
+use Rattle.dam_bound.proofs.rivals.Weights.weigh.Goals as goal
+
+pub overflow_add-result : goal.overflow_add-result
+overflow_add-result c = (weigh_exact c.args.self c.args.sell c.args.buy c.requires.weights c.requires.sell c.requires.buy).0
+
+pub returns-clause-value : goal.returns-clause-value
+returns-clause-value c = (weigh_exact c.args.self c.args.sell c.args.buy c.requires.weights c.requires.sell c.requires.buy).1
+
+pub returns-clause-size : goal.returns-clause-size
+returns-clause-size c n sell buy =
+    subst (IsWithin (2 * (greatest_volume * n)))
+    (sym (weigh_exact c.args.self c.args.sell c.args.buy c.requires.weights c.requires.sell c.requires.buy).1)
+    (weigh_within c.args.self c.args.sell c.args.buy n c.requires.weights sell buy)
