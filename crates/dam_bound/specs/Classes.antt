@@ -1,13 +1,11 @@
 -- The classes of a day's periods: two periods are in one class if every block has the same volume in both. So the net
 -- volume of a selection is the same in all periods of a class, and their welfare is a function of one number.
-use Rattle.std.specs.Prelude.{◌≡◌, ℕ, zero, suc, ◌<◌, ◌==◌, Bool, true, ◌&&◌, if◌then◌else◌, ℤ, pos, ◌+ℤ◌, Option, List, [], ◌∷◌, length, drop, slice_index_or}
+use Rattle.std.specs.Prelude.{◌≡◌, ℕ, zero, suc, ◌<◌, ◌==◌, Bool, true, ◌&&◌, if◌then◌else◌, ℤ, pos, ◌+ℤ◌, List, [], ◌∷◌, length, slice_index_or}
 use Rattle.dam_book.specs.Limits.{last_period}
 use Rattle.dam_hour.specs.declared.step.Step.{Step}
-use Rattle.dam_curve.specs.Curve.{joint_welfare}
 use Rattle.dam_blocks.specs.declared.problem.Block.{Block}
 use Rattle.dam_blocks.specs.Problem.{ProblemState}
 use Rattle.dam_blocks.specs.Selection.{volume_in}
-use Rattle.dam_bound.specs.Relaxed.{relaxed_hours}
 
 -- whether every block has the same volume in the periods at both places
 abbrev pub are_alike : List Block → ℕ → ℕ → Bool
@@ -34,14 +32,6 @@ members blocks c i (steps ∷ hours) =
 abbrev pub over_class : (ℕ → ℤ) → List Block → ℕ → ℕ → ℕ → ℤ
 over_class f blocks c i zero = pos 0
 over_class f blocks c i (suc n) = (if first_of blocks i == c then f (suc i) else pos 0) +ℤ over_class f blocks c (suc i) n
-
--- the periods of a class with the hourly orders, and after them of the blocks that as many decisions leave undecided
-abbrev pub class_hours : ProblemState → ℕ → ℕ → List (List Step)
-class_hours problem depth c = members problem.blocks c 0 (relaxed_hours (drop depth problem.blocks) 1 problem.hours)
-
--- their greatest welfares at the same net volume, added up; None if one of them doesn't balance
-abbrev pub class_welfare : ProblemState → ℕ → ℕ → ℤ → Option ℤ
-class_welfare problem depth c net = joint_welfare (class_hours problem depth c) net
 
 -- the first period of each class
 pub record AreFirsts (problem : ProblemState) (firsts : List ℕ) : Type 0 where

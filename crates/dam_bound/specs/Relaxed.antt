@@ -31,7 +31,7 @@ relaxed_welfare problem prefix =
     welfare_from problem.blocks prefix 1
     (relaxed_hours (drop (length prefix) problem.blocks) 1 problem.hours)
 
--- the problem without the places of its rows, at which no bound looks
+-- the problem without the places of its rows, on which no bound depends
 abbrev pub without_rows : ProblemState → ProblemState
 without_rows problem = record problem { rows = [] }
 

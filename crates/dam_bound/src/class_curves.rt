@@ -78,8 +78,8 @@ impl<'a, A: Allocator, B: Allocator + Copy> ClassCurves<'a, A, B> {
 
 impl<A: Allocator, B: Allocator> ClassCurves<'_, A, B> {
     /// Writes a bound by prices. Its prices are those at which the taken blocks, and half of the volume of those that are
-    /// left open, would clear, so that it is near for selections that accept the taken blocks and some of the open ones.
-    /// But it bounds every selection. Takes no memory.
+    /// left open, would clear, so that the bound of the selections that accept the taken blocks and some of the open ones is
+    /// little above their welfares. But it bounds every selection. No clause says how tight it is. Takes no memory.
     pub fn bound_by_prices(&self, taken: Selection, left: &[u8], bound: &mut PriceBound)
         requires { All (λ place. place < most_blocks) left.now }
         ensures { IsPriceBound self.now bound.new }
@@ -121,7 +121,8 @@ impl<A: Allocator, B: Allocator> ClassCurves<'_, A, B> {
         if total < least { None } else { Some(total) }
     }
 
-    /// Whether an accepted block loses at the prices of a selection with which every period balances. Takes no memory.
+    /// Whether an accepted block, together with the accepted blocks that descend from it, loses at the prices of a
+    /// selection with which every period balances: one for which `welfare` returns a welfare. Takes no memory.
     pub fn has_loss(&self, selection: Selection) -> bool
         requires { (w : ℤ) × (selection_welfare self.now selection ≡ Some w) }
         ensures { (prices : List ℤ) → ArePrices self.now.blocks selection 1 self.now.hours prices

@@ -13,7 +13,7 @@
 //! let rivals = curves.are_rivals(0, 1); // if true, no eligible selection accepts both
 //!
 //! let relaxed = Relaxed::build(alloc, &problem)?;
-//! let weaker = relaxed.bound(Selection::none().with(0), 1); // block 0 accepted, the others open
+//! let relaxed_welfare = relaxed.bound(Selection::none().with(0), 1); // block 0 accepted, the others open
 //! ```
 //!
 //! At any prices, the welfare of a selection is at most the surplus of all hourly orders and the gains of its blocks at

@@ -38,9 +38,9 @@ impl PriceBound {
         }
     }
 
-    /// The greatest bound of the selections that accept `taken`, any of the blocks at the places that are left open, and no
-    /// others:
-    /// the base, the gain of each block that is taken, and each gain above 0 of an open one.
+    /// The greatest bound of the selections that accept `taken`, any of the blocks at the places that are left open, and
+    /// no others: the base, the gain of each block that is taken, and each gain above 0 of an open one. A place that is
+    /// left twice counts twice.
     pub fn most(&self, taken: Selection, left: &[u8]) -> i64
         requires bound { (problem : ProblemState) × IsPriceBound problem self.now }
         requires places { All (λ place. place < most_blocks) left.now }

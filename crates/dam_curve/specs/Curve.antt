@@ -29,7 +29,7 @@ pub record IsSegment (f : ℤ → Option ℤ) (segment : Segment) (least : ℤ) 
   pub ordered : least ≤ℤ segment.most
   pub each : (net : ℤ) → least ≤ℤ net → net ≤ℤ segment.most → f net ≡ Some (segment_at segment net)
 
--- the net volume down to which a segment before these holds, if the last of them holds down to this one
+-- the greatest net volume of the segments, down to which a segment before them holds; without segments, this net volume
 abbrev pub end_of : List Segment → ℤ → ℤ
 end_of [] least = least
 end_of (segment ∷ segments) least = segment.most
@@ -80,7 +80,7 @@ AreHours (steps ∷ periods) = IsHour steps × AreHours periods
 abbrev pub greatest_segment_surplus : ℕ
 greatest_segment_surplus = 3 * (most_steps * (price_span * greatest_volume))
 
--- a segment over this number of periods
+-- the sizes of a segment over this number of periods
 pub record IsSmallSegment (count : ℕ) (segment : Segment) : Type 0 where
   pub price_at_least : neg_ℤ (pos (count * greatest_price)) ≤ℤ segment.price
   pub price_at_most : segment.price ≤ℤ pos (count * greatest_price)
@@ -89,7 +89,7 @@ pub record IsSmallSegment (count : ℕ) (segment : Segment) : Type 0 where
   pub surplus_at_least : neg_ℤ (pos (count * greatest_segment_surplus)) ≤ℤ segment.surplus
   pub surplus_at_most : segment.surplus ≤ℤ pos (count * greatest_segment_surplus)
 
--- each of the segments is a segment over this number of periods
+-- each of the segments has the sizes of one over this number of periods
 abbrev pub AreSmallSegments : ℕ → List Segment → Type 0
 AreSmallSegments count [] = Unit {0}
 AreSmallSegments count (segment ∷ segments) = IsSmallSegment count segment × AreSmallSegments count segments
@@ -98,8 +98,9 @@ AreSmallSegments count (segment ∷ segments) = IsSmallSegment count segment × 
 abbrev pub AreWithin : List Segment → ℤ → ℤ → Type 0
 AreWithin segments least most = 0 < length segments → (least ≤ℤ bottom_of segments) × (end_of segments (pos 0) ≤ℤ most)
 
--- the segments are the joint welfare of the periods at each net volume from the least to the most, and at no other: if no
--- segment holds at one of these, there is none; the welfare is under the line of each, and their prices are the periods'
+-- the segments are the joint welfare of the periods at each net volume from the least to the most, and hold at no other; at
+-- a net volume of the range at which none holds, some period doesn't balance; the welfare is under the line of each segment,
+-- and their prices are the periods'
 pub record IsCurve (periods : List (List Step)) (least most : ℤ) (segments : List Segment) : Type 0 where
   pub few : length periods ≤ last_period
   pub are_hours : AreHours periods

@@ -1,4 +1,4 @@
--- Lines over the greatest welfare of periods, and the clearing prices of periods.
+-- Lines over the greatest welfare of periods.
 use Rattle.std.specs.Prelude.{◌≡◌, ℕ, ◌*◌, ℤ, pos, neg_ℤ, ◌+ℤ◌, ◌*ℤ◌, ◌≤ℤ◌, Some, List}
 use Rattle.dam_hour.specs.Limits.{greatest_price}
 use Rattle.dam_hour.specs.declared.step.Step.{Step}
@@ -15,7 +15,7 @@ abbrev pub IsAbove : List (List Step) → ℤ → ℤ → Line → Type 0
 IsAbove periods least most line =
     (net w : ℤ) → least ≤ℤ net → net ≤ℤ most → joint_welfare periods net ≡ Some w → w ≤ℤ line_at line net
 
--- a line over this number of periods
+-- the sizes of a line over this number of periods
 pub record IsSmallLine (count : ℕ) (line : Line) : Type 0 where
   pub price_at_least : neg_ℤ (pos (count * greatest_price)) ≤ℤ line.price
   pub price_at_most : line.price ≤ℤ pos (count * greatest_price)

@@ -22,7 +22,7 @@ const HINTS: usize = 8;
 pub(crate) struct Hints {
     /// Where they begin.
     pub(crate) first: u32,
-    /// By how many bits a net volume under the greatest is shifted to find one.
+    /// By how many bits the distance of a net volume from the greatest is shifted to find one.
     pub(crate) shift: u32,
 }
 
@@ -276,7 +276,8 @@ impl<A: Allocator> Curves<A> {
     }
 
     /// A line over the joint welfare of the curve's periods, which touches it at the net volume; if some period doesn't
-    /// balance there, it touches it at the nearest net volume at which they do. Takes no memory.
+    /// balance there, it touches it at the nearest net volume at which they do. A curve without segments has the line with
+    /// price 0 and surplus 0. Only tests show that the line touches. Takes no memory.
     #[inline(always)]
     pub fn line_near(&self, curve: Curve, net: i64) -> Line
         requires { (periods : List (List Step)) × (least : ℤ) × (most : ℤ)

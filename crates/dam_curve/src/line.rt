@@ -2,7 +2,7 @@
 /// net volume.
 ///
 /// At any prices of some periods, the welfare of their orders is at most the surplus of all orders at these prices,
-/// plus the prices times the net volume. So a line over their greatest welfare has the prices, added up, as its price.
+/// plus the prices times the net volume. That is a line over their greatest welfare: its price is the prices, added up.
 #[derive(Clone, Copy, PartialEq, Eq, Debug)]
 pub struct Line {
     /// The prices of the periods, added up, in cents per MWh.

@@ -15,7 +15,7 @@ pub(crate) struct Segment {
     pub(crate) price: i32,
     /// The clearing prices of the periods at its greatest net volume, added up, in cents per MWh.
     pub(crate) dot: i32,
-    /// The gain of all orders of the periods at the price, in cents per MWh times tenths of a MW.
+    /// The surplus of all orders of the periods at the price, in cents per MWh times tenths of a MW.
     pub(crate) surplus: i64,
 }
 

@@ -123,7 +123,7 @@ fn search_alone_with<P: Prices>(
 /// words. It is for callers that can't start threads.
 ///
 /// It finds the result of `search`, whose clauses it has for a plan that cuts nothing. The whole search
-/// is piece 0, which visits at most `nodes` nodes; 67,108,864 are enough for any problem.
+/// is piece 0. If it needs more than `nodes` nodes, it is unfinished; 67,108,864 are enough for any problem.
 pub fn search_alone(alloc: Global, problem: &Problem, nodes: u32) -> Result<Best, SearchFault>
     ensures ok { IfOk result (λ best. IsResult problem.now best.selection (pos best.welfare)) }
     ensures unfinished { (piece visited : ℕ)

@@ -13,8 +13,8 @@ pub struct PieceAnswer {
     /// The greatest value that was read of the incumbent on the way, in cents per MWh times tenths
     /// of a MW; 0 if nothing was read.
     pub read: u64,
-    /// How many nodes were visited: prefixes whose bound was compared with the incumbent read, and selections whose
-    /// welfare was looked at.
+    /// How many nodes were visited: those whose bound was compared with the incumbent read, and selections whose welfare
+    /// was looked at. No clause bounds it if the limit on nodes can't stop the walk.
     pub visited: u32,
     /// Whether no node is left to visit. It is false only if `visited` is the limit.
     pub done: bool,

@@ -28,8 +28,8 @@ pub trait Explorer {
     /// Whether it explores the pieces of a cutting of this depth, each with this limit on nodes.
     ghost suits: { Self → ℕ → ℕ → Bool };
 
-    /// Explores a piece of the cutting that decides the first `depth` blocks, with this limit on nodes. It finds the
-    /// piece's best eligible selection, apart from those with less welfare than was read of the incumbent.
+    /// Explores a piece of the cutting that decides the first `depth` blocks, with this limit on nodes. If the answer is
+    /// `done`, it has the piece's best eligible selection, apart from those with less welfare than was read of the incumbent.
     fn explore<I: Incumbent>(
         &self,
         piece: u32,

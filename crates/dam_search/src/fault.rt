@@ -4,8 +4,8 @@ use thiserror::Error;
 /// Why a search has no result, in the order in which the faults are looked for.
 #[derive(Clone, Copy, PartialEq, Eq, Debug, Error)]
 pub enum SearchFault {
-    /// A growth was refused: of the bounds, the words or the lists, before the work, or of a worker's own
-    /// list, before its first draw. If there is no memory to keep losses, the search goes on without them.
+    /// A growth was refused: of the curves, the bounds, the order, the words or the lists, before the work, or of a
+    /// worker's own list, before its first draw.
     #[error("out of memory")]
     Memory,
     /// Some piece has no answer of the workers, or more than one. `search` and `search_alone` never

@@ -1,6 +1,6 @@
 ghost use Rattle.std.specs.Prelude.{◌≡◌, ◌≤◌, ℕ, max};
 
-/// The greatest welfare known to a search, by which its pieces are pruned: a prefix whose bound is less than the value
+/// The greatest welfare known to a search, by which its pieces are pruned: a node whose bound is less than the value
 /// read is passed over.
 ///
 /// An incumbent keeps two numbers, in cents per MWh times tenths of a MW: the greatest value that
@@ -19,8 +19,8 @@ pub trait Incumbent {
     ghost kept: { Self → Self.Kept };
 
     /// A welfare to prune by, never less than this incumbent's earlier answers, in cents per MWh
-    /// times tenths of a MW. A walk asks for it at each node that leaves a block undecided, and compares
-    /// the node's bound with it.
+    /// times tenths of a MW. A walk compares a node's bound with it. A walk by prices asks for it at each node, and a
+    /// walk by relaxed welfares at each that leaves a block undecided.
     fn read(&mut self) -> u64
         ensures rises { greatest_read self.old ≤ result }
         ensures greatest_read { greatest_read self.new ≡ result }

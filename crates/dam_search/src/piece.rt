@@ -136,8 +136,8 @@ impl<A: Allocator, B: Allocator> SearchSpace<'_, A, B> {
     }
 }
 
-/// Explores a piece of the cutting that decides the first `depth` blocks, and finds its best eligible
-/// selection, apart from those with less welfare than was read of the incumbent.
+/// Explores a piece of the cutting that decides the first `depth` blocks. If the answer is `done`, it has the piece's
+/// best eligible selection, apart from those with less welfare than was read of the incumbent.
 ///
 /// In piece j the block at place i is accepted if the binary digit of j with weight 2 to the power
 /// `depth` - 1 - i is 0. A node is a prefix that extends the piece's. If the links and the groups admit

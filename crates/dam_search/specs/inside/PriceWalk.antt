@@ -26,7 +26,7 @@ pub record IsNode (taken rejected : List Bool) (left : List ℕ) : Type 0 where
   pub apart : (place : ℕ) → accepts rejected place ≡ true
       → (accepts taken place ≡ false) × (is_among place left ≡ false)
 
--- the prices bound the welfare of each selection, and that of the open ones is at most this number
+-- the prices bound the welfare of each selection, and their bound of the open ones is at most this number
 pub record IsBounded (problem : ProblemState) (prices : PriceBound) (taken : List Bool) (left : List ℕ)
     (bound : ℤ) : Type 0 where
   pub is_price_bound : IsPriceBound problem prices
