@@ -28,7 +28,7 @@ MOST_BYTES = {
     "README.md": 7_168,
     "ARCHITECTURE.md": 6_600,
     "ASSURANCE.md": 22_000,
-    "DECISIONS.md": 15_500,
+    "DECISIONS.md": 15_700,
     "MEASURED.md": 8_000,
     "OPERATING.md": 6_150,
     "READING.md": 4_500,

@@ -4,7 +4,7 @@ use Rattle.dam_book.specs.declared.command.Command.{Command}
 use Rattle.dam_book.specs.declared.command.Command.TheVariants.{Submit, Amend, Cancel, Close}
 use Rattle.dam_book.specs.declared.order.Order.TheVariants.{Hour, Block}
 
--- who gives the command; a close is nobody's
+-- who gives the command; a close has no participant
 abbrev pub giver : Command → Option (List ℕ)
 giver (Submit who name order) = Some who
 giver (Amend who name price volumes) = Some who
