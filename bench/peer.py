@@ -71,7 +71,7 @@ class Cbc:
 
 
 def mps(program):
-    """A program in the free form of MPS, with R0, R1, .. for its rows and C0, C1, .. for its columns."""
+    """A program in the free form of MPS. A row is named R and its number, a column C and its number."""
     rows, ranges, entries = [], [], [[] for _ in program.costs]
     for number, (lower, upper) in enumerate(program.rows):
         kind, side = ("E" if lower == upper else "G", lower) if lower > -INFINITE else ("L", upper)
