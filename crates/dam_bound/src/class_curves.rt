@@ -54,7 +54,8 @@ impl<'a, A: Allocator, B: Allocator> Model for ClassCurves<'a, A, B> {
 
     ghost view = { λ c. without_rows c.problem.now };
 
-    ghost invariant = { λ c. AreClassCurves (without_rows c.problem.now) c.curves c.classes.items c.values c.families.items };
+    ghost invariant = { λ c. AreClassCurves (without_rows c.problem.now) c.curves c.classes.items
+        c.values c.families.items };
 }
 
 impl<'a, A: Allocator, B: Allocator + Copy> ClassCurves<'a, A, B> {

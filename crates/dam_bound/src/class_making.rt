@@ -50,7 +50,8 @@ fn value_over(order: &BlockOrder, count: usize) -> i64
 pub(crate) fn values_of(blocks: &[Block], count: usize) -> [i64; MOST_BLOCKS]
     requires few { length blocks.now ≤ most_blocks }
     requires count { count ≤ last_period }
-    ensures { result ≡ at_places most_blocks (λ o. over_periods (λ t. value_of t o) 1 count) blocks.now }
+    ensures { result
+        ≡ at_places most_blocks (λ o. over_periods (λ t. value_of t o) 1 count) blocks.now }
 {
     let mut values = [0; MOST_BLOCKS];
     for (place, block) in blocks.iter().enumerate() {
@@ -85,7 +86,8 @@ fn curve_of<A: Allocator, B: Allocator + Copy>(
 ) -> Result<Curve, AllocError>
     requires firsts { AreFirsts problem.now firsts.now }
     requires nets { AreWithin greatest_volume nets.now }
-    ensures curve { IfOk result (λ curve. IsCurveAt curves.new curve (class_orders problem.now class)
+    ensures curve { IfOk result (λ curve.
+        IsCurveAt curves.new curve (class_orders problem.now class)
         (negative_sum nets.now) (positive_sum nets.now)) }
     ensures kept { Keeps curves.old curves.new }
 {
@@ -108,7 +110,8 @@ pub(crate) fn classes_of<A: Allocator, B: Allocator + Copy>(
     problem: &Problem<A>,
     curves: &mut Curves<B>,
 ) -> Result<Vec<Class, B>, AllocError>
-    ensures { IfOk result (λ classes. AreClasses (without_rows problem.now) curves.new classes.items) }
+    ensures { IfOk result (λ classes.
+        AreClasses (without_rows problem.now) curves.new classes.items) }
 {
     let blocks = problem.blocks();
     let count = usize::from(problem.periods().get());

@@ -69,8 +69,10 @@ pub(crate) fn family_gain(
 ) -> i64
     requires place { place < most_blocks }
     requires gains { AreWithin greatest_priced_gain gains.now }
-    ensures { (blocks : List Block) (prices : List ℤ) → place < length blocks → length blocks ≤ most_blocks
-        → IsFamily blocks place family → gains.now ≡ at_places most_blocks (surplus_of prices) blocks
+    ensures { (blocks : List Block) (prices : List ℤ)
+        → place < length blocks → length blocks ≤ most_blocks
+        → IsFamily blocks place family
+        → gains.now ≡ at_places most_blocks (surplus_of prices) blocks
         → result ≡ family_surplus blocks selection prices place }
 {
     laws::descendants();

@@ -135,7 +135,8 @@ fn write_segments<A: Allocator>(
 ) -> Result<(), AllocError>
     requires { length steps.now ≤ most_steps }
     ensures { OnOk result (segments.new.items
-        ≡ segments_from (offered_volume Buy steps.now) (worth_of steps.now) lowest_price 0 0 steps.now) }
+        ≡ segments_from (offered_volume Buy steps.now) (worth_of steps.now)
+        lowest_price 0 0 steps.now) }
 {
     let demand = Demand::of(steps);
     let mut previous = Price::lowest();

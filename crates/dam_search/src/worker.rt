@@ -32,7 +32,8 @@ pub fn work<A: Allocator, E: Explorer, T: Turnstile>(
     requires depth { depth ≤ length (E.explored explorer.now).blocks }
     requires fresh { IsFresh (2 ^ depth) (view_of seat.old.seat) }
     ensures answers { IfOk result (λ answers.
-        AreAnswersOf (E.explored explorer.now) depth nodes 0 (view_of seat.new.seat) answers.items) }
+        AreAnswersOf (E.explored explorer.now) depth nodes 0
+        (view_of seat.new.seat) answers.items) }
     ensures offered { IfOk result (λ answers.
         (view_of seat.new.seat).greatest_offer ≡ greatest_found answers.items) }
     ensures stopped { IfOk result (λ _. (view_of seat.new.seat).draws_past_the_end ≡ 1) }
