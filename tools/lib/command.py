@@ -2,6 +2,7 @@
 library."""
 
 import argparse
+import contextlib
 import errno
 import importlib.util
 import os
@@ -16,6 +17,7 @@ from .rules import VERSION
 
 DEBIAN_PYTHON = "/usr/bin/python3"
 LONGEST_PATH = 400  # characters of the name of a file in a message
+MOST_BYTES, PART = 64 << 20, 1 << 20  # of a file that a tool reads, and of those how many at once
 SEE_AUDIT = place.as_here("see tools/audit")
 # Debian's packages; tests/packages lists them all.
 PACKAGES = {
@@ -47,20 +49,26 @@ def run(name, main):
     hold_streams()
     try:
         sys.exit(main())
-    except Stop as stop:
-        tell(name, stop)
-        sys.exit(stop.status)
-    except KeyboardInterrupt:
-        tell(name, "interrupted")
-        sys.exit(INTERRUPTED)
     except BrokenPipeError:
         discard(sys.stdout)
         sys.exit(NO_INPUT)
-    except OSError as fault:
-        if ending.is_memory(fault):
+    except (Stop, KeyboardInterrupt, OSError) as fault:
+        status, said = end_of(fault)
+        if status == FAILED and not isinstance(fault, Stop):
             raise
-        tell(name, f"a device failed: {fault.strerror}")
-        sys.exit(NO_INPUT)
+        tell(name, said)
+        sys.exit(status)
+
+
+def end_of(fault):
+    """The status with which a fault ends a tool, and the message."""
+    if isinstance(fault, Stop):
+        return fault.status, str(fault)
+    if isinstance(fault, KeyboardInterrupt):
+        return INTERRUPTED, "interrupted"
+    if isinstance(fault, OSError) and not ending.is_memory(fault) and not ending.is_files(fault):
+        return NO_INPUT, f"a device failed: {fault.strerror}"
+    return FAILED, ending.words(fault)
 
 
 def on_lines(words):
@@ -138,11 +146,24 @@ def bytes_of(stream):
 
 
 def read_bytes(path):
-    """The bytes of a file; `-` is standard input."""
+    """The bytes of a file; `-` is standard input. A file that has more than any text of a day may have no end, and isn't read on."""
     try:
-        return bytes_of(sys.stdin).read() if path == "-" else Path(path).read_bytes()
+        with contextlib.nullcontext(bytes_of(sys.stdin)) if path == "-" else open(path, "rb") as file:
+            data = first_bytes(file, MOST_BYTES + 1)
     except OSError as fault:
         raise Stop(f"{shown(path)} can't be read: {fault.strerror}") from None
+    if len(data) > MOST_BYTES:
+        raise Stop(f"{shown(path)} has more than {MOST_BYTES:,} bytes")
+    return data
+
+
+def first_bytes(file, most):
+    """At most this many bytes of an open file. Memory is taken as they come."""
+    parts = []
+    while most > 0 and (part := file.read(min(most, PART))):
+        parts.append(part)
+        most -= len(part)
+    return b"".join(parts)
 
 
 def write_output(data):
@@ -197,8 +218,13 @@ def read_texts(path, results_path):
         return data, read_bytes(results_path)
     texts = results.split_day(data)
     if texts is None:
-        raise Stop(f"{shown(path)} has no line 'results': give the results file after the journal")
+        raise Stop(no_results(path))
     return texts
+
+
+def no_results(path):
+    """The message about a file that isn't the text of a day."""
+    return f"{shown(path)} has no line 'results': give the results file after the journal"
 
 
 def refuse_kind(path, data, right, hints=()):

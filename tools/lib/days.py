@@ -1,14 +1,17 @@
 """The audit of many days: each in a process of its own, so that one which breaks, or takes all memory, doesn't end the rest."""
 
-import concurrent.futures
+import errno
 import json
 import os
+import stat
 import subprocess
 import sys
+import threading
 from pathlib import Path
 from typing import NamedTuple
 
-from . import command, results, sheets, text, verdict
+from . import command, ending, record, sheets, text, verdict
+from .engine import Running
 from .progress import Bar
 
 TOOL = Path(__file__).resolve().parents[1] / "audit"
@@ -17,7 +20,6 @@ COLUMNS = ["journal", "results"]  # of a manifest
 MOST_SHOWN = command.LONGEST_PATH + 200  # characters of the first fault, which may begin with a file's name
 # Of the statuses of the days, the first that one of them has is the status of all.
 WORST = [command.DIFFERS, command.FAILED, command.NO_INPUT, command.UNDECIDED, command.ENCODING]
-VERDICTS = [verdict.RIGHT, verdict.WRONG, verdict.ENCODING, verdict.UNREAD, verdict.UNDECIDED, verdict.FAILED]
 HEADS = ["day", "verdict", "periods", "hourly", "blocks", "accepted", "welfare, EUR", "refused", "faults", "seconds", "first fault"]
 TO_THE_RIGHT = {"periods", "hourly", "blocks", "accepted", "welfare, EUR", "refused", "faults", "seconds"}
 
@@ -28,11 +30,12 @@ class Pair(NamedTuple):
     name: str
     journal: Path
     results: object
-    unread: object = None  # why they can't be checked, if that is known beforehand
+    unread: object = None  # why they can't be read, if that is known beforehand
+    missing: object = None  # the message if there are no results, and the journal isn't the text of a day
 
 
 def pairs_of(place):
-    """The days of a folder, by name, or of a manifest, in its order."""
+    """The days of a folder, by name, or of a manifest, in its order. None of their files is read."""
     path = Path(place)
     try:
         pairs = named_pairs(path) if path.is_dir() else list(listed_pairs(path))
@@ -48,7 +51,7 @@ def named_pairs(folder):
     found = {}
     for path in sorted(folder.iterdir()):
         key = path.stem, path.suffix.lower()
-        if key[1] in (JOURNAL, RESULTS) and path.is_file():
+        if key[1] in (JOURNAL, RESULTS):
             if key in found:
                 raise command.Stop(f"{command.shown(found[key])} and {command.shown(path)} have one name: rename one of them")
             found[key] = path
@@ -57,25 +60,28 @@ def named_pairs(folder):
 
 
 def pair_of(name, journal, published):
-    if not journal.is_file():
-        return Pair(name, journal, published, f"{command.shown(journal)} is missing")
-    if published.is_file():
-        return Pair(name, journal, published)
-    return Pair(name, journal, None, f"{command.shown(published)} is missing" if lacks_results(journal) else None)
+    if os.path.lexists(published):
+        return Pair(name, journal, published, unread_file(journal) or unread_file(published), None)
+    return Pair(name, journal, None, unread_file(journal), f"{command.shown(published)} is missing")
 
 
-def lacks_results(journal):
-    """Whether a file isn't the text of a day, as far as it can be read."""
+def unread_file(path):
+    """Why a path has no file that can be read, if it has none. A device or a pipe may have no end."""
     try:
-        return results.split_day(journal.read_bytes()) is None
-    except OSError:
-        return False
+        mode = os.stat(path).st_mode
+    except FileNotFoundError:
+        return f"{command.shown(path)} is a link to a file that is missing" if path.is_symlink() else f"{command.shown(path)} is missing"
+    except OSError as fault:
+        return f"{command.shown(path)} can't be read: {fault.strerror}"
+    if stat.S_ISDIR(mode):
+        return f"{command.shown(path)} can't be read: {os.strerror(errno.EISDIR)}"
+    return None if stat.S_ISREG(mode) else f"{command.shown(path)} is a device or a pipe, and a day has files"
 
 
 def listed_pairs(path):
     """The pairs of a manifest: a table with the columns `journal` and `results`, whose files are sought from its own folder."""
     try:
-        rows = [cells for _, cells in sheets.text_rows(path.read_bytes())[0]]
+        rows = [cells for _, cells in sheets.text_rows(command.read_bytes(path))[0]]
     except sheets.Wrong as fault:
         raise command.Stop(f"{command.shown(path)} isn't a table of days: {fault}") from None
     heads = [cell.strip().lower() for cell in rows[0]] if rows else []
@@ -86,20 +92,25 @@ def listed_pairs(path):
     for row in rows[1:]:
         cells = dict(zip(heads, (cell.strip() for cell in row)))
         if any(cells.values()):
-            journal, published = (path.parent / cells.get(name, "") for name in COLUMNS)
-            name = cells.get("day") or journal.stem
-            yield Pair(name, journal, published if cells.get("results") else None, unread_row(cells, journal))
+            yield listed_pair(path.parent, cells)
 
 
-def unread_row(cells, journal):
-    """Why the files that a row of a manifest names can't be read, if that is known beforehand."""
+def listed_pair(folder, cells):
+    """The pair of a row of a manifest."""
+    journal, published = (folder / cells.get(name, "") for name in COLUMNS)
+    has_results = bool(cells.get("results"))
+    missing = None if has_results else f"its row names no results, and {command.shown(journal)} has no line 'results'"
+    unread = unread_row(cells) or unread_file(journal) or (unread_file(published) if has_results else None)
+    return Pair(cells.get("day") or journal.stem, journal, published if has_results else None, unread, missing)
+
+
+def unread_row(cells):
+    """Why a row of a manifest names no files, if it names none."""
     if not cells.get("journal"):
         return "its row names no journal"
     for name in COLUMNS:
         if "\0" in cells.get(name, ""):
             return f"the name {text.quoted(cells[name])} has a NUL"
-    if not cells.get("results") and lacks_results(journal):
-        return f"its row names no results, and {command.shown(journal)} has no line 'results'"
     return None
 
 
@@ -110,82 +121,129 @@ def options_of(args):
     return words + (["--seconds", str(args.seconds)] if args.seconds is not None else [])
 
 
+def file_name(path):
+    """The name of a file on the command line of a day; `-` alone would be standard input."""
+    return "./-" if str(path) == "-" else str(path)
+
+
 def audited(pair, options, running):
-    """The record of the audit of a day. Its process is among those that run, until it ends."""
+    """The record of the audit of a day, also if the audit fails."""
     if pair.unread is not None:
         return failed(pair, command.NO_INPUT, pair.unread)
-    files = [str(path) for path in (pair.journal, pair.results) if path is not None]
-    words = [sys.executable, os.fspath(TOOL), "--json", *options, "--", *files]
     try:
-        process = subprocess.Popen(words, stdin=subprocess.DEVNULL, stdout=subprocess.PIPE, stderr=subprocess.PIPE)
+        return of_process(pair, *ran(pair, options, running))
     except OSError as fault:
         return failed(pair, command.FAILED, f"its process can't be started: {fault.strerror}")
-    running.add(process)
-    out, err = process.communicate()
-    running.discard(process)
+    except Exception as fault:
+        return failed(pair, command.FAILED, ending.words(fault))
+
+
+def ran(pair, options, running):
+    """The status of the process of a day, its output and its lines on standard error. Until it ends, it is among the `running`."""
+    files = [file_name(path) for path in (pair.journal, pair.results) if path is not None]
+    words = [sys.executable, os.fspath(TOOL), "--json", *options, "--", *files]
+    process = subprocess.Popen(words, stdin=subprocess.DEVNULL, stdout=subprocess.PIPE, stderr=subprocess.PIPE)
+    with running.holds(process):
+        out, err = process.communicate()
+    return process.returncode, out, err
+
+
+def of_process(pair, status, out, err):
+    """The record that the process of a day printed."""
     try:
-        record = json.loads(out)
-        if record["status"] == process.returncode:
-            return {"name": pair.name, **record}
+        made = json.loads(out)
+        if made["status"] == status:
+            if pair.missing and made["message"] == command.no_results(pair.journal):
+                made["message"] = pair.missing
+            return {"name": pair.name, **made}
     except (ValueError, KeyError, TypeError):
         pass
     said = err.decode(errors="replace").strip().splitlines()
-    how = said[-1] if said else f"its process ended with {process.returncode}"
+    how = said[-1] if said else f"its process ended with {status}"
     return failed(pair, command.FAILED, how.removeprefix("audit: "))
 
 
 def failed(pair, status, message):
     """A record of a day without a verdict, of which no file was read."""
-    paths = [("journal", pair.journal), ("results", pair.results)]
-    files = [{"role": role, "file": str(path), "bytes": None, "sha256": None} for role, path in paths if path]
-    said = {"verdict": verdict.OF_STATUS[status], "status": status, "message": message}
-    made = {"version": verdict.VERSION, "seconds": 0.0, "inputs": files, "checked": [], "day": None, "search": None, "faults": []}
-    return {"name": pair.name, **said, **made}
+    files = [(role, file_name(path)) for role, path in (("journal", pair.journal), ("results", pair.results)) if path]
+    return {"name": pair.name, **record.unread(verdict.OF_STATUS[status], status, message, files)}
+
+
+class Work:
+    """The audits of all days, which threads take one by one. `records` has those that are made, in the order of the days."""
+
+    def __init__(self, pairs, options):
+        self.pairs, self.options, self.running = pairs, options, Running()
+        self.records, self.places = [None] * len(pairs), iter(range(len(pairs)))
+        self.lock, self.done = threading.Lock(), threading.Semaphore(0)
+
+    def next(self):
+        with self.lock:
+            return next(self.places, None)
+
+    def run(self):
+        """The work of a thread."""
+        while (at := self.next()) is not None:
+            try:
+                self.records[at] = audited(self.pairs[at], self.options, self.running)
+            except MemoryError:
+                pass  # it gets its record at the end
+            finally:
+                self.done.release()
+
+    def start(self, jobs):
+        """Starts threads, or fewer if memory is short, and does the work itself if there is none."""
+        for number in range(jobs):
+            try:
+                threading.Thread(target=self.run, daemon=True).start()
+            except RuntimeError:
+                if not number:
+                    self.run()
+                return
+
+    def end(self):
+        """No day is begun any more, and those that run end."""
+        with self.lock:
+            self.places = iter(())
+        self.running.end()
 
 
 def audit_all(pairs, options, jobs, bar):
     """The records of all days, in their order."""
-    records, running = [None] * len(pairs), set()
-    with concurrent.futures.ThreadPoolExecutor(jobs) as threads:
-        places = {threads.submit(audited, pair, options, running): at for at, pair in enumerate(pairs)}
-        try:
-            for done in concurrent.futures.as_completed(places):
-                records[places[done]] = done.result()
-                wrong = sum(record is not None and record["status"] == command.DIFFERS for record in records)
-                bar.step(1, f"{wrong} wrong" if wrong else "")
-        except BaseException:
-            threads.shutdown(wait=False, cancel_futures=True)
-            for process in list(running):
-                process.kill()
-            raise
-        finally:
-            bar.end()
-    return records
+    work = Work(pairs, options)
+    try:
+        work.start(jobs)
+        for _ in pairs:
+            work.done.acquire()
+            wrong = sum(made is not None and made["status"] == command.DIFFERS for made in work.records)
+            bar.step(1, f"{wrong} wrong" if wrong else "")
+    finally:
+        work.end()
+        bar.end()
+    return [made or failed(pair, command.FAILED, ending.words(MemoryError())) for pair, made in zip(pairs, work.records)]
 
 
-def cells(record):
+def cells(made):
     """The row of a day."""
-    day, faults = record.get("day") or {}, record["faults"]
-    words = faults[0]["words"].split("\n")[:1] if faults else (record["message"] or "").split("\n")
+    day, faults = made["day"] or {}, made["faults"]
+    words = faults[0]["words"].split("\n")[:1] if faults else (made["message"] or "").split("\n")
     first = "; ".join(map(str.strip, words))
     welfare = day.get("welfare_eur")
     numbers = [day.get(name, "") for name in ("periods", "hourly_orders", "blocks", "accepted")]
     shown = text.grouped(welfare) if welfare is not None else ""
-    seconds = f"{record['seconds']:.1f}" if "seconds" in record else ""
-    ends = [day.get("refused", ""), len(faults), seconds, text.safe(first, MOST_SHOWN)]
-    return [text.safe(record["name"]), record["verdict"], *numbers, shown, *ends]
+    ends = [day.get("refused", ""), len(faults), f"{made['seconds']:.1f}", text.safe(first, MOST_SHOWN)]
+    return [text.safe(made["name"]), made["verdict"], *numbers, shown, *ends]
 
 
 def total(records):
     """The last row: how many days there are of each verdict, and the sums."""
-    counts = [(sum(record["verdict"] == kind for record in records), kind) for kind in VERDICTS]
-    told = ", ".join(f"{count} {kind}" for count, kind in counts if count)
+    told = ", ".join(f"{count} {kind}" for kind, count in record.counts(records).items() if count)
 
     def summed(name):
-        return sum((record.get("day") or {}).get(name, 0) for record in records)
+        return sum((made["day"] or {}).get(name, 0) for made in records)
 
     sums = [summed(name) for name in ("hourly_orders", "blocks", "accepted")]
-    faults, seconds = sum(len(record["faults"]) for record in records), sum(record.get("seconds", 0) for record in records)
+    faults, seconds = sum(len(made["faults"]) for made in records), sum(made["seconds"] for made in records)
     return [text.counted(len(records), "day"), told, "", *sums, "", summed("refused"), faults, f"{seconds:.1f}", ""]
 
 
@@ -198,19 +256,18 @@ def aligned(rows):
         yield "  ".join(placed).rstrip()
 
 
+def table(records):
+    """The lines of the table of all days."""
+    return aligned([HEADS, *map(cells, records), total(records)])
+
+
 def status_of(records):
-    found = {record["status"] for record in records}
+    found = {made["status"] for made in records}
     return next((status for status in WORST if status in found), command.DONE)
 
 
 def audit(args):
-    """Checks all days, prints a table or a record of them, and returns the status."""
+    """The records of all days."""
     pairs = pairs_of(args.days)
     jobs = min(args.jobs or os.cpu_count() or 1, len(pairs))
-    records = audit_all(pairs, options_of(args), jobs, Bar("audit", len(pairs), "days", args.quiet))
-    if args.json:
-        counts = {kind: sum(record["verdict"] == kind for record in records) for kind in VERDICTS}
-        command.say([json.dumps({"status": status_of(records), "version": verdict.VERSION, "counts": counts, "days": records}, indent=1)])
-    elif not args.quiet:
-        command.say(aligned([HEADS, *map(cells, records), total(records)]))
-    return status_of(records)
+    return audit_all(pairs, options_of(args), jobs, Bar("audit", len(pairs), "days", args.quiet))

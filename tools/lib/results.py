@@ -8,8 +8,8 @@ from .faults import Fault, matched, moved, of_line
 
 ANOTHER = "these seem to be the results of another journal"
 
-# No welfare, surplus or volume of a result is as large.
-LARGE = 10**16
+# No welfare, surplus or volume of a result is as large, and no results or replies have as many lines.
+LARGE, MOST_LINES = 10**16, 20_000
 
 
 class Results(NamedTuple):
@@ -67,7 +67,7 @@ def line_values(line, known, behind):
 
 def beginning(line):
     """The subject of a line, if it is one of results: its known fields."""
-    fields = line.split(b",")
+    fields = line.split(b",", 3)
     return tuple(fields[: {b"day": 2, b"welfare": 1, b"period": 2}.get(fields[0], 3)])
 
 
@@ -131,7 +131,8 @@ def read_results(problem, data):
     wrong, lines, values = [], {}, []
     if not data.endswith(b"\n"):
         wrong.append(Fault("the last line of the results has no line end", "form"))
-    found = data.removesuffix(b"\n").split(b"\n")
+    found, more = first_lines(data)
+    wrong += more
     expected = list(expected_lines(problem))
     last = 0  # the last line that was found
     wanted = [tuple(field.encode() for field in known) for _, known, _ in expected]
@@ -161,6 +162,16 @@ def read_results(problem, data):
     if wrong:
         return None, foreign(wanted, beginnings) + wrong
     return gather(problem, values, lines), wrong
+
+
+def first_lines(data):
+    """The lines of a text that are looked at, and a fault if there are more."""
+    found = data.removesuffix(b"\n").split(b"\n", MOST_LINES)
+    if len(found) <= MOST_LINES:
+        return found, []
+    count = MOST_LINES + 1 + found.pop().count(b"\n")
+    words = f"the text has {count:,} lines, and no day has as many: those after line {MOST_LINES:,} weren't looked at"
+    return found, [Fault(words, "stray", MOST_LINES + 1)]
 
 
 def missing_line(line, lines, about):

@@ -9,6 +9,7 @@ from . import rules
 MARK = b"\xef\xbb\xbf"  # a byte order mark
 LINE_END = re.compile(rb"\r\n|\r|\n")
 LINE = re.compile(r"[^\r\n]+[\r\n]*|[\r\n]+")
+SURROGATE = re.compile("[\ud800-\udfff]")  # no character: it stands for a byte that isn't UTF-8
 NO_NUL = "\u0100"  # no byte: stands for the byte 0, which `csv` doesn't read before Python 3.11
 # No number of a journal or of results has more digits than 18.
 NUMBER = re.compile(rb"-?[1-9][0-9]{0,17}|0")
@@ -96,6 +97,15 @@ def participant(text):
 
 def name(text):
     return text.decode() if NAME.fullmatch(text) else None
+
+
+def for_json(value):
+    """A value as JSON that every reader takes: of a name of a file, the bytes that aren't UTF-8 are escaped, as in a message."""
+    if isinstance(value, dict):
+        return {for_json(key): for_json(held) for key, held in value.items()}
+    if isinstance(value, (list, tuple)):
+        return [for_json(held) for held in value]
+    return SURROGATE.sub(lambda found: escaped(found[0]), value) if isinstance(value, str) else value
 
 
 MOST_SHOWN = 80  # characters of a stranger's text in a message

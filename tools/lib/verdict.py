@@ -6,9 +6,9 @@ import time
 from . import better, book, check, command, journal, kinds, place, results, selection, sent, sums, text
 from .faults import Fault, matched
 from .progress import Progress
+from .record import ENCODING, FAILED, RIGHT, UNDECIDED, UNREAD, WRONG
 from .rules import VERSION
 
-RIGHT, WRONG, ENCODING, UNREAD, UNDECIDED, FAILED = "right", "wrong", "encoding", "unread", "undecided", "failed"
 # Of each status, the verdict.
 OF_STATUS = {
     command.DONE: RIGHT,
@@ -68,9 +68,10 @@ class Audit:
         return command.ENCODING if self.odd else command.DONE
 
     def read(self, role, path):
+        told = {"role": role, "file": str(path), "bytes": None, "sha256": None}
+        self.inputs.append(told)
         data = command.read_bytes(path)
-        name = "-" if path == "-" else str(path)
-        self.inputs.append({"role": role, "file": name, "bytes": len(data), "sha256": hashlib.sha256(data).hexdigest()})
+        told.update(bytes=len(data), sha256=hashlib.sha256(data).hexdigest())
         return data
 
     def texts(self):
@@ -88,7 +89,7 @@ class Audit:
         command.refuse_kind(options.journal, written, kinds.JOURNAL, HINTS)
         if published is None:
             if options.sent is None or options.best:
-                raise command.Stop(f"{command.shown(options.journal)} has no line 'results': give the results file after the journal")
+                raise command.Stop(command.no_results(options.journal))
             self.inputs[0]["role"] = "journal"
         return written, published
 
@@ -194,9 +195,9 @@ class Audit:
 
 def reply_faults(read, data):
     """The lines of a replies text that differ from the book's replies."""
-    wanted, found = (part.removesuffix(b"\n").split(b"\n") for part in (book.replies_text(read).encode(), data))
+    (wanted, _), (found, more) = (results.first_lines(part) for part in (book.replies_text(read).encode(), data))
     numbers = [[line.split(b",")[0] for line in part] for part in (wanted, found)]
-    wrong, last = [] if data else [Fault("the replies are empty", "form")], 0
+    wrong, last = more if data else [Fault("the replies are empty", "form")], 0
     for at, place in matched(*numbers):
         last = last if place is None else place + 1
         if place is None:

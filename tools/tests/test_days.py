@@ -1,16 +1,20 @@
 """The audit of many days: one broken pair doesn't end the rest, and the status is the worst one's."""
 
 import errno
+import functools
 import json
 import os
+import resource
+import subprocess
+import sys
 import tempfile
 import unittest
 import unittest.mock
 from pathlib import Path
 
-from support import AUCTION, QUARTERS, printed, results_of, tool
+from support import AUCTION, QUARTERS, TOOLS, printed, results_of, tool
 
-from lib import command, days, text, verdict
+from lib import command, days, engine, record, text, verdict
 
 DATA, TEXT = AUCTION.read_bytes(), printed(AUCTION)
 
@@ -97,7 +101,7 @@ class Days(unittest.TestCase):
         status, out, _ = self.audit("--json")
         made = json.loads(out)
         self.assertEqual((status, made["status"], [day["verdict"] for day in made["days"]]), (3, 3, ["right", "unread"]))
-        self.assertEqual(made["counts"], {**dict.fromkeys(days.VERDICTS, 0), "right": 1, "unread": 1})
+        self.assertEqual(made["counts"], {**dict.fromkeys(record.VERDICTS, 0), "right": 1, "unread": 1})
         self.assertEqual(made["days"][0]["day"]["periods"], 24)
         self.assertEqual(made["days"][0].keys(), made["days"][1].keys())
         inputs = made["days"][1]["inputs"]
@@ -130,9 +134,63 @@ class Days(unittest.TestCase):
     def test_a_process_that_cannot_be_started(self):
         pair, full = days.Pair("a", Path("a.csv"), Path("a.txt")), OSError(errno.EMFILE, os.strerror(errno.EMFILE))
         with unittest.mock.patch.object(days.subprocess, "Popen", side_effect=full):
-            record = days.audited(pair, [], set())
+            made = days.audited(pair, [], engine.Running())
         said = "its process can't be started: Too many open files"
-        self.assertEqual((record["status"], record["verdict"], record["message"]), (command.FAILED, verdict.FAILED, said))
+        self.assertEqual((made["status"], made["verdict"], made["message"]), (command.FAILED, verdict.FAILED, said))
+
+    def test_each_day_is_read_under_its_own_guard(self):
+        """Files without an end, that are too large for the memory, or that are none; each day has its record, and the good one its verdict."""
+        self.write(a=(DATA, TEXT))
+        (self.folder / "b.csv").touch()
+        os.truncate(self.folder / "b.csv", 8 << 30)
+        for name in ("c.csv", "c.txt", "d.txt"):
+            (self.folder / name).symlink_to("nowhere")
+        os.mkfifo(self.folder / "e.csv")
+        (self.folder / "f.csv").mkdir()
+        (self.folder / "list").write_text("day,journal,results\ng,/dev/zero,\nh,a.csv,/dev/zero\nright,a.csv,a.txt\n")
+        wanted = [("a", "right", None), ("b", "unread", "b.csv has more than 67,108,864 bytes")]
+        wanted += [("c", "unread", "c.csv is a link to a file that is missing"), ("d", "unread", "d.csv is missing")]
+        wanted += [("e", "unread", "e.csv is a device or a pipe, and a day has files"), ("f", "unread", "f.csv can't be read: Is a directory")]
+        self.assertEqual(self.limited(self.folder), wanted)
+        device = "zero is a device or a pipe, and a day has files"
+        self.assertEqual(self.limited(self.folder / "list"), [("g", "unread", device), ("h", "unread", device), ("right", "right", None)])
+
+    def limited(self, place):
+        """The days of the record of a run in little memory, each with its verdict and the end of the message."""
+        words = [sys.executable, TOOLS / "audit", "--json", "--jobs", "2", "--days", place]
+        limit = functools.partial(resource.setrlimit, resource.RLIMIT_AS, (1 << 30, 1 << 30))
+        ran = subprocess.run(words, capture_output=True, preexec_fn=limit)
+        made = json.loads(ran.stdout)
+        self.assertEqual((ran.returncode, made["status"], ran.stderr), (command.NO_INPUT, command.NO_INPUT, b""))
+        return [(day["name"], day["verdict"], day["message"] and day["message"].rpartition("/")[2]) for day in made["days"]]
+
+    def test_a_name_that_would_be_standard_input(self):
+        """`-` in a manifest is a file; without one, nothing is judged."""
+        self.write(a=(DATA, TEXT))
+        (self.folder / "list").write_text("day,journal,results\nno file,a.csv,-\n")
+        for name, status, said in ((None, command.NO_INPUT, "- is missing"), ("-", command.DIFFERS, "the results are empty")):
+            if name:
+                (self.folder / name).write_bytes(b"")
+            ran = subprocess.run([sys.executable, TOOLS / "audit", "--days", "list"], cwd=self.folder, capture_output=True, text=True)
+            self.assertEqual((ran.returncode, ran.stdout.splitlines()[1].endswith(f"  {said}")), (status, True), ran.stdout)
+
+    def test_memory_or_threads_for_a_day_that_run_out(self):
+        pairs, bar = [days.Pair(name, Path("a.csv"), Path("a.txt")) for name in "ab"], unittest.mock.Mock()
+        for patched, faults in (("ran", [MemoryError]), ("failed", [MemoryError, unittest.mock.DEFAULT])):
+            with unittest.mock.patch.object(days, patched, side_effect=faults * 2, wraps=getattr(days, patched)):
+                found = days.audit_all(pairs, ["--none"], 1, bar)
+            self.assertEqual([(made["name"], made["status"]) for made in found], [("a", command.FAILED), ("b", command.FAILED)])
+            self.assertIn("out of memory", [made["message"] for made in found])
+        with unittest.mock.patch.object(days.threading.Thread, "start", side_effect=RuntimeError("can't start new thread")):
+            found = days.audit_all([pairs[0]._replace(unread="x")] * 2, [], 2, bar)
+        self.assertEqual([made["message"] for made in found], ["x", "x"])
+
+    def test_a_record_without_days(self):
+        for place in ("/nowhere", self.folder):
+            status, out, err = self.audit("--json", place=place)
+            made = json.loads(out)
+            self.assertEqual((status, made["status"], made["days"], f"audit: {made['message']}\n"), (3, 3, [], err))
+            self.assertEqual(made["counts"], dict.fromkeys(record.VERDICTS, 0))
 
     def test_the_first_fault_is_one_line_and_whole(self):
         name = "d" * 200

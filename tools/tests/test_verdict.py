@@ -1,11 +1,18 @@
 """The verdict of the audit as programs see it: its status, its record, and that an encoding alone is no wrong number."""
 
+import functools
 import hashlib
 import json
+import os
 import re
+import resource
+import subprocess
+import sys
+import tempfile
 import unittest
+from pathlib import Path
 
-from support import AUCTION, TOP, audit, cleared_cases, journal_of, printed, results_of, tool
+from support import AUCTION, AUCTION_RESULTS, TOOLS, TOP, audit, cleared_cases, journal_of, printed, results_of, tool
 
 from lib import command, faults, rules, verdict
 
@@ -115,6 +122,45 @@ class Record(unittest.TestCase):
         self.assertEqual((made["verdict"], made["search"]["tried"], made["search"]["selections"]), ("undecided", 0, 512))
         for words in ("--quiet", "--all"):
             self.assertEqual(audit(DATA, TEXT, "--json", words)[0], command.COMMAND_LINE)
+
+    def test_a_record_if_files_or_memory_run_out(self):
+        """Its status is the tool's, also if an import fails."""
+        words = [sys.executable, TOOLS / "audit", "--best", "--by", "highs", "--json", AUCTION, AUCTION_RESULTS]
+        for files in (5, 6, 8):
+            limit = functools.partial(resource.setrlimit, resource.RLIMIT_NOFILE, (files, files))
+            ran = subprocess.run(words, capture_output=True, preexec_fn=limit)
+            made = json.loads(ran.stdout)
+            self.assertEqual((ran.returncode, made["verdict"]), (command.FAILED, "failed"), files)
+            self.assertEqual(ran.stderr.decode(), f"audit: {made['message']}\n")
+        run = "from lib import ending; ending.watch('audit'); from lib import record; raise MemoryError"
+        for more, keys in ([], {"verdict", "search", "inputs"}), (["--days", "x"], {"counts", "days"}), (["--days=x"], {"counts", "days"}):
+            ran = subprocess.run([sys.executable, "-B", "-c", run, "--json", *more], cwd=TOOLS, capture_output=True)
+            made = json.loads(ran.stdout)
+            self.assertEqual((ran.returncode, made["status"], made["message"]), (command.FAILED, command.FAILED, "out of memory"))
+            self.assertLessEqual(keys, made.keys())
+        for words in ([], ["--", "--json"]):
+            ran = subprocess.run([sys.executable, "-B", "-c", run, *words], cwd=TOOLS, capture_output=True)
+            self.assertEqual((ran.returncode, ran.stdout), (command.FAILED, b""))
+
+    def test_a_name_that_is_not_utf_8(self):
+        """No half of a surrogate pair is in a record: not every reader takes one."""
+        with tempfile.TemporaryDirectory() as folder:
+            path = Path(os.fsdecode(os.fsencode(folder) + b"/a\xff\xe9.csv"))
+            path.write_bytes(DATA)
+            for words in ([path, AUCTION_RESULTS], [path, "/nowhere"], ["--days", folder]):
+                made = json.loads(tool("audit", "--json", *words)[1])
+                found = made["days"][0] if "days" in made else made
+                self.assertEqual(found["inputs"][0]["file"], f"{folder}/a\\xff\\xe9.csv")
+                json.dumps(made, ensure_ascii=False).encode()
+            self.assertEqual(made["days"][0]["name"], "a\\xff\\xe9")
+
+    def test_more_lines_than_any_day_has(self):
+        """They are one fault, and take neither time nor memory."""
+        for more, words in ((b"x\n" * 10**6, []), (b"1,done\n" * 10**6, ["--replies"])):
+            made, _ = self.record(DATA, (b"day,24\n" if words else TEXT) + more, *words)
+            self.assertEqual(made["status"], command.DIFFERS)
+            (fault,) = [fault for fault in made["faults"] if "those after line 20,000 weren't looked at" in fault["words"]]
+            self.assertEqual((fault["kind"], fault["line"], len(made["faults"]) < 20_002), ("stray", 20_001, True))
 
     def test_sums_are_checked_of_results_that_can_be_read(self):
         for data, text in ((DATA, b""), (DATA, TEXT.replace(b"welfare,", b"welfare,+")), (b"day,24,,,,,,,\n", TEXT)):

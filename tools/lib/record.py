@@ -1,0 +1,45 @@
+"""The records that an audit prints for programs. As soon as this is imported, an audit that fails before it has made its record prints one
+without a verdict. It needs little of this folder, since an import may fail too."""
+
+import json
+import os
+import sys
+
+from . import ending
+from .rules import VERSION
+
+VERDICTS = RIGHT, WRONG, ENCODING, UNREAD, UNDECIDED, FAILED = "right", "wrong", "encoding", "unread", "undecided", "failed"
+
+
+def unread(verdict, status, message, files=()):
+    """The record of a day of which nothing is known. Of its files, each with its role, none was read."""
+    inputs = [{"role": role, "file": file, "bytes": None, "sha256": None} for role, file in files]
+    said = {"verdict": verdict, "status": status, "message": message, "version": VERSION, "seconds": 0.0, "inputs": inputs}
+    return {**said, "checked": [], "day": None, "search": None, "faults": []}
+
+
+def counts(records):
+    """How many days there are of each verdict."""
+    return {kind: sum(made["verdict"] == kind for made in records) for kind in VERDICTS}
+
+
+def of_days(status, records=(), message=None):
+    """The record of many days."""
+    return {"status": status, "message": message, "version": VERSION, "counts": counts(records), "days": list(records)}
+
+
+def without_verdict(words, status, message):
+    """The record that a command line asks for, if there is no verdict."""
+    if any(word.partition("=")[0] == "--days" for word in words):
+        return of_days(status, message=message)
+    return unread(FAILED, status, message)
+
+
+def print_last(status, message):
+    """Prints the record of an audit that fails, unless it has printed one or was interrupted."""
+    words = sys.argv[1 : sys.argv.index("--")] if "--" in sys.argv else sys.argv[1:]
+    if "--json" in words and status == ending.FAILED:
+        os.write(1, f"{json.dumps(without_verdict(words, status, message), indent=1)}\n".encode())
+
+
+ending.last_duties.append(print_last)
