@@ -1,6 +1,6 @@
 """The faults of a text, each as a line for readers that has parts for programs; and its lines, compared with the expected ones."""
 
-import difflib
+from . import common
 
 # The kinds of faults, in words; docs/FORMATS.md lists them for users.
 KINDS = {
@@ -60,9 +60,11 @@ def matched(wanted, found):
     if wanted == found:  # the usual case, and far quicker to see
         return [(at, at) for at in range(len(wanted))]
     near = found[: 2 * len(wanted)]
-    pairs = []
-    for _, first, last, begin, end in difflib.SequenceMatcher(None, wanted, near, autojunk=False).get_opcodes():
+    pairs, first, begin = [], 0, 0
+    for last, end in [*common.in_order(wanted, near), (len(wanted), len(near))]:
         both = min(last - first, end - begin)
         pairs += [(first + step, begin + step) for step in range(both)]
         pairs += [(at, None) for at in range(first + both, last)] + [(None, at) for at in range(begin + both, end)]
+        pairs += [(last, end)] if last < len(wanted) else []
+        first, begin = last + 1, end + 1
     return pairs + [(None, at) for at in range(len(near), len(found))]

@@ -1,11 +1,11 @@
 """A participant's sent commands, compared with its commands in the published journal: each there once, in its order, and no others."""
 
-import difflib
 import re
+from bisect import bisect_left
 from collections import Counter, defaultdict, deque
 from typing import NamedTuple
 
-from . import command_table, journal, kinds, lint, order_table, text
+from . import command_table, common, journal, kinds, lint, order_table, text
 from .faults import Fault
 
 JOURNAL, BOOK = "the journal", "the book at the end"
@@ -110,21 +110,6 @@ def published_of(read, reasons, who):
     ]
 
 
-def in_order(sent, published):
-    """Pairs of the longest runs of commands that both lists have in the same order."""
-    numbers = {}
-    one, other = ([numbers.setdefault(entry.command, len(numbers)) for entry in entries] for entries in (sent, published))
-    # Equal beginnings and ends are quicker to see.
-    begin = next((at for at, pair in enumerate(zip(one, other)) if pair[0] != pair[1]), min(len(one), len(other)))
-    rest = min(len(one), len(other)) - begin
-    end = next((at for at in range(rest) if one[-1 - at] != other[-1 - at]), rest)
-    middle = [entries[begin : len(entries) - end] for entries in (one, other)]
-    pairs = [(at, at) for at in range(begin)]
-    for match in difflib.SequenceMatcher(None, *middle, autojunk=False).get_matching_blocks():
-        pairs += [(begin + match.a + step, begin + match.b + step) for step in range(match.size)]
-    return pairs + [(len(one) - at, len(other) - at) for at in range(end, 0, -1)]
-
-
 def paired(sent, published, key):
     """Pairs of entries with the same key, by their order; and the rest of both lists."""
     waiting = defaultdict(deque)
@@ -140,14 +125,14 @@ def paired(sent, published, key):
     return pairs, left, [entry for entries in waiting.values() for entry in entries]
 
 
-def compared(own, published, closed, who):
+def compared(own, published, closed, who, look):
     """The faults of a participant's commands in a journal, and lines about the right ones. A table of orders may have the commands, or
-    the orders at the end: of both, the one with fewer differences is meant."""
+    the orders at the end: of both, the one with fewer differences is meant. `look` is called now and then, and may end the comparison."""
     commands, reasons = own.commands, [entry.reason for entry in published]
-    wrong = differences(commands, published)
+    wrong = differences(commands, published, look=look)
     others = f" ({own.others} of others left out)" if own.others else ""
     if wrong and own.is_table:
-        at_the_end = differences(commands, held_of(closed, who), BOOK)
+        at_the_end = differences(commands, held_of(closed, who), BOOK, look)
         if not at_the_end:
             count = f"{text.counted(len(commands), 'order')} of {who}"
             by = f"{text.counted(len(published), 'command')} of {who}{refused(reasons)}"
@@ -170,9 +155,9 @@ def held_of(closed, who):
     return [Held(number, submit) for number, submit in enumerate(own, 1)]
 
 
-def differences(sent, published, where=JOURNAL):
+def differences(sent, published, where=JOURNAL, look=lambda: None):
     """The faults of the published commands, or of the book's, a line each, by their records."""
-    pairs = in_order(sent, published)
+    pairs = common.in_order(*([entry.command for entry in entries] for entries in (sent, published)), look)
     there, here = ({place[side] for place in pairs} for side in (0, 1))
     left = [entry for at, entry in enumerate(sent) if at not in there]
     more = [entry for at, entry in enumerate(published) if at not in here]
@@ -181,7 +166,8 @@ def differences(sent, published, where=JOURNAL):
     sent_times = Counter(entry.command for entry in sent)
     lines = [(other.record, moved_line(one, other)) for one, other in moved]
     lines += [(other.record, changed_line(one, other)) for one, other in changed]
-    lines += [(place_of(one, sent, published, pairs), missing_line(one, where)) for one in left]
+    found = [(sent[at].record, published[place].record) for at, place in pairs]
+    lines += [(place_of(one, found), missing_line(one, where)) for one in left]
     lines += [(other.record, more_line(other, sent_times[other.command])) for other in more]
     return [line for _, line in sorted(lines, key=lambda line: line[0])]
 
@@ -218,10 +204,10 @@ def more_line(other, times):
     return Fault(words, "repeated", other.line, about(other))
 
 
-def place_of(one, sent, published, pairs):
-    """The record of the journal that a missing command should come after."""
-    before = [at for place, at in pairs if sent[place].record < one.record]
-    return published[before[-1]].record if before else 0
+def place_of(one, found):
+    """The record of the journal that a missing command should come after; `found` pairs the records that are sent with these."""
+    before = bisect_left(found, (one.record,))
+    return found[before - 1][1] if before else 0
 
 
 def replies(sent, published):

@@ -19,7 +19,7 @@ OF_STATUS = {
     command.FAILED: FAILED,
     command.ENCODING: ENCODING,
 }
-SECONDS = 600  # that the search for a better selection may take
+SECONDS = 600  # that the search for a better selection, or the comparison of commands, may take
 NOT_COMPARED = "no number was compared, since the form is wrong"
 NOT_LOOKED = "no better selection was looked for, since the results break other rules"
 NEITHER = "no number was compared and no better selection was looked for, since the form is wrong"
@@ -66,6 +66,11 @@ class Audit:
         if self.wrong:
             return command.DIFFERS
         return command.ENCODING if self.odd else command.DONE
+
+    @property
+    def seconds(self):
+        """How long a search, or a comparison of commands, may take."""
+        return SECONDS if self.options.seconds is None else self.options.seconds
 
     def read(self, role, path):
         told = {"role": role, "file": str(path), "bytes": None, "sha256": None}
@@ -135,9 +140,8 @@ class Audit:
     def look(self, problem, said):
         """Looks for a better selection than the one of right results, and says how."""
         options = self.options
-        seconds = SECONDS if options.seconds is None else options.seconds
         by, whole = options.by or better.ENUMERATION, 2 ** len(problem.blocks)
-        self.progress = Progress("audit", seconds, options.quiet, whole)
+        self.progress = Progress("audit", self.seconds, options.quiet, whole)
         self.search = {"by": by, "selections": whole, "tried": 0, "better": None, "how": None}
         try:
             found, how = better.look(problem, said, by, self.progress, options.jobs or 1)
@@ -163,7 +167,14 @@ class Audit:
             own = sent.read_sent(self.read("sent", options.sent), options.participant, read.periods, has_none)
         except sent.Wrong as fault:
             raise command.Stop(f"{command.shown(options.sent)} isn't what {options.participant} sent: {fault}") from None
-        wrong, right = sent.compared(own, published, closed, options.participant)
+        self.progress = Progress("audit", self.seconds, options.quiet)
+        words = f"the commands of {options.participant} aren't compared yet"
+        try:
+            wrong, right = sent.compared(own, published, closed, options.participant, lambda: self.progress.look(words))
+        except TimeoutError as fault:
+            raise command.Stop(str(fault), command.UNDECIDED) from None
+        finally:
+            self.progress.end()
         self.wrong, self.unlike = wrong, len(wrong)
         self.right += right if not wrong else []
 

@@ -1,14 +1,16 @@
 """The comparison of a participant's sent commands with the published journal."""
 
+import json
 import random
 import tempfile
+import time
 import unittest
 from pathlib import Path
 
 from support import AUCTION, AUCTION_RESULTS, journal_of, printed, tool
 
 import days
-from lib import book, command, journal, rules, sent
+from lib import book, command, common, journal, rules, sent
 
 
 def audit(published, own, who="A", *words):
@@ -298,6 +300,65 @@ class Drawn(unittest.TestCase):
         self.assertEqual(sent.differences(cancels, published), [])
         self.assertEqual(len(sent.differences(cancels[:4_000] + cancels[4_001:], published)), 1)
         self.assertEqual(len(sent.differences(cancels, others)), len(cancels) + len(others))
+        # One half is missing, and the other half is there.
+        halved = [entry for entry in published if entry.record % 2]
+        self.assertEqual(len(sent.differences(cancels, halved)), len(cancels) - len(halved))
+
+    def test_another_order_of_as_many_commands_as_a_journal_has(self):
+        """It takes a few seconds at most, whatever the commands are."""
+        count = 9_998
+        one, other = (journal.Cancel("A", name) for name in "XY")
+        many = [journal.Cancel("A", f"N{number}") for number in range(count)]
+        rng = random.Random("order")
+        few = [rng.choice(many[:20]) for _ in range(count)]
+        for own, most in (
+            ([[one, other] * (count // 2), [one] * (count // 2) + [other] * (count // 2)], count // 2 - 1),
+            ([many, rng.sample(many, count)], count),
+            ([many, many[::-1]], count - 1),
+            ([few, rng.sample(few, count)], count),
+        ):
+            began = time.process_time()
+            found = sent.differences([sent.Sent(at, entry) for at, entry in enumerate(own[0], 1)],
+                                     [sent.Published(at, entry, None) for at, entry in enumerate(own[1], 2)])
+            self.assertLess(time.process_time() - began, 10)
+            self.assertEqual({fault.kind for fault in found}, {"moved"})
+            self.assertLessEqual(len(found), most)
+        self.assertEqual(len(sent.differences([sent.Sent(1, one), sent.Sent(2, other)], [sent.Published(2, other, None)])), 1)
+
+    def test_the_time_that_the_comparison_may_take(self):
+        words = ["--seconds", "0", "--json"]
+        status, out, err = audit(PUBLISHED, text_of([OWN[3], *OWN[:3]]), "A", *words)
+        said = "after 0 seconds, the commands of A aren't compared yet: --seconds gives more time"
+        self.assertEqual((status, json.loads(out)["message"], err), (command.UNDECIDED, said, f"audit: {said}\n"))
+        self.assertEqual(audit(PUBLISHED, text_of(OWN), "A", *words)[0], command.DONE)
+
+
+class InOrder(unittest.TestCase):
+    """The pairs are a longest common subsequence, by the plain table of its lengths."""
+
+    def length(self, one, other):
+        row = [0] * (len(other) + 1)
+        for entry in one:
+            last = row
+            row = [0]
+            for at, found in enumerate(other):
+                row.append(last[at] + 1 if entry == found else max(row[at], last[at + 1]))
+        return row[-1]
+
+    def test_short_lists(self):
+        rng = random.Random("in order")
+        for _ in range(2_000):
+            one, other = (rng.choices(range(rng.randint(1, 5)), k=rng.randint(0, 12)) for _ in range(2))
+            pairs = common.in_order(one, other)
+            self.assertEqual(len(pairs), self.length(one, other), (one, other))
+            self.assertTrue(all(one[at] == other[place] for at, place in pairs))
+            self.assertTrue(all(a < c and b < d for (a, b), (c, d) in zip(pairs, pairs[1:])))
+
+    def test_lists_longer_than_a_word(self):
+        rng = random.Random("long")
+        for count in (59, 60, 61, 64, 65, 200, 700):
+            one, other = (rng.choices(range(4), k=count) for _ in range(2))
+            self.assertEqual(len(common.in_order(one, other)), self.length(one, other))
 
 
 if __name__ == "__main__":
