@@ -48,6 +48,10 @@ class TimedOut(Fault):
     """A run of the program that took longer than its timeout."""
 
 
+class Lost(Fault):
+    """The executor of all journals has gone away, so that no other has an answer either."""
+
+
 class Answer(ctypes.Structure):
     """The answer of the library: see library/dam.h."""
 
@@ -371,6 +375,8 @@ def waited(future):
         return future
     try:
         return result(future.result())
+    except Lost:
+        raise
     except (Exception, concurrent.futures.CancelledError) as fault:
         return Fault(f"the executor failed: {type(fault).__name__}: {fault}")
 

@@ -7,14 +7,12 @@ import inspect
 import itertools
 import json
 import re
-import socket
 
-from . import changes, cleared, command, engine, limits, output, place, rules, scenarios, text
+from . import changes, cleared, cluster, command, engine, limits, output, place, rules, scenarios, text
 from .cleared import Cleared
 
 GRID = 2_000, 100  # cents per MWh: how far the limits of an hourly order reach from the price, and their distance
 MOST_LIMITS = 100_000
-CLUSTER_SECONDS = 10  # that a cluster may take to answer
 
 
 def eur_mwh(word):
@@ -316,24 +314,10 @@ def executor_of(args):
     if args.cluster is None:
         yield None, engine.answer
         return
-    command.need("distributed")
-    import dam_tools
-    import distributed
+    with cluster.executor(args.cluster) as executor:
+        import dam_tools
 
-    try:
-        host, port = re.fullmatch(r"(?:tcp|tls)://(.+):([0-9]{1,5})", args.cluster).groups()
-        socket.create_connection((host.strip("[]"), int(port)), CLUSTER_SECONDS).close()
-        client = distributed.Client(args.cluster, timeout=CLUSTER_SECONDS, set_as_default=False)
-    except AttributeError:
-        raise command.Stop(f"the cluster {text.safe(args.cluster)} should be an address such as tcp://10.0.0.1:8786") from None
-    except (OSError, OverflowError) as fault:
-        raise command.Stop(f"the cluster {text.safe(args.cluster)} can't be reached: {first_line(fault)}") from None
-    with client:
-        yield client.get_executor(), dam_tools.engine.answer  # by the name that it has in the package
-
-
-def first_line(fault):
-    return getattr(fault, "strerror", None) or text.safe(str(fault).split("\n")[0]) or type(fault).__name__
+        yield executor, dam_tools.engine.answer  # by the name that it has in the package
 
 
 def run_scenarios(args):

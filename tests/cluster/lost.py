@@ -1,0 +1,120 @@
+"""A cluster that goes away, or has no workers, ends tools/whatif with a fault, and Ctrl-C ends it at once."""
+
+import contextlib
+import os
+import re
+import shlex
+import signal
+import subprocess
+import sys
+import tempfile
+import time
+from pathlib import Path
+
+TOP = Path(__file__).resolve().parents[2]
+SECONDS = 30  # after which the fault is there
+SOON = 5  # seconds that Ctrl-C may take
+STARTED = 60  # seconds that a scheduler and its workers may take to start
+SCENARIOS = 2_000
+
+
+@contextlib.contextmanager
+def process(words, **how):
+    """A process in a group of its own, which ends with the block."""
+    running = subprocess.Popen([str(word) for word in words], start_new_session=True, **how)
+    try:
+        yield running
+    finally:
+        with contextlib.suppress(ProcessLookupError):
+            os.killpg(running.pid, signal.SIGKILL)
+        running.wait()
+
+
+def wait_for(found, what):
+    """What a call finds, as soon as that is something."""
+    end = time.monotonic() + STARTED
+    while not (value := found()):
+        if time.monotonic() > end:
+            raise TimeoutError(f"{what} didn't start in {STARTED} seconds")
+        time.sleep(0.1)
+    return value
+
+
+@contextlib.contextmanager
+def scheduler(folder):
+    """A scheduler, and its address."""
+    log = folder / "scheduler"
+    words = [sys.executable, "-m", "distributed.cli.dask_scheduler", "--host", "127.0.0.1", "--port", "0", "--no-dashboard"]
+    with log.open("wb") as file, process(words, stdout=file, stderr=file) as running:
+        at = wait_for(lambda: re.search(r"Scheduler at: *(tcp://\S+)", log.read_text()), "the scheduler")
+        yield running, at[1]
+
+
+def slow(folder, program):
+    """A program that takes some time, and leaves a mark when it runs."""
+    path = folder / "slow"
+    path.write_text(f"#!/bin/sh\n: > {shlex.quote(str(folder / 'mark'))}\nsleep 0.1\nexec {shlex.quote(program)} \"$@\"\n")
+    path.chmod(0o755)
+    return path
+
+
+def whatif(folder, address, program):
+    """A run of many scenarios."""
+    table = folder / "scenarios.csv"
+    heads = "scenario,participant,order,kind,side,price_eur_mwh,periods,volume_mw\n"
+    table.write_text(heads + "".join(f"{number},,,,,,,\n" for number in range(SCENARIOS)))
+    words = [sys.executable, TOP / "tools" / "whatif", "scenarios", TOP / "examples" / "auction-day.csv", table, "--cluster", address]
+    return process([*words, "--program", program], stdin=subprocess.DEVNULL, stdout=subprocess.PIPE, stderr=subprocess.PIPE)
+
+
+def ended(counts, what, running, status, said, within):
+    """The run ends in time with a status and one line."""
+    began = time.monotonic()
+    try:
+        out, err = running.communicate(timeout=within)
+    except subprocess.TimeoutExpired:
+        counts.check(f"{what}: no end after {within} seconds", False)
+        return
+    took = time.monotonic() - began
+    found = f"{what}: {running.returncode} after {took:.0f} seconds: {err.decode(errors='replace')[:500]}"
+    counts.check(found, (running.returncode, out) == (status, b"") and bool(re.fullmatch(said, err.decode(errors="replace"))))
+
+
+def without_workers(counts, folder, program):
+    with scheduler(folder) as (_, address), whatif(folder, address, program) as running:
+        ended(counts, "no workers", running, 3, f"whatif: the cluster {address} has no workers\n", SECONDS)
+
+
+def in_the_middle(counts, folder, program, what, deed, status, said, within):
+    """The run, after a deed in the middle of it."""
+    words = [sys.executable, "-m", "distributed.cli.dask_worker", "--nworkers", "2", "--nthreads", "1", "--no-dashboard"]
+    own = {**os.environ, "PYTHONPATH": str(TOP / "tools"), "DAM": str(slow(folder, program))}
+    own.pop("DAM_LIBRARY", None)
+    with scheduler(folder) as (ruling, address), open(os.devnull, "wb") as null:
+        with process([*words, "--local-directory", folder, address], stdout=null, stderr=null, env=own):
+            (folder / "mark").unlink(missing_ok=True)
+            with whatif(folder, address, program) as running:
+                wait_for((folder / "mark").exists, "a scenario")
+                deed(ruling, running)
+                ended(counts, what, running, status, said.format(address), within)
+
+
+def runs(counts, program):
+    """Runs of tools/whatif on a cluster, each of which ends in time."""
+    lost = "whatif: the cluster {} doesn't answer any more\n"
+
+    def stopped_and_interrupted(ruling, running):
+        os.killpg(ruling.pid, signal.SIGSTOP)
+        time.sleep(2)
+        running.send_signal(signal.SIGINT)
+
+    with tempfile.TemporaryDirectory() as room:
+        folder = Path(room)
+        without_workers(counts, folder, program)
+        for what, deed, status, said, within in (
+            ("a scheduler that ends", lambda ruling, _: ruling.terminate(), 3, lost, SECONDS),
+            ("a scheduler that hangs", lambda ruling, _: os.killpg(ruling.pid, signal.SIGSTOP), 3, lost, SECONDS),
+            ("Ctrl-C", lambda _, running: running.send_signal(signal.SIGINT), 130, "whatif: interrupted\n", SOON),
+            ("Ctrl-C without a scheduler", stopped_and_interrupted, 130, "whatif: interrupted\n", SOON),
+        ):
+            in_the_middle(counts, folder, program, what, deed, status, said, within)
