@@ -4,6 +4,8 @@ made of the output of a run of the program, or of results that were checked."""
 from . import journal, rules, trades
 from .engine import Fault
 
+NO_RESULTS = "the program printed no results of this journal"
+
 
 class Cleared:
     """`rows` are the orders by participant and name, in book order; `orders` has the executed volume of each hourly order in tenths of a
@@ -16,20 +18,12 @@ class Cleared:
     @classmethod
     def of_text(cls, rows, periods, printed):
         """The same from the output of `dam clear` for a book; a fault if it isn't of this book."""
-        welfare, prices, volumes, orders = None, [], [], {}
-        for line in printed.decode().splitlines():
-            kind, *fields = line.split(",")
-            if kind == "welfare":
-                welfare = int(fields[0])
-            elif kind == "period":
-                prices.append(int(fields[1]))
-                volumes.append(int(fields[2]))
-            elif kind == "hour":
-                orders[fields[0], fields[1]] = int(fields[2])
-            elif kind == "block":
-                orders[fields[0], fields[1]] = fields[2] == "accepted"
-        if len(prices) != periods or orders.keys() != rows.keys():
-            raise Fault("the program printed no results of this journal")
+        try:
+            welfare, prices, volumes, orders = parts(printed.decode())
+        except (ValueError, IndexError):
+            raise Fault(NO_RESULTS) from None
+        if welfare is None or len(prices) != periods or orders.keys() != rows.keys():
+            raise Fault(NO_RESULTS)
         return cls(rows, periods, welfare, prices, volumes, orders)
 
     @classmethod
@@ -83,6 +77,23 @@ class Cleared:
         if order.kind == "block":
             return "accepted" if self.orders[key] else "rejected"
         return trades.how_far(order, self.orders[key])
+
+
+def parts(printed):
+    """The welfare, the prices, the volumes and the orders of an output of `dam clear`."""
+    welfare, prices, volumes, orders = None, [], [], {}
+    for line in printed.splitlines():
+        kind, *fields = line.split(",")
+        if kind == "welfare":
+            welfare = int(fields[0])
+        elif kind == "period":
+            prices.append(int(fields[1]))
+            volumes.append(int(fields[2]))
+        elif kind == "hour":
+            orders[fields[0], fields[1]] = int(fields[2])
+        elif kind == "block":
+            orders[fields[0], fields[1]] = fields[2] == "accepted"
+    return welfare, prices, volumes, orders
 
 
 def book_text(rows, periods):

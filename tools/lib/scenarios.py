@@ -8,7 +8,7 @@ from fractions import Fraction
 from typing import NamedTuple
 
 from . import changes, order_table, rules, text
-from .cleared import book_text
+from .cleared import NO_RESULTS, book_text
 from .command_table import WHAT, Columns, read_command
 from .engine import Fault
 
@@ -167,12 +167,16 @@ class Distribution:
         self.rejected = dict.fromkeys(keys, 0)
 
     def add(self, printed):
-        """Adds a scenario by what `dam clear` printed for it."""
+        """Adds a scenario by what `dam clear` printed for it; a fault if it isn't of this book."""
         for key in self.keys:
-            begin = printed.index(f"\nblock,{key[0]},{key[1]},".encode()) + 1
-            outcome, surplus = printed[begin : printed.index(b"\n", begin)].split(b",")[3:]
+            try:
+                begin = printed.index(f"\nblock,{key[0]},{key[1]},".encode()) + 1
+                outcome, surplus = printed[begin : printed.index(b"\n", begin)].split(b",")[3:]
+                amount = int(surplus)
+            except ValueError:
+                raise Fault(NO_RESULTS) from None
             if outcome == b"accepted":
-                self.surpluses[key].append(int(surplus))
+                self.surpluses[key].append(amount)
             else:
                 self.rejected[key] += 1
 

@@ -1,13 +1,17 @@
 """Scenarios: tables of them, random ones, and the messages about bad ones."""
 
 import csv
+import functools
 import io
+import resource
 import statistics
+import subprocess
+import sys
 import tempfile
 import unittest
 from pathlib import Path
 
-from support import AUCTION, journal_of, tool
+from support import AUCTION, TOOLS, journal_of, tool
 
 from lib import book, changes, cleared, command, engine, journal, rules, scenarios
 
@@ -83,6 +87,16 @@ class Distribution(unittest.TestCase):
         none = scenarios.Distribution(HELD, [("GEN", "UNIT")])
         none.add(b"day,24\nblock,GEN,UNIT,rejected,5\n")
         self.assertEqual(list(none.table())[1][4:], [0, "0.0000", "0.00", "", "", "", "", ""])
+
+
+    def test_an_output_that_is_none(self):
+        over = scenarios.Distribution(HELD, [("GEN", "UNIT")])
+        for printed in (b"accepted,x\n", b"accepted,\xff\n", b"rejected,\n", b"accepted\n", b"accepted,1"):
+            with self.assertRaisesRegex(engine.Fault, cleared.NO_RESULTS):
+                over.add(b"day,24\nblock,GEN,UNIT," + printed)
+        with self.assertRaisesRegex(engine.Fault, cleared.NO_RESULTS):
+            over.add(b"day,24\n")
+        self.assertEqual((over.surpluses, over.rejected), ({("GEN", "UNIT"): []}, {("GEN", "UNIT"): 0}))
 
 
 @unittest.skipUnless(command.has("numpy"), "numpy is missing (Debian's python3-numpy)")
@@ -175,6 +189,23 @@ class Tool(unittest.TestCase):
                 self.assertEqual(tool("whatif", "scenarios", "--quiet", *words, "-o", path), (0, out, ""))
                 self.assertTrue(path.read_bytes().startswith(begin))
         self.assertIn("<!-- median of the surplus: ", Path(self.folder, "a.svg").read_text())
+
+    def test_a_program_that_prints_something_else(self):
+        """It's a fault, also if the output begins as results do."""
+        program = Path(self.folder, "program")
+        for printed in (r"\377\n", r"welfare,x\n", r"period\n", r"period,1,2,3.5\n", r"block,GEN,UNIT,accepted\n"):
+            program.write_text(f"#!/bin/sh\ncat > /dev/null\nprintf 'day,24\\nwelfare,0\\n{printed}'\n")
+            program.chmod(0o755)
+            for name in ("change", "scenarios"):
+                found = tool("whatif", name, "--program", program, self.journal, self.table)
+                self.assertEqual(found, (command.NO_INPUT, b"", f"whatif: {cleared.NO_RESULTS}\n"), printed)
+
+    def test_few_files(self):
+        words = [sys.executable, TOOLS / "whatif", "scenarios", "--program", "/bin/true", self.journal, self.table]
+        limit = functools.partial(resource.setrlimit, resource.RLIMIT_NOFILE, (5, 5))
+        ran = subprocess.run(words, capture_output=True, text=True, preexec_fn=limit)
+        said = "whatif: the day as it was: /bin/true can't be run: Too many open files\n"
+        self.assertEqual((ran.returncode, ran.stdout, ran.stderr), (command.NO_INPUT, "", said))
 
     def test_bad_input_is_one_line(self):
         out = Path(self.folder, "out.csv")
