@@ -11,7 +11,12 @@ from lib.place import TOOLS
 from .clone import TOP, environment
 
 # The commands, each with those of its words that have help of their own.
-COMMANDS = {"dam": ("replay", "clear", "day"), **{f"dam-{tool}": () for tool in TOOLS}, "dam-whatif": ("limit", "change", "scenarios")}
+COMMANDS = {
+    "dam": ("replay", "clear", "day"),
+    **{f"dam-{tool}": () for tool in TOOLS},
+    "dam-receipts": ("keys", "seal", "extend", "verify", "heads"),
+    "dam-whatif": ("limit", "change", "scenarios"),
+}
 HEADS = re.compile(r"(examples|statuses)\b[^:\n]*:", re.IGNORECASE)
 # How the help names a list of arguments or options, and help2man the section of it.
 LISTS = {"positional arguments:": "*Arguments*", "options:": "Options:", "commands:": "*Commands*"}

@@ -29,6 +29,10 @@ def plot():
     run("plot")
 
 
+def receipts():
+    run("receipts")
+
+
 def report():
     run("report")
 

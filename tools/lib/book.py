@@ -1,5 +1,7 @@
 """The order book: the effect of each command on it, or why it is refused."""
 
+from collections import Counter
+
 from . import rules
 from .journal import Amend, Cancel, Close, Submit
 
@@ -28,6 +30,7 @@ class Book:
         self.closed = False
         self.rows = {}
         self.held = {"hour": 0, "block": 0}
+        self.children = Counter()  # of each block, by its participant and name
 
     def apply(self, command):
         """Carries out the command and returns None, or changes nothing and returns the reason."""
@@ -79,7 +82,7 @@ class Book:
     def refused_cancel(self, who, name):
         if (who, name) not in self.rows:
             return "UnknownOrder"
-        if any(owner == who and order.parent == name for (owner, _), order in self.rows.items()):
+        if self.children[who, name]:
             return "HasChildren"
         return None
 
@@ -88,10 +91,15 @@ class Book:
             case Submit(who, name, order):
                 self.rows[who, name] = order
                 self.held[order.kind] += 1
+                if order.parent:
+                    self.children[who, order.parent] += 1
             case Amend(who, name, price, volumes):
                 self.rows[who, name] = self.rows[who, name]._replace(price=price, volumes=volumes)
             case Cancel(who, name):
-                self.held[self.rows.pop((who, name)).kind] -= 1
+                order = self.rows.pop((who, name))
+                self.held[order.kind] -= 1
+                if order.parent:
+                    self.children[who, order.parent] -= 1
             case Close():
                 self.closed = True
 
@@ -104,8 +112,12 @@ def run(journal):
 
 def replies_text(journal):
     """The printed text of a run: the day, and the reply to each command."""
-    _, reasons = run(journal)
-    lines = [f"day,{journal.periods}"]
+    return replies_of(journal.periods, run(journal)[1])
+
+
+def replies_of(periods, reasons):
+    """The same from the reason for each refusal, or None."""
+    lines = [f"day,{periods}"]
     for number, reason in enumerate(reasons, 1):
         lines.append(f"{number},done" if reason is None else f"{number},refused,{reason}")
     return "".join(f"{line}\n" for line in lines)

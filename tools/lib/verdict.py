@@ -57,7 +57,7 @@ class Audit:
         if options.sent is not None:
             self.check_sent(read, reasons, closed)
         if options.replies:
-            self.check_replies(read, reasons, published)
+            self.check_replies(read.periods, reasons, published)
         elif published is not None:
             self.check_results(closed, reasons, published)
 
@@ -105,11 +105,11 @@ class Audit:
             self.odd.append(Fault("the journal of the day isn't in its written form, but has the same commands", "encoding"))
         return read
 
-    def check_replies(self, read, reasons, published):
+    def check_replies(self, periods, reasons, published):
         self.checked.append("replies")
         data, odd = results.plain(published)
         self.odd += odd
-        self.wrong += reply_faults(read, data)
+        self.wrong += reply_faults(periods, reasons, data)
         if self.wrong:
             return
         self.right.append(f"as the rules say: {text.counted(len(reasons), 'reply', 'replies')}{sent.refused(reasons)}")
@@ -204,9 +204,9 @@ class Audit:
         return made
 
 
-def reply_faults(read, data):
+def reply_faults(periods, reasons, data):
     """The lines of a replies text that differ from the book's replies."""
-    (wanted, _), (found, more) = (results.first_lines(part) for part in (book.replies_text(read).encode(), data))
+    (wanted, _), (found, more) = (results.first_lines(part) for part in (book.replies_of(periods, reasons).encode(), data))
     numbers = [[line.split(b",")[0] for line in part] for part in (wanted, found)]
     wrong, last = more if data else [Fault("the replies are empty", "form")], 0
     for at, place in matched(*numbers):

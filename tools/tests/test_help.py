@@ -13,9 +13,10 @@ from support import TOP, tool
 from lib import command, engine
 
 TOOLS = {"table": [], "lint": [], "plot": ["matplotlib"], "report": ["matplotlib", "jinja2"], "reading-list": [], "compare": []}
+TOOLS["receipts"] = ["cryptography"]
 if engine.BUILT.exists():
     TOOLS["whatif"] = []
-COMMANDS = {"whatif": ["whatif", "limit"]}  # whose help has the options
+COMMANDS = {"receipts": ["receipts", "seal"], "whatif": ["whatif", "limit"]}  # whose help has the options
 FAKE = Path(__file__).with_name("fake_dam.py")
 EXAMPLE = re.compile(r"^  (\S*(?:tools/|dam ).*|echo .*)$", re.MULTILINE)
 

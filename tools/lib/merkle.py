@@ -1,0 +1,137 @@
+"""A Merkle tree over a list that only grows, with inclusion and consistency proofs: RFC 9162, section 2.1, with SHA-256."""
+
+import hashlib
+
+LEAF, NODE = b"\x00", b"\x01"  # a leaf's hash begins with one, a node's with the other, so that neither passes for the other
+
+
+def sha256(data):
+    return hashlib.sha256(data).digest()
+
+
+def leaf_hash(data):
+    return sha256(LEAF + data)
+
+
+def node_hash(left, right):
+    return sha256(NODE + left + right)
+
+
+EMPTY = sha256(b"")  # the root of a tree without leaves
+
+
+def split(count):
+    """The greatest power of two below a number of leaves: how many of them are in the left half."""
+    return 1 << (count - 1).bit_length() - 1
+
+
+class Tree:
+    """A tree that has the hash of each complete subtree, by level. So an append computes one hash on average."""
+
+    def __init__(self, leaves=()):
+        self.levels = [[]]
+        self.incomplete = {}  # the hashes of other subtrees that were asked for; no append changes them
+        for leaf in leaves:
+            self.append(leaf)
+
+    def __len__(self):
+        return len(self.levels[0])
+
+    def append(self, leaf):
+        """Appends the hash of a leaf."""
+        self.levels[0].append(leaf)
+        for level, hashes in enumerate(self.levels):
+            if len(hashes) % 2:
+                return
+            if level + 1 == len(self.levels):
+                self.levels.append([])
+            self.levels[level + 1].append(node_hash(*hashes[-2:]))
+
+    def root(self, size=None):
+        """The root of the first `size` leaves, or of all."""
+        size = len(self) if size is None else size
+        return self.hashed(0, size) if size else EMPTY
+
+    def hashed(self, begin, end):
+        """The hash of the leaves from `begin` to `end`, which are a subtree of this tree or of an earlier one."""
+        count = end - begin
+        if count & (count - 1) == 0:
+            return self.levels[count.bit_length() - 1][begin // count]
+        if (begin, end) not in self.incomplete:
+            middle = begin + split(count)
+            self.incomplete[begin, end] = node_hash(self.hashed(begin, middle), self.hashed(middle, end))
+        return self.incomplete[begin, end]
+
+    def inclusion(self, place, size=None):
+        """The inclusion proof of the leaf at a place, from 0, in the tree of the first `size` leaves."""
+        begin, end, path = 0, len(self) if size is None else size, []
+        while end - begin > 1:
+            middle = begin + split(end - begin)
+            if place < middle:
+                path.append(self.hashed(middle, end))
+                end = middle
+            else:
+                path.append(self.hashed(begin, middle))
+                begin = middle
+        return path[::-1]
+
+    def consistency(self, old, size=None):
+        """The proof that the tree of the first `size` leaves begins with the tree of the first `old` ones."""
+        begin, end, path = 0, len(self) if size is None else size, []
+        if not 0 < old < end:
+            return []
+        is_whole = True  # whether the part of the old tree is the old tree, whose root the reader has
+        while old < end:
+            middle = begin + split(end - begin)
+            if old <= middle:
+                path.append(self.hashed(middle, end))
+                end = middle
+            else:
+                path.append(self.hashed(begin, middle))
+                begin, is_whole = middle, False
+        return ([] if is_whole else [self.hashed(begin, end)]) + path[::-1]
+
+
+def root_of_inclusion(leaf, place, size, path):
+    """The root that an inclusion proof leads to (RFC 9162, 2.1.3.2); None if it doesn't fit a tree of this size."""
+    if not 0 <= place < size:
+        return None
+    node, last, root = place, size - 1, leaf
+    for hashed in path:
+        if last == 0:
+            return None
+        if node % 2 or node == last:
+            root = node_hash(hashed, root)
+            while node % 2 == 0 and node:
+                node, last = node // 2, last // 2
+        else:
+            root = node_hash(root, hashed)
+        node, last = node // 2, last // 2
+    return root if last == 0 else None
+
+
+def is_consistent(old, old_root, size, root, path):
+    """Whether a consistency proof shows that the tree with a root begins with an older one (RFC 9162, 2.1.4.2). Every tree begins with the
+    empty one, and with itself."""
+    if old == size:
+        return old_root == root and not path
+    if old == 0:
+        return old_root == EMPTY and not path
+    if not 0 < old < size or not path:
+        return False
+    first, *rest = path if old & (old - 1) else [old_root, *path]
+    node, last = old - 1, size - 1
+    while node % 2:
+        node, last = node // 2, last // 2
+    before = after = first
+    for hashed in rest:
+        if last == 0:
+            return False
+        if node % 2 or node == last:
+            before, after = node_hash(hashed, before), node_hash(hashed, after)
+            while node % 2 == 0 and node:
+                node, last = node // 2, last // 2
+        else:
+            after = node_hash(after, hashed)
+        node, last = node // 2, last // 2
+    return last == 0 and before == old_root and after == root

@@ -1,0 +1,360 @@
+"""Receipts and heads: every change of one is found, and so is every entry that was left out, repeated, moved or changed."""
+
+import contextlib
+import json
+import os
+import random
+import shutil
+import stat
+import subprocess
+import tempfile
+import unittest
+from pathlib import Path
+from unittest import mock
+
+from support import AUCTION, FIRST, QUARTERS, SUNNY, tool
+
+from lib import book, command, heads, journal, merkle
+
+try:
+    from lib import receipts, sealing, signing
+except ImportError:  # without python3-cryptography
+    signing = None
+
+DAY = "2026-11-28"
+BY_OPENSSL = Path(__file__).with_name("verify_receipt.sh")
+CHANGES = 5_000
+# A block of 100 volumes with the longest names.
+LONGEST = ",".join(
+    ["submit", "ABCDEFGH", "ABCDEFGHIJKL", "block", "sell", "-50000", ";".join(f"{period}:99999" for period in range(1, 101))]
+    + ["M" * 12, "N" * 12]
+)
+
+
+def sealed_of(data, day=DAY, salts=None, key=None):
+    read = journal.read_journal(data)
+    return sealing.sealed(read, book.run(read)[1], day, salts or sealing.new_salts(day), key or signing.made())
+
+
+def replies_of(data):
+    return book.replies_text(journal.read_journal(data)).encode()
+
+
+def verdict_of(data, head, key, links=None):
+    """The verdict on the text of a receipt, compared with a head."""
+    with mock.patch.object(command, "read_bytes", lambda path: data):
+        return receipts.verdict(list(receipts.judged("receipts", head, key, links or receipts.Links([], key))))
+
+
+def lines_of(seal, head=None):
+    head = head or seal.head()
+    return [heads.line(seal.receipt(number, head)) for number in range(1, head.size + 1)]
+
+
+@unittest.skipIf(signing is None, "python3-cryptography is missing")
+class Receipts(unittest.TestCase):
+    def setUp(self):
+        self.key = signing.made()
+        self.public = self.key.public_key()
+
+    def test_each_entry_has_a_receipt_on_each_length_of_a_day(self):
+        for periods in (23, 24, 25, 92, 96, 100):
+            record = LONGEST.replace(f"{';'.join(f'{period}:99999' for period in range(1, 101))}", f"{periods}:1")
+            data = f"day,{periods},,,,,,,\n{LONGEST}\n{record}\nsubmit,A,B,hour,buy,0,{periods}:1,,\ncancel,A,B,,,,,,\nclose,,,,,,,,\n".encode()
+            seal = sealed_of(data, key=self.key)
+            head = seal.head()
+            self.assertEqual(head.size, 5)
+            for line in lines_of(seal):
+                self.assertEqual(verdict_of(line, head, self.public), receipts.RIGHT)
+                self.assertLessEqual(len(line), 1_536 if LONGEST not in line.decode() else 2_048)
+
+    def test_the_largest_receipt(self):
+        path = tuple(merkle.leaf_hash(b"%d" % level) for level in range(heads.LONGEST_PATH))
+        head = heads.Head("D" * 32, 100, heads.MOST_ENTRIES, path[0], b"s" * heads.SIGNATURE_BYTES)
+        reply = max(heads.REPLIES, key=len)
+        largest = heads.line(heads.Receipt(heads.MOST_ENTRIES, LONGEST, reply, path[0], path, head))
+        self.assertLess(len(largest), heads.LONGEST_LINE)
+        self.assertLessEqual(len(largest) - len(LONGEST), 1_100)
+
+    def test_every_change_of_a_byte_is_found(self):
+        """Changed bytes of receipts, of the published head and of the public key."""
+        chance = random.Random("changes")
+        seal = sealed_of(AUCTION.read_bytes(), key=self.key)
+        head, public = seal.head(), signing.public_text(self.key)
+        lines, written = lines_of(seal), heads.line(head)
+        for _ in range(CHANGES):
+            line = chance.choice(lines)
+            text, which = chance.choice([(line, "receipt")] * 3 + [(written, "head"), (public, "key")])
+            at, byte = chance.randrange(len(text)), chance.randrange(256)
+            changed = text[:at] + bytes([byte]) + text[at + 1 :]
+            if byte == text[at]:
+                continue
+            with self.subTest(which=which, at=at, byte=byte, line=line):
+                if which == "receipt":
+                    self.assertNotEqual(verdict_of(changed, head, self.public), receipts.RIGHT)
+                elif which == "head":
+                    with contextlib.suppress(heads.Wrong):
+                        other, is_written = heads.parsed(changed, heads.head_read)
+                        self.assertFalse(is_written and signing.is_signed(self.public, other))
+                else:
+                    with contextlib.suppress(signing.Wrong):
+                        other = signing.public(changed)
+                        # Some bytes of PEM say nothing, such as a line end: then it is the same key.
+                        self.assertTrue(raw_of(other) == raw_of(self.public) or not signing.is_signed(other, head))
+
+    def test_every_other_value_of_a_member_is_found(self):
+        seal = sealed_of(AUCTION.read_bytes(), key=self.key)
+        head, other = seal.head(), sealed_of(SUNNY.read_bytes(), key=self.key)
+        own, foreign = seal.receipt(3, head), other.receipt(3, other.head())
+        for name, value in {
+            "number": 4,
+            "record": own.record.replace("submit", "cancel"),
+            "reply": "refused,Closed",
+            "salt": foreign.salt,
+            "path": foreign.path,
+            "head": foreign.head,
+        }.items():
+            with self.subTest(name):
+                line = heads.line(own._replace(**{name: value}))
+                self.assertIn(verdict_of(line, head, self.public), (receipts.WRONG, receipts.UNREAD))
+        for name, value in {"day": "2026-11-29", "periods": 96, "size": head.size + 1, "root": foreign.salt}.items():
+            with self.subTest(name):
+                self.assertFalse(signing.is_signed(self.public, head._replace(**{name: value})))
+                line = heads.line(own._replace(head=head._replace(**{name: value})))
+                self.assertEqual(verdict_of(line, head, self.public), receipts.WRONG)
+
+    def test_another_key_signed(self):
+        other = sealed_of(AUCTION.read_bytes())
+        line = heads.line(other.receipt(1, other.head()))
+        head = sealed_of(AUCTION.read_bytes(), key=self.key).head()
+        self.assertEqual(verdict_of(line, head, self.public), receipts.WRONG)
+
+    def test_texts_that_are_no_receipts(self):
+        seal = sealed_of(AUCTION.read_bytes(), key=self.key)
+        head = seal.head()
+        line = heads.line(seal.receipt(1, head)).decode()
+        value = json.loads(line)
+        wrong = [b"", b"\n", b"{}", b"[]", b"null", b"\xff", b"[" * 20_000, b"1" * 5_000, b"{" + b'"a":' * 5_000, b" " * 20_000 + b"\n"]
+        wrong += [json.dumps({**value, name: None}).encode() for name in value]
+        wrong += [json.dumps({**value, name: True}).encode() for name in value]
+        wrong += [json.dumps({**value, name: [1]}).encode() for name in value]
+        wrong += [json.dumps({**value, name: {"a": []}}).encode() for name in value]
+        wrong += [json.dumps({other: value[other] for other in value if other != name}).encode() for name in value]
+        wrong += [json.dumps({**value, "more": 1}).encode(), line.replace('"number":1,', '"number":1,"number":1,').encode()]
+        wrong += [line.replace('"number":1,', f'"number":{number},').encode() for number in ("0", "-1", "1.0", "1e0", "true", "10001", "9" * 5_000)]
+        wrong += [line.replace("=", "", 1).encode(), line.replace("=", "==", 1).encode(), line.replace('"path":[', '"path":["",').encode()]
+        wrong += [line.replace('"path":[', '"path":[' + '"' + "A" * 43 + '=",' * 1).encode(), json.dumps({**value, "path": value["path"] * 9}).encode()]
+        wrong += [line.replace('"reply":"done"', f'"reply":"{reply}"').encode() for reply in ("", "Done", "refused", "refused,Nothing")]
+        wrong += [line.replace('"record":"', f'"record":"{more}').encode() for more in ("\\n", " ", '\\"', "\\u00e9", "day,24,,,,,,,\\n")]
+        for data in wrong:
+            with self.subTest(data[:80]):
+                self.assertIn(verdict_of(data, head, self.public), (receipts.UNREAD, receipts.WRONG))
+
+    def test_another_writing_of_a_right_receipt(self):
+        seal = sealed_of(AUCTION.read_bytes(), key=self.key)
+        head = seal.head()
+        line = heads.line(seal.receipt(1, head))
+        for data in (line.removesuffix(b"\n"), line.replace(b"\n", b"\r\n"), line.replace(b",", b", ", 1), b" " + line):
+            self.assertEqual(verdict_of(data, head, self.public), receipts.ENCODING)
+
+    def test_entries_left_out_repeated_moved_or_changed(self):
+        """Each receipt of a journal, compared with the head of a journal that differs: one of them isn't right."""
+        seal = sealed_of(AUCTION.read_bytes(), key=self.key)
+        every = list(seal.entries)
+        chance = random.Random("entries")
+        for way in range(200):
+            entries = list(every)
+            at, other = sorted(chance.sample(range(len(every)), 2))
+            match way % 4:
+                case 0:
+                    del entries[at]
+                case 1:
+                    entries.insert(at, entries[other])
+                case 2:
+                    entries[at], entries[other] = entries[other], entries[at]
+                case 3:
+                    entries[at] = entries[at]._replace(reply="refused,Closed" if entries[at].reply == heads.DONE else heads.DONE)
+            if entries == every:
+                continue
+            changed = sealing.Seal(DAY, seal.periods, seal.salts, self.key)
+            for entry in entries:
+                changed.append(entry)
+            head = changed.head()
+            found = {verdict_of(line, head, self.public) for line in lines_of(seal)}
+            self.assertTrue(found & {receipts.WRONG, receipts.UNDECIDED})
+            if changed.tree.root() != seal.tree.root() and len(entries) >= len(every):
+                with self.assertRaises(sealing.Differs):
+                    changed.extension(seal.head(), head)
+
+    def test_a_path_shows_nothing_of_others(self):
+        """Salts of other entries can't be found from a receipt, and equal entries of two days have other leaves."""
+        seals = [sealed_of(FIRST, key=self.key) for _ in range(2)]
+        leaves = [set(seal.tree.levels[0]) for seal in seals]
+        self.assertFalse(leaves[0] & leaves[1])
+        shown = b"".join(lines_of(seals[0])[:1])
+        for number, entry in enumerate(seals[0].entries[1:], 2):
+            self.assertNotIn(heads.packed(seals[0].salts.salt(number)).encode(), shown)
+            self.assertNotIn(entry.record.encode(), shown)
+
+    def test_a_growing_journal(self):
+        seal = sealing.Seal(DAY, 24, sealing.new_salts(DAY), self.key)
+        every = list(sealed_of(AUCTION.read_bytes()).entries)
+        published = [seal.head()]
+        for entry in every:
+            seal.append(entry)
+            published.append(seal.head())
+        last = published[-1]
+        with tempfile.TemporaryDirectory() as folder:
+            for size in range(1, last.size):
+                path = Path(folder, "extension.json")
+                path.write_bytes(heads.line(seal.extension(published[size], last)))
+                line = heads.line(seal.receipt(size, published[size]))
+                self.assertEqual(verdict_of(line, last, self.public), receipts.UNDECIDED)
+                self.assertEqual(verdict_of(line, last, self.public, receipts.Links([path], self.public)), receipts.RIGHT)
+            steps = []
+            for size in range(1, last.size):
+                steps.append(Path(folder, f"{size}.json"))
+                steps[-1].write_bytes(heads.line(seal.extension(published[size], published[size + 1])))
+            links = receipts.Links(steps, self.public)
+            self.assertEqual(verdict_of(heads.line(seal.receipt(1, published[1])), last, self.public, links), receipts.RIGHT)
+            self.assertEqual(links.compared(published[0], last)[0], receipts.RIGHT)
+            broken = receipts.Links(steps[1:], self.public)
+            self.assertEqual(verdict_of(heads.line(seal.receipt(1, published[1])), last, self.public, broken), receipts.UNDECIDED)
+
+    def test_two_journals_of_one_day(self):
+        heads_of = [sealed_of(data, key=self.key).head() for data in (FIRST, FIRST)]
+        self.assertEqual(receipts.Links([], self.public).compared(*heads_of)[0], receipts.WRONG)
+        days = [sealed_of(data, key=self.key).head() for data in (AUCTION.read_bytes(), QUARTERS.read_bytes())]
+        self.assertEqual(receipts.Links([], self.public).compared(*days)[0], receipts.WRONG)
+
+    def test_by_openssl(self):
+        """The second reading of the format agrees."""
+        if not shutil.which("openssl"):
+            self.skipTest("openssl is missing")
+        seal = sealed_of(SUNNY.read_bytes(), key=self.key)
+        head = seal.head()
+        with tempfile.TemporaryDirectory() as folder:
+            public, receipt = Path(folder, "public.pem"), Path(folder, "receipt.json")
+            public.write_bytes(signing.public_text(self.key))
+            for number in (1, 2, head.size // 2, head.size):
+                made = seal.receipt(number, head)
+                wrong = made._replace(record=made.record.replace(",", ",,", 1)), made._replace(number=number % head.size + 1)
+                for each, right in ((made, "right\n"), *((other, "wrong\n") for other in wrong)):
+                    receipt.write_bytes(heads.line(each))
+                    ran = subprocess.run([BY_OPENSSL, receipt, public], capture_output=True, text=True)
+                    self.assertEqual(ran.stdout, right, ran.stderr)
+
+
+def raw_of(public):
+    from cryptography.hazmat.primitives import serialization
+
+    return public.public_bytes(serialization.Encoding.Raw, serialization.PublicFormat.Raw)
+
+
+@unittest.skipIf(signing is None, "python3-cryptography is missing")
+class Command(unittest.TestCase):
+    """The tool itself."""
+
+    def setUp(self):
+        folder = tempfile.TemporaryDirectory()
+        self.addCleanup(folder.cleanup)
+        self.addCleanup(os.chdir, os.getcwd())
+        os.chdir(folder.name)
+        Path("day.csv").write_bytes(AUCTION.read_bytes())
+        Path("replies.txt").write_bytes(replies_of(AUCTION.read_bytes()))
+        self.run_tool(0, "keys", "key.pem")
+
+    def run_tool(self, status, *words):
+        ran = tool("receipts", *map(str, words))
+        self.assertEqual(ran[0], status, ran)
+        return ran[1].decode()
+
+    def seal(self, out="sealed", journal="day.csv", replies="replies.txt", status=0):
+        return self.run_tool(status, "seal", journal, replies, "--day", DAY, "--key", "key.pem", "-o", out)
+
+    def verify(self, status, *words, head="sealed/head.json"):
+        return self.run_tool(status, "verify", *words, "--key", "key.pem.pub", "--head", head)
+
+    def test_a_day(self):
+        self.assertIn("with receipts for", self.seal())
+        every = sorted(Path("sealed/receipts").iterdir())
+        self.assertRegex(self.verify(0, *every), r"^right: \d+ receipts of the head of 2026-11-28 with \d+ entries\n$")
+        self.assertIn("right: 1 head", self.run_tool(0, "heads", "sealed/head.json", "--key", "key.pem.pub"))
+        for path in (Path("key.pem"), Path("sealed/salts.json"), *every):
+            self.assertEqual(stat.S_IMODE(path.stat().st_mode), 0o600)
+
+    def test_a_journal_that_grew(self):
+        lines = AUCTION.read_bytes().splitlines(keepends=True)
+        for count, name in ((4, "a"), (9, "b"), (len(lines), "c")):
+            Path(f"{name}.csv").write_bytes(b"".join(lines[:count]))
+            Path(f"{name}.txt").write_bytes(replies_of(b"".join(lines[:count])))
+        self.seal("a", "a.csv", "a.txt")
+        self.run_tool(0, "extend", "a", "b.csv", "b.txt", "--key", "key.pem", "-o", "b")
+        self.run_tool(0, "extend", "b", "c.csv", "c.txt", "--key", "key.pem", "-o", "c")
+        early = sorted(Path("a/receipts").iterdir())
+        self.assertIn("isn't shown", self.verify(4, *early, head="c/head.json"))
+        links = ["--extension", "b/extension.json", "--extension", "c/extension.json"]
+        self.verify(0, *early, *links, head="c/head.json")
+        self.run_tool(0, "heads", "a/head.json", "c/head.json", "b/head.json", *links, "--key", "key.pem.pub")
+        self.run_tool(4, "heads", "a/head.json", "c/head.json", "--key", "key.pem.pub")
+        # A journal that doesn't begin with the sealed one.
+        Path("d.csv").write_bytes(b"".join([lines[0], *lines[2:]]))
+        Path("d.txt").write_bytes(replies_of(b"".join([lines[0], *lines[2:]])))
+        self.run_tool(1, "extend", "a", "d.csv", "d.txt", "--key", "key.pem", "-o", "d")
+        self.assertFalse(Path("d").exists())
+
+    def test_an_order_that_was_left_out(self):
+        self.seal()
+        lines = AUCTION.read_bytes().splitlines(keepends=True)
+        place = next(at for at, line in enumerate(lines) if line.startswith(b"submit,STAD"))
+        Path("less.csv").write_bytes(b"".join(lines[:place] + lines[place + 1 :]))
+        Path("less.txt").write_bytes(replies_of(Path("less.csv").read_bytes()))
+        self.seal("less", "less.csv", "less.txt")
+        self.assertIn("isn't shown", self.verify(4, "sealed/receipts/STAD.jsonl", head="less/head.json"))
+        sent = b"".join(line for line in lines if line.split(b",")[1] == b"STAD")
+        Path("mine.csv").write_bytes(sent)
+        self.verify(0, "sealed/receipts/STAD.jsonl", "--sent", "mine.csv", "--participant", "STAD")
+        out = self.verify(1, "less/receipts/STAD.jsonl", "--sent", "mine.csv", "--participant", "STAD", head="less/head.json")
+        self.assertIn(f"has no receipt: {lines[place].decode().strip()}", out)
+
+    def test_replies_that_are_not_the_books(self):
+        Path("wrong.txt").write_bytes(Path("replies.txt").read_bytes().replace(b"1,done", b"1,refused,Closed", 1))
+        self.seal("wrong", replies="wrong.txt", status=1)
+        self.seal("wrong", replies="day.csv", status=3)
+        self.assertFalse(Path("wrong").exists())
+
+    def test_nothing_is_written_over(self):
+        key = Path("key.pem").read_bytes()
+        self.run_tool(3, "keys", "key.pem")
+        self.seal()
+        head = Path("sealed/head.json").read_bytes()
+        self.seal(status=3)
+        self.assertEqual((Path("key.pem").read_bytes(), Path("sealed/head.json").read_bytes()), (key, head))
+        self.assertEqual(sorted(path.name for path in Path().iterdir()), ["day.csv", "key.pem", "key.pem.pub", "replies.txt", "sealed"])
+
+    def test_files_of_other_kinds(self):
+        self.seal()
+        self.verify(3, "sealed/head.json")
+        self.verify(3, "none.jsonl")
+        self.verify(3, "sealed/receipts/STAD.jsonl", head="sealed/receipts/STAD.jsonl")
+        self.run_tool(3, "verify", "sealed/receipts/STAD.jsonl", "--key", "key.pem", "--head", "sealed/head.json")
+        self.run_tool(3, "seal", "day.csv", "replies.txt", "--day", DAY, "--key", "key.pem.pub", "-o", "other")
+        self.run_tool(2, "seal", "day.csv", "replies.txt", "--day", "28 Nov", "--key", "key.pem", "-o", "other")
+        self.run_tool(2, "verify", "sealed/receipts/STAD.jsonl", "--key", "key.pem.pub", "--head", "sealed/head.json", "--sent", "day.csv")
+        self.run_tool(2)
+
+    def test_records_for_programs(self):
+        for status, *words in (
+            (0, "seal", "day.csv", "replies.txt", "--day", DAY, "--key", "key.pem", "-o", "sealed"),
+            (0, "verify", "sealed/receipts/STAD.jsonl", "--key", "key.pem.pub", "--head", "sealed/head.json"),
+            (3, "verify", "sealed/head.json", "--key", "key.pem.pub", "--head", "sealed/head.json"),
+            (3, "verify", "none", "--key", "key.pem.pub", "--head", "sealed/head.json"),
+            (0, "heads", "sealed/head.json", "--key", "key.pem.pub"),
+            (3, "keys", "key.pem"),
+        ):
+            record = json.loads(self.run_tool(status, *words, "--json"))
+            self.assertEqual((record["command"], record["status"]), (words[0], status))
+
+
+if __name__ == "__main__":
+    unittest.main()
