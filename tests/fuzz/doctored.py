@@ -95,7 +95,7 @@ def audited(folder, data, text):
     for path, content in zip(paths, (data, text)):
         path.write_bytes(content)
     options = argparse.Namespace(
-        journal=str(paths[0]), results=str(paths[1]), best=True, by=None, seconds=60, jobs=None, replies=False, sent=None, quiet=True
+        journal=str(paths[0]), results=str(paths[1]), best=True, by=None, seconds=60, jobs=None, replies=False, sent=None, head=None, quiet=True
     )
     audit = verdict.Audit(options)
     try:

@@ -49,15 +49,25 @@ def key_read(path, read=signing.public):
 
 def read_one(path, read, name):
     """The value in a file of one line."""
+    return value_of(path, command.read_bytes(path), read, name)
+
+
+def value_of(path, data, read, name):
+    """The same from the bytes of the file."""
     try:
-        return heads.parsed(command.read_bytes(path), read)[0]
+        return heads.parsed(data, read)[0]
     except heads.Wrong as fault:
         raise command.Stop(f"{command.shown(path)} isn't {name}: {fault}") from None
 
 
 def head_read(path, key):
     """The head in a file, which has to be signed by the key."""
-    head = read_one(path, heads.head_read, "a head")
+    return head_of(path, command.read_bytes(path), key)
+
+
+def head_of(path, data, key):
+    """The same from the bytes of the file."""
+    head = value_of(path, data, heads.head_read, "a head")
     if not signing.is_signed(key, head):
         raise command.Stop(f"{command.shown(path)} isn't signed by this key: it isn't the operator's, or it was changed", command.DIFFERS)
     return head
@@ -109,15 +119,17 @@ class Links:
 
 
 def judge(receipt, head, key, links):
-    """The verdict on a receipt, compared with a head that was published, and the words for it."""
+    """The verdict on a receipt, compared with a head that was published if one is given, and the words for it."""
     entry = f"entry {receipt.number} of {receipt.head}"
     if not signing.is_signed(key, receipt.head):
         return WRONG, "its head isn't signed by this key: it isn't the operator's, or it was changed"
     root = merkle.root_of_inclusion(receipt.leaf(), receipt.number - 1, receipt.head.size, receipt.path)
     if root != receipt.head.root:
         return WRONG, f"it isn't {entry}: its record, reply, salt or path was changed, or belongs to another entry"
-    found, words = links.compared(receipt.head, head)
     shown = f"{entry}: {receipt.record}, {receipt.reply}"
+    if head is None:
+        return RIGHT, shown
+    found, words = links.compared(receipt.head, head)
     return found, shown if found == RIGHT else f"{shown}; {words}"
 
 

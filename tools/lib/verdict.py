@@ -43,6 +43,7 @@ class Audit:
         self.day = None  # figures of the day, if its journal could be read
         self.wrong, self.odd = [], []  # faults, and differences of encoding alone
         self.unlike = 0  # how many of the faults, the first ones, are of the commands that were sent
+        self.unsigned = 0  # and how many after these are differences from the signed head and the receipts
         self.search = None  # a record of the search for a better selection
         self.right, self.last = [], None  # lines about the right parts, and one after the faults
         self.progress = None
@@ -56,6 +57,8 @@ class Audit:
         self.day = {"periods": read.periods, "commands": len(reasons), "refused": sum(reason is not None for reason in reasons)}
         if options.sent is not None:
             self.check_sent(read, reasons, closed)
+        if options.head is not None:
+            self.check_head(read, reasons)
         if options.replies:
             self.check_replies(read.periods, reasons, published)
         elif published is not None:
@@ -178,14 +181,43 @@ class Audit:
         self.wrong, self.unlike = wrong, len(wrong)
         self.right += right if not wrong else []
 
+    def check_head(self, read, reasons):
+        """Compares the journal and its replies with the head that the operator signed, with earlier heads, and with receipts."""
+        from . import heads, receipts, under_head
+
+        options = self.options
+        self.checked.append("head")
+        key = receipts.key_read(options.key)
+        head = receipts.head_of(options.head, self.read("head", options.head), key)
+        salts = receipts.read_one(options.salts, heads.salts_read, "the salts of a journal")
+        if salts.day != head.day:
+            raise command.Stop(f"{command.shown(options.salts)} has the salts of {salts.day}, and the head is of {head.day}")
+        under = under_head.UnderHead(key, head, salts, read, reasons)
+        wrong = [*under.head_faults(), *(fault for path in options.earlier for fault in under.earlier_faults(path))]
+        right = f"as signed: {head}"
+        if options.earlier:
+            right += f", which begins with {text.counted(len(options.earlier), 'earlier head')}"
+        if options.receipts is not None:
+            self.checked.append("receipts")
+            found = under_head.of_folder(options.receipts, key)
+            wrong += under.receipt_faults(found)
+            right += f"; {text.counted(len(found), 'receipt')} of its entries"
+        self.wrong += wrong
+        self.unsigned = len(wrong)
+        self.right += [] if wrong else [right]
+
     def parts(self):
-        """The faults by part, each a headline and its faults; without --sent there is one part, which has no headline."""
-        if self.options.sent is None:
+        """The faults by part, each a headline and its faults; without --sent and --head there is one part, which has no headline."""
+        if self.options.sent is None and self.options.head is None:
             return [(None, self.wrong)]
-        own, rest = self.wrong[: self.unlike], self.wrong[self.unlike :]
-        heads = [f"not as sent: {text.counted(len(own), 'difference')} in the commands of {self.options.participant}"]
-        heads.append(f"not as the rules say: {text.counted(len(rest), 'fault')} in the results")
-        return [(head, faults) for head, faults in zip(heads, (own, rest)) if faults]
+        unlike, signed = self.unlike, self.unlike + self.unsigned
+        own, unsigned, rest = self.wrong[:unlike], self.wrong[unlike:signed], self.wrong[signed:]
+        headlines = [
+            f"not as sent: {text.counted(len(own), 'difference')} in the commands of {self.options.participant}",
+            f"not as signed: {text.counted(len(unsigned), 'difference')} from what the operator signed",
+            f"not as the rules say: {text.counted(len(rest), 'fault')} in the results",
+        ]
+        return [(headline, faults) for headline, faults in zip(headlines, (own, unsigned, rest)) if faults]
 
     def record(self, status, message=None):
         """The verdict for programs."""

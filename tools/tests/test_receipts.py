@@ -12,7 +12,7 @@ import unittest
 from pathlib import Path
 from unittest import mock
 
-from support import AUCTION, FIRST, QUARTERS, SUNNY, tool
+from support import AUCTION, AUCTION_RESULTS, FIRST, QUARTERS, SUNNY, tool
 
 from lib import book, command, heads, journal, merkle
 
@@ -342,6 +342,71 @@ class Command(unittest.TestCase):
         self.run_tool(2, "seal", "day.csv", "replies.txt", "--day", "28 Nov", "--key", "key.pem", "-o", "other")
         self.run_tool(2, "verify", "sealed/receipts/STAD.jsonl", "--key", "key.pem.pub", "--head", "sealed/head.json", "--sent", "day.csv")
         self.run_tool(2)
+
+    def audit(self, status, journal="day.csv", *words, results="results.txt"):
+        signed = ["--head", "sealed/head.json", "--salts", "sealed/salts.json", "--key", "key.pem.pub"]
+        ran = tool("audit", journal, results, *signed, *map(str, words))
+        self.assertEqual(ran[0], status, ran)
+        return ran[1].decode()
+
+    def test_the_audit_of_a_signed_day(self):
+        Path("results.txt").write_bytes(AUCTION_RESULTS.read_bytes())
+        self.seal()
+        self.assertIn("as signed: the head of 2026-11-28", self.audit(0))
+        self.assertRegex(self.audit(0, "day.csv", "--receipts", "sealed/receipts", "--best"), r"as signed: .*; \d+ receipts of its entries\n")
+        self.assertIn("as signed", self.audit(0, "day.csv", "--replies", results="replies.txt"))
+
+    def test_the_audit_finds_each_changed_entry(self):
+        """An entry that is left out, repeated, moved or changed after the head was signed."""
+        Path("results.txt").write_bytes(AUCTION_RESULTS.read_bytes())
+        self.seal()
+        first, *lines = AUCTION.read_bytes().splitlines(keepends=True)
+        for at in range(0, len(lines) - 2, 7):
+            for changed in (
+                lines[:at] + lines[at + 1 :],
+                [*lines[: at + 1], *lines[at:]],
+                [*lines[:at], lines[at + 1], lines[at], *lines[at + 2 :]],
+                [*lines[:at], lines[at].replace(b",hour,", b",block,", 1).replace(b"cancel,", b"cancel,X", 1), *lines[at + 1 :]],
+            ):
+                if changed == lines:
+                    continue
+                Path("other.csv").write_bytes(b"".join([first, *changed]))
+                with self.subTest(at=at, changed=changed[at : at + 2]):
+                    out = self.audit(1, "other.csv", "--receipts", "sealed/receipts")
+                    self.assertIn("not as signed", out)
+                    self.assertRegex(out, r"receipts/\w+\.jsonl line \d+: the operator signed entry")
+
+    def test_the_audit_of_changed_receipts(self):
+        Path("results.txt").write_bytes(AUCTION_RESULTS.read_bytes())
+        self.seal()
+        path = Path("sealed/receipts/STAD.jsonl")
+        right = path.read_bytes()
+        path.write_bytes(right.replace(b'"reply":"done"', b'"reply":"refused,Closed"', 1))
+        self.assertIn("STAD.jsonl line 1: it isn't entry", self.audit(1, "day.csv", "--receipts", "sealed/receipts"))
+        path.write_bytes(b"{}\n" + right)
+        self.audit(3, "day.csv", "--receipts", "sealed/receipts")
+        # A receipt of the same key for another journal of the day.
+        other = sealed_of(SUNNY.read_bytes(), key=signing.private(Path("key.pem").read_bytes()))
+        path.write_bytes(b"".join(lines_of(other)[:1]))
+        out = self.audit(1, "day.csv", "--receipts", path)
+        self.assertIn("the operator signed entry 1 as", out)
+        self.assertIn("not as signed: 2 differences", out)
+
+    def test_the_audit_of_earlier_heads(self):
+        Path("results.txt").write_bytes(AUCTION_RESULTS.read_bytes())
+        lines = AUCTION.read_bytes().splitlines(keepends=True)
+        Path("a.csv").write_bytes(b"".join(lines[:5]))
+        Path("a.txt").write_bytes(replies_of(b"".join(lines[:5])))
+        self.seal("a", "a.csv", "a.txt")
+        self.run_tool(0, "extend", "a", "day.csv", "replies.txt", "--key", "key.pem", "-o", "sealed")
+        self.assertIn("begins with 1 earlier head", self.audit(0, "day.csv", "--earlier", "a/head.json"))
+        self.seal("b", "a.csv", "a.txt")  # other salts, so another tree
+        self.assertIn("b/head.json", self.audit(1, "day.csv", "--earlier", "a/head.json", "--earlier", "b/head.json"))
+
+    def test_command_lines_of_the_audit(self):
+        for words in (["--head", "h"], ["--salts", "s", "--key", "k"], ["--receipts", "r"], ["--earlier", "e"]):
+            self.assertEqual(tool("audit", "day.csv", "results.txt", *words)[0], 2)
+        self.assertEqual(tool("audit", "--days", ".", "--head", "h", "--salts", "s", "--key", "k")[0], 2)
 
     def test_records_for_programs(self):
         for status, *words in (

@@ -1,0 +1,89 @@
+"""The audit of a journal under the head that the operator signed, under earlier heads, and with receipts."""
+
+import os
+from pathlib import Path
+
+from . import command, heads, journal, merkle, receipts, sealing, signing, text
+from .faults import Fault
+
+
+class UnderHead:
+    """A journal and its replies, compared with what the operator signed."""
+
+    def __init__(self, key, head, salts, read, reasons):
+        self.key, self.head = key, head
+        self.replies = [sealing.reply_of(reason) for reason in reasons]
+        self.records = [journal.command_line(command) for command in read.commands]
+        self.periods = read.periods
+        self.tree = merkle.Tree(
+            heads.leaf_of(number, record, reply, salts.salt(number))
+            for number, (record, reply) in enumerate(zip(self.records, self.replies), 1)
+        )
+
+    def beginning_fault(self, head):
+        """Why the journal doesn't begin with a head's entries; None if it does."""
+        if head.periods != self.periods:
+            return f"the journal's day has {self.periods} periods, and the head's {head.periods}"
+        if head.size > len(self.tree):
+            count = text.counted(len(self.tree), "entry", "entries")
+            return f"the journal has {count}, and the operator signed {head.size}"
+        if self.tree.root(head.size) != head.root:
+            return f"the first {text.counted(head.size, 'entry', 'entries')} of the journal, with the book's replies, aren't the entries that" \
+                   " the operator signed"
+        return None
+
+    def head_faults(self):
+        """The differences of the journal from its head."""
+        fault = self.beginning_fault(self.head)
+        if fault is None and self.head.size < len(self.tree):
+            more = text.counted(len(self.tree) - self.head.size, "entry", "entries")
+            fault = f"the journal has {more} after the {self.head.size} that the operator signed"
+        return [Fault(f"{self.head}: {fault}", "head")] if fault else []
+
+    def earlier_faults(self, path):
+        """The differences of the journal's beginning from an earlier head."""
+        head = receipts.read_one(path, heads.head_read, "a head")
+        name = command.shown(path)
+        if not signing.is_signed(self.key, head):
+            return [Fault(f"{name}: it isn't signed by this key", "head")]
+        if head.day != self.head.day:
+            return [Fault(f"{name}: it is of {head.day}, and the journal's head of {self.head.day}", "head")]
+        fault = self.beginning_fault(head)
+        return [Fault(f"{name}: {head}: {fault}", "head")] if fault else []
+
+    def receipt_fault(self, receipt):
+        """How the journal differs from a receipt that the operator signed; None if it has the entry."""
+        if receipt.head.day != self.head.day:
+            return f"it is of {receipt.head.day}, and the journal's head of {self.head.day}"
+        at, signed = receipt.number - 1, (receipt.record, receipt.reply)
+        words = f"the operator signed entry {receipt.number} as {', '.join(signed)}"
+        if at >= len(self.records):
+            return f"{words}, which the journal doesn't have"
+        if (self.records[at], self.replies[at]) != signed:
+            return f"{words}; the journal has {self.records[at]}, {self.replies[at]}"
+        return None
+
+    def receipt_faults(self, findings):
+        """The faults of receipts, and of the heads that they are under."""
+        seen = {receipts.unsigned(self.head)}
+        for finding in findings:
+            if finding.verdict == receipts.UNREAD:
+                raise command.Stop(str(finding))
+            receipt, name = finding.receipt, f"{command.shown(finding.file)} line {finding.line}"
+            fault = finding.words if finding.verdict == receipts.WRONG else self.receipt_fault(receipt)
+            if fault:
+                yield Fault(f"{name}: {fault}", "receipt", receipt.number + 1)
+            head = receipts.unsigned(receipt.head)
+            if finding.verdict != receipts.WRONG and head not in seen and head.day == self.head.day:
+                seen.add(head)
+                if fault := self.beginning_fault(head):
+                    yield Fault(f"{name}: {head}: {fault}", "head")
+
+
+def of_folder(folder, key):
+    """The findings on the receipts of a folder, or of one file: whether the operator signed each."""
+    paths = sorted(Path(folder).glob("*.jsonl")) if os.path.isdir(folder) else [folder]
+    if not paths:
+        raise command.Stop(f"{command.shown(folder)} has no file of receipts, NAME.jsonl")
+    links = receipts.Links([], key)
+    return [finding for path in paths for finding in receipts.judged(str(path), None, key, links)]
