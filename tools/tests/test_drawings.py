@@ -9,11 +9,12 @@ from pathlib import Path
 
 from support import TOP
 
-from lib import command, crates, selection
+from lib import command, crates, merkle, selection
 
 sys.path.insert(0, str(TOP / "docs"))
 import draw_bound
 import draw_crates
+import draw_receipt
 import draw_trust
 
 LIST = "# a comment\nlow:\nhigh staticlib: low kit # more\nmiddle: low\ntop: high middle low\nhigh: other\n"
@@ -47,6 +48,17 @@ class Crates(unittest.TestCase):
         used = draw_crates.read()
         programs = {path.parent.parent.name for path in (TOP / "crates").glob("*/src/main.rt")}
         self.assertEqual((TOP / "docs" / "crates.svg").read_text(), draw_crates.drawing(used, programs))
+
+
+class Receipt(unittest.TestCase):
+    def test_the_picture(self):
+        self.assertEqual((TOP / "docs" / "receipt.svg").read_text(), draw_receipt.drawing())
+
+    def test_the_hashes_of_the_receipt(self):
+        """The marked nodes are those of the inclusion proof."""
+        tree = merkle.Tree(merkle.leaf_hash(b"%d" % entry) for entry in range(1, draw_receipt.ENTRIES + 1))
+        given = draw_receipt.kinds(dict(draw_receipt.nodes(0, draw_receipt.ENTRIES)))[1]
+        self.assertEqual({tree.hashed(*node) for node in given}, set(tree.inclusion(draw_receipt.OWN - 1)))
 
 
 class Bound(unittest.TestCase):

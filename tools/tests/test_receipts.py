@@ -4,6 +4,7 @@ import contextlib
 import json
 import os
 import random
+import re
 import shutil
 import stat
 import subprocess
@@ -12,11 +13,13 @@ import unittest
 from pathlib import Path
 from unittest import mock
 
-from support import AUCTION, AUCTION_RESULTS, FIRST, QUARTERS, SUNNY, tool
+from support import AUCTION, AUCTION_RESULTS, FIRST, QUARTERS, SUNNY, TOP, tool
 
 from lib import book, command, heads, journal, merkle
 
 try:
+    from cryptography.hazmat.primitives.asymmetric.ed25519 import Ed25519PrivateKey
+
     from lib import receipts, sealing, signing
 except ImportError:  # without python3-cryptography
     signing = None
@@ -226,6 +229,19 @@ class Receipts(unittest.TestCase):
         self.assertEqual(receipts.Links([], self.public).compared(*heads_of)[0], receipts.WRONG)
         days = [sealed_of(data, key=self.key).head() for data in (AUCTION.read_bytes(), QUARTERS.read_bytes())]
         self.assertEqual(receipts.Links([], self.public).compared(*days)[0], receipts.WRONG)
+
+    def test_the_example_of_the_formats(self):
+        page = (TOP / "docs" / "FORMATS.md").read_text()
+        line = re.search(r"```json\n(\{\"format\":\"dam-receipt-1.*?)```", page, re.DOTALL)[1].replace("\n", "").encode() + b"\n"
+        key = signing.public(re.search(r"-----BEGIN PUBLIC KEY-----.*?-----END PUBLIC KEY-----\n", page, re.DOTALL)[0].encode())
+        receipt, is_written = heads.parsed(line, heads.receipt_read)
+        self.assertTrue(is_written)
+        self.assertEqual(verdict_of(line, receipt.head, key), receipts.RIGHT)
+        salts = heads.Salts(DAY, bytes(range(32, 64)))
+        read = journal.read_journal(b"".join(FIRST.splitlines(keepends=True)[:4]))
+        private = Ed25519PrivateKey.from_private_bytes(bytes(range(32)))
+        seal = sealing.sealed(read, book.run(read)[1], DAY, salts, private)
+        self.assertEqual(heads.line(seal.receipt(2, seal.head())), line)
 
     def test_by_openssl(self):
         """The second reading of the format agrees."""
