@@ -125,11 +125,16 @@ def paired(sent, published, key):
     return pairs, left, [entry for entries in waiting.values() for entry in entries]
 
 
-def compared(own, published, closed, who, look):
+def no_proof(_):
+    return ""
+
+
+def compared(own, published, closed, who, look, proof=no_proof):
     """The faults of a participant's commands in a journal, and lines about the right ones. A table of orders may have the commands, or
-    the orders at the end: of both, the one with fewer differences is meant. `look` is called now and then, and may end the comparison."""
+    the orders at the end: of both, the one with fewer differences is meant. `look` is called now and then, and may end the comparison. Of a
+    command that isn't in the journal as it was sent, `proof` says whether the operator had it."""
     commands, reasons = own.commands, [entry.reason for entry in published]
-    wrong = differences(commands, published, look=look)
+    wrong = differences(commands, published, look=look, proof=proof)
     others = f" ({own.others} of others left out)" if own.others else ""
     if wrong and own.is_table:
         at_the_end = differences(commands, held_of(closed, who), BOOK, look)
@@ -155,7 +160,7 @@ def held_of(closed, who):
     return [Held(number, submit) for number, submit in enumerate(own, 1)]
 
 
-def differences(sent, published, where=JOURNAL, look=lambda: None):
+def differences(sent, published, where=JOURNAL, look=lambda: None, proof=no_proof):
     """The faults of the published commands, or of the book's, a line each, by their records."""
     pairs = common.in_order(*([entry.command for entry in entries] for entries in (sent, published)), look)
     there, here = ({place[side] for place in pairs} for side in (0, 1))
@@ -165,9 +170,9 @@ def differences(sent, published, where=JOURNAL, look=lambda: None):
     changed, left, more = paired(left, more, lambda command: (type(command), command.name))
     sent_times = Counter(entry.command for entry in sent)
     lines = [(other.record, moved_line(one, other)) for one, other in moved]
-    lines += [(other.record, changed_line(one, other)) for one, other in changed]
+    lines += [(other.record, changed_line(one, other, proof(one.command))) for one, other in changed]
     found = [(sent[at].record, published[place].record) for at, place in pairs]
-    lines += [(place_of(one, found), missing_line(one, where)) for one in left]
+    lines += [(place_of(one, found), missing_line(one, where, proof(one.command))) for one in left]
     lines += [(other.record, more_line(other, sent_times[other.command])) for other in more]
     return [line for _, line in sorted(lines, key=lambda line: line[0])]
 
@@ -183,14 +188,14 @@ def moved_line(one, other):
     return Fault(words, "moved", other.line, about(one))
 
 
-def changed_line(one, other):
+def changed_line(one, other, proof):
     was, now = journal.command_line(one.command), journal.command_line(other.command)
-    words = f"sent record {one.record} is changed: it was '{was}', and {other.place} is '{now}'"
+    words = f"sent record {one.record} is changed: it was '{was}', and {other.place} is '{now}'{proof}"
     return Fault(words, "changed", other.line, about(one))
 
 
-def missing_line(one, where):
-    words = f"sent record {one.record} is missing in {where}: {journal.command_line(one.command)}"
+def missing_line(one, where, proof):
+    words = f"sent record {one.record} is missing in {where}: {journal.command_line(one.command)}{proof}"
     return Fault(words, "missing", None, about(one))
 
 

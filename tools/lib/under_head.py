@@ -8,10 +8,10 @@ from .faults import Fault
 
 
 class UnderHead:
-    """A journal and its replies, compared with what the operator signed."""
+    """A journal and its replies, compared with what the operator signed: heads, and receipts with a finding on each."""
 
-    def __init__(self, key, head, salts, read, reasons):
-        self.key, self.head = key, head
+    def __init__(self, key, head, salts, read, reasons, findings):
+        self.key, self.head, self.findings = key, head, findings
         self.replies = [sealing.reply_of(reason) for reason in reasons]
         self.records = [journal.command_line(command) for command in read.commands]
         self.periods = read.periods
@@ -63,10 +63,19 @@ class UnderHead:
             return f"{words}; the journal has {self.records[at]}, {self.replies[at]}"
         return None
 
-    def receipt_faults(self, findings):
+    def proof(self, command):
+        """Whether a receipt proves that the operator had a command that the journal lacks, in words."""
+        record = journal.command_line(command)
+        for finding in self.findings:
+            receipt = finding.receipt
+            if finding.verdict in (receipts.RIGHT, receipts.ENCODING) and receipt.record == record and self.receipt_fault(receipt):
+                return f"; the operator signed it as entry {receipt.number} of {receipt.head}: the operator's fault, proved"
+        return "; no receipt proves that the operator had it"
+
+    def receipt_faults(self):
         """The faults of receipts, and of the heads that they are under."""
         seen = {receipts.unsigned(self.head)}
-        for finding in findings:
+        for finding in self.findings:
             if finding.verdict == receipts.UNREAD:
                 raise command.Stop(str(finding))
             receipt, name = finding.receipt, f"{command.shown(finding.file)} line {finding.line}"

@@ -55,10 +55,11 @@ class Audit:
         read = self.read_journal(written)
         closed, reasons = book.run(read)
         self.day = {"periods": read.periods, "commands": len(reasons), "refused": sum(reason is not None for reason in reasons)}
+        signed = self.read_signed(read, reasons) if options.head is not None else None
         if options.sent is not None:
-            self.check_sent(read, reasons, closed)
-        if options.head is not None:
-            self.check_head(read, reasons)
+            self.check_sent(read, reasons, closed, signed.proof if options.receipts is not None else sent.no_proof)
+        if signed is not None:
+            self.check_head(signed)
         if options.replies:
             self.check_replies(read.periods, reasons, published)
         elif published is not None:
@@ -160,8 +161,8 @@ class Audit:
             self.search["better"] = [str(problem.blocks[place]) for place in sorted(found.accepted)]
         return how
 
-    def check_sent(self, read, reasons, closed):
-        """Compares a participant's sent commands with the journal."""
+    def check_sent(self, read, reasons, closed, proof):
+        """Compares a participant's sent commands with the journal. Of a command that the journal lacks, `proof` says what receipts show."""
         options = self.options
         self.checked.append("commands sent")
         published = sent.published_of(read, reasons, options.participant)
@@ -173,7 +174,7 @@ class Audit:
         self.progress = Progress("audit", self.seconds, options.quiet)
         words = f"the commands of {options.participant} aren't compared yet"
         try:
-            wrong, right = sent.compared(own, published, closed, options.participant, lambda: self.progress.look(words))
+            wrong, right = sent.compared(own, published, closed, options.participant, lambda: self.progress.look(words), proof)
         except TimeoutError as fault:
             raise command.Stop(str(fault), command.UNDECIDED) from None
         finally:
@@ -181,27 +182,30 @@ class Audit:
         self.wrong, self.unlike = wrong, len(wrong)
         self.right += right if not wrong else []
 
-    def check_head(self, read, reasons):
-        """Compares the journal and its replies with the head that the operator signed, with earlier heads, and with receipts."""
+    def read_signed(self, read, reasons):
+        """The journal with what the operator signed: its head, and receipts."""
         from . import heads, receipts, under_head
 
         options = self.options
-        self.checked.append("head")
         key = receipts.key_read(options.key)
         head = receipts.head_of(options.head, self.read("head", options.head), key)
         salts = receipts.read_one(options.salts, heads.salts_read, "the salts of a journal")
         if salts.day != head.day:
             raise command.Stop(f"{command.shown(options.salts)} has the salts of {salts.day}, and the head is of {head.day}")
-        under = under_head.UnderHead(key, head, salts, read, reasons)
-        wrong = [*under.head_faults(), *(fault for path in options.earlier for fault in under.earlier_faults(path))]
-        right = f"as signed: {head}"
+        found = under_head.of_folder(options.receipts, key) if options.receipts is not None else []
+        return under_head.UnderHead(key, head, salts, read, reasons, found)
+
+    def check_head(self, signed):
+        """Compares the journal and its replies with the head that the operator signed, with earlier heads, and with receipts."""
+        options = self.options
+        self.checked += ["head", "receipts"] if options.receipts is not None else ["head"]
+        earlier = [fault for path in options.earlier for fault in signed.earlier_faults(path)]
+        wrong = [*signed.head_faults(), *earlier, *signed.receipt_faults()]
+        right = f"as signed: {signed.head}"
         if options.earlier:
             right += f", which begins with {text.counted(len(options.earlier), 'earlier head')}"
         if options.receipts is not None:
-            self.checked.append("receipts")
-            found = under_head.of_folder(options.receipts, key)
-            wrong += under.receipt_faults(found)
-            right += f"; {text.counted(len(found), 'receipt')} of its entries"
+            right += f"; {text.counted(len(signed.findings), 'receipt')} of its entries"
         self.wrong += wrong
         self.unsigned = len(wrong)
         self.right += [] if wrong else [right]

@@ -419,6 +419,26 @@ class Command(unittest.TestCase):
         self.seal("b", "a.csv", "a.txt")  # other salts, so another tree
         self.assertIn("b/head.json", self.audit(1, "day.csv", "--earlier", "a/head.json", "--earlier", "b/head.json"))
 
+    def test_sent_commands_with_receipts(self):
+        """A command without an entry, with a receipt and without one."""
+        Path("results.txt").write_bytes(AUCTION_RESULTS.read_bytes())
+        first, *lines = AUCTION.read_bytes().splitlines(keepends=True)
+        own = [line for line in lines if line.split(b",")[1] == b"STAD"]
+        Path("mine.csv").write_bytes(b"".join(own))
+        self.seal()
+        Path("day.csv").rename("whole.csv")
+        Path("day.csv").write_bytes(b"".join([first, *(line for line in lines if line not in own[:2])]))
+        receipt_of_first = Path("sealed/receipts/STAD.jsonl").read_bytes().splitlines(keepends=True)[0]
+        Path("kept.jsonl").write_bytes(receipt_of_first)
+        words = ["--sent", "mine.csv", "--participant", "STAD", "--receipts", "kept.jsonl"]
+        out = self.audit(1, "day.csv", *words)
+        proved = [line for line in out.splitlines() if "the operator's fault, proved" in line]
+        unproved = [line for line in out.splitlines() if "no receipt proves" in line]
+        self.assertEqual((len(proved), len(unproved)), (1, 1), out)
+        self.assertIn(own[0].decode().strip(), proved[0])
+        self.assertIn(own[1].decode().strip(), unproved[0])
+        self.assertIn("as sent", self.audit(0, "whole.csv", *words))
+
     def test_command_lines_of_the_audit(self):
         for words in (["--head", "h"], ["--salts", "s", "--key", "k"], ["--receipts", "r"], ["--earlier", "e"]):
             self.assertEqual(tool("audit", "day.csv", "results.txt", *words)[0], 2)
