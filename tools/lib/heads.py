@@ -100,16 +100,21 @@ class Salts(NamedTuple):
     day: str
     secret: bytes
 
-    def salt(self, number):
-        return hmac.digest(self.secret, str(number).encode(), "sha256")
+    def salt(self, number, record, reply):
+        """The salt of an entry. Another entry in its place has another salt."""
+        return hmac.digest(self.secret, entry_text(number, record, reply), "sha256")
 
     def value(self):
         return {"format": SALTS, "day": self.day, "secret": packed(self.secret)}
 
 
+def entry_text(number, record, reply):
+    return f"{number}\n{record}\n{reply}\n".encode()
+
+
 def leaf_of(number, record, reply, salt):
     """The hash of an entry's leaf."""
-    return merkle.leaf_hash(salt + f"{number}\n{record}\n{reply}\n".encode())
+    return merkle.leaf_hash(salt + entry_text(number, record, reply))
 
 
 def packed(data):

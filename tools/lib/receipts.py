@@ -130,6 +130,8 @@ def judge(receipt, head, key, links):
     if head is None:
         return RIGHT, shown
     found, words = links.compared(receipt.head, head)
+    if found in (RIGHT, UNDECIDED) and receipt.number > head.size:
+        return WRONG, f"{shown}; but the journal of {head} ends before it"
     return found, shown if found == RIGHT else f"{shown}; {words}"
 
 

@@ -29,7 +29,11 @@ class Seal:
         """Adds an entry. The next head has it."""
         self.entries.append(entry)
         number = len(self.entries)
-        self.tree.append(heads.leaf_of(number, entry.record, entry.reply, self.salts.salt(number)))
+        self.tree.append(heads.leaf_of(number, entry.record, entry.reply, self.salt(number)))
+
+    def salt(self, number):
+        entry = self.entries[number - 1]
+        return self.salts.salt(number, entry.record, entry.reply)
 
     def head(self):
         """A head of all entries."""
@@ -38,7 +42,7 @@ class Seal:
     def receipt(self, number, head):
         entry = self.entries[number - 1]
         path = tuple(self.tree.inclusion(number - 1, head.size))
-        return Receipt(number, entry.record, entry.reply, self.salts.salt(number), path, head)
+        return Receipt(number, entry.record, entry.reply, self.salt(number), path, head)
 
     def extension(self, old, head):
         """The proof that a head's journal begins with an earlier head's. Ends with `Differs` if it doesn't."""

@@ -16,7 +16,7 @@ class UnderHead:
         self.records = [journal.command_line(command) for command in read.commands]
         self.periods = read.periods
         self.tree = merkle.Tree(
-            heads.leaf_of(number, record, reply, salts.salt(number))
+            heads.leaf_of(number, record, reply, salts.salt(number, record, reply))
             for number, (record, reply) in enumerate(zip(self.records, self.replies), 1)
         )
 

@@ -196,7 +196,7 @@ class Receipts(unittest.TestCase):
         self.assertFalse(leaves[0] & leaves[1])
         shown = b"".join(lines_of(seals[0])[:1])
         for number, entry in enumerate(seals[0].entries[1:], 2):
-            self.assertNotIn(heads.packed(seals[0].salts.salt(number)).encode(), shown)
+            self.assertNotIn(heads.packed(seals[0].salt(number)).encode(), shown)
             self.assertNotIn(entry.record.encode(), shown)
 
     def test_a_growing_journal(self):
@@ -214,6 +214,15 @@ class Receipts(unittest.TestCase):
                 line = heads.line(seal.receipt(size, published[size]))
                 self.assertEqual(verdict_of(line, last, self.public), receipts.UNDECIDED)
                 self.assertEqual(verdict_of(line, last, self.public, receipts.Links([path], self.public)), receipts.RIGHT)
+            # A published head that ends before an entry, and one that has it.
+            early = heads.line(seal.receipt(3, published[5]))
+            links = receipts.Links([], self.public)
+            self.assertEqual(verdict_of(early, published[2], self.public, links), receipts.WRONG)
+            self.assertEqual(verdict_of(early, published[3], self.public, links), receipts.UNDECIDED)
+            path.write_bytes(heads.line(seal.extension(published[2], published[5])))
+            self.assertEqual(verdict_of(early, published[2], self.public, receipts.Links([path], self.public)), receipts.WRONG)
+            path.write_bytes(heads.line(seal.extension(published[3], published[5])))
+            self.assertEqual(verdict_of(early, published[3], self.public, receipts.Links([path], self.public)), receipts.RIGHT)
             steps = []
             for size in range(1, last.size):
                 steps.append(Path(folder, f"{size}.json"))
@@ -223,6 +232,16 @@ class Receipts(unittest.TestCase):
             self.assertEqual(links.compared(published[0], last)[0], receipts.RIGHT)
             broken = receipts.Links(steps[1:], self.public)
             self.assertEqual(verdict_of(heads.line(seal.receipt(1, published[1])), last, self.public, broken), receipts.UNDECIDED)
+
+    def test_a_fork_shows_nothing_of_its_other_end(self):
+        """Two journals with one secret: an entry that differs has another salt."""
+        salts = sealing.new_salts(DAY)
+        one, other = (sealing.Seal(DAY, 24, salts, self.key) for _ in range(2))
+        for seal, record in ((one, "cancel,A,X,,,,,,"), (other, "cancel,B,Y,,,,,,")):
+            seal.append(sealing.Entry("cancel,C,Z,,,,,,", "refused,UnknownOrder", "C"))
+            seal.append(sealing.Entry(record, "refused,UnknownOrder", record[7]))
+        self.assertEqual(one.salt(1), other.salt(1))
+        self.assertNotEqual(one.salt(2), other.salt(2))
 
     def test_two_journals_of_one_day(self):
         heads_of = [sealed_of(data, key=self.key).head() for data in (FIRST, FIRST)]
