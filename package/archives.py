@@ -1,17 +1,21 @@
 """The two archives of a tree: a Debian package, and an archive that runs in place. They are read too, without unpacking them, and compared
 with what a clone makes."""
 
+import bz2
+import gzip
 import hashlib
 import io
 import json
+import lzma
 import os
 import re
 import shutil
 import subprocess
 import tarfile
+import zlib
 from typing import NamedTuple
 
-from lib import command
+from lib import command, text
 
 from . import clone as made_of
 from .tree import PROVENANCE
@@ -20,6 +24,9 @@ HERE = made_of.TOP / "package"
 CONTROL = "control of the package: "
 SHARED = "lib/x86_64-linux-gnu/libdam.so.1"
 FEW = 20  # differences that are named
+LONGEST = 200  # characters of one in the provenance
+DEEPEST = 20  # lists and objects of the provenance, one in another
+COMPRESSED = {b"\xfd7zXZ\0": lzma.open, b"\x1f\x8b": gzip.open, b"BZh": bz2.open}
 
 
 class Entry(NamedTuple):
@@ -120,29 +127,76 @@ def plain(tree, clone, target):
     called(["tar", "--create", f"--file={target}", "--use-compress-program=xz -9 -T1", *how, "--directory", tree, "."])
 
 
-def entries(data, prefix=""):
-    """The contents of a tar archive, by name."""
-    found = {}
-    with tarfile.open(fileobj=io.BytesIO(data)) as archive:
+def refuse_large(path, size):
+    """Ends the tool if an archive unpacks to more than any package of dam."""
+    if size > command.MOST_BYTES:
+        raise command.Stop(f"{command.shown(path)} isn't a package of dam: it unpacks to more than {command.MOST_BYTES:,} bytes")
+
+
+def within(path, file):
+    """The bytes of an open file, unless they are too many."""
+    data = command.first_bytes(file, command.MOST_BYTES + 1)
+    refuse_large(path, len(data))
+    return data
+
+
+def unpacked(path, data):
+    """The tar archive in compressed bytes."""
+    way = next((way for mark, way in COMPRESSED.items() if data.startswith(mark)), None)
+    if way is None:
+        return data
+    with way(io.BytesIO(data)) as file:
+        return within(path, file)
+
+
+def of_debian(path, way):
+    """One of the two tar archives in a Debian package."""
+    line = ["dpkg-deb", way, path.absolute()]
+    with subprocess.Popen(line, env=made_of.environment(), stdout=subprocess.PIPE, stderr=subprocess.DEVNULL) as process:
+        data = within(path, process.stdout)
+    if process.returncode:
+        raise tarfile.TarError(f"dpkg-deb ended with status {process.returncode}")
+    return data
+
+
+KINDS = {tarfile.DIRTYPE: "folder", tarfile.SYMTYPE: "link", tarfile.LNKTYPE: "hard link"}
+
+
+def below(name, top):
+    """The name of a member of an archive below its top folder; with a `/` before it if the member isn't there."""
+    if not top:
+        return name
+    return name[len(top) + 1 :] if f"{name}/".startswith(f"{top}/") else f"/{name}"
+
+
+def entries(path, data, top=None, prefix=""):
+    """The contents of a tar archive, by name, below its top folder; if none is named, that is the folder of its first member. A member that
+    is there again has a name of its own."""
+    found, size = {}, 0
+    with tarfile.open(fileobj=io.BytesIO(data), mode="r:") as archive:
         for member in archive:
-            held = archive.extractfile(member).read() if member.isfile() else member.linkname.encode()
-            kind = "file" if member.isfile() else "folder" if member.isdir() else "link"
-            found[prefix + member.name.removeprefix("./").rstrip("/")] = Entry(kind, member.mode, (member.uid, member.gid), held)
+            size += member.size
+            refuse_large(path, size)  # a file may have holes
+            held = archive.extractfile(member).read() if member.isfile() else member.linkname.encode(errors="surrogateescape")
+            kind = "file" if member.isfile() else KINDS.get(member.type, "device")
+            name = member.name.removeprefix("./").rstrip("/").removesuffix(".")
+            top = name.partition("/")[0] if top is None and name else top
+            name = prefix + below(name, top)
+            while name in found:
+                name += " (again)"
+            found[name] = Entry(kind, member.mode, (member.uid, member.gid), held)
     return found
 
 
 def read(path):
     """The files of a package by name: of the Debian package those of /usr and of its control, of the other archive those of its folder."""
+    data = command.read_bytes(path)
     try:
-        data = path.read_bytes()
         if path.name.endswith(".deb"):
-            files, told = (called(["dpkg-deb", way, path]) for way in ("--fsys-tarfile", "--ctrl-tarfile"))
-            return {**entries(told, CONTROL), **{name.removeprefix("usr/"): it for name, it in entries(files).items()}}
-        found = entries(data)
-        return {name.partition("/")[2]: it for name, it in found.items()}
-    except OSError as fault:
-        raise command.Stop(f"{command.shown(path)} can't be read: {fault.strerror}") from None
-    except (command.Stop, tarfile.TarError, EOFError):
+            files, told = (of_debian(path, way) for way in ("--fsys-tarfile", "--ctrl-tarfile"))
+            return {**entries(path, told, "", CONTROL), **entries(path, files, "usr")}
+        return entries(path, unpacked(path, data))
+    except (OSError, tarfile.TarError, EOFError, ValueError, lzma.LZMAError, zlib.error):
         raise command.Stop(f"{command.shown(path)} isn't a package of dam: it is neither a Debian package nor a tar archive") from None
 
 
@@ -150,9 +204,19 @@ def provenance_of(path, files):
     """The provenance of a package."""
     try:
         found = json.loads(files[PROVENANCE].data)
-        return {"commit": str(found["commit"]), "check": found["check"], **found}
-    except (KeyError, ValueError, TypeError):
+        if is_deep(found):
+            raise ValueError
+        return {**found, "commit": str(found["commit"]), "check": found["check"]}
+    except (KeyError, ValueError, TypeError, RecursionError):
         raise command.Stop(f"{command.shown(path)} isn't a package of dam: it has no {PROVENANCE}") from None
+
+
+def is_deep(value):
+    """Whether a value of JSON has lists and objects in each other, deeper than a provenance."""
+    level = [value]
+    for _ in range(DEEPEST):
+        level = [held for it in level if isinstance(it, (dict, list)) for held in (it.values() if isinstance(it, dict) else it)]
+    return bool(level)
 
 
 def differing(there, here):
@@ -167,17 +231,17 @@ def differing(there, here):
 
 
 def differences(there, here):
-    """What differs between two packages: a line for each file."""
-    for name in sorted({*there, *here}):
-        ours, theirs = here.get(name), there.get(name)
+    """What differs between two packages: a line for each file. Names and words of the one that is given may be anything."""
+    for it in sorted({*there, *here}):
+        ours, theirs, name = here.get(it), there.get(it), text.safe(it, command.LONGEST_PATH)
         if ours is None:
             yield f"{name} is not made here"
         elif theirs is None:
             yield f"{name} is missing"
         elif ours[:-1] != theirs[:-1]:
             yield f"{name} is {theirs}, made here {ours}"
-        elif ours.data != theirs.data and name == PROVENANCE:
-            words = "; ".join(differing(json.loads(theirs.data), json.loads(ours.data)))
+        elif ours.data != theirs.data and it == PROVENANCE:
+            words = "; ".join(text.safe(words, LONGEST) for words in differing(json.loads(theirs.data), json.loads(ours.data)))
             yield f"{name} differs: {words or 'in its sums, or in how it is written'}"
         elif ours.data != theirs.data:
             yield f"{name} differs: {len(theirs.data)} bytes, made here {len(ours.data)}"
@@ -185,10 +249,11 @@ def differences(there, here):
 
 def compare(path, made):
     """Compares a package with one that was made here. Returns the lines to print, and whether they are the same."""
-    if path.read_bytes() == made.read_bytes():
-        return [f"{path.name}: the same, byte for byte"], True
+    name = text.safe(path.name, command.LONGEST_PATH)
+    if command.read_bytes(path) == made.read_bytes():
+        return [f"{name}: the same, byte for byte"], True
     found = list(differences(read(path), read(made)))
     if not found:
-        return [f"{path.name}: each file is the same, byte for byte; only the packing differs"], True
+        return [f"{name}: each file is the same, byte for byte; only the packing differs"], True
     more = [f"and {len(found) - FEW} more"] if len(found) > FEW else []
-    return [*found[:FEW], *more, f"{path.name}: not the same: {len(found)} of its files differ"], False
+    return [*found[:FEW], *more, f"{name}: not the same: {len(found)} of its files differ"], False

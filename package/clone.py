@@ -85,7 +85,7 @@ def totals_of(path, commit):
     try:
         told = json.loads(Path(path or CHECKED).read_text(encoding="utf-8"))
         of = told["commit"]
-    except (OSError, ValueError, KeyError, TypeError):
+    except (OSError, ValueError, KeyError, TypeError, RecursionError):
         if path is None:
             return None
         raise command.Stop(f"{command.shown(path)} isn't what ./check writes to out/check.json") from None
