@@ -6,6 +6,7 @@ import contextlib
 import errno
 import importlib.util
 import os
+import stat
 import subprocess
 import sys
 import zoneinfo
@@ -156,6 +157,19 @@ def read_bytes(path):
     if len(data) > MOST_BYTES:
         raise Stop(f"{shown(path)} has more than {MOST_BYTES:,} bytes")
     return data
+
+
+def unread_file(path):
+    """Why a path has no file that can be read, if it has none. A device or a pipe may have no end."""
+    try:
+        mode = os.stat(path).st_mode
+    except FileNotFoundError:
+        return f"{shown(path)} is a link to a file that is missing" if os.path.islink(path) else f"{shown(path)} is missing"
+    except OSError as fault:
+        return f"{shown(path)} can't be read: {fault.strerror}"
+    if stat.S_ISDIR(mode):
+        return f"{shown(path)} can't be read: {os.strerror(errno.EISDIR)}"
+    return None if stat.S_ISREG(mode) else f"{shown(path)} is a device or a pipe, and should be a file"
 
 
 def first_bytes(file, most):

@@ -1,9 +1,7 @@
 """The audit of many days: each in a process of its own, so that one which breaks, or takes all memory, doesn't end the rest."""
 
-import errno
 import json
 import os
-import stat
 import subprocess
 import sys
 import threading
@@ -61,21 +59,8 @@ def named_pairs(folder):
 
 def pair_of(name, journal, published):
     if os.path.lexists(published):
-        return Pair(name, journal, published, unread_file(journal) or unread_file(published), None)
-    return Pair(name, journal, None, unread_file(journal), f"{command.shown(published)} is missing")
-
-
-def unread_file(path):
-    """Why a path has no file that can be read, if it has none. A device or a pipe may have no end."""
-    try:
-        mode = os.stat(path).st_mode
-    except FileNotFoundError:
-        return f"{command.shown(path)} is a link to a file that is missing" if path.is_symlink() else f"{command.shown(path)} is missing"
-    except OSError as fault:
-        return f"{command.shown(path)} can't be read: {fault.strerror}"
-    if stat.S_ISDIR(mode):
-        return f"{command.shown(path)} can't be read: {os.strerror(errno.EISDIR)}"
-    return None if stat.S_ISREG(mode) else f"{command.shown(path)} is a device or a pipe, and a day has files"
+        return Pair(name, journal, published, command.unread_file(journal) or command.unread_file(published), None)
+    return Pair(name, journal, None, command.unread_file(journal), f"{command.shown(published)} is missing")
 
 
 def listed_pairs(path):
@@ -100,7 +85,7 @@ def listed_pair(folder, cells):
     journal, published = (folder / cells.get(name, "") for name in COLUMNS)
     has_results = bool(cells.get("results"))
     missing = None if has_results else f"its row names no results, and {command.shown(journal)} has no line 'results'"
-    unread = unread_row(cells) or unread_file(journal) or (unread_file(published) if has_results else None)
+    unread = unread_row(cells) or command.unread_file(journal) or (command.unread_file(published) if has_results else None)
     return Pair(cells.get("day") or journal.stem, journal, published if has_results else None, unread, missing)
 
 

@@ -19,6 +19,10 @@ class UnderHead:
             heads.leaf_of(number, record, reply, salts.salt(number, record, reply))
             for number, (record, reply) in enumerate(zip(self.records, self.replies), 1)
         )
+        self.proved = {}  # of each record that the journal lacks as it was signed, the first receipt
+        for finding in findings:
+            if finding.verdict in (receipts.RIGHT, receipts.ENCODING) and self.receipt_fault(finding.receipt):
+                self.proved.setdefault(finding.receipt.record, finding.receipt)
 
     def beginning_fault(self, head):
         """Why the journal doesn't begin with a head's entries; None if it does."""
@@ -65,19 +69,15 @@ class UnderHead:
 
     def proof(self, command):
         """Whether a receipt proves that the operator had a command that the journal lacks, in words."""
-        record = journal.command_line(command)
-        for finding in self.findings:
-            receipt = finding.receipt
-            if finding.verdict in (receipts.RIGHT, receipts.ENCODING) and receipt.record == record and self.receipt_fault(receipt):
-                return f"; the operator signed it as entry {receipt.number} of {receipt.head}: the operator's fault, proved"
-        return "; no receipt proves that the operator had it"
+        receipt = self.proved.get(journal.command_line(command))
+        if receipt is None:
+            return "; no receipt proves that the operator had it"
+        return f"; the operator signed it as entry {receipt.number} of {receipt.head}: the operator's fault, proved"
 
     def receipt_faults(self):
         """The faults of receipts, and of the heads that they are under."""
         seen = {receipts.unsigned(self.head)}
         for finding in self.findings:
-            if finding.verdict == receipts.UNREAD:
-                raise command.Stop(str(finding))
             receipt, name = finding.receipt, f"{command.shown(finding.file)} line {finding.line}"
             fault = finding.words if finding.verdict == receipts.WRONG else self.receipt_fault(receipt)
             if fault:
@@ -90,9 +90,16 @@ class UnderHead:
 
 
 def of_folder(folder, key):
-    """The findings on the receipts of a folder, or of one file: whether the operator signed each."""
+    """The findings on the receipts of a folder, or of one file: whether the operator signed each. All have to be receipts."""
     paths = sorted(Path(folder).glob("*.jsonl")) if os.path.isdir(folder) else [folder]
     if not paths:
         raise command.Stop(f"{command.shown(folder)} has no file of receipts, NAME.jsonl")
-    links = receipts.Links([], key)
-    return [finding for path in paths for finding in receipts.judged(str(path), None, key, links)]
+    links, findings = receipts.Links([], key), []
+    for path in paths:
+        if os.path.isdir(folder) and (fault := command.unread_file(path)):
+            raise command.Stop(fault)
+        for finding in receipts.judged(str(path), None, key, links):
+            if finding.verdict == receipts.UNREAD:
+                raise command.Stop(str(finding))
+            findings.append(finding)
+    return findings

@@ -150,9 +150,9 @@ class Days(unittest.TestCase):
         (self.folder / "list").write_text("day,journal,results\ng,/dev/zero,\nh,a.csv,/dev/zero\nright,a.csv,a.txt\n")
         wanted = [("a", "right", None), ("b", "unread", "b.csv has more than 67,108,864 bytes")]
         wanted += [("c", "unread", "c.csv is a link to a file that is missing"), ("d", "unread", "d.csv is missing")]
-        wanted += [("e", "unread", "e.csv is a device or a pipe, and a day has files"), ("f", "unread", "f.csv can't be read: Is a directory")]
+        wanted += [("e", "unread", "e.csv is a device or a pipe, and should be a file"), ("f", "unread", "f.csv can't be read: Is a directory")]
         self.assertEqual(self.limited(self.folder), wanted)
-        device = "zero is a device or a pipe, and a day has files"
+        device = "zero is a device or a pipe, and should be a file"
         self.assertEqual(self.limited(self.folder / "list"), [("g", "unread", device), ("h", "unread", device), ("right", "right", None)])
 
     def limited(self, place):

@@ -20,7 +20,7 @@ from lib import book, command, heads, journal, merkle
 try:
     from cryptography.hazmat.primitives.asymmetric.ed25519 import Ed25519PrivateKey
 
-    from lib import receipts, sealing, signing
+    from lib import receipts, sealing, signing, under_head
 except ImportError:  # without python3-cryptography
     signing = None
 
@@ -458,10 +458,35 @@ class Command(unittest.TestCase):
         self.assertIn(own[1].decode().strip(), unproved[0])
         self.assertIn("as sent", self.audit(0, "whole.csv", *words))
 
+    def test_receipts_without_an_end(self):
+        """Nothing is waited for, and what isn't a receipt ends the audit before the next line is read."""
+        Path("results.txt").write_bytes(AUCTION_RESULTS.read_bytes())
+        self.seal()
+        os.mkfifo("sealed/receipts/A.jsonl")
+        self.audit(3, "day.csv", "--receipts", "sealed/receipts")
+        Path("sealed/receipts/A.jsonl").unlink()
+        Path("sealed/receipts/A.jsonl").write_bytes(b"x\n" * 10**6)
+        with mock.patch.object(heads, "parsed", wraps=heads.parsed) as parsed, self.assertRaisesRegex(command.Stop, r"A\.jsonl line 1: "):
+            under_head.of_folder("sealed/receipts", receipts.key_read("key.pem.pub"))
+        self.assertEqual(parsed.call_count, 1)
+
+    def test_many_commands_that_the_journal_lacks(self):
+        """Each with as many receipts of the same command: the time doesn't grow with the product."""
+        count = 5_000
+        seal = sealed_of(b"day,24,,,,,,,\n" + b"cancel,A,B,,,,,,\n" * count)
+        finding = receipts.Finding("f", 1, receipts.RIGHT, "", seal.receipt(1, seal.head()))
+        read = journal.read_journal(b"day,24,,,,,,,\n" + b"cancel,A,B,,,,,,\n" * count)
+        signed = under_head.UnderHead(None, seal.head(), seal.salts, read, book.run(read)[1], [finding] * count)
+        with mock.patch.object(signed, "receipt_fault", side_effect=AssertionError):
+            proofs = {signed.proof(one) for one in read.commands}
+        self.assertEqual(proofs, {"; no receipt proves that the operator had it"})
+
     def test_command_lines_of_the_audit(self):
         for words in (["--head", "h"], ["--salts", "s", "--key", "k"], ["--receipts", "r"], ["--earlier", "e"]):
             self.assertEqual(tool("audit", "day.csv", "results.txt", *words)[0], 2)
         self.assertEqual(tool("audit", "--days", ".", "--head", "h", "--salts", "s", "--key", "k")[0], 2)
+        for words in (["--head", "-", "--salts", "-", "--key", "k"], ["--head", "h", "--salts", "s", "--key", "k", "--earlier", "-", "--receipts", "-"]):
+            self.assertEqual(tool("audit", "day.csv", "results.txt", *words)[0], 2)
 
     def test_records_for_programs(self):
         for status, *words in (
