@@ -82,9 +82,10 @@ def read_changes(data, periods):
     try:
         if sent.WORDS.match(data.removeprefix(text.MARK)):
             return [(f"record {entry.record}", entry.command) for entry in sent.read_records(data, periods)]
-        if command_table.is_command_table(data):
-            return [(f"line {line}", command) for line, command in command_table.read_commands(data, periods)]
-        return [(f"order {number}", submit) for number, submit in order_table.read_tables([("", data)], periods).submits]
+        table = order_table.cells_of(data)
+        if command_table.is_command_table(table):
+            return [(f"line {line}", command) for line, command in command_table.read_commands(table, periods)]
+        return [(f"order {number}", submit) for number, submit in order_table.read_tables([("", table)], periods).submits]
     except (sent.Wrong, order_table.Wrong) as fault:
         raise Fault(in_few_lines(fault)) from None
 

@@ -14,10 +14,9 @@ class Columns:
     """A table of commands or of orders that has further columns, some of which it must have: where these stand, and the table. Those of
     orders are needed as far as its commands have them."""
 
-    def __init__(self, data, needed):
-        rows = rows_of(data)
-        self.header = header_of(rows)
-        self.table = order_table.table_of("", data, self.needed(rows[1:]), (*needed, WHAT))
+    def __init__(self, found, needed):
+        self.header = header_of(found)
+        self.table = order_table.table_of("", found, self.needed([cells for _, cells in found.rows[1:]]), (*needed, WHAT))
         for name in needed:
             if name not in self.header:
                 raise order_table.Wrong(f"line 1: there is no column {name}")
@@ -37,22 +36,14 @@ class Columns:
         return not any(self.cell(cells, name) for name in (WHAT, *self.table.places)) or self.cell(cells, WHAT).lower() == "close"
 
 
-def rows_of(data):
-    """The rows of a table that aren't empty; none if it can't be read."""
-    try:
-        return [cells for _, cells in sheets.rows_of(data)[0] if any(map(str.strip, cells))]
-    except sheets.Wrong:
-        return []
+def header_of(found):
+    """The names of a table's columns, by its cells."""
+    return [cell.strip().lower() for cell in found.rows[0][1]]
 
 
-def header_of(rows):
-    """The names of a table's columns."""
-    return [cell.strip().lower() for cell in rows[0]] if rows else []
-
-
-def is_command_table(data):
-    """Whether a text or workbook is a table with the column `what`."""
-    return WHAT in header_of(rows_of(data))
+def is_command_table(found):
+    """Whether a table, given by its cells, has the column `what`."""
+    return WHAT in header_of(found)
 
 
 def read_command(row, what):
@@ -73,9 +64,9 @@ def read_command(row, what):
     return None
 
 
-def read_commands(data, periods):
-    """The commands of a table, each with its line. Their faults, a line each, are `order_table.Wrong`."""
-    columns, found, wrong = Columns(data, ()), [], []
+def read_commands(given, periods):
+    """The commands of a table by its cells, each with its line. Their faults, a line each, are `order_table.Wrong`."""
+    columns, found, wrong = Columns(given, ()), [], []
     for line, cells in columns.table.rows:
         if columns.is_empty(cells):
             continue

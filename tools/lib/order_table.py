@@ -16,6 +16,7 @@ NEEDED = [name for name in ORDER if name not in OPTIONAL]
 WHAT = "what"
 COMMANDS_ALONE = ("amend", "cancel", "close")
 MOST_ERRORS = 20
+MOST_ROWS = rules.MOST_RECORDS - 1  # after the first one: as many as a journal has commands
 ALIKE = 0.75  # a column whose name is at least so similar to one that is missing is probably meant to be that
 TIMES = re.compile(r"([0-9]{1,2}:[0-9]{2})-([0-9]{1,2}:[0-9]{2})")
 DATE = re.compile(r"[0-9]{4}-[0-9]{2}-[0-9]{2}")
@@ -39,9 +40,10 @@ class Wrong(Exception):
 
 def trimmed(cells):
     """The cells of a row without the empty ones at its end, which spreadsheets leave."""
-    while cells and not cells[-1].strip():
-        cells = cells[:-1]
-    return cells
+    count = len(cells)
+    while count and not cells[count - 1].strip():
+        count -= 1
+    return cells[:count]
 
 
 def columns_of(header, needed, further):
@@ -78,11 +80,11 @@ def scaled(cell, factor, least, greatest, unit, decimal_comma):
     if not found:
         raise Wrong(f"{text.quoted(cell)} should be a number of {unit}, {such_as(cell, decimal_comma)}")
     sign, whole, rest = found.groups()
-    value = Fraction(f"{whole}.{rest or 0}") * factor * (-1 if sign else 1)
     digits = len(str(factor)) - 1
     if len(rest or "") > digits:
         hint = ": write thousands without a separator" if len(rest) == 3 else ""
         raise Wrong(f"{text.quoted(cell)} has more than {digits} digit{'s' * (digits > 1)} after the decimal point{hint}")
+    value = Fraction(f"{whole}.{rest or 0}") * factor * (-1 if sign else 1)
     if not least <= value <= greatest:
         ends = [text.fixed(Fraction(end) / factor, digits) for end in (least, greatest)]
         raise Wrong(f"{text.quoted(cell)} should be from {ends[0]} to {ends[1]} {unit}")
@@ -119,7 +121,14 @@ def read_periods(cell, periods):
     return numbers
 
 
+def refuse_many(found, cell):
+    """Refuses a cell with more parts than a day has periods, before each is read."""
+    if len(found) > rules.GREATEST_PERIOD:
+        raise Wrong(f"{text.quoted(cell)} has {len(found):,} parts: a day has at most {rules.GREATEST_PERIOD} periods")
+
+
 def read_numbers(cell):
+    refuse_many(parts(cell), cell)
     try:
         return spans.read(cell, rules.GREATEST_PERIOD)
     except ValueError as fault:
@@ -129,8 +138,9 @@ def read_numbers(cell):
 
 def read_times(cell, periods):
     """The periods between clock times."""
-    numbers = []
-    for part in parts(re.sub(r"\s*[-\u2013]\s*", "-", cell)):
+    numbers, spans_of_time = [], parts(re.sub(r" ?[-\u2013] ?", "-", " ".join(cell.split())))
+    refuse_many(spans_of_time, cell)
+    for part in spans_of_time:
         found = TIMES.fullmatch(part)
         if not found:
             raise Wrong(f"{text.quoted(part)} should be two clock times, such as 07:00-08:00")
@@ -143,13 +153,12 @@ def read_times(cell, periods):
 
 def read_volumes(cell, numbers, decimal_comma):
     """One volume for all periods, or one for each, separated by `;`."""
-    values = [scaled(part, 10, 1, rules.GREATEST_VOLUME, "MW", decimal_comma) for part in parts(cell)]
-    if len(values) == 1:
+    found = parts(cell)
+    values = [scaled(part, 10, 1, rules.GREATEST_VOLUME, "MW", decimal_comma) for part in found[: rules.GREATEST_PERIOD]]
+    if len(found) == 1:
         values *= len(numbers)
-    if len(values) != len(numbers):
-        raise Wrong(
-            f"there are {len(values)} volumes for {len(numbers)} period{'s' * (len(numbers) > 1)}: give one, or one for each"
-        )
+    elif len(found) != len(numbers):
+        raise Wrong(f"there are {len(found)} volumes for {len(numbers)} period{'s' * (len(numbers) > 1)}: give one, or one for each")
     return tuple(zip(numbers, values))
 
 
@@ -274,17 +283,33 @@ class Table(NamedTuple):
         return f"{self.name}: {words}" if self.name else words
 
 
-def table_of(name, data, needed=NEEDED, further=()):
-    """A table of orders, of which the header has been read; or one that needs other columns, and has further ones."""
+class Cells(NamedTuple):
+    """The cells of a table: its rows that aren't empty, each with the number of its first line; whether a comma may be the decimal
+    point."""
+
+    rows: list
+    decimal_comma: bool
+
+
+def cells_of(data, most=MOST_ROWS):
+    """The cells of a table of `most` rows after its first one; None allows any number."""
     if kinds.kind_of(data) in (kinds.JOURNAL, kinds.DAY):
         raise Wrong("this seems to be a journal already")
     try:
-        rows, decimal_comma = sheets.rows_of(data)
+        rows, decimal_comma = sheets.rows_of(data, most)
     except sheets.Wrong as fault:
         raise Wrong(str(fault)) from None
     rows = [(number, trimmed(cells)) for number, cells in rows if any(cell.strip() for cell in cells)]
     if not rows:
         raise Wrong(f"the table is empty: its first line should name the columns {', '.join(ORDER)}")
+    if most is not None and len(rows) > most + 1:
+        raise Wrong(f"line {rows[most + 1][0]}: a table has at most {most:,} rows after its first")
+    return Cells(rows, decimal_comma)
+
+
+def table_of(name, found, needed=NEEDED, further=()):
+    """A table of orders by its cells, of which the header has been read; or one that needs other columns, and has further ones."""
+    rows, decimal_comma = found
     header = rows[0][1]
     if WHAT not in further:
         refuse_commands(header, rows[1:])
@@ -316,14 +341,14 @@ class Orders(NamedTuple):
 
 
 def read_tables(sources, periods, who=None):
-    """The orders of tables, given as pairs of a name for messages and bytes, for a day of `periods` periods; of one participant, or of
-    all. If something is wrong with the tables, all of it, one line each."""
+    """The orders of tables, given as pairs of a name for messages and bytes or cells, for a day of `periods` periods; of one participant,
+    or of all. If something is wrong with the tables, all of it, one line each."""
     if periods not in rules.DAYS:
         raise Wrong(f"a day has {', '.join(DAYS[:-1])} or {DAYS[-1]} periods, not {periods}")
     wrong, notes, tables = [], [], []
     for name, data in sources:
         try:
-            tables.append(table_of(name, data))
+            tables.append(table_of(name, data if isinstance(data, Cells) else cells_of(data)))
         except Wrong as fault:
             wrong += [f"{name}: {line}" if name else line for line in str(fault).split("\n")]
     entered, submits, number, others = Entered(periods), [], 0, 0

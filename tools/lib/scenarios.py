@@ -84,7 +84,7 @@ class Sampler:
 def read_table(name, data, held):
     """The scenarios of a table: each is the book with the commands of its lines, which stand together. An error is a fault."""
     try:
-        columns = Columns(data, (SCENARIO,))
+        columns = Columns(order_table.cells_of(data, None), (SCENARIO,))
     except order_table.Wrong as fault:
         raise Fault(f"{name}: {changes.in_few_lines(fault)}") from None
     lines = [(line, columns.cell(cells, SCENARIO), cells) for line, cells in columns.table.rows]

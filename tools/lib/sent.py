@@ -90,10 +90,11 @@ def read_records(data, periods):
 
 def read_table(data, periods, who):
     """The orders of a participant in a table, as the sent commands, and how many others it has."""
-    if command_table.is_command_table(data):
-        raise Wrong(f"it is a table of commands, with the column {command_table.WHAT}: give records of a journal, or a table of orders")
     try:
-        orders = order_table.read_tables([("", data)], periods, who)
+        table = order_table.cells_of(data)
+        if command_table.is_command_table(table):
+            raise Wrong(f"it is a table of commands, with the column {command_table.WHAT}: give records of a journal, or a table of orders")
+        orders = order_table.read_tables([("", table)], periods, who)
     except order_table.Wrong as fault:
         is_table = kinds.kind_of(data) == kinds.ORDERS
         where = "its table has rows that aren't orders" if is_table else "it has no journal records and isn't a table of orders"

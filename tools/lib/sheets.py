@@ -1,15 +1,11 @@
-"""Tables as files: text with separators, and Excel workbooks (by openpyxl). Here they are rows of cells; others interpret them."""
+"""Tables as files: text with separators, and Excel workbooks. Here they are rows of cells; others interpret them."""
 
 import csv
-import datetime
 import io
-import os
-import zipfile
 
-from . import command, shapes, text
+from . import shapes, workbooks
 
 XLSX = b"PK\x03\x04"  # the first bytes of a workbook
-MOST_UNPACKED = 256 * 2**20  # bytes of a workbook's parts
 PREFERRED = "orders"  # the sheet that is read if there are several
 FORMULA = ("=", "+", "-", "@", "\t", "\r")  # the marks by which a program takes a cell for a formula
 
@@ -22,27 +18,16 @@ def is_workbook(data):
     return data.startswith(XLSX)
 
 
-def is_workbook_file(path):
-    """Whether a file is a workbook, with any name; only of a file that can be read again."""
-    try:
-        if not os.path.isfile(path):
-            return False
-        with open(path, "rb") as file:
-            return is_workbook(file.read(len(XLSX)))
-    except OSError:
-        return False
-
-
-def need_for(paths):
-    """Starts the tool again with Debian's Python, or ends it, if a file is a workbook and this Python can't read it."""
-    if any(map(is_workbook_file, paths)):
-        command.need("openpyxl")
-
-
-def rows_of(data):
+def rows_of(data, most=None):
     """The rows of a table, each with the number of its first line; and whether a comma may be the decimal point. A text is separated by
-    commas, semicolons or tabs, whichever its first line has most of."""
-    return (workbook_rows(data), True) if is_workbook(data) else text_rows(data)
+    commas, semicolons or tabs, whichever its first line has most of. A workbook isn't read further if it has `most` rows after its
+    first one."""
+    if not is_workbook(data):
+        return text_rows(data)
+    try:
+        return workbooks.rows_of(data, PREFERRED, most), True
+    except workbooks.Wrong as fault:
+        raise Wrong(str(fault)) from None
 
 
 def text_rows(data):
@@ -62,39 +47,6 @@ def text_rows(data):
     except csv.Error as fault:
         raise Wrong(f"line {line}: the table can't be read: {fault}") from None
     return rows, delimiter != ","
-
-
-def workbook_rows(data):
-    """The rows of a workbook's sheet: the orders' sheet, or else the first."""
-    if not command.has("openpyxl"):
-        other = f"this Python lacks openpyxl: run it with {command.DEBIAN_PYTHON}, which has it"
-        raise command.Stop(other if command.elsewhere("openpyxl") else command.missing("openpyxl"), command.FAILED)
-    import openpyxl
-
-    try:
-        with zipfile.ZipFile(io.BytesIO(data)) as parts:
-            if sum(part.file_size for part in parts.infolist()) > MOST_UNPACKED:
-                raise Wrong(f"line 1: the workbook has more than {MOST_UNPACKED // 2**20} MiB")
-        book = openpyxl.load_workbook(io.BytesIO(data), read_only=True, data_only=True)
-        sheet = book[PREFERRED] if PREFERRED in book.sheetnames else book.worksheets[0]
-        return [(line, [cell_text(cell) for cell in cells]) for line, cells in enumerate(sheet.iter_rows(values_only=True), 1)]
-    except (Wrong, MemoryError):
-        raise
-    except Exception as fault:  # a broken workbook raises any exception of its parts
-        raise Wrong(f"line 1: the Excel workbook can't be read: {text.safe(str(fault))}") from None
-
-
-def cell_text(value):
-    """The content of a cell of a workbook, as it would stand in a text."""
-    if value is None:
-        return ""
-    if isinstance(value, float):
-        return f"{value:.15g}"  # the digits that Excel shows
-    if isinstance(value, datetime.time):
-        return f"{value:%H:%M}"
-    if isinstance(value, datetime.date):
-        return f"{value:%Y-%m-%d}"
-    return str(value)
 
 
 def written(rows, decimal_comma=False):

@@ -5,7 +5,6 @@ import io
 import tempfile
 import unittest
 from pathlib import Path
-from unittest import mock
 
 from support import AUCTION, AUCTION_RESULTS, journal_of, printed, results_of, tool
 
@@ -138,6 +137,19 @@ class ForSpreadsheets(unittest.TestCase):
         said = ["line 2, column price_eur_mwh: it is empty, or a formula that wasn't saved with its value: it should be a number of"]
         self.assertEqual([words[: len(said[0])] for words in wrong("A,K,block,buy,,1,5,,")], said)
 
+    def test_many_decimals(self):
+        """Python reads no number of more than 4,300 digits."""
+        zeros = "5." + "0" * 5_000
+        for at, column, said in ((4, "price_eur_mwh", "2 digits"), (6, "volume_mw", "1 digit")):
+            cells = ["GAS", "K", "block", "buy", "1", "1", "5", "", ""]
+            cells[at] = zeros
+            data = table(",".join(cells))
+            said = f"line 2, column {column}: '{zeros[:80]}..' (5,002 characters) has more than {said} after the decimal point"
+            self.assertEqual(wrong(",".join(cells)), [said])
+            self.assertEqual(tool("table", "--journal", "-", data=data), (command.NO_INPUT, b"", f"table: standard input: {said}\n"))
+            status, out, _ = tool("audit", AUCTION, "--sent", "-", "--participant", "GAS", "--json", data=data)
+            self.assertEqual((status, zeros[:80] in out.decode()), (command.NO_INPUT, True))
+
     def test_a_decimal_comma(self):
         status, out, _ = tool("table", "--decimal-comma", "--rows", "orders", *TEXTS)
         rows = list(csv.reader(io.StringIO(out.decode()), delimiter=";"))
@@ -177,21 +189,6 @@ class ForSpreadsheets(unittest.TestCase):
         rows = [HEADER.split(","), *(f"A,K,block,buy,1.00,1-2,{volumes},,".split(",") for volumes in ("5.0", "5.0;6.5"))]
         sheet = openpyxl.load_workbook(io.BytesIO(sheets.workbook({"orders": rows})))["orders"]
         self.assertEqual([sheet.cell(line, 7).value for line in (2, 3)], [5.0, "5.0;6.5"])
-
-    def test_a_workbook_is_known_by_its_bytes(self):
-        """Another Python, which can read it, is sought before the file is read; standard input can't be read twice."""
-        with tempfile.TemporaryDirectory() as folder:
-            workbook, other = Path(folder, "orders.csv"), Path(folder, "other.xlsx")
-            workbook.write_bytes(sheets.XLSX)
-            other.write_bytes(HEADER.encode())
-            with mock.patch.object(command, "need") as need:
-                sheets.need_for(["-", folder, str(other), str(Path(folder, "none"))])
-                need.assert_not_called()
-                sheets.need_for([str(other), str(workbook)])
-                need.assert_called_once_with("openpyxl")
-        with mock.patch.object(command, "has", return_value=False), mock.patch.object(command, "elsewhere", return_value=True):
-            with self.assertRaisesRegex(command.Stop, f"run it with {command.DEBIAN_PYTHON}"):
-                sheets.rows_of(sheets.XLSX)
 
     @WITH_EXCEL
     def test_cells_of_workbooks(self):

@@ -1,0 +1,136 @@
+"""Excel workbooks of strangers: nothing in them is lost, and each fault has its place."""
+
+import csv
+import tempfile
+import unittest
+from pathlib import Path
+from unittest import mock
+
+from support import AUCTION, tool
+
+import workbooks as made
+from lib import changes, command, engine, order_table, scenarios, sheets
+from lib.book import Book
+
+LIMITED = "the sheet has more than 300,000 cells before this one: delete those that the table doesn't need"
+
+
+def row(number, *cells, attributes=None):
+    """A row of cells, each with its place and a text."""
+    texts = "".join(f'<c r="{place}" t="str"><v>{words}</v></c>' for place, words in cells)
+    return f'<row r="{number}">{texts}</row>'.encode()
+
+
+def order(number, name, *others):
+    cells = zip("ABCDEFG", ["A", name, "block", "buy", "1", "8", "5"])
+    return row(number, *((f"{letter}{number}", words) for letter, words in cells), *others)
+
+
+def book(*pieces):
+    return made.of_sheet(made.OPEN, *pieces, made.CLOSE)
+
+
+class Faults(unittest.TestCase):
+    def fault(self, data):
+        status, out, err = tool("table", "--journal", "-", data=data)
+        self.assertEqual((status, out), (command.NO_INPUT, b""), err)
+        return err.removeprefix("table: standard input: ").removesuffix("\n")
+
+    def orders(self, data):
+        status, out, err = tool("table", "--journal", "--open", "-", data=data)
+        self.assertEqual((status, err), (0, ""))
+        return [(fields[2], fields[8]) for fields in csv.reader(out.decode().splitlines()[1:])]
+
+    def test_the_stated_size_isnt_believed(self):
+        """A sheet that states fewer rows, or fewer columns, still has all of its orders, with their groups."""
+        rows = [order(2, "K1", ("I2", "G1")), order(3, "K2", ("I3", "G1")), order(4, "K3", ("I4", "G1"))]
+        for size in ("A1:I3", "A1:G5", "A1", "A1:XFD1048576", "no size"):
+            heads = made.OPEN.replace(b"<sheetData>", f'<dimension ref="{size}"/><sheetData>'.encode())
+            self.assertEqual(self.orders(made.of_sheet(heads, *rows, made.CLOSE)), [(name, "G1") for name in ("K1", "K2", "K3")], size)
+
+    def test_each_fault_has_its_place(self):
+        sheet = "sheet 'orders', "
+        for pieces, said in (
+            ([order(3, "K1"), order(2, "K2")], "row 2: it stands after row 3, but the rows should increase"),
+            ([order(2, "K1"), order(2, "K2"), order(4, "K3")], "row 2: it occurs twice"),
+            ([order(2, "K1"), order(5_000_000, "K2")], None),
+            ([row(2, ("B2", "K1"), ("A2", "A"))], "cell A2: it stands after B2, but the cells of a row should increase"),
+            ([row(2, ("A2", "A"), ("A2", "B"))], "cell A2: it occurs twice"),
+            ([row(2, ("A2", "A"), ("B3", "B"))], "cell A2: a cell of this row has the place 'B3'"),
+            ([row(2, ("A2", "A"), ("XFE2", "B"))], "cell XFE2: a row has at most 16384 cells"),
+            ([b'<row r="2"><c r="H2"><v>1,5</v></c></row>'], "cell H2: '1,5' isn't a number"),
+            ([b'<row r="2"><c r="H2" t="s"><v>7</v></c></row>'], "cell H2: it has no string '7'"),
+            ([b'<row r="2"><c r="H2" t="q"><v>7</v></c></row>'], "cell H2: '7' isn't of its type, 'q'"),
+            ([b'<row r="2"><c r="H2"><v>7</v><v>8</v></c></row>'], "cell H2: it has two values"),
+            ([row(at, (f"ALL{at}", "1")) for at in range(2, 400)], f"cell ALL301: {LIMITED}"),
+        ):
+            if said is None:
+                self.assertEqual(self.fault(book(*pieces)), "sheet 'orders': a row has the number '5000000': they go from 1 to 1048576")
+            else:
+                self.assertEqual(self.fault(book(*pieces)), sheet + said)
+
+    def test_merged_cells_of_the_table(self):
+        """Of the merged cells of a column only the first has the group: the other orders would be in none."""
+        rows = [order(2, "K1", ("I2", "G1")), order(3, "K2")]
+        for ref in ("I2:I3", "A1:I1", "$A$3:$B$3"):
+            close = made.CLOSE.replace(b"</worksheet>", f'<mergeCells><mergeCell ref="{ref}"/></mergeCells></worksheet>'.encode())
+            said = f"sheet 'orders': the cells {ref} are merged, but each row of a table has its own"
+            self.assertEqual(self.fault(made.of_sheet(made.OPEN, *rows, close)), said)
+        close = close.replace(b"$A$3:$B$3", b"K1:L9")
+        self.assertEqual(self.orders(made.of_sheet(made.OPEN, *rows, close)), [("K1", "G1"), ("K2", "")])
+
+    def test_a_formula_without_its_value_isnt_an_empty_cell(self):
+        group = b'<c r="I2"><f>"G"&amp;1</f></c></row>'
+        said = "line 2, column group: '=\"G\"&1' should be 1 to 12 of A to Z, 0 to 9 and -"
+        self.assertEqual(self.fault(book(order(2, "K1").replace(b"</row>", group))), said)
+
+    def test_a_table_has_no_more_rows_than_a_journal(self):
+        said = f"a table has at most {order_table.MOST_ROWS:,} rows after its first"
+        rows = [order(at, "K1") for at in range(2, order_table.MOST_ROWS + 3)]
+        self.assertEqual(self.fault(book(*rows)), f"sheet 'orders', row {order_table.MOST_ROWS + 2}: {said}")
+        table = ",".join(order_table.ORDER) + "\n" + "A,K1,block,buy,1,8,5,,\n" * (order_table.MOST_ROWS + 1)
+        self.assertEqual(self.fault(table.encode()), f"line {order_table.MOST_ROWS + 2}: {said}")
+        self.assertIn("(NameTaken)", self.fault(book(*rows[:-1])))
+        self.assertIn("(NameTaken)", self.fault(table.encode()[:-23]))
+
+    def test_every_table_is_read_by_the_same_code(self):
+        data, said = book(order(3, "K1"), order(2, "K2")), "sheet 'orders', row 2: it stands after row 3"
+        with tempfile.TemporaryDirectory() as folder:
+            path = Path(folder, "orders.xlsx")
+            path.write_bytes(data)
+            status, _, err = tool("audit", AUCTION, "--sent", path, "--participant", "GAS")
+            self.assertEqual((status, said in err), (command.NO_INPUT, True), err)
+        for read in (lambda: changes.read_changes(data, 24), lambda: scenarios.read_table("a table", data, Book(24))):
+            with self.assertRaisesRegex(engine.Fault, said):
+                read()
+
+    def test_a_workbook_is_read_without_a_package(self):
+        with mock.patch.dict("sys.modules", {"openpyxl": None}):
+            self.assertEqual(sheets.rows_of(book(row(2, ("B2", "x"))))[0][1:], [(2, ["", "x"])])
+
+    def test_other_archives(self):
+        said = "line 1: the Excel workbook can't be read: it isn't an Excel workbook (.xlsx), but another archive"
+        self.assertEqual(self.fault(made.archive({"mimetype": b"application/vnd.oasis.opendocument.spreadsheet"})), said)
+
+
+class Long(unittest.TestCase):
+    """Cells that are long take no time."""
+
+    def test_each_column(self):
+        for column, cell, said in (
+            ("periods", "7:00" + " " * 30_000 + "x", "should be two clock times"),
+            ("periods", "1-100;" * 5_000, "has 5,000 parts: a day has at most 100 periods"),
+            ("periods", "07:00-08:00 " * 5_000, "has 5,000 parts: a day has at most 100 periods"),
+            ("volume_mw", "5;" * 15_000, "there are 15000 volumes for 1 period: give one, or one for each"),
+        ):
+            cells = dict(zip(order_table.ORDER, "A,K1,block,buy,1,8,5,,".split(",")), **{column: cell})
+            with self.assertRaisesRegex(order_table.Wrong, said):
+                order_table.read_tables([("", f"{','.join(cells)}\n{','.join(cells.values())}\n".encode())], 24)
+
+    def test_periods_with_spaces_are_no_more_parts(self):
+        quarters = ";".join(f"{at // 4:02}:{at % 4 * 15:02} - {(at + 1) // 4:02}:{(at + 1) % 4 * 15:02}" for at in range(96))
+        self.assertEqual(order_table.read_periods(quarters, 96), list(range(1, 97)))
+
+
+if __name__ == "__main__":
+    unittest.main()
