@@ -16,6 +16,7 @@ import sys
 from pathlib import Path
 
 sys.dont_write_bytecode = True
+sys.path.insert(0, str(Path(__file__).resolve().parent))  # an isolated Python leaves it out
 
 import compare
 import days

@@ -9,7 +9,8 @@ FOLDER = Path(__file__).resolve().parent
 
 def run(tool):
     """Runs a tool with the words of the command line. It finds its modules next to its own file, as in a clone."""
-    sys.path[0] = str(FOLDER)
+    if not getattr(sys.flags, "safe_path", False):
+        del sys.path[0]  # the folder of the commands, or the working folder
     runpy.run_path(str(FOLDER / tool), run_name="__main__")
 
 

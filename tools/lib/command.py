@@ -17,6 +17,7 @@ from . import book, ending, journal, kinds, lint, place, results, selection, tex
 from .rules import VERSION
 
 DEBIAN_PYTHON = "/usr/bin/python3"
+ISOLATED = [DEBIAN_PYTHON, "-I"]  # from the environment and the working folder
 LONGEST_PATH = 400  # characters of the name of a file in a message
 MOST_BYTES, PART = 64 << 20, 1 << 20  # of a file that a tool reads, and of those how many at once
 SEE_AUDIT = place.as_here("see tools/audit")
@@ -106,6 +107,7 @@ class Parser(argparse.ArgumentParser):
     """A tool's command line, with no shortened options. Its help is written as all output is."""
 
     def __init__(self, prog, description, epilog):
+        description = description or place.docstring(place.FOLDER / prog)
         form, prog = argparse.RawDescriptionHelpFormatter, place.command(prog)
         description, epilog = place.as_here(description), place.as_here(epilog)
         super().__init__(prog=prog, description=description, epilog=epilog, formatter_class=form, allow_abbrev=False)
@@ -320,11 +322,12 @@ def is_debians():
 
 
 def elsewhere(*modules):
-    """Whether Debian's Python is a different one and has the modules."""
+    """Whether Debian's Python is a different one and has the modules. With -c alone it would also find those of the working folder."""
     if is_debians():
         return False
+    find = "import importlib.util, sys; sys.exit(None in map(importlib.util.find_spec, sys.argv[1:]))"
     try:
-        return subprocess.run([DEBIAN_PYTHON, "-c", f"import {', '.join(modules)}"], stderr=subprocess.DEVNULL).returncode == 0
+        return subprocess.run([*ISOLATED, "-c", find, *modules], stderr=subprocess.DEVNULL).returncode == 0
     except OSError:
         return False
 
@@ -332,7 +335,7 @@ def elsewhere(*modules):
 def python_with(*modules):
     """Starts the tool again with Debian's Python, if that has the modules and this one lacks some."""
     if not all(map(has, modules)) and elsewhere(*modules):
-        os.execv(DEBIAN_PYTHON, [DEBIAN_PYTHON, *sys.argv])
+        os.execv(DEBIAN_PYTHON, [*ISOLATED, sys.modules["__main__"].__file__, *sys.argv[1:]])
 
 
 def has_zone(name):

@@ -7,11 +7,8 @@ import io
 import math
 from fractions import Fraction
 
-import matplotlib
+from .drawing import matplotlib, pyplot
 
-matplotlib.use("Agg")
-
-from matplotlib import pyplot
 from matplotlib.collections import LineCollection, PolyCollection
 from matplotlib.patches import Patch, Polygon, Rectangle
 from matplotlib.ticker import AutoLocator

@@ -19,3 +19,13 @@ def command(tool):
 def as_here(words):
     """Words that name commands as in a clone, such as `./dam clear` and `tools/audit`, with the names that these have here."""
     return CLONED.sub(lambda found: "dam" if found[0] == "./dam" else "dam-", words) if IS_INSTALLED else words
+
+
+def docstring(path, function=None):
+    """The docstring of a script, or of a function in it, also if Python has left it out (python3 -OO)."""
+    import ast
+
+    tree = ast.parse(Path(path).read_bytes())
+    if function is not None:
+        tree = next(part for part in tree.body if isinstance(part, ast.FunctionDef) and part.name == function)
+    return ast.get_docstring(tree, clean=False)

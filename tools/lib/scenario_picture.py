@@ -1,9 +1,8 @@
 """A picture of blocks over many scenarios: of each how often it is accepted, and the distribution of its surplus then."""
 
 from . import pictures, text
+from .drawing import pyplot
 from .scenarios import quantile
-
-from matplotlib import pyplot
 
 BINS = 30
 MEDIAN = "median of the surplus"

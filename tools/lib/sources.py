@@ -20,6 +20,7 @@ import time
 if __package__:
     from . import crates
 else:
+    sys.path.insert(0, os.path.dirname(os.path.realpath(__file__)))  # an isolated Python leaves it out
     import crates
 
 TOP = os.path.dirname(os.path.dirname(os.path.dirname(os.path.realpath(__file__))))

@@ -41,7 +41,8 @@ def jobs(word):
 
 def add_command(commands, call, name, epilog, words):
     """The parser of a command, with what all commands read."""
-    parser = commands.add_parser(name, description=inspect.cleandoc(call.__doc__), epilog=epilog, help=words)
+    words_of_call = call.__doc__ or place.docstring(__file__, call.__name__)
+    parser = commands.add_parser(name, description=inspect.cleandoc(words_of_call), epilog=epilog, help=words)
     parser.add_argument("journal", metavar="JOURNAL", help="a closed journal; - for standard input")
     parser.add_argument("--program", metavar="PATH", help="the program `dam` to run (default: the library, or the built program)")
     output.add_options(parser)

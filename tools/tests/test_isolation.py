@@ -1,0 +1,89 @@
+"""Nothing of the working folder and little of the environment reaches the tools: no module, no settings, no other library for pictures."""
+
+import os
+import subprocess
+import sys
+import tempfile
+import unittest
+from pathlib import Path
+from unittest import mock
+
+from support import AUCTION, AUCTION_RESULTS, TOOLS, tool
+
+from lib import command, place
+
+PACKAGES = ("jinja2", "matplotlib", "numpy", "openpyxl", "pandas", "scipy", "tqdm")
+# What a stranger may have put into the folder in which a tool is started.
+STRANGER = 'import os\nos.write(1, b"a stranger\'s module runs\\n")\nopen("ran", "a").write(__name__)\n'
+HAS_PICTURES = command.has("matplotlib") and command.has("jinja2")
+STRANGE = {"PYTHONSAFEPATH": "1", "PYTHONOPTIMIZE": "2", "MPLBACKEND": "nosuch", "MATPLOTLIBRC": ".", "MPLCONFIGDIR": "."}
+
+
+class Isolation(unittest.TestCase):
+    def setUp(self):
+        folder = tempfile.TemporaryDirectory()
+        self.addCleanup(folder.cleanup)
+        self.folder = Path(folder.name)
+        for name in (*PACKAGES, "lib", "argparse", "zipfile"):
+            self.folder.joinpath(f"{name}.py").write_text(STRANGER)
+
+    def ran(self, name, *words, options=(), **environment):
+        line = [sys.executable, *options, TOOLS / name, *words]
+        ended = subprocess.run(line, cwd=self.folder, capture_output=True, env={**os.environ, **environment}, timeout=300)
+        self.assertFalse(self.folder.joinpath("ran").exists(), (name, words, options, environment))
+        return ended.returncode, ended.stdout, ended.stderr
+
+    def test_each_tool_starts_in_every_environment(self):
+        """Its help is the same, although an optimising Python leaves docstrings out."""
+        for name, *words in (*([name] for name in place.TOOLS), ["whatif", "scenarios"], ["receipts", "seal"], ["package"], ["reading-list"]):
+            status, right, err = tool(name, *words, "--help")
+            self.assertEqual((status, err), (0, ""), name)
+            self.assertEqual(self.ran(name, *words, "--help", **STRANGE), (0, right, b""), name)
+        self.assertEqual(self.ran(name, "--help", options=["-I", "-OO"]), (0, right, b""))
+
+    def test_the_scripts_of_the_launcher_start_too(self):
+        self.assertEqual(self.ran("prove", "--help", **STRANGE)[::2], (0, b""))
+        sources = [sys.executable, "-I", "-B", TOOLS / "lib" / "sources.py", "dam_plan"]
+        self.assertEqual(subprocess.run(sources, cwd=self.folder, stdout=subprocess.DEVNULL).returncode, 0)
+
+    @unittest.skipUnless(HAS_PICTURES, "matplotlib or jinja2 is missing (Debian's python3-matplotlib, python3-jinja2)")
+    def test_no_settings_of_pictures_are_obeyed(self):
+        settings, texts = self.folder / "matplotlibrc", (AUCTION, AUCTION_RESULTS, "-o", "-")
+        plot, report = (tool(name, *texts) for name in ("plot", "report"))
+        self.assertEqual([plot[::2], report[::2]], [(0, "")] * 2)
+        settings.write_text("ytick.labelleft: False\ntext.usetex: True\n")
+        self.assertEqual(self.ran("plot", *texts, **STRANGE), (0, plot[1], b""))
+        settings.unlink()
+        os.mkfifo(settings)  # nobody writes to it
+        self.assertEqual(self.ran("report", *texts), (0, report[1], b""))
+        self.assertEqual([path.name for path in self.folder.iterdir() if path.suffix != ".py"], ["matplotlibrc"])
+
+    def test_debians_python_is_asked_apart(self):
+        """A Python that lacks packages asks Debian's for them; neither looks into the working folder."""
+        code = "import sys\nsys.path.insert(0, {tools!r})\nfrom lib import command\ncommand.is_debians = lambda: False\n"
+        code += "print(command.elsewhere('json'), command.elsewhere('json', 'nosuch'), command.elsewhere('lib'))\n"
+        path = self.folder.parent / f"{self.folder.name}-ask"
+        path.write_text(code.format(tools=str(TOOLS)))
+        self.addCleanup(path.unlink)
+        if not Path(command.DEBIAN_PYTHON).exists():
+            self.skipTest("there is no Debian's Python")
+        ran = subprocess.run([sys.executable, path], cwd=self.folder, capture_output=True, text=True)
+        self.assertEqual((ran.stdout, ran.stderr), ("True False False\n", ""))
+        self.assertFalse(self.folder.joinpath("ran").exists())
+
+    def test_a_tool_starts_again_apart(self):
+        """By the file of the tool, since the command of an installed one belongs to another Python."""
+        main = mock.Mock(__file__=str(TOOLS / "audit"))
+        with (
+            mock.patch.object(command, "has", return_value=False),
+            mock.patch.object(command, "elsewhere", return_value=True),
+            mock.patch.object(os, "execv") as execv,
+            mock.patch.dict(sys.modules, {"__main__": main}),
+            mock.patch.object(sys, "argv", ["/bin/dam-audit", "--best"]),
+        ):
+            command.python_with("numpy")
+        execv.assert_called_once_with(command.DEBIAN_PYTHON, [command.DEBIAN_PYTHON, "-I", str(TOOLS / "audit"), "--best"])
+
+
+if __name__ == "__main__":
+    unittest.main()
