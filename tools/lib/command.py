@@ -12,7 +12,7 @@ import sys
 import zoneinfo
 from pathlib import Path
 
-from . import book, ending, journal, kinds, lint, place, results, selection, text
+from . import book, ending, journal, kinds, lint, place, replacing, results, selection, text
 
 from .rules import VERSION
 
@@ -202,12 +202,12 @@ def say(lines):
 
 
 def write_bytes(tool, path, data):
-    """Writes a file, and at a terminal says so; or standard output if the path is `-`."""
+    """Writes a file that is whole, and at a terminal says so; or standard output if the path is `-`."""
     if path == "-":
         write_output(data)
         return
     try:
-        Path(path).write_bytes(data)
+        replacing.write(path, data)
     except OSError as fault:
         raise Stop(f"{shown(path)} can't be written: {fault.strerror}") from None
     if sys.stderr.isatty():

@@ -2,12 +2,18 @@
 
 import csv
 import io
+import re
 
 from . import shapes, workbooks
 
 XLSX = b"PK\x03\x04"  # the first bytes of a workbook
 PREFERRED = "orders"  # the sheet that is read if there are several
-FORMULA = ("=", "+", "-", "@", "\t", "\r")  # the marks by which a program takes a cell for a formula
+# The marks by which a program takes a cell for a formula, also the wide ones. In some languages a comma, a semicolon or a tab in a cell
+# begins another one.
+FORMULA = ("=", "+", "-", "@", "\uff1d", "\uff0b", "\uff0d", "\uff20", "\t", "\r", "\n")
+CELL = r"(\A|[,;\t\r\n])"
+MARK = f"(?=[{re.escape(''.join(FORMULA))}])"
+UNESCAPED, ESCAPED = re.compile(CELL + MARK), re.compile(f"{CELL}'{MARK}")
 
 
 class Wrong(Exception):
@@ -50,8 +56,8 @@ def text_rows(data):
 
 
 def written(rows, decimal_comma=False):
-    """The text of a table. A cell of words can't be taken for a formula: it then begins with an apostrophe. With a decimal comma the cells
-    are separated by semicolons."""
+    """The text of a table. No part of a cell of words can be taken for a formula: an apostrophe stands before it. With a decimal comma the
+    cells are separated by semicolons."""
     rows = iter(rows)
     heads = next(rows)
     kinds = [shapes.column(name, heads)["type"] for name in heads]
@@ -65,13 +71,13 @@ def written(rows, decimal_comma=False):
 
 def cell(kind, value, decimal_comma):
     if kind == "string":
-        return f"'{value}" if str(value).startswith(FORMULA) else value
+        return UNESCAPED.sub(r"\1'", str(value))
     return str(value).replace(".", ",") if decimal_comma and kind in ("number", "array") else value
 
 
 def unescaped(cell):
-    """A cell that was read, without the apostrophe that keeps it from being taken for a formula."""
-    return cell[1:] if cell.startswith("'") and cell[1:].startswith(FORMULA) else cell
+    """A cell that was read, without the apostrophes that keep it from being taken for a formula."""
+    return ESCAPED.sub(r"\1", cell) if "'" in cell else cell
 
 
 def workbook(tables):

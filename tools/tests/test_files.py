@@ -1,15 +1,17 @@
 """The files that tools read and write: no input is lost, written files are named, and oddities of results are reported."""
 
 import os
+import resource
 import subprocess
 import sys
 import tempfile
 import unittest
 from pathlib import Path
+from unittest import mock
 
 from support import AUCTION, TOOLS, printed, tool
 
-from lib import command, tables
+from lib import command, replacing, tables
 
 PACKAGES = {"plot": ["matplotlib"], "report": ["matplotlib", "jinja2"], "table": []}
 MARK = b"\xef\xbb\xbf"
@@ -57,6 +59,57 @@ class Files(unittest.TestCase):
             words = [sys.executable, TOOLS / "table", "--journal", "-", "-o", orders]
             self.assertEqual(subprocess.run(words, stdin=given, stderr=subprocess.DEVNULL).returncode, command.COMMAND_LINE)
         self.assertEqual([path.read_bytes() for path in (*texts, orders)], [AUCTION.read_bytes(), printed(AUCTION), made])
+
+    def test_an_old_file_stays_until_the_new_one_is_whole(self):
+        out, words = self.folder / "a.csv", [sys.executable, TOOLS / "table", "--quiet", self.journal, self.results, "-o"]
+        small = {"preexec_fn": lambda: resource.setrlimit(resource.RLIMIT_FSIZE, (1_000, 1_000))}  # as on a full disk
+        out.write_text("old")
+        for path in (out, self.folder / "new.csv"):
+            ran = subprocess.run([*words, path], capture_output=True, text=True, **small)
+            self.assertEqual((ran.returncode, ran.stderr), (command.NO_INPUT, f"table: {path} can't be written: File too large\n"))
+        self.assertEqual(out.read_text(), "old")
+        self.assertEqual(sorted(path.name for path in self.folder.iterdir()), ["a.csv", "day.csv", "results.txt"])
+
+    def test_the_rights_of_an_old_file_and_a_link_to_it_stay(self):
+        out, link = self.folder / "a.csv", self.folder / "link"
+        out.write_text("old")
+        out.chmod(0o640)
+        link.symlink_to("a.csv")
+        number = out.stat().st_ino
+        replacing.write(link, b"new")
+        self.assertEqual((link.readlink(), out.read_bytes(), out.stat().st_mode & 0o777), (Path("a.csv"), b"new", 0o640))
+        self.assertNotEqual(out.stat().st_ino, number)
+        before = os.umask(0o027)
+        self.addCleanup(os.umask, before)
+        link.unlink()
+        link.symlink_to("none.csv")
+        replacing.write(link, b"made")
+        made = self.folder / "none.csv"
+        self.assertEqual((made.read_bytes(), made.stat().st_mode & 0o777), (b"made", 0o640))
+
+    def test_some_files_are_written_in_place(self):
+        """A pipe, an open file, and one that can't be replaced: its folder belongs to somebody else, or it is mounted."""
+        words = [sys.executable, TOOLS / "table", "--quiet", self.journal, self.results]
+        right = subprocess.run(words, capture_output=True).stdout
+        self.assertEqual(subprocess.run([*words, "-o", "/dev/stdout"], capture_output=True).stdout, right)
+        out, pipe = self.folder / "a.csv", self.folder / "pipe"
+        with out.open("wb") as file:
+            file.write(b"first\n")
+            file.flush()
+            with out.open("ab") as more:
+                subprocess.run([*words, "-o", "/dev/fd/1"], stdout=more, check=True)
+        self.assertEqual(out.read_bytes()[-len(right) :], right)
+        os.mkfifo(pipe)
+        with subprocess.Popen(["cat", pipe], stdout=subprocess.PIPE) as reader:
+            replacing.write(pipe, b"new")
+            self.assertEqual(reader.stdout.read(), b"new")
+        self.assertTrue(pipe.is_fifo())
+        number = out.stat().st_ino
+        for fault in replacing.FIXED:
+            with mock.patch.object(os, "rename", side_effect=OSError(fault, "")):
+                replacing.write(out, b"%d" % fault)
+            self.assertEqual((out.read_bytes(), out.stat().st_ino), (b"%d" % fault, number))
+        self.assertEqual(sorted(path.name for path in self.folder.iterdir()), ["a.csv", "day.csv", "pipe", "results.txt"])
 
     def test_at_a_terminal_the_file_is_named(self):
         texts = [self.journal.name, self.results.name]

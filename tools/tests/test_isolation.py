@@ -15,7 +15,6 @@ from lib import command, place
 PACKAGES = ("jinja2", "matplotlib", "numpy", "openpyxl", "pandas", "scipy", "tqdm")
 # What a stranger may have put into the folder in which a tool is started.
 STRANGER = 'import os\nos.write(1, b"a stranger\'s module runs\\n")\nopen("ran", "a").write(__name__)\n'
-HAS_PICTURES = command.has("matplotlib") and command.has("jinja2")
 STRANGE = {"PYTHONSAFEPATH": "1", "PYTHONOPTIMIZE": "2", "MPLBACKEND": "nosuch", "MATPLOTLIBRC": ".", "MPLCONFIGDIR": "."}
 
 
@@ -46,16 +45,16 @@ class Isolation(unittest.TestCase):
         sources = [sys.executable, "-I", "-B", TOOLS / "lib" / "sources.py", "dam_plan"]
         self.assertEqual(subprocess.run(sources, cwd=self.folder, stdout=subprocess.DEVNULL).returncode, 0)
 
-    @unittest.skipUnless(HAS_PICTURES, "matplotlib or jinja2 is missing (Debian's python3-matplotlib, python3-jinja2)")
+    @unittest.skipUnless(command.has("matplotlib"), "matplotlib is missing (Debian's python3-matplotlib)")
     def test_no_settings_of_pictures_are_obeyed(self):
         settings, texts = self.folder / "matplotlibrc", (AUCTION, AUCTION_RESULTS, "-o", "-")
-        plot, report = (tool(name, *texts) for name in ("plot", "report"))
-        self.assertEqual([plot[::2], report[::2]], [(0, "")] * 2)
+        status, right, err = tool("plot", *texts)
+        self.assertEqual((status, err), (0, ""))
         settings.write_text("ytick.labelleft: False\ntext.usetex: True\n")
-        self.assertEqual(self.ran("plot", *texts, **STRANGE), (0, plot[1], b""))
+        self.assertEqual(self.ran("plot", *texts, **STRANGE), (0, right, b""))
         settings.unlink()
         os.mkfifo(settings)  # nobody writes to it
-        self.assertEqual(self.ran("report", *texts), (0, report[1], b""))
+        self.assertEqual(self.ran("plot", *texts), (0, right, b""))
         self.assertEqual([path.name for path in self.folder.iterdir() if path.suffix != ".py"], ["matplotlibrc"])
 
     def test_debians_python_is_asked_apart(self):

@@ -129,6 +129,23 @@ class ForSpreadsheets(unittest.TestCase):
                     if cell.startswith(sheets.FORMULA):
                         float(cell)
 
+    def test_no_part_of_a_word_is_a_formula(self):
+        """In a spreadsheet of another language a semicolon, a comma or a tab begins another cell, and = may be wide."""
+        for name, shown in (
+            (";=1+1", ";'=1+1"),
+            ("\uff1d1+1", "'\uff1d1+1"),
+            ("a;\uff0b1", "a;'\uff0b1"),
+            ("a,@x", "a,'@x"),
+            ("\t=1", "'\t'=1"),
+            ("\n-1", "'\n'-1"),
+            ("a;b, -c; d", "a;b, -c; d"),
+        ):
+            for decimal_comma in (False, True):
+                out = sheets.written([["scenario", "period"], [name, 1]], decimal_comma)
+                rows = list(csv.reader(io.StringIO(out, newline=""), delimiter=";" if decimal_comma else ","))
+                self.assertEqual(rows[1], [shown, "1"])
+            self.assertEqual(sheets.unescaped(shown), name)
+
     def test_a_journal_is_no_table_of_orders(self):
         status, _, err = tool("table", "--journal", AUCTION)
         self.assertEqual((status, err), (command.NO_INPUT, f"table: {AUCTION}: this seems to be a journal already\n"))

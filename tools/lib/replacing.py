@@ -1,0 +1,87 @@
+"""A written file takes the place of an old one only once it is whole: if the disk is full, the old file stays."""
+
+import contextlib
+import errno
+import os
+import secrets
+import stat
+from pathlib import Path
+
+# The errors if an old file can be written but not replaced, because of its folder, its owner or its file system.
+FIXED = (errno.EACCES, errno.EPERM, errno.EROFS, errno.EBUSY, errno.EXDEV, errno.ENOTSUP)
+MOST_LINKS = 40  # that Linux follows
+
+
+def write(path, data):
+    """Writes a file. A device, a pipe, and a file that can't be replaced are written in place."""
+    target = end_of(str(Path(path)))
+    old = stat_of(target) if target is not None else None
+    if target is None or old is not None and not stat.S_ISREG(old.st_mode):
+        Path(path).write_bytes(data)
+        return
+    if old is not None:
+        os.close(os.open(target, os.O_WRONLY))  # a file that can't be written isn't replaced
+    try:
+        replace(target, old, data)
+    except OSError as fault:
+        if old is None or fault.errno not in FIXED:
+            raise
+        Path(target).write_bytes(data)
+
+
+def end_of(path):
+    """The file to which symbolic links lead from a path; None for an open file, as /dev/stdout names it."""
+    for _ in range(MOST_LINKS):
+        folder, name = os.path.split(path)
+        path = os.path.join(os.path.realpath(folder), name)
+        if path.startswith("/proc/"):
+            return None
+        if not os.path.islink(path):
+            return path
+        path = os.path.join(os.path.dirname(path), os.readlink(path))
+    return path
+
+
+def stat_of(path):
+    try:
+        return os.stat(path)
+    except FileNotFoundError:
+        return None
+
+
+def replace(target, old, data):
+    """Writes a new file next to the target, and then gives it the target's name."""
+    made = os.path.join(os.path.dirname(target), f".dam-{secrets.token_hex(8)}")
+    number = os.open(made, os.O_WRONLY | os.O_CREAT | os.O_EXCL | os.O_CLOEXEC, 0o666)
+    try:
+        with open(number, "wb") as file:
+            if old is not None:
+                take_rights(number, target, old)
+            file.write(data)
+            file.flush()
+            os.fsync(number)
+        os.rename(made, target)
+    except BaseException:
+        with contextlib.suppress(OSError):
+            os.unlink(made)
+        raise
+
+
+def take_rights(number, target, old):
+    """Gives an open file the owner, the rights and the attributes of the old one."""
+    new = os.fstat(number)
+    if (new.st_uid, new.st_gid) != (old.st_uid, old.st_gid):
+        os.fchown(number, old.st_uid, old.st_gid)
+    os.fchmod(number, stat.S_IMODE(old.st_mode))
+    for name in attributes_of(target):
+        os.setxattr(number, name, os.getxattr(target, name))
+
+
+def attributes_of(path):
+    """The names of a file's extended attributes, such as an access control list; none if the file system has no such thing."""
+    try:
+        return os.listxattr(path)
+    except OSError as fault:
+        if fault.errno == errno.ENOTSUP:
+            return []
+        raise
