@@ -296,12 +296,14 @@ class Day:
             raise Stop(f"{shown(results_path)} has no results of this journal: {self.wrong[0]}")
         self.outcome = selection.outcome(self.problem, self.said.accepted)
 
-    def tell_wrong(self, tool):
-        """Says on standard error if the results break the rules, or else if their encoding differs."""
-        if self.wrong:
+    def told(self, tool, quiet=False):
+        """The status of a tool that has shown the results. If they break the rules, or else if their encoding differs, it says so on
+        standard error."""
+        if self.wrong and not quiet:
             tell(tool, f"the results break the rules ({self.wrong[0]}): {SEE_AUDIT}")
-        elif self.odd:
+        elif self.odd and not quiet:
             tell(tool, f"the encoding of the results differs ({self.odd[0]}): {SEE_AUDIT}")
+        return DIFFERS if self.wrong else DONE
 
 
 def need_participant(who, read):

@@ -7,7 +7,7 @@ import tempfile
 import unittest
 from pathlib import Path
 
-from support import AUCTION, TOOLS, printed, tool
+from support import AUCTION, AUCTION_RESULTS, TOOLS, printed, tool
 
 from lib import command, tables
 
@@ -96,7 +96,12 @@ class Files(unittest.TestCase):
         for name in TOOLS_HERE:
             status, _, err = tool(name, self.journal, self.results, "-o", "-")
             said = f"{name}: the results break the rules (results line 2: the welfare is 4"
-            self.assertEqual((status, err.removeprefix(NOTE)[: len(said)]), (0, said))
+            self.assertEqual((status, err.removeprefix(NOTE)[: len(said)]), (command.DIFFERS, said))
+        day = [self.journal, self.results]
+        status, _, err = tool("compare", *day, AUCTION, AUCTION_RESULTS)
+        said = "compare: the results break the rules"
+        self.assertEqual((status, err[: len(said)]), (command.DIFFERS, said))
+        self.assertEqual(tool("compare", AUCTION, AUCTION_RESULTS, *day)[0], command.DIFFERS)
 
 
 if __name__ == "__main__":
