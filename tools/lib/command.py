@@ -33,8 +33,9 @@ PACKAGES = {
     "tqdm": "python3-tqdm",
 }
 
-# The statuses of all tools. FAILED is a tool's that can't do its work: a package is missing, memory ran out, or it has a defect.
-DONE, DIFFERS, COMMAND_LINE, NO_INPUT, UNDECIDED, FAILED, ENCODING = range(7)
+# The statuses of all tools. FAILED is a tool's that can't do its work: a package is missing, memory ran out, or it has a defect. FAULTY is
+# that of the lint for a text that isn't a journal.
+DONE, DIFFERS, COMMAND_LINE, NO_INPUT, UNDECIDED, FAILED, ENCODING, FAULTY = range(8)
 INTERRUPTED = ending.INTERRUPTED
 
 

@@ -80,7 +80,7 @@ class Lint:
                 break
             self.record(line, [field.decode(errors="replace") for field in record])
         self.end(line, number)
-        return sorted(self.found, key=lambda found: found.line)
+        return sorted(self.found, key=lambda found: (bool(found.refusal), found.line))
 
     def readable(self, data):
         """The text with the faults put right that concern all of it, and the separator of its fields."""
@@ -312,7 +312,8 @@ def first_word(data, comma=b","):
 
 
 def faults(data, command="clear", bar=None):
-    """The faults of a text as a journal for `dam clear`, `dam replay` or `dam day`, by line. A bar shows how far it is read."""
+    """The faults of a text as a journal for `dam clear`, `dam replay` or `dam day`, by line, and then the commands that the book would
+    refuse. A bar shows how far it is read."""
     return Lint(data, command, bar=bar).run()
 
 
