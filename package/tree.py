@@ -48,7 +48,7 @@ def taken(clone):
     """Where each file comes from, by where it goes."""
     found = dict(TAKEN)
     for folder, target, *endings in (
-        ("tools/dam_tools", PYTHON, ".py"),
+        ("tools/dam_tools", PYTHON, ".py", ".typed"),
         ("tools/lib", f"{PYTHON}/lib"),
         ("docs", f"{DOC}/docs", ".md", ".svg", ".png"),
         ("examples", f"{DOC}/examples", ".csv"),
@@ -68,6 +68,19 @@ def page(data, target, held):
         installed = lambda block: CLONED.sub(lambda found: "dam" if found[0] == "./dam" else "dam-", block[0])
         text = COMMANDS.sub(installed, text)
     return text.encode()
+
+
+def metadata(version):
+    """The files by which pip knows the module: as of a wheel, but without a list of the files, which belong to the package."""
+    text = (made_of.TOP / "pyproject.toml").read_text(encoding="utf-8")
+    of = lambda key: re.search(rf'^{key} = (?:{{ text = )?"(.*?)"', text, re.MULTILINE)[1]
+    extras = re.findall(r'^(\w+) = \["(\w+)"\]$', text.partition("[project.optional-dependencies]\n")[2].partition("\n\n")[0], re.MULTILINE)
+    lines = ["Metadata-Version: 2.1", f"Name: {of('name')}", f"Version: {version}", f"Summary: {of('description')}"]
+    lines += [f"License: {of('license')}", f"Requires-Python: {of('requires-python')}"]
+    for extra, module in extras:
+        lines += [f"Provides-Extra: {extra}", f'Requires-Dist: {module} ; extra == "{extra}"']
+    texts = {"METADATA": lines, "INSTALLER": ["dam"], "top_level.txt": ["dam_tools"]}
+    return {f"{PYTHON}-{version}.dist-info/{name}": "".join(f"{line}\n" for line in told).encode() for name, told in texts.items()}
 
 
 def write(path, data, mode=0o644):
@@ -98,6 +111,8 @@ def make(clone, folder, totals):
         write(folder / PYTHON / tool, script(tool), 0o755)
     with_version = (made_of.TOP / HERE / "dam.pc").read_text(encoding="utf-8").replace("VERSION", clone.version)
     write(folder / LIBRARY / "pkgconfig" / "dam.pc", with_version.encode())
+    for name, data in metadata(clone.version).items():
+        write(folder / name, data)
     for name, target in LINKS.items():
         (folder / name).parent.mkdir(parents=True, exist_ok=True)
         (folder / name).symlink_to(target)

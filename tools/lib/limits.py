@@ -148,7 +148,8 @@ def record(search, found):
         surplus, gain, welfare = (float(text.euros(amount, day.hours, "")) for amount in amounts)
         numbers = {"limit_eur_mwh": limit / 100, "accepted": day.orders[search.key], "surplus_eur": surplus, "gain_eur": gain}
         numbers["welfare_eur"] = welfare
-        return {"case": name, **numbers, "prices_eur_mwh": [price / 100 for price in day.prices]}
+        traded = [volume > 0 for volume in day.volumes]
+        return {"case": name, **numbers, "prices_eur_mwh": [price / 100 for price in day.prices], "traded": traded}
 
     def other(key):
         energies = [float(text.energy(day.executed(key), day.hours, "")) for day in (found.past, found.at)]
