@@ -46,8 +46,8 @@ class AuditFault:
 
 @dataclass(frozen=True)
 class Audit:
-    """A verdict of the audit: `right`, `wrong`, `encoding` (only this differs) or `undecided` (the search for a better selection had no time
-    left, which `message` says). `better` has the blocks of a better selection, and `how` says how one was looked for."""
+    """A verdict of the audit: `right`, `wrong`, `encoding` (only this differs) or `undecided` (the search for a better selection had no
+    time left, which `message` says). `better` has the blocks of a better selection, and `how` says how one was looked for."""
 
     verdict: str
     message: str | None

@@ -46,7 +46,9 @@ class Linted:
             "inputs": [self.input],
             "faults": [{"line": one.line, "field": one.field or None, "words": one.words} for one in self.found if not one.refusal],
             "refused": [
-                {"line": one.line, "field": one.field or None, "reason": one.refusal, "words": one.words} for one in self.found if one.refusal
+                {"line": one.line, "field": one.field or None, "reason": one.refusal, "words": one.words}
+                for one in self.found
+                if one.refusal
             ],
         }
 

@@ -1,5 +1,6 @@
 """Tables as files: text with separators, and Excel workbooks (by openpyxl). Here they are rows of cells; others interpret them."""
 
+import codecs
 import csv
 import datetime
 import io
@@ -39,18 +40,31 @@ def need_for(paths):
         command.need("openpyxl")
 
 
-def rows_of(data):
+def rows_of(data, needed=(), notes=None):
     """The rows of a table, each with the number of its first line; and whether a comma may be the decimal point. A text is separated by
-    commas, semicolons or tabs, whichever its first line has most of."""
-    return (workbook_rows(data), True) if is_workbook(data) else text_rows(data)
+    commas, semicolons or tabs, whichever its first line has most of. Of a workbook it is the sheet `orders`, or else the first that has the
+    needed columns. Notes say which sheet was read, and that a text isn't in UTF-8."""
+    notes = [] if notes is None else notes
+    return (workbook_rows(data, needed, notes), True) if is_workbook(data) else text_rows(data, notes)
 
 
-def text_rows(data):
+def decoded(data, notes):
+    """The text of a table: in UTF-8, in UTF-16 with its mark, or else in Windows-1252, whose letters no order has."""
+    if data.startswith((codecs.BOM_UTF16_LE, codecs.BOM_UTF16_BE)):
+        return data.decode("utf-16", errors="replace")
     try:
-        table = data.decode("utf-8-sig")
+        return data.decode("utf-8-sig")
     except UnicodeDecodeError as fault:
         line = data[: fault.start].count(b"\n") + 1
-        raise Wrong(f"line {line}: the table isn't in UTF-8: byte {fault.start} can't be read") from None
+    try:
+        notes.append(f"line {line}: the table isn't in UTF-8, and was read as Windows-1252")
+        return data.decode("cp1252")
+    except UnicodeDecodeError:
+        raise Wrong(f"line {line}: the table is neither in UTF-8 nor in Windows-1252: save it as CSV in UTF-8") from None
+
+
+def text_rows(data, notes=None):
+    table = decoded(data, [] if notes is None else notes)
     first = table.splitlines()[0] if table.strip() else ""
     delimiter = max(",;\t", key=first.count)
     reader = csv.reader(io.StringIO(table, newline=""), delimiter=delimiter, strict=True)
@@ -64,8 +78,28 @@ def text_rows(data):
     return rows, delimiter != ","
 
 
-def workbook_rows(data):
-    """The rows of a workbook's sheet: the orders' sheet, or else the first."""
+def sheet_of(book, needed, notes):
+    """The orders' sheet of a workbook, or else the first that has the needed columns, or else the first."""
+    named = [sheet for sheet in book.worksheets if sheet.title == PREFERRED]
+    found = named or [sheet for sheet in book.worksheets if needed and set(needed) <= first_names(sheet)]
+    chosen = [*found, *book.worksheets][0]
+    if len(book.worksheets) > 1:
+        others = [text.quoted(sheet.title) for sheet in found[1:]]
+        more = f"; {', '.join(others)} {'has' if len(others) == 1 else 'have'} the columns of orders too" if others else ""
+        notes.append(f"of {len(book.worksheets)} sheets, {text.quoted(chosen.title)} was read{more}")
+    return chosen
+
+
+def first_names(sheet):
+    """The names in the first row of a sheet that isn't empty."""
+    for cells in sheet.iter_rows(values_only=True):
+        if names := {cell_text(cell).strip().lower() for cell in cells} - {""}:
+            return names
+    return set()
+
+
+def workbook_rows(data, needed=(), notes=None):
+    """The rows of a workbook's sheet."""
     if not command.has("openpyxl"):
         other = f"this Python lacks openpyxl: run it with {command.DEBIAN_PYTHON}, which has it"
         raise command.Stop(other if command.elsewhere("openpyxl") else command.missing("openpyxl"), command.FAILED)
@@ -76,7 +110,7 @@ def workbook_rows(data):
             if sum(part.file_size for part in parts.infolist()) > MOST_UNPACKED:
                 raise Wrong(f"line 1: the workbook has more than {MOST_UNPACKED // 2**20} MiB")
         book = openpyxl.load_workbook(io.BytesIO(data), read_only=True, data_only=True)
-        sheet = book[PREFERRED] if PREFERRED in book.sheetnames else book.worksheets[0]
+        sheet = sheet_of(book, needed, [] if notes is None else notes)
         return [(line, [cell_text(cell) for cell in cells]) for line, cells in enumerate(sheet.iter_rows(values_only=True), 1)]
     except (Wrong, MemoryError):
         raise
