@@ -51,7 +51,7 @@ def taken(clone):
         ("tools/dam_tools", PYTHON, ".py", ".typed"),
         ("tools/lib", f"{PYTHON}/lib"),
         ("docs", f"{DOC}/docs", ".md", ".svg", ".png"),
-        ("examples", f"{DOC}/examples", ".csv"),
+        ("examples", f"{DOC}/examples", ".csv", ".sh", ".service", ".timer"),
         ("bench/measured", f"{DOC}/bench/measured", ".csv"),
         ("crates", f"{DOC}/crates", "/README.md", "/NOTES.md"),
     ):
@@ -106,7 +106,7 @@ def make(clone, folder, totals):
     held = {*files, *LINKS}
     for target, name in files.items():
         data = (made_of.TOP / name).read_bytes()
-        write(folder / target, page(data, target, held) if name.endswith(".md") else data, 0o755 if target in PROGRAMS else 0o644)
+        write(folder / target, page(data, target, held) if name.endswith(".md") else data, 0o755 if target in PROGRAMS or name.endswith(".sh") else 0o644)
     for tool in TOOLS:
         write(folder / PYTHON / tool, script(tool), 0o755)
     with_version = (made_of.TOP / HERE / "dam.pc").read_text(encoding="utf-8").replace("VERSION", clone.version)
