@@ -233,6 +233,8 @@ def read_texts(path, results_path):
     if results_path is not None:
         return data, read_bytes(results_path)
     texts = results.split_day(data)
+    if texts is None and kinds.kind_of(data) in kinds.FILES:
+        refuse_kind(path, data, kinds.JOURNAL)
     if texts is None:
         raise Stop(no_results(path))
     return texts
@@ -247,7 +249,8 @@ def refuse_kind(path, data, right, hints=()):
     """Ends the tool if a text looks like one of another kind. Hints give advice on some kinds."""
     kind = kinds.kind_of(data)
     if kind not in (None, right):
-        hint = hints[kind] if kind in hints else ""
+        advice = kinds.ADVICE.get(kind) if right == kinds.JOURNAL or kind in kinds.PACKED else None
+        hint = hints[kind] if kind in hints else f"; {advice}" if advice else ""
         raise Stop(f"{shown(path)} {'is' if kind in kinds.FILES else 'has'} {kind} instead of {right}{hint}")
 
 

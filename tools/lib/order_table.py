@@ -283,8 +283,11 @@ class Table(NamedTuple):
 
 def table_of(name, data, needed=NEEDED, further=()):
     """A table of orders, of which the header has been read; or one that needs other columns, and has further ones."""
-    if kinds.kind_of(data) in (kinds.JOURNAL, kinds.DAY):
+    kind = kinds.kind_of(data)
+    if kind in (kinds.JOURNAL, kinds.DAY):
         raise Wrong("this seems to be a journal already")
+    if kind in kinds.FILES - {kinds.EXCEL}:
+        raise Wrong(f"this is {kind}: {kinds.ADVICE[kind]}")
     try:
         rows, decimal_comma = sheets.rows_of(data, needed, read := [])
     except sheets.Wrong as fault:

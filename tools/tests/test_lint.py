@@ -88,7 +88,7 @@ class Hand(unittest.TestCase):
 
     def test_excel_workbooks(self):
         old = b"\xd0\xcf\x11\xe0\xa1\xb1\x1a\xe1"
-        for signature, said in (b"PK\x03\x04", "this is an Excel workbook: "), (old, "this is an old Excel workbook: "):
+        for signature, said in (b"PK\x03\x04", "this is an Excel workbook (.xlsx): "), (old, "this is an old Excel workbook (.xls): "):
             data = signature + bytes(range(256)) * 100
             self.check(data, ("line 1", said))
             for words in (["audit", "-", AUCTION], ["audit", AUCTION, "-"], ["table", "-", AUCTION], ["plot", AUCTION, "-"]):
