@@ -263,9 +263,9 @@ def table(search, found):
     yield [f"gain of {who}, EUR", *(text.amount(day.gain(who), day.hours) for _, _, day in days)]
     yield ["welfare, EUR", *(text.amount(day.welfare, day.hours) for _, _, day in days)]
     own = {period for period, _ in search.order.volumes}
-    for period, prices in enumerate(zip(*(day.prices for _, _, day in days)), 1):
+    for period, prices in enumerate(zip(*(changes.traded_prices(day) for _, _, day in days)), 1):
         if period in own or len(set(prices)) > 1:
-            yield [f"price of period {period}, EUR/MWh", *map(text.shown_price, prices)]
+            yield [f"price of period {period}, EUR/MWh", *("no trade" if price is None else text.shown_price(price) for price in prices)]
 
 
 def other_lines(search, found):

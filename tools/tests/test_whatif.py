@@ -55,6 +55,17 @@ class Limits(unittest.TestCase):
         self.assertLessEqual(found.clearings, limits.MOST_CLEARINGS)
         self.assertEqual(limits.others(one, found), [("CITY", "TOWN")])
 
+    def test_periods_without_trade(self):
+        """Their prices are nominal: a record marks them, and a table leaves them out."""
+        one = search(SMALL[0], SMALL[1].replace("4000", "6000"), key=("GEN", "UNIT"))
+        found = one.worst()
+        own, at, past = limits.record(one, found)["cases"]
+        self.assertEqual([case["traded"] for case in (own, at, past)], [[False] * 24, [True, *[False] * 23], [False] * 24])
+        self.assertEqual([case["gain_eur"] for case in (own, at, past)], [0.0, 0.0, 0.0])
+        rows = [line.split("  ") for line in limits.lines(one, found) if line.startswith("price of period")]
+        self.assertEqual([[cell.strip() for cell in row if cell] for row in rows],
+                         [["price of period 1, EUR/MWh", "no trade", "50.00", "no trade"]])
+
     def test_a_block_that_buys(self):
         one = search(*BUYER, key=("CITY", "TOWN"))
         found = one.worst()
