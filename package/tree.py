@@ -9,8 +9,8 @@ from pathlib import Path
 from lib.place import TOOLS
 from lib.sources import sum_of_file
 
+from . import changelog, pages
 from . import clone as made_of
-from . import pages
 
 LIBRARY = "lib/x86_64-linux-gnu"
 PYTHON = "lib/python3/dist-packages/dam_tools"
@@ -26,6 +26,7 @@ TAKEN = {
     "share/bash-completion/completions/dam": "package/completions/dam.bash",
     "share/zsh/vendor-completions/_dam": "package/completions/_dam",
     "share/fish/vendor_completions.d/dam.fish": "package/completions/dam.fish",
+    "share/lintian/overrides/dam": "package/lintian-overrides",
     f"{DOC}/copyright": "package/copyright",
     f"{DOC}/examples/caller.c": "tests/library/caller.c",
     **{f"{DOC}/{name}": name for name in ("README.md", "CHANGELOG.md", "LICENSE-APACHE", "LICENSE-MIT")},
@@ -35,6 +36,7 @@ LINKS = {
     f"{DOC}/library/dam.h": "../../../../include/dam.h",
     **{f"bin/dam-{tool}": f"../{PYTHON}/{tool}" for tool in TOOLS},
 }
+STRIPPED = ("bin/dam", f"{LIBRARY}/libdam.so.1")  # files without the symbols that only a debugger reads
 PROGRAMS = ("bin/dam", *(f"{PYTHON}/{tool}" for tool in TOOLS))
 # Pages whose commands are run where the examples are: the package has them as installed commands.
 WITH_COMMANDS = ("AUDIT.md", "EXAMPLES.md", "GUIDE.md", "TABLES.md", "TRUST.md", "USING.md", "WHATIF.md")
@@ -106,13 +108,16 @@ def make(clone, folder, totals):
     held = {*files, *LINKS}
     for target, name in files.items():
         data = (made_of.TOP / name).read_bytes()
-        write(folder / target, page(data, target, held) if name.endswith(".md") else data, 0o755 if target in PROGRAMS or name.endswith(".sh") else 0o644)
+        mode = 0o755 if target in PROGRAMS or name.endswith(".sh") else 0o644
+        write(folder / target, page(data, target, held) if name.endswith(".md") else data, mode)
     for tool in TOOLS:
         write(folder / PYTHON / tool, script(tool), 0o755)
     with_version = (made_of.TOP / HERE / "dam.pc").read_text(encoding="utf-8").replace("VERSION", clone.version)
     write(folder / LIBRARY / "pkgconfig" / "dam.pc", with_version.encode())
     for name, data in metadata(clone.version).items():
         write(folder / name, data)
+    subprocess.run(["strip", "--strip-unneeded", *(folder / name for name in STRIPPED)], env=made_of.environment(), check=True)
+    write(folder / DOC / "changelog.gz", compressed(changelog.text(clone.seconds).encode()))
     for name, target in LINKS.items():
         (folder / name).parent.mkdir(parents=True, exist_ok=True)
         (folder / name).symlink_to(target)
@@ -138,6 +143,7 @@ def provenance(clone, folder, totals):
         "version": clone.version,
         "commit": clone.commit,
         "date": clone.date,
+        "stripped": list(STRIPPED),
         "built": {target: recorded_of(clone, name) for target, name in TAKEN.items() if name in clone.records},
         "sources": {crate: it for told in clone.records.values() for crate, it in sorted(told["sources"].items())},
         "check": totals,
