@@ -271,6 +271,7 @@ class Table(NamedTuple):
     width: int
     decimal_comma: bool
     notes: list
+    read: list  # those of the notes that say what was read of the file
 
     def line(self, number):
         """A line of the table in a message about another one."""
@@ -307,7 +308,7 @@ def table_of(name, data, needed=NEEDED, further=()):
     if again:
         notes.append(f"line {', '.join(map(str, again))} names the columns once more")
     rows = [(number, cells) for number, cells in rows[1:] if cells != header]
-    return Table(name, rows, places, len(header), decimal_comma, notes)
+    return Table(name, rows, places, len(header), decimal_comma, notes, read)
 
 
 def refuse_commands(header, rows):
@@ -357,7 +358,8 @@ def read_tables(sources, periods, who=None, raises=False):
         notes += [table.told(in_capitals(raised))] if raised else []
     if wrong:
         more = len(wrong) - MOST_ERRORS
-        raise Wrong("\n".join(wrong[:MOST_ERRORS] + ([f"and {more} more"] if more > 0 else [])))
+        read = [table.told(note) for table in tables for note in table.read]
+        raise Wrong("\n".join(wrong[:MOST_ERRORS] + ([f"and {more} more"] if more > 0 else []) + read))
     return Orders(submits, notes, others)
 
 

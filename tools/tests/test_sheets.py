@@ -296,6 +296,10 @@ class Tolerance(unittest.TestCase):
         status, _, err = tool("table", "--journal", "-", data=saved(notes, ("more", [["x"]])))
         self.assertEqual((status, "line 1: there is no column participant, order, kind" in err), (command.NO_INPUT, True), err)
         self.assertIn("table: standard input: of 2 sheets, 'notes' was read\n", err)
+        err = tool("table", "--journal", "-", data=saved(notes, ("x", [*orders("H"), ["A", "I", "hour", "buy", 1, "99", 5]])))[2]
+        said = ["line 3, column periods: the day has periods 1 to 24, so there is no period 99 (PeriodOutOfDay)"]
+        said += ["of 2 sheets, 'x' was read"]
+        self.assertEqual(err.splitlines(), [f"table: standard input: {words}" for words in said])
 
     @WITH_EXCEL
     def test_the_template(self):
