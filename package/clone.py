@@ -25,6 +25,7 @@ NEEDED = {
     "git": "git",
     "gzip": "gzip",
     "help2man": "help2man",
+    "strip": "binutils",
     "tar": "tar",
     "xz": "xz-utils",
 }

@@ -9,8 +9,8 @@ from pathlib import Path
 from lib.place import TOOLS
 from lib.sources import sum_of_file
 
+from . import changelog, pages
 from . import clone as made_of
-from . import pages
 
 LIBRARY = "lib/x86_64-linux-gnu"
 PYTHON = "lib/python3/dist-packages/dam_tools"
@@ -26,6 +26,7 @@ TAKEN = {
     "share/bash-completion/completions/dam": "package/completions/dam.bash",
     "share/zsh/vendor-completions/_dam": "package/completions/_dam",
     "share/fish/vendor_completions.d/dam.fish": "package/completions/dam.fish",
+    "share/lintian/overrides/dam": "package/lintian-overrides",
     f"{DOC}/copyright": "package/copyright",
     f"{DOC}/examples/caller.c": "tests/library/caller.c",
     **{f"{DOC}/{name}": name for name in ("README.md", "CHANGELOG.md", "LICENSE-APACHE", "LICENSE-MIT")},
@@ -35,6 +36,7 @@ LINKS = {
     f"{DOC}/library/dam.h": "../../../../include/dam.h",
     **{f"bin/dam-{tool}": f"../{PYTHON}/{tool}" for tool in TOOLS},
 }
+STRIPPED = ("bin/dam", f"{LIBRARY}/libdam.so.1")  # files without the symbols that only a debugger reads
 PROGRAMS = ("bin/dam", *(f"{PYTHON}/{tool}" for tool in TOOLS))
 # Pages whose commands are run where the examples are: the package has them as installed commands.
 WITH_COMMANDS = ("AUDIT.md", "EXAMPLES.md", "GUIDE.md", "TABLES.md", "TRUST.md", "USING.md", "WHATIF.md")
@@ -48,10 +50,10 @@ def taken(clone):
     """Where each file comes from, by where it goes."""
     found = dict(TAKEN)
     for folder, target, *endings in (
-        ("tools/dam_tools", PYTHON, ".py"),
+        ("tools/dam_tools", PYTHON, ".py", ".typed"),
         ("tools/lib", f"{PYTHON}/lib"),
         ("docs", f"{DOC}/docs", ".md", ".svg", ".png"),
-        ("examples", f"{DOC}/examples", ".csv"),
+        ("examples", f"{DOC}/examples", ".csv", ".sh", ".service", ".timer"),
         ("bench/measured", f"{DOC}/bench/measured", ".csv"),
         ("crates", f"{DOC}/crates", "/README.md", "/NOTES.md"),
     ):
@@ -68,6 +70,19 @@ def page(data, target, held):
         installed = lambda block: CLONED.sub(lambda found: "dam" if found[0] == "./dam" else "dam-", block[0])
         text = COMMANDS.sub(installed, text)
     return text.encode()
+
+
+def metadata(version):
+    """The files by which pip knows the module: as of a wheel, but without a list of the files, which belong to the package."""
+    text = (made_of.TOP / "pyproject.toml").read_text(encoding="utf-8")
+    of = lambda key: re.search(rf'^{key} = (?:{{ text = )?"(.*?)"', text, re.MULTILINE)[1]
+    extras = re.findall(r'^(\w+) = \["(\w+)"\]$', text.partition("[project.optional-dependencies]\n")[2].partition("\n\n")[0], re.MULTILINE)
+    lines = ["Metadata-Version: 2.1", f"Name: {of('name')}", f"Version: {version}", f"Summary: {of('description')}"]
+    lines += [f"License: {of('license')}", f"Requires-Python: {of('requires-python')}"]
+    for extra, module in extras:
+        lines += [f"Provides-Extra: {extra}", f'Requires-Dist: {module} ; extra == "{extra}"']
+    texts = {"METADATA": lines, "INSTALLER": ["dam"], "top_level.txt": ["dam_tools"]}
+    return {f"{PYTHON}-{version}.dist-info/{name}": "".join(f"{line}\n" for line in told).encode() for name, told in texts.items()}
 
 
 def write(path, data, mode=0o644):
@@ -93,11 +108,16 @@ def make(clone, folder, totals):
     held = {*files, *LINKS}
     for target, name in files.items():
         data = (made_of.TOP / name).read_bytes()
-        write(folder / target, page(data, target, held) if name.endswith(".md") else data, 0o755 if target in PROGRAMS else 0o644)
+        mode = 0o755 if target in PROGRAMS or name.endswith(".sh") else 0o644
+        write(folder / target, page(data, target, held) if name.endswith(".md") else data, mode)
     for tool in TOOLS:
         write(folder / PYTHON / tool, script(tool), 0o755)
     with_version = (made_of.TOP / HERE / "dam.pc").read_text(encoding="utf-8").replace("VERSION", clone.version)
     write(folder / LIBRARY / "pkgconfig" / "dam.pc", with_version.encode())
+    for name, data in metadata(clone.version).items():
+        write(folder / name, data)
+    subprocess.run(["strip", "--strip-unneeded", *(folder / name for name in STRIPPED)], env=made_of.environment(), check=True)
+    write(folder / DOC / "changelog.gz", compressed(changelog.text(clone.seconds).encode()))
     for name, target in LINKS.items():
         (folder / name).parent.mkdir(parents=True, exist_ok=True)
         (folder / name).symlink_to(target)
@@ -123,6 +143,7 @@ def provenance(clone, folder, totals):
         "version": clone.version,
         "commit": clone.commit,
         "date": clone.date,
+        "stripped": list(STRIPPED),
         "built": {target: recorded_of(clone, name) for target, name in TAKEN.items() if name in clone.records},
         "sources": {crate: it for told in clone.records.values() for crate, it in sorted(told["sources"].items())},
         "check": totals,

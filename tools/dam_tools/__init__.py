@@ -14,13 +14,17 @@ The tables and their columns are those of tools/table, which docs/TABLES.md desc
 they are read: `Day.wrong` lists what breaks the market rules, and is empty for every result of the program; `Day.odd` lists how their
 encoding differs from the program's."""
 
+from __future__ import annotations
+
 import collections
-import contextlib
+import concurrent.futures
+import datetime
 import functools
 import os
 import sys
+from collections.abc import Iterable, Iterator
 from pathlib import Path
-from typing import NamedTuple
+from typing import Any, NamedTuple
 
 # This file can be read by an older Python, which can't read `lib`.
 if sys.version_info < (3, 10):
@@ -30,6 +34,21 @@ if sys.version_info < (3, 10):
 if not Path(__file__).with_name("lib").is_dir():
     __path__.append(str(Path(__file__).resolve().parents[1]))
 
+from .checks import (
+    Audit,
+    AuditFault,
+    BlockLimit,
+    Change,
+    Finding,
+    LimitCase,
+    Lint,
+    OtherOrder,
+    audit,
+    lint,
+    whatif_change,
+    whatif_limit,
+)
+from .given import JournalSource, Source, as_faults, as_journal, bytes_of, is_text, read_journal, text_of
 from .lib import book, command, engine, journal, order_table, shapes, tables
 from .lib.command import Day
 from .lib.engine import Fault, TimedOut, where
@@ -37,82 +56,62 @@ from .lib.journal import Journal
 from .lib.rules import VERSION as __version__
 
 __all__ = [
+    "Audit",
+    "AuditFault",
+    "BlockLimit",
+    "Change",
     "Day",
     "Fault",
+    "Finding",
     "Journal",
+    "LimitCase",
+    "Lint",
+    "OtherOrder",
     "Reply",
     "TABLES",
     "TimedOut",
     "__version__",
+    "audit",
     "clear",
     "clear_many",
     "frame",
     "journal_of_orders",
+    "lint",
     "read_journal",
     "read_results",
     "records",
     "replay",
+    "whatif_change",
+    "whatif_limit",
     "where",
 ]
 
 TABLES = tuple(tables.TABLES)
-REFUSED = 1  # the program's status for a text that it doesn't take
+Program = str | os.PathLike[str]
+Date = datetime.date | str
 
 
-@contextlib.contextmanager
-def as_faults():
-    """The tools' message about a text, a table or a date is a fault here."""
-    try:
-        yield
-    except (command.Stop, order_table.Wrong, shapes.Wrong) as fault:
-        raise Fault(str(fault)) from None
-
-
-def is_text(source):
-    """Whether a source is a text itself: bytes, or a string of several lines, which is no path."""
-    return isinstance(source, bytes) or isinstance(source, str) and "\n" in source
-
-
-def bytes_of(source):
-    """The bytes of a file, or of a text that was given."""
-    if is_text(source):
-        return source if isinstance(source, bytes) else source.encode(errors="surrogatepass")
-    if source == "":
-        raise Fault("a file with an empty name can't be read")
-    try:
-        return Path(source).read_bytes()
-    except OSError as fault:
-        raise Fault(f"{source} can't be read: {fault.strerror}") from None
-
-
-def read_journal(source):
-    """The journal of a file, or of a text: bytes, or a string with line ends. Of a text that isn't a journal the fault has the status with
-    which the program refuses it."""
-    data = bytes_of(source)
-    try:
-        return command.parse_journal("the text" if is_text(source) else str(source), data)
-    except command.Stop as fault:
-        raise Fault(str(fault), REFUSED) from None
-
-
-def journal_of_orders(*sources, periods=24, close=True):
+def journal_of_orders(*sources: Source, periods: int = 24, close: bool = True) -> Journal:
     """The journal of tables of orders, as tools/table --journal makes it. Each is a file (CSV or an Excel workbook) or bytes."""
     with as_faults():
         named = [("" if is_text(source) else command.shown(source), bytes_of(source)) for source in sources]
         return order_table.journal_of(order_table.read_tables(named, periods), periods, close)
 
 
-def as_journal(source):
-    return source if isinstance(source, Journal) else read_journal(source)
-
-
-def read_results(source, results):
+def read_results(source: JournalSource, results: Source) -> Day:
     """The day of a journal and its results: files, bytes, or a journal that was read."""
     with as_faults():
         return Day.of(as_journal(source), bytes_of(results))
 
 
-def clear(source, program=None, workers=None, cut=None, nodes=None, timeout=None):
+def clear(
+    source: JournalSource,
+    program: Program | None = None,
+    workers: int | None = None,
+    cut: int | None = None,
+    nodes: int | None = None,
+    timeout: float | None = None,
+) -> Day:
     """The results of a journal: a file, its text, or one that was read. If neither a program nor an option is named, the library for C
     is called if there is one; otherwise the program is run: `where` says which. Both give the same answer, the library on one thread. The
     options are those of `dam clear`; none but a limit on nodes changes the answer. The environment variable DAM names the program to run,
@@ -125,7 +124,7 @@ def clear(source, program=None, workers=None, cut=None, nodes=None, timeout=None
     return read_results(read, printed(read, [engine.program_of(program), "clear", *options], timeout))
 
 
-def printed(read, words, timeout):
+def printed(read: Journal, words: list[Any], timeout: float | None) -> bytes:
     """The output of a run of the program for a journal."""
     return engine.printed(words, journal.journal_text(read).encode(), timeout)
 
@@ -135,10 +134,10 @@ class LateDay(Day):
 
     PARTS = frozenset(["journal", "book", "reasons", "problem", "said", "odd", "wrong", "outcome"])
 
-    def __init__(self, source, text):
+    def __init__(self, source: JournalSource, text: bytes) -> None:
         self.source, self.text = source, text
 
-    def __getattr__(self, name):
+    def __getattr__(self, name: str) -> Any:
         if name not in self.PARTS:
             raise AttributeError(f"a day has no {name}")
         with as_faults():
@@ -146,15 +145,15 @@ class LateDay(Day):
         return self.__dict__[name]
 
 
-def text_of(source):
-    """The bytes of a journal; a fault if its file can't be read."""
-    try:
-        return journal.journal_text(source).encode() if isinstance(source, Journal) else bytes_of(source)
-    except Fault as fault:
-        return fault
-
-
-def clear_many(journals, jobs=None, executor=None, program=None, quiet=False, nodes=None, timeout=None):
+def clear_many(
+    journals: Iterable[JournalSource],
+    jobs: int | None = None,
+    executor: concurrent.futures.Executor | None = None,
+    program: Program | None = None,
+    quiet: bool = False,
+    nodes: int | None = None,
+    timeout: float | None = None,
+) -> Iterator[Day | Fault]:
     """The results of many journals, in their order, as an iterator: for each a `Day`, or a `Fault` if the journal can't be read or cleared,
     which doesn't end the others. `journals` are files, bytes or journals that were read, as `clear` takes one, and may be any iterator:
     they are taken as they are needed.
@@ -180,14 +179,18 @@ def clear_many(journals, jobs=None, executor=None, program=None, quiet=False, no
     return days_of(journals, quiet, lambda texts: engine.answers(texts, jobs, executor, program, call))
 
 
-def days_of(journals, quiet, answers):
+def days_of(journals: Iterable[JournalSource], quiet: bool, answers: Any) -> Iterator[Day | Fault]:
     """The days of journals, or their faults, by the engine of their texts."""
     whole = len(journals) if hasattr(journals, "__len__") else None
-    kept = collections.deque()  # the journals whose results are still to come
+    kept: collections.deque[Any] = collections.deque()  # the journals whose results are still to come
 
-    def texts():
+    def texts() -> Iterator[bytes | Fault]:
         for source in journals:
-            text = text_of(source)
+            text: bytes | Fault
+            try:
+                text = text_of(source)
+            except Fault as fault:
+                text = fault
             kept.append(source if isinstance(source, Journal) else text)
             yield text
 
@@ -200,14 +203,14 @@ class Reply(NamedTuple):
     """The book's reply to a command: its number, from 1, and the reason if it is refused, otherwise None."""
 
     command: int
-    reason: object
+    reason: str | None
 
     @property
-    def done(self):
+    def done(self) -> bool:
         return self.reason is None
 
 
-def replay(source, program=None, timeout=None):
+def replay(source: JournalSource, program: Program | None = None, timeout: float | None = None) -> list[Reply]:
     """The book's reply to each command of a journal, by a run of the program."""
     read = as_journal(source)
     lines = printed(read, [engine.program_of(program), "replay"], timeout).decode(errors="replace").splitlines()
@@ -218,20 +221,22 @@ def replay(source, program=None, timeout=None):
     return replies
 
 
-def rows_of(day, table, long, date):
-    if table not in (tables.LONG if long else tables.TABLES):
-        raise ValueError(f"there is no table {table}" + (" in a long form" if long else ""))
+def rows_of(day: Day | Journal, table: str, long: bool, date: Date | None) -> Any:
+    made: Any = tables.LONG if long else tables.TABLES
+    if table not in made:
+        form = " in a long form" if long else ""
+        raise ValueError(f"there is no table {table}{form}: the tables{form} are {', '.join(made)}")
     if isinstance(day, Journal):
         if table != "commands":
             raise ValueError("a journal without results has only the table commands")
         rows = tables.commands(day, book.run(day)[1])
     else:
-        rows = (tables.LONG if long else tables.TABLES)[table](day)
+        rows = made[table](day)
     periods = day.periods if isinstance(day, Journal) else day.problem.periods
     return rows if date is None else with_times(table, list(rows), date, periods)
 
 
-def with_times(table, rows, date, periods):
+def with_times(table: str, rows: list[Any], date: Date, periods: int) -> list[Any]:
     """A table with the times at which its periods begin."""
     if "period" not in rows[0]:
         raise Fault(f"a date can't be used with {table}, which has no column of periods" + (": long=True" if table in tables.LONG else ""))
@@ -240,13 +245,15 @@ def with_times(table, rows, date, periods):
         return list(shapes.with_times(rows, shapes.as_date(date), periods))
 
 
-def records(day, table="periods", long=False, date=None, flat=False):
+def records(
+    day: Day | Journal, table: str = "periods", long: bool = False, date: Date | None = None, flat: bool = False
+) -> list[dict[str, Any]]:
     """The rows of a table, each a dictionary by column. With a date, a `datetime.date` or a text such as 2026-11-25, periods have the
     time at which they begin. If it is to be flat, lists of periods and volumes are texts, such as `8-20`."""
     return list(shapes.records(rows_of(day, table, long, date), flat))
 
 
-def frame(day, table="periods", long=False, date=None, flat=False):
+def frame(day: Day | Journal, table: str = "periods", long: bool = False, date: Date | None = None, flat: bool = False) -> Any:
     """The same as a pandas frame; the times at which periods begin are timestamps. Parquet and DuckDB take a flat one."""
     try:
         import pandas

@@ -34,8 +34,9 @@ PACKAGES = {
     "tqdm": "python3-tqdm",
 }
 
-# The statuses of all tools. FAILED is a tool's that can't do its work: a package is missing, memory ran out, or it has a defect.
-DONE, DIFFERS, COMMAND_LINE, NO_INPUT, UNDECIDED, FAILED, ENCODING = range(7)
+# The statuses of all tools. FAILED is a tool's that can't do its work: a package is missing, memory ran out, or it has a defect. FAULTY is
+# that of the lint for a text that isn't a journal.
+DONE, DIFFERS, COMMAND_LINE, NO_INPUT, UNDECIDED, FAILED, ENCODING, FAULTY = range(8)
 INTERRUPTED = ending.INTERRUPTED
 
 
@@ -234,6 +235,8 @@ def read_texts(path, results_path):
     if results_path is not None:
         return data, read_bytes(results_path)
     texts = results.split_day(data)
+    if texts is None and kinds.kind_of(data) in kinds.FILES:
+        refuse_kind(path, data, kinds.JOURNAL)
     if texts is None:
         raise Stop(no_results(path))
     return texts
@@ -248,7 +251,8 @@ def refuse_kind(path, data, right, hints=()):
     """Ends the tool if a text looks like one of another kind. Hints give advice on some kinds."""
     kind = kinds.kind_of(data)
     if kind not in (None, right):
-        hint = hints[kind] if kind in hints else ""
+        advice = kinds.ADVICE.get(kind) if right == kinds.JOURNAL or kind in kinds.PACKED else None
+        hint = hints[kind] if kind in hints else f"; {advice}" if advice else ""
         raise Stop(f"{shown(path)} {'is' if kind in kinds.FILES else 'has'} {kind} instead of {right}{hint}")
 
 
@@ -298,12 +302,14 @@ class Day:
             raise Stop(f"{shown(results_path)} has no results of this journal: {self.wrong[0]}")
         self.outcome = selection.outcome(self.problem, self.said.accepted)
 
-    def tell_wrong(self, tool):
-        """Says on standard error if the results break the rules, or else if their encoding differs."""
-        if self.wrong:
+    def told(self, tool, quiet=False):
+        """The status of a tool that has shown the results. If they break the rules, or else if their encoding differs, it says so on
+        standard error."""
+        if self.wrong and not quiet:
             tell(tool, f"the results break the rules ({self.wrong[0]}): {SEE_AUDIT}")
-        elif self.odd:
+        elif self.odd and not quiet:
             tell(tool, f"the encoding of the results differs ({self.odd[0]}): {SEE_AUDIT}")
+        return DIFFERS if self.wrong else DONE
 
 
 def need_participant(who, read):

@@ -2,19 +2,19 @@
 an hourly order under limits of a grid, since no such law holds of one. And what is said of a worst limit: in words with a table, as a
 record, and as a row of a table."""
 
-import time
 from typing import NamedTuple
 
 from . import changes, command, decisions, engine, journal, rules, text
 from .cleared import Cleared, book_text
 from .engine import Fault
+from .progress import Bar
 
 COUNT = rules.GREATEST_PRICE - rules.LEAST_PRICE + 1  # of limits
 # A bisection over the limits on one side of a block's own, and none of them, needs at most as many clearings.
 MOST_CLEARINGS = (COUNT - 1).bit_length()
 LAW = "a better limit keeps a block: proved, see docs/MARKET.md"
 NO_LAW = "no law says that a better limit keeps an hourly order, see docs/MARKET.md"
-SECONDS, NODES = 0.5, 100_000  # that a sentence of a page may take, and a clearing for it
+MARK = "?"  # in place of a limit: no journal has it
 BETTER = {"buy": "higher", "sell": "lower"}
 MOST_OTHERS = 20  # orders whose result differs that are named
 HEADS = ["participant", "order", "side", "price_eur_mwh", "outcome", "worst_limit_eur_mwh", "surplus_eur", "welfare_eur", "others", "why"]
@@ -47,6 +47,7 @@ class Search:
     def __init__(self, held, key, clear):
         self.held, self.key, self.clear = held, key, clear
         self.order = held.rows[key]
+        self.before, self.behind = book_text(self.rows(MARK), held.periods).split(MARK.encode())
         self.seen, self.printed = {}, {}  # the clearing, and the output, by limit
 
     def rows(self, limit):
@@ -54,38 +55,52 @@ class Search:
         return {**self.held.rows, self.key: self.order._replace(price=limit)}
 
     def text(self, limit):
-        return book_text(self.rows(limit), self.held.periods)
+        return b"%s%d%s" % (self.before, limit, self.behind)
+
+    def output(self, limit):
+        """The printed results with a limit."""
+        if limit not in self.printed:
+            self.keep(limit, self.clear(self.text(limit)))
+        return self.printed[limit]
 
     def at(self, limit):
         """The clearing with a limit."""
         if limit not in self.seen:
-            self.keep(limit, self.clear(self.text(limit)))
+            self.seen[limit] = Cleared.of_text(self.rows(limit), self.held.periods, self.output(limit))
         return self.seen[limit]
 
     def keep(self, limit, printed):
         if isinstance(printed, Fault):
             raise printed
         self.printed[limit] = printed
-        self.seen[limit] = Cleared.of_text(self.rows(limit), self.held.periods, printed)
 
     def accepts(self, limit):
-        return self.at(limit).orders[self.key]
+        """Whether the block is accepted with a limit."""
+        output, start = self.output(limit), f"\nblock,{self.key[0]},{self.key[1]},".encode()
+        word = output[output.find(start) + len(start) :].split(b",", 1)[0] if start in output else None
+        if word not in (b"accepted", b"rejected"):
+            raise Fault("the program printed no results of this journal")
+        return word == b"accepted"
 
-    def worst(self):
-        """The worst limit of a block. The places of the limits that accept it are those before some place."""
+    def ends(self):
+        """The worst limit of a block, and the one past it; None for one that isn't in the range. The places of the limits that accept it
+        are those before some place."""
         side, own = self.order.side, self.order.price
         low, high = (place_of(side, own) + 1, COUNT) if self.accepts(own) else (0, place_of(side, own))
-        before = len(self.seen)
         while low < high:
             middle = (low + high) // 2
             if self.accepts(limit_at(side, middle)):
                 low = middle + 1
             else:
                 high = middle
-        limit = limit_at(side, low - 1) if low else None
-        past = limit_at(side, low) if low < COUNT else None
-        clearings = len(self.seen) - before
-        return Found(limit, None if limit is None else self.at(limit), past, None if past is None else self.at(past), clearings)
+        return limit_at(side, low - 1) if low else None, limit_at(side, low) if low < COUNT else None
+
+    def worst(self):
+        self.output(self.order.price)
+        before = len(self.printed)
+        limit, past = self.ends()
+        at, after = (None if end is None else self.at(end) for end in (limit, past))
+        return Found(limit, at, past, after, len(self.printed) - before)
 
 
 def why_never(search, found):
@@ -133,7 +148,8 @@ def record(search, found):
         surplus, gain, welfare = (float(text.euros(amount, day.hours, "")) for amount in amounts)
         numbers = {"limit_eur_mwh": limit / 100, "accepted": day.orders[search.key], "surplus_eur": surplus, "gain_eur": gain}
         numbers["welfare_eur"] = welfare
-        return {"case": name, **numbers, "prices_eur_mwh": [price / 100 for price in day.prices]}
+        traded = [volume > 0 for volume in day.volumes]
+        return {"case": name, **numbers, "prices_eur_mwh": [price / 100 for price in day.prices], "traded": traded}
 
     def other(key):
         energies = [float(text.energy(day.executed(key), day.hours, "")) for day in (found.past, found.at)]
@@ -171,36 +187,62 @@ def sentences(search, found):
     yield f"This is exact, since {LAW}. It took {text.counted(found.clearings, 'clearing')} more than the day itself."
 
 
-def short(search, found):
+def short(search):
     """The worst limit of a rejected block in one sentence."""
-    if found.limit is None:
+    limit, _ = search.ends()
+    if limit is None:
         return "With no limit would it have been accepted."
-    return f"With a limit of {text.shown_price(found.limit)} EUR/MWh or {BETTER[search.order.side]} it would have been accepted."
+    return f"With a limit of {text.shown_price(limit)} EUR/MWh or {BETTER[search.order.side]} it would have been accepted."
 
 
-def of_rejected(day, who=None):
-    """The same for each rejected block of a day, or of a participant, that can be had soon, by place. Nothing of results that are wrong, or
-    if there is no program to run."""
-    said = {}
-    if day.wrong:
-        return said
-    for place, block in enumerate(day.problem.blocks):
-        if place not in day.said.accepted and who in (None, block.who):
-            until = time.monotonic() + SECONDS
-            search = Search(day.book, (block.who, block.name), lambda given: soon(given, until))
-            try:
-                if not search.accepts(block.order.price):
-                    said[place] = short(search, search.worst())
-            except Fault:
-                continue
-    return said
+def of_rejected(day, who=None, is_asked=True):
+    """The same for each rejected block of a day, or of a participant, by place. If a limit isn't computed, the sentence says so, and why:
+    never because of the time that it would take."""
+    places = [place for place, block in enumerate(day.problem.blocks) if place not in day.said.accepted and who in (None, block.who)]
+    if not places or day.wrong or not is_asked:
+        return dict.fromkeys(places, not_computed("the results break the rules" if day.wrong else "the page was made without limits"))
+    own = engine.result(engine.answer(book_text(day.book.rows, day.problem.periods)))
+    if why := why_none(day, own):
+        return dict.fromkeys(places, not_computed(why))
+    bar = Bar("report", len(places), "limits of rejected blocks")
+    with engine.team_of(engine.processors()) as (team, running):
+        waiting = [team.submit(sentence, day.book, day.problem.blocks[place], own, running) for place in places]
+        try:
+            return {place: counted(promise.result(), bar) for place, promise in zip(places, waiting)}
+        finally:
+            bar.end()
 
 
-def soon(given, until):
-    """What is printed for a text, unless it is too late or the search is long."""
-    if time.monotonic() > until:
-        return Fault("no time is left")
-    return engine.result(engine.answer(given, nodes=NODES))
+def counted(words, bar):
+    bar.step()
+    return words
+
+
+def not_computed(why):
+    return f"Its limit wasn't computed: {why}."
+
+
+def why_none(day, own):
+    """Why no limit can be computed, if the program fails on a day or has other results; None if it has the same."""
+    if isinstance(own, Fault):
+        why, more = "the program couldn't clear the day", str(own)
+    elif Cleared.of_text(day.book.rows, day.problem.periods, own).orders != Cleared.of_day(day).orders:
+        why, more = "the program has other results", f"{command.SEE_AUDIT} --best"
+    else:
+        return None
+    command.tell("report", f"the limits that rejected blocks needed weren't computed: {why}: {more}")
+    return why
+
+
+def sentence(held, block, own, running):
+    """What a page says of a rejected block, whose day is printed as `own`."""
+    search = Search(held, (block.who, block.name), lambda given: engine.result(engine.answer(given, running=running)))
+    search.keep(block.order.price, own)
+    try:
+        return short(search)
+    except Fault as fault:
+        command.tell("report", f"the limit of {' '.join(search.key)} wasn't computed: {fault}")
+        return not_computed("a run of the program failed")
 
 
 def columns(rows):
@@ -221,9 +263,9 @@ def table(search, found):
     yield [f"gain of {who}, EUR", *(text.amount(day.gain(who), day.hours) for _, _, day in days)]
     yield ["welfare, EUR", *(text.amount(day.welfare, day.hours) for _, _, day in days)]
     own = {period for period, _ in search.order.volumes}
-    for period, prices in enumerate(zip(*(day.prices for _, _, day in days)), 1):
+    for period, prices in enumerate(zip(*(changes.traded_prices(day) for _, _, day in days)), 1):
         if period in own or len(set(prices)) > 1:
-            yield [f"price of period {period}, EUR/MWh", *map(text.shown_price, prices)]
+            yield [f"price of period {period}, EUR/MWh", *("no trade" if price is None else text.shown_price(price) for price in prices)]
 
 
 def other_lines(search, found):

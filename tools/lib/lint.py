@@ -20,9 +20,8 @@ AUDIT, LINT, TABLE = map(place.as_here, ("tools/audit", "tools/lint", "tools/tab
 OTHERS = {
     kinds.ORDERS: f"this seems to be a table of orders: {TABLE} --journal makes a journal of it",
     kinds.RESULTS: f"these seem to be results, which aren't a journal: {AUDIT} reads them with their journal",
-    kinds.EXCEL: f"this is an Excel workbook: {TABLE} --journal makes a journal of it, if it is a table of orders",
-    kinds.OLD_EXCEL: f"this is an old Excel workbook: save it as .xlsx, from which {TABLE} --journal makes a journal, or as plain CSV",
     kinds.REPLIES: f"these seem to be replies of `dam replay`, which aren't a journal: {AUDIT} --replies reads them with their journal",
+    **{kind: f"this is {kind}: {advice}" for kind, advice in kinds.ADVICE.items()},
 }
 BYTE_ORDER_MARKS = {b"\xef\xbb\xbf": "utf-8-sig", b"\xff\xfe": "utf-16", b"\xfe\xff": "utf-16"}
 
@@ -80,7 +79,7 @@ class Lint:
                 break
             self.record(line, [field.decode(errors="replace") for field in record])
         self.end(line, number)
-        return sorted(self.found, key=lambda found: found.line)
+        return sorted(self.found, key=lambda found: (bool(found.refusal), found.line))
 
     def readable(self, data):
         """The text with the faults put right that concern all of it, and the separator of its fields."""
@@ -88,8 +87,10 @@ class Lint:
             self.tell(1, f"the text has {len(data):,} bytes, but a journal has at most {rules.MOST_BYTES:,}: split the day")
         for mark, encoding in BYTE_ORDER_MARKS.items():
             if data.startswith(mark):
-                name = "a byte order mark" if encoding == "utf-8-sig" else "a byte order mark, and the text is in UTF-16"
-                self.tell(1, f"the text begins with {name}: save it as plain CSV, in ASCII or UTF-8 without the mark")
+                name, tool = "a byte order mark", ""
+                if encoding == "utf-16":
+                    name, tool = "a byte order mark, and the text is in UTF-16", ", or convert it: iconv -f UTF-16 -t UTF-8 FILE"
+                self.tell(1, f"the text begins with {name}: save it as plain CSV, in ASCII or UTF-8 without the mark{tool}")
                 data = data.decode(encoding, errors="replace").encode()
                 break
         self.characters(data)
@@ -312,7 +313,8 @@ def first_word(data, comma=b","):
 
 
 def faults(data, command="clear", bar=None):
-    """The faults of a text as a journal for `dam clear`, `dam replay` or `dam day`, by line. A bar shows how far it is read."""
+    """The faults of a text as a journal for `dam clear`, `dam replay` or `dam day`, by line, and then the commands that the book would
+    refuse. A bar shows how far it is read."""
     return Lint(data, command, bar=bar).run()
 
 

@@ -11,6 +11,7 @@ from .tables import ORDER, RESULT
 
 # The columns that a row may leave empty, or a table out.
 OPTIONAL = ["parent", "group"]
+NAMES = ["participant", "order", *OPTIONAL]  # the columns of names
 NEEDED = [name for name in ORDER if name not in OPTIONAL]
 # The column of a table of commands that says the command of a row, which a table of orders can't say.
 WHAT = "what"
@@ -106,7 +107,8 @@ def parts(cell):
 
 def read_periods(cell, periods):
     """Periods and runs of periods of the day by increasing number, such as `8`, `8-20` or `1;3;5-7`, or clock times, such as
-    `07:00-08:00`."""
+    `07:00-08:00`. A dash may be of any kind, with spaces around it."""
+    cell = spans.DASH.sub("-", cell)
     if not parts(cell):
         raise Wrong("it should name a period, such as 8, or several, such as 8-20 or 1;3;5-7, or times, such as 07:00-20:00")
     if ":" in cell:
@@ -138,7 +140,7 @@ def read_numbers(cell):
 
 def read_times(cell, periods):
     """The periods between clock times."""
-    numbers, spans_of_time = [], parts(re.sub(r" ?[-\u2013] ?", "-", " ".join(cell.split())))
+    numbers, spans_of_time = [], parts(cell)
     refuse_many(spans_of_time, cell)
     for part in spans_of_time:
         found = TIMES.fullmatch(part)
@@ -193,10 +195,12 @@ def read_price(cell, decimal_comma):
 class Row:
     """A row of the table of a day of `periods` periods: its faults are gathered by column."""
 
-    def __init__(self, cells, table, periods):
-        self.cells, self.table, self.periods = cells, table, periods
+    def __init__(self, cells, table, periods, raises=False):
+        """`raises`: names that aren't in capitals are put into them."""
+        self.cells, self.table, self.periods, self.raises = cells, table, periods, raises
         self.decimal_comma = table.decimal_comma
         self.wrong = []
+        self.raised = {}  # these names, by their text
 
     def cell(self, name):
         at = self.table.places.get(name)
@@ -204,8 +208,11 @@ class Row:
 
     def read(self, name, reader):
         """The value that a reader makes of a cell; None if it is wrong."""
+        cell = self.cell(name)
+        if self.raises and name in NAMES and cell != cell.upper() == self.meant(name):
+            self.raised[cell] = cell = cell.upper()
         try:
-            return reader(self.cell(name))
+            return reader(cell)
         except Wrong as fault:
             self.wrong.append(f"column {name}: {fault}")
             return None
@@ -273,6 +280,7 @@ class Table(NamedTuple):
     width: int
     decimal_comma: bool
     notes: list
+    read: list  # those of the notes that say what was read of the file
 
     def line(self, number):
         """A line of the table in a message about another one."""
@@ -284,19 +292,23 @@ class Table(NamedTuple):
 
 
 class Cells(NamedTuple):
-    """The cells of a table: its rows that aren't empty, each with the number of its first line; whether a comma may be the decimal
-    point."""
+    """The cells of a table: its rows that aren't empty, each with the number of its first line; whether a comma may be the decimal point;
+    and notes on what was read of the file."""
 
     rows: list
     decimal_comma: bool
+    read: list
 
 
 def cells_of(data, most=MOST_ROWS):
     """The cells of a table of `most` rows after its first one; None allows any number."""
-    if kinds.kind_of(data) in (kinds.JOURNAL, kinds.DAY):
+    kind, read = kinds.kind_of(data), []
+    if kind in (kinds.JOURNAL, kinds.DAY):
         raise Wrong("this seems to be a journal already")
+    if kind in kinds.FILES - {kinds.EXCEL}:
+        raise Wrong(f"this is {kind}: {kinds.ADVICE[kind]}")
     try:
-        rows, decimal_comma = sheets.rows_of(data, most)
+        rows, decimal_comma = sheets.rows_of(data, NEEDED, read, most)
     except sheets.Wrong as fault:
         raise Wrong(str(fault)) from None
     rows = [(number, trimmed(cells)) for number, cells in rows if any(cell.strip() for cell in cells)]
@@ -304,21 +316,25 @@ def cells_of(data, most=MOST_ROWS):
         raise Wrong(f"the table is empty: its first line should name the columns {', '.join(ORDER)}")
     if most is not None and len(rows) > most + 1:
         raise Wrong(f"line {rows[most + 1][0]}: a table has at most {most:,} rows after its first")
-    return Cells(rows, decimal_comma)
+    return Cells(rows, decimal_comma, read)
 
 
 def table_of(name, found, needed=NEEDED, further=()):
     """A table of orders by its cells, of which the header has been read; or one that needs other columns, and has further ones."""
-    rows, decimal_comma = found
+    rows, decimal_comma, read = found
     header = rows[0][1]
     if WHAT not in further:
         refuse_commands(header, rows[1:])
-    places, notes = columns_of(header, needed, further)
+    try:
+        places, notes = columns_of(header, needed, further)
+    except Wrong as fault:
+        raise Wrong("\n".join([str(fault), *read])) from None
+    notes = [*read, *notes]
     again = [number for number, cells in rows[1:] if cells == header]
     if again:
         notes.append(f"line {', '.join(map(str, again))} names the columns once more")
     rows = [(number, cells) for number, cells in rows[1:] if cells != header]
-    return Table(name, rows, places, len(header), decimal_comma, notes)
+    return Table(name, rows, places, len(header), decimal_comma, notes, read)
 
 
 def refuse_commands(header, rows):
@@ -340,9 +356,9 @@ class Orders(NamedTuple):
     others: int
 
 
-def read_tables(sources, periods, who=None):
+def read_tables(sources, periods, who=None, raises=False):
     """The orders of tables, given as pairs of a name for messages and bytes or cells, for a day of `periods` periods; of one participant,
-    or of all. If something is wrong with the tables, all of it, one line each."""
+    or of all. `raises`: names are put into capitals, with a note. If something is wrong with the tables, all of it, one line each."""
     if periods not in rules.DAYS:
         raise Wrong(f"a day has {', '.join(DAYS[:-1])} or {DAYS[-1]} periods, not {periods}")
     wrong, notes, tables = [], [], []
@@ -354,19 +370,30 @@ def read_tables(sources, periods, who=None):
     entered, submits, number, others = Entered(periods), [], 0, 0
     for table in tables:
         notes += map(table.told, table.notes)
+        raised = {}
         for line, cells in table.rows:
-            row = Row(cells, table, periods)
+            row = Row(cells, table, periods, raises)
             number += 1
             if who and row.cell("participant").upper() != who:
                 others += 1
                 continue
             submits.append((number, row.command()))
             entered.enter(table.line(line), row, submits[-1][1])
+            raised.update(row.raised)
             wrong += [table.told(f"line {line}, {words}") for words in row.wrong]
+        notes += [table.told(in_capitals(raised))] if raised else []
     if wrong:
         more = len(wrong) - MOST_ERRORS
-        raise Wrong("\n".join(wrong[:MOST_ERRORS] + ([f"and {more} more"] if more > 0 else [])))
+        read = [table.told(note) for table in tables for note in table.read]
+        raise Wrong("\n".join(wrong[:MOST_ERRORS] + ([f"and {more} more"] if more > 0 else []) + read))
     return Orders(submits, notes, others)
+
+
+def in_capitals(raised):
+    """The note on names that were put into capitals, with the first of them."""
+    (cell, value), *more = raised.items()
+    others = f", and {text.counted(len(more), 'other name')}" if more else ""
+    return f"names are in capitals: {text.quoted(cell)} was read as {value}{others}"
 
 
 def journal_of(orders, periods, closing):

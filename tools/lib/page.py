@@ -390,10 +390,11 @@ def own_figures(day, who):
         yield words, value, unit
 
 
-def page(day, title, curves, date=None, who=None):
-    """The page of a day, or of a participant's part of it, with the curves of some periods, and the date of delivery if it is known."""
+def page(day, title, curves, date=None, who=None, with_limits=True):
+    """The page of a day, or of a participant's part of it, with the curves of some periods, and the date of delivery if it is known; with
+    the limits that rejected blocks needed, or without them."""
     found = decisions.decisions(day.problem, day.said.accepted, day.outcome)
-    needed = limits.of_rejected(day, who)  # before the curves, which would take the time that it has
+    needed = limits.of_rejected(day, who, with_limits)  # before the curves, whose processes are copies of this one
     with curves_of(day, curves) as drawn_curves:
         parts = list(own_sections(day, who, needed, drawn_curves) if who else sections(day, found, needed, drawn_curves))
     return TEMPLATES.get_template("page.html").render(

@@ -1,5 +1,6 @@
 """Tables as files: text with separators, and Excel workbooks. Here they are rows of cells; others interpret them."""
 
+import codecs
 import csv
 import io
 import re
@@ -24,24 +25,39 @@ def is_workbook(data):
     return data.startswith(XLSX)
 
 
-def rows_of(data, most=None):
+def rows_of(data, needed=(), notes=None, most=None):
     """The rows of a table, each with the number of its first line; and whether a comma may be the decimal point. A text is separated by
-    commas, semicolons or tabs, whichever its first line has most of. A workbook isn't read further if it has `most` rows after its
-    first one."""
+    commas, semicolons or tabs, whichever its first line has most of. Of a workbook it is the sheet `orders`, or else the first that has the
+    needed columns; it isn't read further if it has `most` rows after its first one. Notes say which sheet was read, and that a text isn't in
+    UTF-8."""
+    notes = [] if notes is None else notes
     if not is_workbook(data):
-        return text_rows(data)
+        return text_rows(data, notes)
     try:
-        return workbooks.rows_of(data, PREFERRED, most), True
+        rows, note = workbooks.rows_of(data, PREFERRED, needed, most)
     except workbooks.Wrong as fault:
         raise Wrong(str(fault)) from None
+    notes += [note] if note else []
+    return rows, True
 
 
-def text_rows(data):
+def decoded(data, notes):
+    """The text of a table: in UTF-8, in UTF-16 with its mark, or else in Windows-1252, whose letters no order has."""
+    if data.startswith((codecs.BOM_UTF16_LE, codecs.BOM_UTF16_BE)):
+        return data.decode("utf-16", errors="replace")
     try:
-        table = data.decode("utf-8-sig")
+        return data.decode("utf-8-sig")
     except UnicodeDecodeError as fault:
         line = data[: fault.start].count(b"\n") + 1
-        raise Wrong(f"line {line}: the table isn't in UTF-8: byte {fault.start} can't be read") from None
+    try:
+        notes.append(f"line {line}: the table isn't in UTF-8, and was read as Windows-1252")
+        return data.decode("cp1252")
+    except UnicodeDecodeError:
+        raise Wrong(f"line {line}: the table is neither in UTF-8 nor in Windows-1252: save it as CSV in UTF-8") from None
+
+
+def text_rows(data, notes=None):
+    table = decoded(data, [] if notes is None else notes)
     first = table.splitlines()[0] if table.strip() else ""
     delimiter = max(",;\t", key=first.count)
     reader = csv.reader(io.StringIO(table, newline=""), delimiter=delimiter, strict=True)

@@ -3,6 +3,7 @@
 import re
 
 RUN = re.compile(r"([1-9][0-9]{0,3})(?:-([1-9][0-9]{0,3}))?")
+DASH = re.compile(r"\s*[-\u2010-\u2015\u2212]\s*")  # of people and word processors
 
 
 def read(words, greatest, separators=";"):

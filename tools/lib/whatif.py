@@ -105,9 +105,9 @@ def read(args):
         raise command.Stop(f"{command.shown(args.journal)}: {fault}") from None
 
 
-def clear_one(args, running=None):
+def engine_of(program, running=None):
     """The engine that clears a text; a run that fails is a `Fault`."""
-    return lambda given: engine.result(engine.answer(given, args.program, running))
+    return lambda given: engine.result(engine.answer(given, program, running))
 
 
 def limit(args):
@@ -128,7 +128,7 @@ def limit(args):
         return sampled(args, held, key)
     if (args.least, args.greatest, args.step) != (None,) * 3:
         raise command.Stop("--from, --to and --step can't be used with a block, whose limit is found exactly", command.COMMAND_LINE)
-    search = limits.Search(held, key, clear_one(args))
+    search = limits.Search(held, key, engine_of(args.program))
     found = search.worst()
     if args.json:
         data = json.dumps(limits.record(search, found), indent=1) + "\n"
@@ -160,7 +160,7 @@ def all_limits(args, held):
     with engine.threads_of(args.jobs or engine.processors()) as (threads, running):
 
         def row(key):
-            search = limits.Search(held, key, clear_one(args, running))
+            search = limits.Search(held, key, engine_of(args.program, running))
             return limits.row(search, search.worst())
 
         rows = list(engine.with_bar(threads.map(row, keys), len(keys), "block"))
@@ -170,7 +170,7 @@ def all_limits(args, held):
 
 def sampled(args, held, key):
     """An hourly order under a grid of limits, as a table."""
-    search = limits.Search(held, key, clear_one(args))
+    search = limits.Search(held, key, engine_of(args.program))
     period = held.rows[key].volumes[0][0]
     price = search.at(search.order.price).prices[period - 1]
     reach, step = GRID
@@ -206,22 +206,26 @@ def change(args):
         raise command.Stop("only one file can be standard input", command.COMMAND_LINE)
     before = read(args)
     try:
-        after = changes.entered(before, changes.read_changes(command.read_bytes(args.changes), before.periods))
+        books = [before, changes.entered(before, changes.read_changes(command.read_bytes(args.changes), before.periods))]
     except engine.Fault as fault:
         raise command.Stop(f"{command.shown(args.changes)}: {fault}") from None
-    books = [before, after]
-    if args.participant and not any(who == args.participant for one in books for who, _ in one.rows):
-        raise command.Stop(f"{args.participant} has no order in the book, before or after the changes")
-    printed = list(engine.answers([cleared.book_text(one.rows, one.periods) for one in books], program=args.program))
-    for found in printed:
-        if isinstance(found, engine.Fault):
-            raise found
-    days = [Cleared.of_text(one.rows, one.periods, found) for one, found in zip(books, printed)]
-    rows = list(changes.table(*days, args.participant))
+    rows = list(compared(books, args.participant, args.program))
     if len(rows) == 1:
         command.tell("whatif", "nothing differs")
     output.write("whatif", args, "changes", rows, before.periods)
     return command.DONE
+
+
+def compared(books, who, program):
+    """The differences between the results of two books, as a table: of one participant, or of all."""
+    if who and not any(who == owner for one in books for owner, _ in one.rows):
+        raise engine.Fault(f"{who} has no order in the book, before or after the changes")
+    printed = list(engine.answers([cleared.book_text(one.rows, one.periods) for one in books], program=program))
+    for found in printed:
+        if isinstance(found, engine.Fault):
+            raise found
+    days = [Cleared.of_text(one.rows, one.periods, found) for one, found in zip(books, printed)]
+    return changes.table(*days, who)
 
 
 def add_scenarios(commands, epilog):

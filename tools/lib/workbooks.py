@@ -66,14 +66,16 @@ def too_many(most, things):
     return broken(f"it has more than {most:,} {things}")
 
 
-def rows_of(data, preferred, most=None):
-    """The rows of a workbook's sheet that aren't empty, with their numbers: of the preferred sheet, or else of the first. If there are
-    `most`, more rows after the first are a fault."""
+def rows_of(data, preferred, needed=(), most=None):
+    """The rows of a workbook's sheet that aren't empty, with their numbers: of the preferred sheet, or else of the first with the needed names
+    in its first row, or else of the first. If there are `most`, more rows after the first are a fault. Also a note on the sheet, if there
+    are several."""
     package = Package(data)
     book = Book(package)
-    sheet = Sheet(*book.chosen(preferred), book, most)
+    name, part, note = book.chosen(preferred, needed)
+    sheet = Sheet(name, part, book, most)
     package.read(sheet.part, sheet)
-    return sheet.whole(book.strings(sheet.needed))
+    return sheet.whole(book.strings(sheet.needed)), note
 
 
 class Package:
@@ -309,8 +311,8 @@ class Book(Part):
             raise broken(f"the name of a sheet has more than {LONGEST_NAME:,} characters")
         self.sheets.append((name, identifier))
 
-    def chosen(self, preferred):
-        """The name and the part of the preferred sheet, or else of the first."""
+    def tables(self):
+        """The sheets with cells: the part of each, by its name."""
         sheets = {}
         for name, identifier in self.sheets:
             kind, part = self.relations.found.get(identifier, (None, None))
@@ -321,8 +323,26 @@ class Book(Part):
             sheets[name] = part
         if not sheets:
             raise broken("it has no sheets")
-        name = preferred if preferred in sheets else next(iter(sheets))
-        return name, sheets[name]
+        return sheets
+
+    def chosen(self, preferred, needed):
+        """The name and the part of the sheet that is read, and a note on it if there are several."""
+        sheets = self.tables()
+        if len(sheets) == 1:
+            return *next(iter(sheets.items())), None
+        found = [preferred] if preferred in sheets else self.having(sheets, needed)
+        name = [*found, *sheets][0]
+        others = [text.quoted(other) for other in found[1:]]
+        more = f"; {', '.join(others)} {'has' if len(others) == 1 else 'have'} the columns of orders too" if others else ""
+        return name, sheets[name], f"of {len(sheets)} sheets, {text.quoted(name)} was read{more}"
+
+    def having(self, sheets, needed):
+        """The sheets with the needed names in their first rows."""
+        rows = {name: FirstRow(name, part, self) for name, part in sheets.items()} if needed else {}
+        for row in rows.values():
+            row.begin_part()
+        strings = self.strings(set().union(*(row.needed for row in rows.values())))
+        return [name for name, row in rows.items() if set(needed) <= row.names(strings)]
 
     def strings(self, needed):
         """Those of the shared strings that are needed, by their numbers."""
@@ -607,6 +627,36 @@ class Sheet(Part):
                     self.cells[at] = strings[cell]
                     self.add_characters(strings[cell])
         return self.rows
+
+
+class Enough(Exception):
+    """The first row of a sheet was read."""
+
+
+class FirstRow(Sheet):
+    """The first row of a sheet that isn't empty. A sheet that can't be read has none: if it is read as the table, it is a fault."""
+
+    def __init__(self, name, part, book):
+        super().__init__(name, part, book, None)
+
+    def close_row(self):
+        super().close_row()
+        if self.rows:
+            raise Enough
+
+    def begin_part(self):
+        try:
+            self.book.package.read(self.part, self)
+        except Enough:
+            return
+        except Wrong:
+            self.rows = []
+
+    def names(self, strings):
+        try:
+            return {cell.strip().lower() for _, cells in self.whole(strings) for cell in cells} - {""}
+        except Wrong:
+            return set()
 
 
 def unescaped(words):

@@ -411,7 +411,7 @@ class CommandLine(unittest.TestCase):
     def test_files_that_are_no_text_have_no_verdict(self):
         for data, said in (
             (b"%PDF-1.7\n", "is a PDF instead of results"),
-            (b"\x1f\x8b\x08\r\n", "is a compressed file (.gz) instead of results"),
+            (b"\x1f\x8b\x08\r\n", "is a compressed file (.gz) instead of results; gunzip FILE unpacks it"),
             (b"\n<!DOCTYPE html>\n", "is a web page (HTML) instead of results"),
         ):
             status, out, err = audit(AUCTION.read_bytes(), data)

@@ -104,7 +104,7 @@ class Failing(unittest.TestCase):
             if megabytes == 40:
                 self.assertEqual((status, out, err), (command.FAILED, b"", "lint: out of memory\n"))
             else:
-                self.assertEqual((status, out.count(b"\n"), err), (command.DIFFERS, 9_002, ""))
+                self.assertEqual((status, out.count(b"\n"), err), (command.FAULTY, 9_002, ""))
 
     def test_a_failed_import(self):
         run = "import sys; from lib import ending; ending.watch('lint'); raise MemoryError"

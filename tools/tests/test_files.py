@@ -1,15 +1,19 @@
 """The files that tools read and write: no input is lost, written files are named, and oddities of results are reported."""
 
+import gzip
+import io
+import itertools
 import os
 import resource
 import subprocess
 import sys
 import tempfile
 import unittest
+import zipfile
 from pathlib import Path
 from unittest import mock
 
-from support import AUCTION, TOOLS, printed, tool
+from support import AUCTION, AUCTION_RESULTS, TOOLS, printed, tool
 
 from lib import command, replacing, tables
 
@@ -149,7 +153,65 @@ class Files(unittest.TestCase):
         for name in TOOLS_HERE:
             status, _, err = tool(name, self.journal, self.results, "-o", "-")
             said = f"{name}: the results break the rules (results line 2: the welfare is 4"
-            self.assertEqual((status, err.removeprefix(NOTE)[: len(said)]), (0, said))
+            self.assertEqual((status, err.removeprefix(NOTE)[: len(said)]), (command.DIFFERS, said))
+        day = [self.journal, self.results]
+        status, _, err = tool("compare", *day, AUCTION, AUCTION_RESULTS)
+        said = "compare: the results break the rules"
+        self.assertEqual((status, err[: len(said)]), (command.DIFFERS, said))
+        self.assertEqual(tool("compare", AUCTION, AUCTION_RESULTS, *day)[0], command.DIFFERS)
+
+
+class OtherKinds(unittest.TestCase):
+    """Files of other kinds are named, with the command that reads them."""
+
+    def archive(self, *names):
+        made = io.BytesIO()
+        with zipfile.ZipFile(made, "w") as archive:
+            for name in names:
+                archive.writestr(name, AUCTION.read_bytes())
+        return made.getvalue()
+
+    def test_every_tool_names_them(self):
+        excel = "an Excel workbook (.xlsx)"
+        table = "tools/table --journal FILE makes a journal"
+        marked = "the text is in UTF-16: save it as plain CSV, in ASCII or UTF-8 without the mark, or convert it: iconv -f UTF-16"
+        files = {
+            gzip.compress(AUCTION.read_bytes()): ("a compressed file (.gz)", "gunzip FILE unpacks it"),
+            self.archive("auction-day.csv"): ("an archive (.zip)", "unzip FILE unpacks it"),
+            self.archive("[Content_Types].xml", "xl/workbook.xml"): (excel, table),
+            self.archive("mimetype", "content.xml"): ("an OpenDocument workbook (.ods)", f"save it as .xlsx, from which {table}"),
+            AUCTION.read_text().encode("utf-16"): ("", marked),
+        }
+        tools = {
+            "lint": ["-"],
+            "audit": ["-", AUCTION_RESULTS],
+            "table": ["-", AUCTION_RESULTS],
+            "whatif": ["limit", "--participant", "GAS", "--all", "-", "--program", "false"],
+            "compare": ["-", AUCTION_RESULTS, AUCTION, AUCTION_RESULTS],
+            **{name: ["-", AUCTION_RESULTS, "-o", "-"] for name in TOOLS_HERE if name != "table"},
+        }
+        for (name, words), (data, (kind, advice)) in itertools.product(tools.items(), files.items()):
+            with self.subTest(name, kind=kind):
+                status, out, err = tool(name, *words, data=data)
+                self.assertEqual(status, command.FAULTY if name == "lint" else command.NO_INPUT)
+                said = (out.decode() if name == "lint" else err).splitlines()[:2]
+                self.assertTrue(any(kind in line and advice in line for line in said), said)
+
+    def test_results_and_tables_of_other_kinds(self):
+        packed = gzip.compress(printed(AUCTION))
+        for name in ("audit", *TOOLS_HERE):
+            status, _, err = tool(name, AUCTION, "-", *([] if name == "audit" else ["-o", "-"]), data=packed)
+            said = f"{name}: standard input is a compressed file (.gz) instead of results; gunzip FILE unpacks it\n"
+            self.assertEqual((status, err), (command.NO_INPUT, said))
+        # a workbook isn't results, and no tool makes results of it
+        _, _, err = tool("table", AUCTION, "-", data=self.archive("xl/workbook.xml"))
+        self.assertEqual(err, "table: standard input is an Excel workbook (.xlsx) instead of results\n")
+        for data, kind in ((packed, "a compressed file (.gz): gunzip FILE"), (self.archive("a.csv"), "an archive (.zip): unzip FILE")):
+            status, _, err = tool("table", "--journal", "-", data=data)
+            self.assertEqual((status, err), (command.NO_INPUT, f"table: standard input: this is {kind} unpacks it\n"))
+        # alone, in place of the text of a day
+        _, _, err = tool("table", "-", data=packed)
+        self.assertEqual(err, "table: standard input is a compressed file (.gz) instead of a journal; gunzip FILE unpacks it\n")
 
 
 if __name__ == "__main__":

@@ -1,7 +1,10 @@
 """The lint: each fault by hand, and that it reports one exactly if the program's format or book has one."""
 
+import hashlib
+import json
 import random
 import unittest
+import unittest.mock
 
 import support
 from support import AUCTION, AUCTION_RESULTS, FIRST, cases, journal_of, tool
@@ -85,7 +88,7 @@ class Hand(unittest.TestCase):
 
     def test_excel_workbooks(self):
         old = b"\xd0\xcf\x11\xe0\xa1\xb1\x1a\xe1"
-        for signature, said in (b"PK\x03\x04", "this is an Excel workbook: "), (old, "this is an old Excel workbook: "):
+        for signature, said in (b"PK\x03\x04", "this is an Excel workbook (.xlsx): "), (old, "this is an old Excel workbook (.xls): "):
             data = signature + bytes(range(256)) * 100
             self.check(data, ("line 1", said))
             for words in (["audit", "-", AUCTION], ["audit", AUCTION, "-"], ["table", "-", AUCTION], ["plot", AUCTION, "-"]):
@@ -240,6 +243,50 @@ class CommandLine(unittest.TestCase):
         self.assertEqual(tool("lint", "--quiet", "-", data=FIRST), (command.DIFFERS, b"", ""))
         self.assertEqual(tool("lint", "/nowhere/a.csv")[0], command.NO_INPUT)
         self.assertEqual(tool("lint", "--fo", "day", AUCTION)[0], command.COMMAND_LINE)
+        for data, status in ((b"day,24\n", command.FAULTY), (GOOD.replace(b"close", b"cancel"), command.FAULTY), (FIRST, command.DIFFERS)):
+            self.assertEqual(tool("lint", "--quiet", "-", data=data), (status, b"", ""))
+        self.assertEqual(tool("lint", "--json", "--quiet", AUCTION)[0], command.COMMAND_LINE)
+
+    def test_faults_come_before_refused_commands(self):
+        """A day whose book refuses thousands of commands, and that has a record too many."""
+        again = HOUR + b"\n"
+        data = GOOD.replace(again, again * rules.MOST_RECORDS)
+        status, out, _ = tool("lint", "-", data=data)
+        lines = out.decode().splitlines()
+        self.assertEqual((status, len(lines)), (command.FAULTY, rules.MOST_RECORDS))
+        self.assertEqual(lines[0], f"line {rules.MOST_RECORDS + 1}: a journal has at most 10000 commands: remove the rest")
+        self.assertTrue(lines[1].startswith("line 3, order: NORD has an order WIND-8 since line 2"))
+        self.assertEqual(lines[-1], f"1 fault, {rules.MOST_RECORDS - 2} refused commands")
+
+    def record(self, *words, data=b""):
+        """The status of a run, its record, and its lines on standard error."""
+        status, out, err = tool("lint", "--json", *words, data=data)
+        return status, json.loads(out), err
+
+    def test_records(self):
+        status, made, err = self.record("-", data=GOOD)
+        digest = hashlib.sha256(GOOD).hexdigest()
+        inputs = [{"role": "journal", "file": "-", "bytes": len(GOOD), "sha256": digest}]
+        empty = {"message": None, "version": rules.VERSION, "for": "clear", "inputs": inputs, "faults": [], "refused": []}
+        self.assertEqual((status, made, err), (command.DONE, {"verdict": "right", "status": 0, **empty}, ""))
+        both = GOOD.replace(BLOCK, HOUR).replace(b"close", b"cancel,NORD,WIND_8,,,,,,\nclose")
+        status, made, _ = self.record("--for", "replay", "-", data=both)
+        self.assertEqual([status, made["verdict"], made["status"], made["for"]], [command.FAULTY, "faulty", 7, "replay"])
+        self.assertEqual([(one["line"], one["field"]) for one in made["faults"]], [(4, "order")])
+        self.assertEqual([(one["line"], one["field"], one["reason"]) for one in made["refused"]], [(3, "order", "NameTaken")])
+        self.assertTrue(made["faults"][0]["words"].endswith("write WIND-8"))
+        self.assertEqual(self.record("-")[1]["faults"][0]["field"], None)
+        status, made, _ = self.record(AUCTION)
+        self.assertEqual((status, made["verdict"], made["faults"], len(made["refused"])), (command.DIFFERS, "refused", [], 1))
+
+    def test_a_record_of_a_file_that_cannot_be_read(self):
+        status, made, err = self.record("/nowhere/a.csv")
+        said = "/nowhere/a.csv can't be read: No such file or directory"
+        self.assertEqual((status, made["verdict"], made["message"], err), (command.NO_INPUT, "unread", said, f"lint: {said}\n"))
+        self.assertEqual(made["inputs"], [{"role": "journal", "file": "/nowhere/a.csv", "bytes": None, "sha256": None}])
+        with unittest.mock.patch("lib.lint.faults", side_effect=MemoryError):
+            status, made, err = self.record(AUCTION)
+        self.assertEqual((status, made["verdict"], made["message"], err), (command.FAILED, "failed", "out of memory", "lint: out of memory\n"))
 
     def test_other_tools_say_the_same(self):
         data = journal_of("submit,NORD,WIND-8,hour,sell,12.50,8:450,,", *["x,,,,,,,,"] * 6)

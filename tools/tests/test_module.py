@@ -2,11 +2,14 @@
 
 import ast
 import datetime
+import inspect
+import json
 import os
 import re
 import subprocess
 import sys
 import tempfile
+import typing
 import unittest
 import unittest.mock
 from pathlib import Path
@@ -108,6 +111,99 @@ class Module(unittest.TestCase):
                 dam_tools.records(day, **words)
         with self.assertRaises(ValueError):
             dam_tools.records(opened)
+
+    def test_an_unknown_table_lists_the_tables(self):
+        day = dam_tools.read_results(AUCTION, AUCTION_RESULTS)
+        for words, listed, said in (
+            (["block"], tables.TABLES, "there is no table block: the tables are "),
+            (["curves", True], tables.LONG, "there is no table curves in a long form: the tables in a long form are "),
+        ):
+            with self.assertRaises(ValueError) as fault:
+                dam_tools.records(day, *words)
+            self.assertEqual(str(fault.exception), said + ", ".join(listed))
+            self.assertIn("blocks", listed)
+
+    def test_the_lint(self):
+        """The same findings as of the tool, from a file, a text and a journal."""
+        found = dam_tools.lint(AUCTION)
+        told = json.loads(support.tool("lint", "--json", AUCTION)[1])
+        self.assertEqual(found, dam_tools.Lint("refused", [], [dam_tools.Finding(**one) for one in told["refused"]]))
+        self.assertEqual((found, found.refused[0].reason), (dam_tools.lint(dam_tools.read_journal(AUCTION)), "HasChildren"))
+        found = dam_tools.lint("day,24\nclose\n")
+        self.assertEqual((found.verdict, [one.line for one in found.faults], found.refused), ("faulty", [1, 2], []))
+        self.assertEqual(dam_tools.lint(b"day,24,,,,,,,\n", "replay"), dam_tools.Lint("right", [], []))
+        with self.assertRaisesRegex(dam_tools.Fault, "^/nowhere can't be read"):
+            dam_tools.lint("/nowhere")
+        with self.assertRaisesRegex(ValueError, "^there is no command run: the commands are clear, replay and day$"):
+            dam_tools.lint(AUCTION, "run")
+
+    def test_the_audit(self):
+        day = dam_tools.read_results(AUCTION, AUCTION_RESULTS)
+        right = dam_tools.audit(AUCTION, AUCTION_RESULTS)
+        self.assertEqual((right.verdict, right.faults, right.checked), ("right", [], ["results", "sums"]))
+        both = AUCTION.read_bytes() + b"results\n" + printed(AUCTION)
+        for sources in ((day,), (both,), (AUCTION.read_bytes(), printed(AUCTION)), (day.journal, AUCTION_RESULTS)):
+            found = dam_tools.audit(*sources, best=True)
+            self.assertEqual((found.verdict, found.checked[-1], found.better), ("right", "best selection", None))
+            self.assertIn("each of 512 selections was tried", found.how)
+        wrong = printed(AUCTION).replace(b"period,1,9200", b"period,1,9300")
+        found = dam_tools.audit(AUCTION, wrong)
+        told = json.loads(support.tool("audit", "--json", "-", data=AUCTION.read_bytes() + b"results\n" + wrong)[1])
+        self.assertEqual(("wrong", [dam_tools.AuditFault(**one) for one in told["faults"]]), (found.verdict, found.faults))
+        self.assertEqual((found.faults[0].kind, found.faults[0].line), ("price", 3))
+        self.assertEqual(dam_tools.audit(AUCTION, printed(AUCTION).replace(b"\n", b"\r\n")).verdict, "encoding")
+        # nothing is accepted, which obeys the other rules, and the search has no time
+        worse = dam_tools.audit(FIRST, support.results_of(FIRST, frozenset()), best=True, seconds=0)
+        self.assertEqual((worse.verdict, worse.message[:46]), ("undecided", "the results obey the other rules, but after 0 "))
+        worse = support.journal_of("submit,A,L,hour,buy,5000,1:20,,", "submit,B,U,block,sell,4000,1:20,,")
+        found = dam_tools.audit(worse, support.results_of(worse, frozenset()), best=True)
+        self.assertEqual((found.verdict, found.faults[0].kind, found.better), ("wrong", "better", ["B,U"]))
+
+    def test_audits_without_a_verdict(self):
+        for call, said in (
+            (lambda: dam_tools.audit(AUCTION, "/nowhere"), "^/nowhere can't be read: No such file or directory$"),
+            (lambda: dam_tools.audit(AUCTION), "auction-day.csv has no line 'results': give the results file after the journal$"),
+            (lambda: dam_tools.audit(b"day,24\n", AUCTION_RESULTS), "^the journal isn't a journal: input: FieldCount in record 1"),
+            (lambda: dam_tools.audit(AUCTION, AUCTION), "has a journal instead of results"),
+        ):
+            with self.assertRaisesRegex(dam_tools.Fault, said):
+                call()
+        with self.assertRaisesRegex(ValueError, "^there is no method x: the methods are enumeration and highs$"):
+            dam_tools.audit(AUCTION, AUCTION_RESULTS, by="x")
+        with unittest.mock.patch("os.execv", side_effect=AssertionError), unittest.mock.patch.object(dam_tools.command, "has", lambda _: False):
+            with self.assertRaisesRegex(dam_tools.Fault, "^it needs scipy, which Debian has in the package python3-scipy"):
+                dam_tools.audit(AUCTION, AUCTION_RESULTS, best=True, by="highs")
+
+    def test_what_if(self):
+        lines = "submit,CITY,TOWN,hour,buy,5000,1:20,,", "submit,GEN,UNIT,block,sell,6000,1:20,,"
+        journal = support.journal_of(*lines)
+        found = dam_tools.whatif_limit(journal, "GEN", "UNIT", program=self.program)
+        self.assertEqual((found.price_eur_mwh, found.worst_limit_eur_mwh, found.why), (60.0, 50.0, None))
+        self.assertEqual([(case.case, case.accepted, any(case.traded)) for case in found.cases],
+                         [("as it was", False, False), ("at the worst limit", True, True), ("one cent past it", False, False)])
+        self.assertEqual(found.others, [dam_tools.OtherOrder("CITY", "TOWN", 0.0, 2.0)])
+        rows = dam_tools.whatif_change(journal, b"amend,GEN,UNIT,,,4000,1:20,,", "GEN", program=self.program)
+        self.assertIn(dam_tools.Change("executed", "MWh", "GEN", "UNIT", None, 0.0, 2.0, 2.0, "rejected", "accepted"), rows)
+        for call, said in (
+            (lambda: dam_tools.whatif_limit(journal, "GEN", "X"), "^GEN has no order X in the book: its blocks are UNIT$"),
+            (lambda: dam_tools.whatif_limit(journal, "CITY", "TOWN"), "^TOWN of CITY isn't a block$"),
+            (lambda: dam_tools.whatif_limit(b"day,24,,,,,,,\n", "GEN", "X"), "^no command closes the book"),
+            (lambda: dam_tools.whatif_change(journal, b"cancel,GEN,X,,,,,,"), "^record 1: the book refuses cancel,GEN,X"),
+            (lambda: dam_tools.whatif_change(journal, b"cancel,GEN,UNIT,,,,,,", "NOBODY"), "^NOBODY has no order in the book, before or after the changes$"),
+        ):
+            with self.assertRaisesRegex(dam_tools.Fault, said):
+                call()
+
+    def test_every_public_function_has_types(self):
+        public = [getattr(dam_tools, name) for name in dam_tools.__all__ if inspect.isfunction(getattr(dam_tools, name))]
+        own = [call for call in public if call.__module__.split(".")[1:2] != ["lib"]]
+        self.assertGreater(len(own), 10)
+        for call in own:
+            signature = inspect.signature(call)
+            annotations = [signature.return_annotation, *(one.annotation for one in signature.parameters.values())]
+            self.assertNotIn(inspect.Signature.empty, annotations, call.__name__)
+            typing.get_type_hints(call)
+        self.assertTrue(Path(dam_tools.__file__).with_name("py.typed").exists())
 
     def test_faults_of_files_programs_and_dates(self):
         day = dam_tools.read_results(AUCTION, AUCTION_RESULTS)

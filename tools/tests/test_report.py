@@ -214,7 +214,7 @@ class Page(unittest.TestCase):
         """As the page of the day does, with amounts written alike."""
         day, whys = day_of(AUCTION.read_bytes(), printed(AUCTION)), []
         place = next(place for place, block in enumerate(day.problem.blocks) if block.name == "UNIT-7")
-        with unittest.mock.patch("lib.limits.of_rejected", lambda day, who=None: {place: "With a limit of 92.00 EUR/MWh."}):
+        with unittest.mock.patch("lib.limits.of_rejected", lambda *_: {place: "With a limit of 92.00 EUR/MWh."}):
             for who in (None, "OLD"):
                 page = importlib.import_module("lib.page").page(day, "day", [], None, who)
                 whys.append(re.search(r"[^>]*With a limit of 92.00 EUR/MWh[^<]*", page)[0].strip())

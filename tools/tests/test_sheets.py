@@ -8,7 +8,7 @@ from pathlib import Path
 
 from support import AUCTION, AUCTION_RESULTS, journal_of, printed, results_of, tool
 
-from lib import clock, command, journal, order_table, rules, sheets
+from lib import clock, command, journal, order_table, rules, sheets, text
 
 HEADER = "participant,order,kind,side,price_eur_mwh,periods,volume_mw,parent,group"
 TEXTS = [AUCTION, AUCTION_RESULTS]
@@ -190,8 +190,8 @@ class ForSpreadsheets(unittest.TestCase):
             self.assertEqual(len(book.sheetnames), 8)
             self.assertEqual([cell.value for cell in book["periods"][20]][:5], [19, 1.0, 165.0, 730.0, True])
             right = tool("table", "--journal", "-", data=tool("table", "--rows", "orders", *TEXTS)[1])[1]
-            for name in (path, every):
-                self.assertEqual(tool("table", "--journal", name), (0, right, ""))
+            for name, note in ((path, ""), (every, f"table: {every}: of 8 sheets, 'orders' was read\n")):
+                self.assertEqual(tool("table", "--journal", name), (0, right, note))
             data = journal_of("submit,A,-1,hour,buy,100,8:10,,")
             Path(folder, "day").write_bytes(data + b"results\n" + results_of(data, frozenset()))
             tool("table", "--rows", "orders", Path(folder, "day"), "-o", path)
@@ -236,6 +236,117 @@ class ForSpreadsheets(unittest.TestCase):
             status, out, err = tool("table", "--journal", "-", data=data)
             said = "table: standard input: line 1: the Excel workbook can't be read: "
             self.assertEqual((status, out, err.startswith(said)), (command.NO_INPUT, b"", True), err)
+
+
+class Tolerance(unittest.TestCase):
+    """Tables as people write them: read if their meaning is plain, with one note on what was taken for what."""
+
+    def read(self, data, *words):
+        """The submits of the journal of a table, and the notes."""
+        status, out, err = tool("table", "--journal", "--open", *words, "-", data=data)
+        self.assertEqual(status, 0, err)
+        return out.decode().splitlines()[1:], [line.removeprefix("table: standard input: ") for line in err.splitlines()]
+
+    def test_dashes(self):
+        for periods in ("8-9", "8 - 9", "8\u20139", "8 \u2014 9", "8\u22129", "8 -9", "07:00 \u2013 09:00"):
+            self.assertEqual(self.read(table(f"A,K,block,buy,1,{periods},5,,")), (["submit,A,K,block,buy,100,8:50;9:50,,"], []))
+        for periods in ("8--9", "-8", "8-", "9 - 8"):
+            self.assertIn("should be periods and runs of them", "\n".join(wrong(f"A,K,block,buy,1,{periods},5,,")))
+
+    def test_names_that_are_not_in_capitals(self):
+        rows = ["Town,load,hour,buy,1,8,5,,", "town,K1,block,buy,1,8,5,,pair"]
+        rows += [f"TOWN,k{number},block,buy,1,8,5,k1," for number in range(2, 20)]
+        lines, notes = self.read(table(*rows))
+        self.assertEqual(lines[:3], ["submit,TOWN,LOAD,hour,buy,100,8:50,,", "submit,TOWN,K1,block,buy,100,8:50,,PAIR",
+                                     "submit,TOWN,K2,block,buy,100,8:50,K1,"])
+        self.assertEqual(notes, ["names are in capitals: 'Town' was read as TOWN, and 22 other names"])
+        self.assertEqual(self.read(table("A,k,hour,buy,1,8,5,,"))[1], ["names are in capitals: 'k' was read as K"])
+        self.assertEqual(self.read(table(*rows), "--quiet")[1], [])
+        # two names that differ by capitals alone are one
+        said = tool("table", "--journal", "-", data=table("A,K,hour,buy,1,8,5,,", "a,k,hour,buy,1,9,5,,"))
+        words = "table: standard input: line 3, column order: A has an order K in line 2 of standard input (NameTaken)\n"
+        self.assertEqual(said[::2], (command.NO_INPUT, words))
+        # other characters, and names of other tools, stay faults
+        for name in ("my_k", "\u00f8", "ABCDEFGHIJKLm", ""):
+            self.assertEqual(tool("table", "--journal", "-", data=table(f"A,{name},hour,buy,1,8,5,,"))[0], command.NO_INPUT)
+        self.assertIn("write TOWN", wrong(rows[0])[0])
+
+    def test_texts_in_other_codes(self):
+        data = table("A,K,block,buy,1,8\u20139,5,,,M\u00fcller \u2013 \u20ac", header=f"{HEADER},bem\u00e4rkung")
+        lines, _ = self.read(data)
+        self.assertEqual(lines, ["submit,A,K,block,buy,100,8:50;9:50,,"])
+        lines_now, notes = self.read(data.decode().encode("cp1252"))
+        said = ["line 1: the table isn't in UTF-8, and was read as Windows-1252", "the column 'bem\u00e4rkung' isn't used"]
+        self.assertEqual((lines_now, notes), (lines, said))
+        for code in ("utf-16", "utf-8-sig"):
+            self.assertEqual(self.read(data.decode().replace(",", "\t").encode(code)), (lines, said[1:]))
+
+    @WITH_EXCEL
+    def test_the_sheet_that_is_read(self):
+        import openpyxl
+
+        def saved(*sheets_of):
+            book, out = openpyxl.Workbook(), io.BytesIO()
+            book.remove(book.active)
+            for title, rows in sheets_of:
+                sheet = book.create_sheet(title)
+                for row in rows:
+                    sheet.append(row)
+            book.save(out)
+            return out.getvalue()
+
+        def orders(name):
+            return [HEADER.split(","), ["A", name, "hour", "buy", 1, "8", 5]]
+
+        notes = "notes", [["How to fill this in"], [], ["participant", "your name"]]
+        for sheets_of, name, said in (
+            ([("x", orders("H"))], "H", []),
+            ([notes, ("x", orders("H"))], "H", ["of 2 sheets, 'x' was read"]),
+            ([("empty", []), notes, ("x", [[], *orders("H")]), ("y", orders("I"))], "H",
+             ["of 4 sheets, 'x' was read; 'y' has the columns of orders too"]),
+            ([("x", orders("H")), ("orders", orders("I"))], "I", ["of 2 sheets, 'orders' was read"]),
+        ):
+            self.assertEqual(self.read(saved(*sheets_of)), ([f"submit,A,{name},hour,buy,100,8:50,,"], said))
+        status, _, err = tool("table", "--journal", "-", data=saved(notes, ("more", [["x"]])))
+        self.assertEqual((status, "line 1: there is no column participant, order, kind" in err), (command.NO_INPUT, True), err)
+        self.assertIn("table: standard input: of 2 sheets, 'notes' was read\n", err)
+        err = tool("table", "--journal", "-", data=saved(notes, ("x", [*orders("H"), ["A", "I", "hour", "buy", 1, "99", 5]])))[2]
+        said = ["line 3, column periods: the day has periods 1 to 24, so there is no period 99 (PeriodOutOfDay)"]
+        said += ["of 2 sheets, 'x' was read"]
+        self.assertEqual(err.splitlines(), [f"table: standard input: {words}" for words in said])
+
+    @WITH_EXCEL
+    def test_the_template(self):
+        """It is filled in and read; its cells take only what a table of orders may have."""
+        import openpyxl
+
+        with tempfile.TemporaryDirectory() as folder:
+            path = Path(folder, "orders.xlsx")
+            self.assertEqual(tool("table", "--template", path), (0, b"", ""))
+            book = openpyxl.load_workbook(path)
+            self.assertEqual(book.sheetnames, ["orders", "examples"])
+            for sheet in book:
+                self.assertEqual([cell.value for cell in sheet[1]], HEADER.split(","))
+                self.assertTrue(all(cell.comment.text for cell in sheet[1]))
+            sheet, (examples,) = book["orders"], [book["examples"]]
+            checks = sheet.data_validations.dataValidation
+            limits = [text.cents(end) for end in (rules.LEAST_PRICE, rules.GREATEST_PRICE)]
+            words = {"C2:C5000": ("list", '"hour,block"', None), "D2:D5000": ("list", '"buy,sell"', None)}
+            wanted = {**words, "E2:E5000": ("decimal", *limits)}
+            self.assertEqual({str(check.sqref): (check.type, check.formula1, check.formula2) for check in checks}, wanted)
+            self.assertEqual([sheet.column_dimensions[column].number_format for column in "BF"], ["@", "@"])
+            status, out, err = tool("table", "--journal", "--open", path)
+            self.assertEqual((status, out), (0, b"day,24,,,,,,,\n"))
+            self.assertEqual(err.splitlines()[0], f"table: {path}: of 2 sheets, 'orders' was read")
+            for row in list(examples.iter_rows(min_row=2, values_only=True)):
+                sheet.append(row)
+            book.save(path)
+            made = tool("table", "--journal", "--open", "--quiet", path)[1].decode().splitlines()[1:]
+            self.assertEqual(made, ["submit,NORD,WIND-8,hour,sell,1200,8:450,,",
+                                    f"submit,GAS,UNIT-1,block,sell,6800,{';'.join(f'{number}:100' for number in range(8, 21))},,"])
+            for words in (["--template", path, path], ["--template", path, "--journal"], ["--template", "a.csv"], ["--journal"]):
+                self.assertEqual(tool("table", *words)[0], command.COMMAND_LINE)
+            self.assertEqual(tool("table", "--template", "/nowhere/a.xlsx")[0], command.NO_INPUT)
 
 
 class Statement(unittest.TestCase):

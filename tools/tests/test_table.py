@@ -242,8 +242,9 @@ class Orders(unittest.TestCase):
         self.assertIn("the table is empty", self.wrong(header=""))
         self.assertIn("line 2, it has 10 cells, but the header has 9", self.wrong(BLOCK + ",1"))
         with self.assertRaises(order_table.Wrong) as fault:
-            order_table.read_orders(HEADER.encode() + b"\nN\xd8RD", 24, True)
-        self.assertIn("line 2: the table isn't in UTF-8", str(fault.exception))
+            order_table.read_orders(HEADER.encode() + b"\nN\x81RD", 24, True)
+        said = "line 2: the table is neither in UTF-8 nor in Windows-1252: save it as CSV in UTF-8"
+        self.assertEqual(str(fault.exception), said)
         self.assertIn("line 3: the table can't be read", self.wrong(BLOCK, HOUR + ',"x"y'))
 
     def test_a_line_is_one_of_the_file(self):

@@ -55,6 +55,17 @@ class Limits(unittest.TestCase):
         self.assertLessEqual(found.clearings, limits.MOST_CLEARINGS)
         self.assertEqual(limits.others(one, found), [("CITY", "TOWN")])
 
+    def test_periods_without_trade(self):
+        """Their prices are nominal: a record marks them, and a table leaves them out."""
+        one = search(SMALL[0], SMALL[1].replace("4000", "6000"), key=("GEN", "UNIT"))
+        found = one.worst()
+        own, at, past = limits.record(one, found)["cases"]
+        self.assertEqual([case["traded"] for case in (own, at, past)], [[False] * 24, [True, *[False] * 23], [False] * 24])
+        self.assertEqual([case["gain_eur"] for case in (own, at, past)], [0.0, 0.0, 0.0])
+        rows = [line.split("  ") for line in limits.lines(one, found) if line.startswith("price of period")]
+        self.assertEqual([[cell.strip() for cell in row if cell] for row in rows],
+                         [["price of period 1, EUR/MWh", "no trade", "50.00", "no trade"]])
+
     def test_a_block_that_buys(self):
         one = search(*BUYER, key=("CITY", "TOWN"))
         found = one.worst()
@@ -108,30 +119,56 @@ class Limits(unittest.TestCase):
 class Page(unittest.TestCase):
     """The sentence of a page for each rejected block."""
 
-    def said(self, lines, answer=lambda text, nodes: (None, support.results_of(text, best(text))), results=None, who=None):
+    def answer(text, running=None):
+        return None, support.results_of(text, best(text))
+
+    def said(self, lines, answer=answer, results=None, *words):
+        """The sentences, and the lines on standard error."""
         data = journal_of(*lines)
         day = support.day_of(data, results or support.results_of(data, best(data)))
-        with unittest.mock.patch.object(engine, "answer", answer):
-            return limits.of_rejected(day, who)
+        told = unittest.mock.patch.object(command, "tell", lambda _, line: self.told.append(line))
+        with unittest.mock.patch.object(engine, "answer", answer), told:
+            return limits.of_rejected(day, *words)
+
+    def setUp(self):
+        self.told = []
 
     def test_the_sentence(self):
         high = SMALL[0], SMALL[1].replace("4000", "6000")
         sentence = "With a limit of 50.00 EUR/MWh or lower it would have been accepted."
         self.assertEqual(self.said(high), {0: sentence})
-        self.assertEqual((self.said(high, who="GEN"), self.said(high, who="CITY")), ({0: sentence}, {}))
+        self.assertEqual([self.said(high, Page.answer, None, who) for who in ("GEN", "CITY")], [{0: sentence}, {}])
         low = BUYER[0], BUYER[1].replace("3000", "1999")
         self.assertEqual(self.said(low), {0: sentence.replace("50", "20").replace("lower", "higher")})
         self.assertEqual(self.said(NEVER)[1], "With no limit would it have been accepted.")
-        self.assertEqual(self.said(SMALL), {})
+        self.assertEqual((self.said(SMALL), self.told), ({}, []))
 
-    def test_when_there_is_none(self):
+    def test_each_rejected_block_has_one_however_long_it_takes(self):
+        """A clock that jumps by an hour at each look, as on a machine that is busy with other work."""
+        blocks = [f"submit,GEN,UNIT-{number},block,sell,{5000 + number},1:20,," for number in range(1, 5)]
+        with unittest.mock.patch("time.monotonic", itertools.count(0, 3_600).__next__):
+            said = self.said((SMALL[0], *blocks))
+        self.assertEqual(said, dict.fromkeys(range(4), "With a limit of 50.00 EUR/MWh or lower it would have been accepted."))
+
+    def test_a_limit_that_is_not_computed_says_so(self):
         high = SMALL[0], SMALL[1].replace("4000", "6000")
-        self.assertEqual(self.said(high, lambda text, nodes: (3, "unfinished: piece 0 after 100000 nodes")), {})
-        self.assertEqual(self.said(high, lambda text, nodes: (0, "no program was found")), {})
         wrong = support.results_of(journal_of(*high), frozenset()).replace(b"welfare,0", b"welfare,1")
-        self.assertEqual(self.said(high, results=wrong), {})
-        with unittest.mock.patch.object(limits, "SECONDS", -1):
-            self.assertEqual(self.said(high), {})
+        other = support.results_of(journal_of(*SMALL), frozenset())
+        words = "the limits that rejected blocks needed weren't computed: the program"
+
+        def fails_later(text, running=None):
+            return (4, "memory") if b"6000" not in text else Page.answer(text)
+
+        for why, told, *given in (
+            ("the program couldn't clear the day", f"{words} couldn't clear the day: memory", high, lambda text: (4, "memory")),
+            ("a run of the program failed", "the limit of GEN UNIT wasn't computed: memory", high, fails_later),
+            ("the program has other results", f"{words} has other results: see tools/audit --best", SMALL, Page.answer, other),
+            ("the results break the rules", None, high, Page.answer, wrong),
+            ("the page was made without limits", None, high, Page.answer, None, None, False),
+        ):
+            self.told = []
+            self.assertEqual(self.said(*given), {0: f"Its limit wasn't computed: {why}."})
+            self.assertEqual(self.told, [told] * bool(told))
 
 
 class Day(unittest.TestCase):

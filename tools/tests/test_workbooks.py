@@ -30,15 +30,18 @@ def book(*pieces):
     return made.of_sheet(made.OPEN, *pieces, made.CLOSE)
 
 
+READ = "of 2 sheets, 'orders' was read"
+
+
 class Faults(unittest.TestCase):
     def fault(self, data):
         status, out, err = tool("table", "--journal", "-", data=data)
         self.assertEqual((status, out), (command.NO_INPUT, b""), err)
-        return err.removeprefix("table: standard input: ").removesuffix("\n")
+        return err.removesuffix(f"table: standard input: {READ}\n").removeprefix("table: standard input: ").removesuffix("\n")
 
     def orders(self, data):
         status, out, err = tool("table", "--journal", "--open", "-", data=data)
-        self.assertEqual((status, err), (0, ""))
+        self.assertEqual((status, err), (0, f"table: standard input: {READ}\n"))
         return [(fields[2], fields[8]) for fields in csv.reader(out.decode().splitlines()[1:])]
 
     def test_the_stated_size_isnt_believed(self):
@@ -110,7 +113,14 @@ class Faults(unittest.TestCase):
 
     def test_other_archives(self):
         said = "line 1: the Excel workbook can't be read: it isn't an Excel workbook (.xlsx), but another archive"
-        self.assertEqual(self.fault(made.archive({"mimetype": b"application/vnd.oasis.opendocument.spreadsheet"})), said)
+        self.assertEqual(self.fault(made.archive({"xl/other": b""})), said)
+        self.assertEqual(self.fault(made.archive({"other": b""})), "this is an archive (.zip): unzip FILE unpacks it")
+
+    def test_another_sheet_that_cant_be_read(self):
+        """The sheet with the columns of orders is read, whatever the others are."""
+        for other in (b"<worksheet", made.OPEN + b"<row r='0'/>" + made.CLOSE, made.OPEN + made.CLOSE + b"x"):
+            data = made.of_sheet(made.OPEN, order(2, "K1"), made.CLOSE, **{"xl/worksheets/other.xml": other})
+            self.assertEqual(self.orders(data), [("K1", "")])
 
 
 class Long(unittest.TestCase):

@@ -1,0 +1,68 @@
+"""What programs give: a file, its text, or a journal that was read; and the tools' messages about it, which are faults here."""
+
+from __future__ import annotations
+
+import contextlib
+import os
+from collections.abc import Iterator
+from pathlib import Path
+
+from .lib import command, journal, order_table, shapes
+from .lib.engine import Fault
+from .lib.journal import Journal
+
+REFUSED = 1  # the program's status for a text that it doesn't take
+Source = str | os.PathLike[str] | bytes
+JournalSource = Source | Journal
+
+
+@contextlib.contextmanager
+def as_faults() -> Iterator[None]:
+    """The tools' message about a text, a table or a date is a fault here."""
+    try:
+        yield
+    except (command.Stop, order_table.Wrong, shapes.Wrong) as fault:
+        raise Fault(str(fault)) from None
+
+
+def is_text(source: object) -> bool:
+    """Whether a source is a text itself: bytes, or a string of several lines, which is no path."""
+    return isinstance(source, bytes) or isinstance(source, str) and "\n" in source
+
+
+def name_of(source: object, otherwise: str) -> str:
+    """The name of a source in a message."""
+    return otherwise if is_text(source) or isinstance(source, Journal) else str(source)
+
+
+def bytes_of(source: Source) -> bytes:
+    """The bytes of a file, or of a text that was given."""
+    if isinstance(source, bytes):
+        return source
+    if isinstance(source, str) and is_text(source):
+        return source.encode(errors="surrogatepass")
+    if source == "":
+        raise Fault("a file with an empty name can't be read")
+    try:
+        return Path(source).read_bytes()
+    except OSError as fault:
+        raise Fault(f"{source} can't be read: {fault.strerror}") from None
+
+
+def text_of(source: JournalSource) -> bytes:
+    """The bytes of a journal."""
+    return journal.journal_text(source).encode() if isinstance(source, Journal) else bytes_of(source)
+
+
+def read_journal(source: Source) -> Journal:
+    """The journal of a file, or of a text: bytes, or a string with line ends. Of a text that isn't a journal the fault has the status with
+    which the program refuses it."""
+    data = bytes_of(source)
+    try:
+        return command.parse_journal(name_of(source, "the text"), data)
+    except command.Stop as fault:
+        raise Fault(str(fault), REFUSED) from None
+
+
+def as_journal(source: JournalSource) -> Journal:
+    return source if isinstance(source, Journal) else read_journal(source)

@@ -1,0 +1,159 @@
+"""The script of docs/OPERATING.md for each day, as an example of the package: whole results or none, and never two runs in a folder."""
+
+import os
+import re
+import signal
+import subprocess
+import sys
+import tempfile
+import time
+import unittest
+from pathlib import Path
+
+from support import AUCTION, AUCTION_RESULTS, TOOLS, TOP, printed
+
+from lib import book, engine, journal
+
+FOLDER = TOP / "examples" / "operating"
+SCRIPT = FOLDER / "day.sh"
+FAKE = Path(__file__).with_name("fake_dam.py")
+SECONDS = 100  # that a run may take
+
+
+def kill(run):
+    """Ends a run that a failed test has left, with all that it started."""
+    if run.poll() is None:
+        os.killpg(run.pid, signal.SIGKILL)
+        run.communicate()
+
+
+class Day(unittest.TestCase):
+    def setUp(self):
+        folder = tempfile.TemporaryDirectory()
+        self.addCleanup(folder.cleanup)
+        self.bin, self.day = Path(folder.name, "bin"), Path(folder.name, "2026 11-29")
+        for path in (self.bin, self.day):
+            path.mkdir()
+        for tool in ("audit", "lint"):
+            self.script(f"dam-{tool}", f'exec "{sys.executable}" -B "{TOOLS / tool}" "$@"')
+        program = f'"{engine.BUILT}"' if engine.BUILT.exists() else f'"{sys.executable}" -B "{FAKE}"'
+        self.script("dam", f'PYTHONPATH="{FAKE.parent}" exec {program} "$@"')
+        Path(self.day, "day.csv").write_bytes(AUCTION.read_bytes())
+
+    def script(self, name, line):
+        path = self.bin / name
+        path.write_text(f"#!/bin/sh\n{line}\n")
+        path.chmod(0o755)
+
+    def start(self):
+        own = {**os.environ, "PATH": f"{self.bin}:{os.environ['PATH']}"}
+        words = {"cwd": self.bin.parent, "env": own, "stdout": subprocess.PIPE, "stderr": subprocess.PIPE, "text": True}
+        return subprocess.Popen([SCRIPT, self.day], start_new_session=True, **words)
+
+    def run_once(self):
+        """The status of a run, and its last lines on standard output and error."""
+        run = self.start()
+        self.addCleanup(kill, run)
+        out, err = run.communicate(timeout=SECONDS)
+        return run.returncode, out.splitlines()[-1:], err.splitlines()[-1:]
+
+    def names(self):
+        return sorted(path.name for path in self.day.iterdir() if path.name != "lock")
+
+    def test_the_page_has_the_script(self):
+        page = (TOP / "docs" / "OPERATING.md").read_text()
+        self.assertIn(f"```sh\n{SCRIPT.read_text()}```", page)
+        self.assertTrue(os.access(SCRIPT, os.X_OK))
+
+    def test_a_day(self):
+        replies = book.replies_text(journal.read_journal(AUCTION.read_bytes())).encode()
+        for _ in range(2):
+            status, out, _ = self.run_once()
+            self.assertEqual((status, self.names()), (0, ["day.csv", "replies.txt", "results.txt"]), out)
+            self.assertEqual(Path(self.day, "results.txt").read_bytes(), AUCTION_RESULTS.read_bytes())
+            self.assertEqual(Path(self.day, "replies.txt").read_bytes(), replies)
+
+    def test_two_runs_at_once(self):
+        """The second one ends, says why, and spoils nothing of the first."""
+        go = self.bin / "go"
+        self.script("dam-lint", f'touch "{go}.begun"; while [ ! -e "{go}" ]; do sleep 0.05; done')
+        first = self.start()
+        while not Path(f"{go}.begun").exists():
+            time.sleep(0.05)
+        second = self.run_once()
+        self.addCleanup(kill, first)
+        self.assertEqual(second, (75, [], [f"{self.day}: another run has the lock"]))
+        go.touch()
+        first.communicate(timeout=SECONDS)
+        self.assertEqual((first.returncode, self.names()), (0, ["day.csv", "replies.txt", "results.txt"]))
+        self.assertEqual(Path(self.day, "results.txt").read_bytes(), AUCTION_RESULTS.read_bytes())
+
+    def test_a_failed_run_leaves_no_results(self):
+        """Those of an earlier run are gone, and its own files are kept until the next run."""
+        for name, line, status, last, kept in (
+            ("dam", "exit 4", 10, "replay: 4", ["replies.txt"]),
+            ("dam", 'if [ "$1" = clear ]; then exit 1; fi', 10, "clear: 1", ["replies.txt", "results.txt"]),
+            ("dam-audit", "exit 6", 20, "audit: 6", ["replies.txt", "results.txt"]),
+        ):
+            before = (self.bin / name).read_text()
+            self.assertEqual(self.run_once()[0], 0)
+            self.script(name, line)
+            found = self.run_once()
+            self.assertEqual(found[:2], (status, [last]))
+            (room,) = self.day.glob("new.*")
+            self.assertEqual((self.names(), sorted(path.name for path in room.iterdir())), (["day.csv", room.name], kept))
+            (self.bin / name).write_text(before)
+
+    def test_a_run_that_is_killed_leaves_no_results_and_no_lock(self):
+        self.assertEqual(self.run_once()[0], 0)
+        begun, before = self.bin / "begun", (self.bin / "dam-audit").read_text()
+        self.script("dam-audit", f'touch "{begun}"; exec sleep 60')
+        run = self.start()
+        while not begun.exists():
+            time.sleep(0.05)
+        os.killpg(run.pid, signal.SIGKILL)
+        run.communicate()
+        self.assertNotIn("results.txt", self.names())
+        (self.bin / "dam-audit").write_text(before)
+        self.assertEqual((self.run_once()[0], self.names()), (0, ["day.csv", "replies.txt", "results.txt"]))
+
+    def test_a_folder_that_is_not_there(self):
+        self.day = self.day / "none"
+        self.assertEqual(self.run_once()[0], 10)
+
+    def test_the_units(self):
+        service, timer = ((FOLDER / f"dam-day.{kind}").read_text() for kind in ("service", "timer"))
+        command = re.search(r"^ExecStart=/bin/sh -c '(.*)'$", service, re.MULTILINE)[1].replace("%%", "%")
+        shown = command.replace("exec /usr/local/bin/day.sh", "echo")
+        found = subprocess.run(["sh", "-c", shown], stdout=subprocess.PIPE, text=True).stdout
+        self.assertRegex(found, r"^/srv/dam/\d{4}-\d\d-\d\d\n$")
+        self.assertIn("\nPrivateNetwork=yes\n", service)
+        self.assertRegex(timer, r"\nOnCalendar=\*-\*-\* \d\d:\d\d:00 Europe/Brussels\n")
+
+
+class Upgrade(unittest.TestCase):
+    def test_the_loop_over_archived_days(self):
+        """Archived days are cleared again; one that differs is named."""
+        loop = re.search(r"^! for day in .*?^done \| grep \.", (TOP / "docs" / "OPERATING.md").read_text(), re.MULTILINE | re.DOTALL)[0]
+        with tempfile.TemporaryDirectory() as folder:
+            replies = book.replies_text(journal.read_journal(AUCTION.read_bytes()))
+            for name in ("one", "two"):
+                day = Path(folder, "archive", name)
+                day.mkdir(parents=True)
+                Path(day, "day.csv").write_bytes(AUCTION.read_bytes())
+                Path(day, "results.txt").write_bytes(printed(AUCTION))
+                Path(day, "replies.txt").write_text(replies)
+            Path(folder, "replies").write_text(replies)
+            line = f'case $1 in clear) cat "{AUCTION_RESULTS}" ;; *) cat "{folder}/replies" ;; esac'
+            Path(folder, "dam").write_text(f"#!/bin/sh\n{line}\n")
+            Path(folder, "dam").chmod(0o755)
+            own = {**os.environ, "PATH": f"{folder}:{os.environ['PATH']}"}
+            words = ["sh", "-c", loop.replace("/srv/dam/", f"{folder}/archive/")]
+            self.assertEqual(subprocess.run(words, env=own).returncode, 0)
+            Path(folder, "archive", "two", "replies.txt").write_text(replies + "x\n")
+            ran = subprocess.run(words, env=own, stdout=subprocess.PIPE, stderr=subprocess.DEVNULL, text=True)
+            self.assertEqual((ran.returncode, ran.stdout.splitlines()[-1]), (1, f"{folder}/archive/two/ differs"))
+
+
+if __name__ == "__main__":
+    unittest.main()
