@@ -15,6 +15,7 @@ sys.dont_write_bytecode = True
 import again
 import costs
 import judge
+import peaks
 from preload import EVERY, LEFT, SECONDS, Program, Refusal
 from shared import cases
 from shared.counts import Counts
@@ -332,6 +333,7 @@ def main():
     strays(runs)
     texts(runs)
     copies(runs)
+    peaks.peaks(runs)
     if shutil.which("valgrind"):
         costs.names(runs)
         costs.cancels(runs)

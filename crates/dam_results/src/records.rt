@@ -1,5 +1,5 @@
-//! The records of a text, one after another. Of a field only its place in the text is kept, unless its bytes have to be
-//! joined.
+//! The records of a text, one after another. A field is a part of the text, and is copied only if quotes part its bytes.
+//! So reading takes little memory, however many fields a record has.
 
 ghost use Rattle.std.specs.Prelude.{◌≡◌, ◌==◌, ◌++◌, ◌∷◌, [], ℕ, List, not, position, IfOk, MatchBool, MatchOption};
 ghost use Rattle.csv.specs.declared.parser.State.TheVariants as st;
@@ -9,7 +9,7 @@ ghost use Rattle.dam_results.specs.inside.Reader.{bytes_of, fields_of, rows_left
 
 use std::alloc::{AllocError, Global};
 
-/// How many fields of a record are kept: one more than a valid record has.
+/// How many fields of a record are kept: one more than a valid record has, which shows that it has too many.
 const MOST_KEPT: usize = 10;
 
 /// A field of a record.
@@ -17,7 +17,7 @@ const MOST_KEPT: usize = 10;
 pub(crate) enum Field<'a> {
     /// Its bytes are next to one another in the text.
     Part(&'a [u8]),
-    /// A quote was doubled in it, or bytes come after its closing quote.
+    /// A quote in it was doubled, or bytes come after its closing quote.
     Joined(Vec<u8>),
 }
 
@@ -58,7 +58,7 @@ fn row_start(text: &[u8]) -> Option<usize>
     text.iter().position(|byte| !ends_line(*byte))
 }
 
-/// The place of the first byte that ends a field without quotes.
+/// The place of the first byte that ends a field, outside quotes.
 fn first_mark(text: &[u8]) -> Option<usize>
     ensures { result ≡ position ends_field text.now }
 {
@@ -82,7 +82,7 @@ fn after_quote(text: &[u8]) -> Option<&[u8]>
     }
 }
 
-/// The text from the next record on, if there is one.
+/// The text from the next record on, or `None` if only line ends are left.
 fn next_row(text: &[u8]) -> Option<&[u8]>
     ensures { MatchOption result (records_of text.entry.now ≡ [])
         (λ row. StartsRow text.entry.now row.now) }
@@ -91,7 +91,7 @@ fn next_row(text: &[u8]) -> Option<&[u8]>
     Some(&text[start..])
 }
 
-/// The bytes of a field without quotes, and the text after the comma or line end that ends it.
+/// The bytes before the comma or line end that ends a field, and the text after it.
 fn bare_part<'a>(text: &'a [u8]) -> (&'a [u8], After<'a>)
     ensures ends { (begun : List ℕ) → EndsField st.InField begun text.entry.now
         (begun ++ result.0.now) result.1.text.now result.1.goes_on }
@@ -126,7 +126,7 @@ fn quoted_part<'a>(text: &'a [u8]) -> (&'a [u8], &'a [u8])
     }
 }
 
-/// Reads a field on from its first part in quotes.
+/// Joins the bytes of a field: its first part in quotes, and the others in the text after that part.
 fn join<'a>(
     alloc: Global,
     first: &[u8],
