@@ -7,8 +7,9 @@
    bytes, or all if MOST is 0. The file that HOSTILE_CALLS names holds two numbers: the calls of the kind so far, and the writes to
    standard output or standard error made before every started thread was joined.
 
-   Two kinds refuse nothing. held counts the starts of threads during which the program holds a block of at least MOST bytes. clock
-   counts the readings of the clock, and has each of them MOST milliseconds later than the one before. */
+   Three kinds refuse nothing. held counts the starts of threads during which the program holds a block of at least MOST bytes. clock
+   counts the readings of the clock, and has each of them MOST milliseconds later than the one before. peak counts no calls: the number
+   is the most bytes of blocks that the program held at once, and a block that moves counts twice while it does. */
 
 #define _GNU_SOURCE
 #include <dlfcn.h>
@@ -38,9 +39,9 @@ typedef int join_thread(pthread_t, void **);
 typedef int give_entropy(void *, size_t);
 typedef ssize_t give_random(void *, size_t, unsigned);
 
-enum kind { NONE, MEMORY, THREAD, RANDOM, READ, WRITE, REPORT, HELD, CLOCK };
+enum kind { NONE, MEMORY, THREAD, RANDOM, READ, WRITE, REPORT, HELD, CLOCK, PEAK };
 
-static const char *const names[] = {"none", "memory", "thread", "random", "read", "write", "report", "held", "clock"};
+static const char *const names[] = {"none", "memory", "thread", "random", "read", "write", "report", "held", "clock", "peak"};
 
 static enum kind chosen = NONE;
 static unsigned long first, last, most;
@@ -48,6 +49,7 @@ static int error;
 static atomic_ulong *calls, *early;
 static atomic_long large;    /* the blocks of at least MOST bytes */
 static atomic_long unjoined; /* the threads that were started and not joined */
+static atomic_long bytes;    /* of the blocks that the program holds */
 static create_thread *create;
 static join_thread *join;
 static give_entropy *entropy;
@@ -70,7 +72,7 @@ __attribute__((constructor)) static void begin(void) {
         return;
     calls = page;
     early = calls + 1;
-    for (int kind = MEMORY; kind <= CLOCK; kind++)
+    for (int kind = MEMORY; kind <= PEAK; kind++)
         if (strcmp(name, names[kind]) == 0)
             chosen = kind;
 }
@@ -94,10 +96,25 @@ static bool is_large(void *block) {
     return chosen == HELD && malloc_usable_size(block) >= most;
 }
 
+static size_t size_of(void *block) {
+    return chosen == PEAK ? malloc_usable_size(block) : 0;
+}
+
 /* Counts a block that the program gets from here on. */
 static void *held(void *block) {
     large += is_large(block);
+    if (chosen != PEAK)
+        return block;
+    long now = atomic_fetch_add(&bytes, (long)size_of(block)) + (long)size_of(block);
+    for (unsigned long top = *calls; now > (long)top && !atomic_compare_exchange_weak(calls, &top, (unsigned long)now);)
+        ;
     return block;
+}
+
+/* Counts a block that the program gives back. */
+static void given_back(bool was_large, size_t size) {
+    large -= was_large;
+    bytes -= (long)size;
 }
 
 void *malloc(size_t size) {
@@ -112,11 +129,13 @@ void *realloc(void *block, size_t size) {
     if (refuses_memory())
         return NULL;
     bool was_large = is_large(block);
+    size_t old = size_of(block);
     void *new = __libc_realloc(block, size);
     if (new == NULL)
         return NULL;
-    large -= was_large;
-    return held(new);
+    held(new);
+    given_back(was_large, old);
+    return new;
 }
 
 void *aligned_alloc(size_t alignment, size_t size) {
@@ -135,7 +154,7 @@ int posix_memalign(void **block, size_t alignment, size_t size) {
 }
 
 void free(void *block) {
-    large -= is_large(block);
+    given_back(is_large(block), size_of(block));
     __libc_free(block);
 }
 

@@ -15,6 +15,7 @@ sys.dont_write_bytecode = True
 import again
 import costs
 import judge
+import peaks
 from preload import EVERY, LEFT, SECONDS, Program, Refusal
 from shared import cases
 from shared.counts import Counts
@@ -68,6 +69,7 @@ OPEN_FIRST = records("first-day.csv", is_command)
 ONE_PARTICIPANT = records("auction-day.csv", lambda record: b",GAS," in record)
 BROKEN = AUCTION + b"amend,NORD\n"
 QUOTED = b"".join(b'"%b"\r\n' % record.replace(b",", b'","') for record in AUCTION.splitlines())
+QUOTED_IN_PART = AUCTION.replace(b"submit", b'"sub"mit').replace(b"close", b'"clo"se')
 DAY = b"day,24,,,,,,,\n"
 CLOSE = b"close,,,,,,,,\n"
 TWO_ORDERS = DAY + b"submit,A,S1,hour,sell,3000,1:10,,\nsubmit,B,B1,hour,buy,5000,1:10,,\n"
@@ -97,6 +99,7 @@ def memory_rows():
         ("replay of the auction day", ["replay"], AUCTION, MANY),
         ("replay of the first day", ["replay"], FIRST, FEW),
         ("replay of a quoted journal", ["replay"], QUOTED, FEW),
+        ("replay of a journal quoted in part", ["replay"], QUOTED_IN_PART, FEW),
         ("replay of a broken journal", ["replay"], BROKEN, FEW),
         ("clear of the auction day", ["clear"], AUCTION, MANY),
         ("clear of the open auction day", ["clear"], OPEN_AUCTION, FEW),
@@ -332,6 +335,7 @@ def main():
     strays(runs)
     texts(runs)
     copies(runs)
+    peaks.peaks(runs)
     if shutil.which("valgrind"):
         costs.names(runs)
         costs.cancels(runs)

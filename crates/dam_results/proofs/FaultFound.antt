@@ -1,8 +1,8 @@
 -- The first fault of records.
-use Rattle.std.proofs.Common.{◌≡◌, ◌⊎◌, ℕ, ◌+◌, ◌≤◌, ◌<◌, ◌==◌, inl, inr, true, false, if◌then◌else◌, sym, List, [], ◌∷◌, ◌++◌, length, map}
+use Rattle.std.proofs.Common.{◌≡◌, ◌⊎◌, ℕ, ◌+◌, ◌≤◌, ◌<◌, ◌==◌, inl, inr, true, false, if◌then◌else◌, sym, min, List, [], ◌∷◌, ◌++◌, length, map, take}
 use Rattle.std.proofs.Common.{Result, Ok, Err, refl, ap, subst, ◌∙◌, arith, append_assoc, append-nil, MatchResult}
 use Rattle.std.specs.List.{AllByRecursion}
-use Rattle.std.proofs.lemmas.List.{map-append, length-map, length-append}
+use Rattle.std.proofs.lemmas.List.{map-append, length-map, length-append, length-take, take_all}
 use Rattle.std.proofs.lemmas.Bool.Decides.{nat_tests}
 use Rattle.dam_book.specs.Book.{is_day}
 use Rattle.dam_book.specs.declared.command.Command.{Command}
@@ -10,12 +10,13 @@ use Rattle.dam_results.specs.Limits.{most_records}
 use Rattle.dam_results.specs.declared.journal.JournalFault.{JournalFault}
 use Rattle.dam_results.specs.declared.journal.JournalFault.TheVariants.{TooLong, NotAscii, TooManyRecords, NotDay, FieldCount, BadField}
 use Rattle.dam_results.specs.declared.journal.JournalFault.TheVariants.{Memory}
-use Rattle.dam_results.specs.Records.{Fields, day_row, row_of}
+use Rattle.dam_results.specs.Records.{Fields, day_row, row_of, kind_field}
 use Rattle.dam_results.specs.Rules.{day_rules, command_rules, IsLeastBroken}
 use Rattle.dam_results.specs.inside.NineFields.{fields_in}
 use Rattle.dam_results.specs.declared.nine_fields.NineFields.{NineFields}
 use Rattle.dam_results.specs.Journal.{AreRecords, IsCommand}
-use Rattle.dam_results.specs.Faults.{IsRecordFault, HasFault, IsFaultOfRecords}
+use Rattle.dam_results.specs.inside.Reader.{most_kept, TakesFirst}
+use Rattle.dam_results.specs.Faults.{IsInPlace, IsRecordFault, HasFault, IsFaultOfRecords}
 
 pub IsFaultOfRecords-has : (rows : List Fields) (fault : JournalFault) → HasFault rows fault → IsFaultOfRecords rows fault
 IsFaultOfRecords-has rows TooLong h = h
@@ -32,12 +33,48 @@ pub in_first : (rows rest : List Fields) (row : Fields) (fault : JournalFault) �
 in_first rows rest row fault e h = IsFaultOfRecords-has rows fault
     (record { front = []; row = row; rest = rest; parts = e; fine = inl refl; faulty = h })
 
+-- as many fields as a valid record has are all of them
+all_kept : (row kept : Fields) → kept ≡ take most_kept row → length kept ≡ 9 → row ≡ kept
+all_kept row kept first nine =
+    let size : length kept ≡ min 10 (length row) = ap length first ∙ length-take 10 row in
+    sym (first ∙ take_all 10 row (omega arith))
+
+same_kind : (row kept : Fields) → kept ≡ take most_kept row → kind_field kept ≡ kind_field row
+same_kind [] kept first = rw first refl
+same_kind (f ∷ fs) kept first = rw first refl
+
+in_place : (number : ℕ) (row kept : Fields) → kept ≡ take most_kept row → IsInPlace number kept → IsInPlace number row
+in_place number row kept first h = (h.0, λ one. sym (same_kind row kept first) ∙ h.1 one)
+
+-- the fields that are kept of a record show its fault
+pub fault_of_row : (number : ℕ) (row kept : Fields) (fault : JournalFault) → kept ≡ take most_kept row → IsRecordFault number kept fault
+    → IsRecordFault number row fault
+fault_of_row number row kept TooLong first h = h
+fault_of_row number row kept (NotAscii offset) first h = h
+fault_of_row number row kept TooManyRecords first h = h
+fault_of_row number row kept NotDay first h = (h.0, λ is. h.1 (same_kind row kept first ∙ is))
+fault_of_row number row kept (FieldCount at) first h =
+    let size : length kept ≡ min 10 (length row) = ap length first ∙ length-take 10 row in
+    (in_place number row kept first h.0, h.1, λ nine. h.2 (omega (arith, nine)))
+fault_of_row number row kept (BadField at field) first h =
+    let same : row ≡ kept = all_kept row kept first h.2 in
+    rw same h
+fault_of_row number row kept Memory first h = h
+
+pub faulty_row : (number : ℕ) (row kept : Fields) (fault : JournalFault) → kept ≡ take most_kept row
+    → (fault ≡ Memory) ⊎ IsRecordFault number kept fault → (fault ≡ Memory) ⊎ IsRecordFault number row fault
+faulty_row number row kept fault first (inl memory) = inl memory
+faulty_row number row kept fault first (inr faulty) = inr (fault_of_row number row kept fault first faulty)
+
 -- the value of the first record, or its fault
-pub first_record : {Open : Type 0} (rows rest : List Fields) (row : Fields) (read : Result ℕ JournalFault) → Open → rows ≡ row ∷ rest
-    → MatchResult read (λ periods. (is_day periods ≡ true) × (row ≡ day_row periods)) (IsRecordFault 1 row)
-    → MatchResult read (λ periods. (is_day periods ≡ true) × Open × (rows ≡ day_row periods ∷ rest)) (IsFaultOfRecords rows)
-first_record rows rest row (Ok periods) opened e h = (h.0, opened, e ∙ ap (λ (r : Fields). r ∷ rest) h.1)
-first_record rows rest row (Err fault) opened e h = in_first rows rest row fault e h
+pub first_record : (rows rest : List Fields) (kept : Fields) (read : Result ℕ JournalFault) → TakesFirst rows rest kept
+    → MatchResult read (λ periods. (is_day periods ≡ true) × (kept ≡ day_row periods)) (IsRecordFault 1 kept)
+    → MatchResult read (λ periods. (is_day periods ≡ true) × (rows ≡ day_row periods ∷ rest)) (IsFaultOfRecords rows)
+first_record rows rest kept (Ok periods) h said =
+    let whole : h.row ≡ day_row periods = all_kept h.row kept h.first (ap length said.1) ∙ said.1 in
+    (said.0, h.rows ∙ ap (λ (r : Fields). r ∷ rest) whole)
+first_record rows rest kept (Err fault) h faulty =
+    in_first rows rest h.row fault h.rows (fault_of_row 1 h.row kept fault h.first faulty)
 
 -- a later record of nine fields, one of which breaks its rule
 pub bad_later : (number : ℕ) (row : Fields) (own : NineFields) (field : ℕ) → 1 < number → number ≤ most_records → row ≡ fields_in own

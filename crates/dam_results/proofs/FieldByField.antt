@@ -1,20 +1,21 @@
 -- The fields of a record, one by one.
-use Rattle.std.proofs.Common.{◌≡◌, ℕ, zero, suc, List, [], ◌∷◌, length, Some, None, refl}
-use Rattle.csv.specs.Records.{field_at}
+use Rattle.std.proofs.Common.{◌≡◌, ◌<◌, ◌≤◌, ℕ, zero, suc, List, [], ◌∷◌, length, get_or, refl, arith}
 use Rattle.dam_results.specs.Records.{kind_field}
+use Rattle.dam_results.specs.inside.Reader.{bytes_of, fields_of}
+use Rattle.dam_results.specs.declared.records.Field.{Field}
 use Rattle.dam_results.specs.inside.NineFields.{field_or_empty}
 
-pub field_or_empty-Some : (fs : List (List ℕ)) (i : ℕ) (f : List ℕ) → Some f ≡ field_at fs i → f ≡ field_or_empty fs i
-unfolding field_at
-field_or_empty-Some [] i f e = absurd cc
-field_or_empty-Some (g ∷ fs) zero f e = cc
-field_or_empty-Some (g ∷ fs) (suc i) f e = field_or_empty-Some fs i f e
+-- the field at a place of a list
+pub field_or_empty-at : (fields : List Field) (place : ℕ) (d : Field) → place < length fields
+    → bytes_of (get_or fields place d) ≡ field_or_empty (fields_of fields) place
+field_or_empty-at [] place d within = absurd (omega arith)
+field_or_empty-at (f ∷ fields) zero d within = refl
+field_or_empty-at (f ∷ fields) (suc place) d within = field_or_empty-at fields place d (omega arith)
 
-pub field_or_empty-None : (fs : List (List ℕ)) (i : ℕ) → None ≡ field_at fs i → [] ≡ field_or_empty fs i
-unfolding field_at
-field_or_empty-None [] i e = refl
-field_or_empty-None (g ∷ fs) zero e = absurd cc
-field_or_empty-None (g ∷ fs) (suc i) e = field_or_empty-None fs i e
+pub field_or_empty-past : (fields : List Field) (place : ℕ) → length fields ≤ place → [] ≡ field_or_empty (fields_of fields) place
+field_or_empty-past [] place over = refl
+field_or_empty-past (f ∷ fields) zero over = absurd (omega arith)
+field_or_empty-past (f ∷ fields) (suc place) over = field_or_empty-past fields place (omega arith)
 
 -- nine fields are these
 pub nine : (fs : List (List ℕ)) → length fs ≡ 9

@@ -87,7 +87,7 @@ ObeyAll-command (Amend who name price volumes) h =
 ObeyAll-command (Cancel who name) h = (refl, (h.0, (h.1, (refl, (refl, (refl, (refl, (refl, (refl, tt)))))))))
 ObeyAll-command Close h = (refl, (refl, (refl, (refl, (refl, (refl, (refl, (refl, (refl, tt)))))))))
 
-nine_fields : (c : Command) → length (row_of c) ≡ 9
+pub nine_fields : (c : Command) → length (row_of c) ≡ 9
 nine_fields (Submit who name (Hour o)) = refl
 nine_fields (Submit who name (Block o)) = refl
 nine_fields (Amend who name price volumes) = refl

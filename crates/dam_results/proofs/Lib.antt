@@ -1,5 +1,6 @@
 pub mod Machine
 pub mod FieldByField
+pub mod FieldParts
 pub mod RecordsLeft
 pub mod Rules
 pub mod FaultFound

@@ -1,21 +1,18 @@
--- The records that a reader over a text has still to give.
-use Rattle.std.proofs.Common.{◌≡◌, ℕ, zero, suc, ◌+◌, ◌<◌, ◌≤◌, Bool, true, false, List, [], ◌∷◌, length, Option, Some, None, Bor, ltb}
-use Rattle.std.proofs.Common.{nat_lt, eqb, refl, sym, ap, ◌∙◌, arith, add-one}
-use Rattle.std.specs.Prelude.{IsSome, MatchBool}
-use Rattle.std.proofs.lemmas.Bool.{ltb-false, lt-ltb}
-use Rattle.std.proofs.lemmas.Bool.Decides.{nat_tests}
-use Rattle.csv.specs.Machine.{Read, next_record, ends_at_end}
-use Rattle.csv.specs.Reading.{strip_bom, Reached, Ready, ReadRecord, default_config, records_from, reader_state}
+-- The records that a text has left.
+use Rattle.std.proofs.Common.{◌≡◌, ◌||◌, ℕ, zero, suc, ◌+◌, ◌<◌, ◌==◌, Bool, true, false, cond, not, List, [], ◌∷◌, length}
+use Rattle.std.proofs.Common.{take, drop, get_or, Option, Some, None, refl, sym, ap, ◌∙◌, arith, add-one, length-drop}
+use Rattle.std.specs.List.{position, position_or_len}
+use Rattle.std.proofs.lemmas.List.{drop_all}
+use Rattle.csv.specs.Machine.{Read, next_record, ends_at_end, is_end, fields_after, field_after}
+use Rattle.csv.specs.declared.parser.Action.{Action}
+use Rattle.csv.specs.Reading.{default_config, records_from}
 use Rattle.csv.specs.declared.parser.State.{State}
 use Rattle.csv.specs.declared.parser.State.TheVariants as st
-use Rattle.csv.proofs.ReadFacts.{rows-end, rows-more}
 use Rattle.dam_results.specs.Records.{Fields, records_of}
-use Rattle.dam_results.specs.Journal.{first_high}
-use Rattle.dam_results.specs.inside.Reader.{RecordReader, IsOpen, rows_left, rows_left_in, unread}
+use Rattle.dam_results.specs.inside.Reader.{most_kept, ends_line, BeginsWithRow, StartsRow, TakesFirst}
 use Rattle.dam_results.proofs.Machine.{IsAfter, next_record-after, next_record-shorter}
-
-abbrev given : Bor (List ℕ) → Option (List ℕ)
-given s = Some s.now
+use Rattle.dam_results.proofs.SpelledRecords.{blank_from}
+use Rattle.dam_results.proofs.FieldParts.{IsFirst, first-of, none-of, at_first}
 
 records_from-None : (n : ℕ) (s : State) (xs : List ℕ) → next_record default_config s [] [] xs ≡ None
     → records_from default_config n s xs ≡ []
@@ -46,97 +43,98 @@ enough (suc n) (suc m) s xs e p q =
           records_from-Some n s xs r some ∙ (ap (λ (rows : List Fields). r.0 ∷ rows) same ∙ sym (records_from-Some m s xs r some))
     ] refl
 
--- the bytes left, if they are known
-pub record Left (reader : RecordReader) : Type 0 where
-  pub bytes : List ℕ
-  pub source : unread reader ≡ Some bytes
-  pub rows : rows_left reader ≡ records_from default_config (length bytes + 1) (reader_state reader) bytes
+-- ---- between two records
 
-left_of : (state : State) (known : Option (List ℕ)) → IsSome known → (bytes : List ℕ) × (known ≡ Some bytes) ×
-    (rows_left_in state known ≡ records_from default_config (length bytes + 1) state bytes)
-left_of state None k = absurd cc
-left_of state (Some bytes) k = (bytes, refl, refl)
+same_move : (r n : Bool) (skip other : State × Action) → cond n skip (cond (r || n) skip other) ≡ cond (r || n) skip other
+same_move true true skip other = refl
+same_move true false skip other = refl
+same_move false true skip other = refl
+same_move false false skip other = refl
 
-Left-open : (reader : RecordReader) → IsOpen reader → Left reader
-Left-open reader h = let p = left_of (reader_state reader) (unread reader) h.known in record { bytes = p.0; source = p.1; rows = p.2 }
+after_return : (xs : List ℕ) → next_record default_config st.AfterCr [] [] xs ≡ next_record default_config st.StartRecord [] [] xs
+unfolding next_record
+after_return [] = refl
+after_return (c ∷ rest) =
+    ap (λ (m : State × Action). cond (is_end m.1) (Some (fields_after m.1 [] [], m.0, rest))
+    (next_record default_config m.0 (fields_after m.1 [] []) (field_after m.1 c []) rest)) (same_move (c == 13) (c == 10) _ _)
 
--- a read that found no record shows that none was left
-pub rows_left-none : (a b : RecordReader) (fields : Fields) → IsOpen a → ReadRecord given a b false fields → rows_left a ≡ []
-rows_left-none a b fields h r =
-    let left = Left-open a h in
-    left.rows ∙ records_from-None (length left.bytes + 1) (reader_state a) left.bytes
-    (rows-end given a b fields default_config left.bytes h.config left.source r)
+between : (n : ℕ) (s : State) (xs : List ℕ) → ends_at_end s ≡ false
+    → records_from default_config n s xs ≡ records_from default_config n st.StartRecord xs
+between n st.StartRecord xs e = refl
+between n st.AfterCr xs e = blank_from n st.AfterCr st.StartRecord xs xs (after_return xs)
+between n st.StartField xs e = absurd cc
+between n st.InField xs e = absurd cc
+between n st.InQuoted xs e = absurd cc
+between n st.AfterQuote xs e = absurd cc
+between n st.InEscape xs e = absurd cc
+between n st.InComment xs e = absurd cc
 
-abbrev read : Fields → State → List ℕ → Option Read
-read fields s xs = Some (fields, s, xs)
+line_end : (c : ℕ) (rest : List ℕ) → ends_line c ≡ true
+    → next_record default_config st.StartRecord [] [] (c ∷ rest) ≡ next_record default_config st.StartRecord [] [] rest
+unfolding next_record
+line_end c rest e = rw e refl
 
-same : (a b : Fields) (s t : State) (xs ys : List ℕ) → a ≡ b → s ≡ t → xs ≡ ys → read a s xs ≡ read b t ys
-same a b s t xs ys e f g = cc
+no_line_end : (c : ℕ) (rest : List ℕ) → ends_line c ≡ false
+    → next_record default_config st.StartRecord [] [] (c ∷ rest) ≡ next_record default_config st.StartField [] [] (c ∷ rest)
+unfolding next_record
+no_line_end c rest e = rw e refl
 
-one_read : (s s2 : State) (xs ys : List ℕ) (fields : Fields) → Reached default_config s xs (fields ∷ []) s2 ys
-    → next_record default_config s [] [] xs ≡ Some (fields, s2, ys)
-unfolding Reached
-one_read s s2 xs ys fields h = let e = h.1 in let f = h.2 in let g = h.3.0 in let k = h.3.1 in e ∙ same h.0.0 fields h.0.1 s2 h.0.2 ys
-    (sym f) g k
+abbrev starts : ℕ → Bool
+starts b = not (ends_line b)
 
-here : (s : State) (xs : List ℕ) → Reached default_config s xs [] s xs
-unfolding Reached
-here s xs = (refl, refl)
+past_line_ends : (xs : List ℕ) → next_record default_config st.StartRecord [] [] xs
+    ≡ next_record default_config st.StartRecord [] [] (drop (position_or_len starts xs) xs)
+past_line_ends [] = refl
+past_line_ends (c ∷ rest) =
+    let n = position_or_len starts rest in
+    let one : 1 + n ≡ suc n = omega arith in
+    elim (ends_line c) as (λ (t : Bool). ends_line c ≡ t → next_record default_config st.StartRecord [] [] (c ∷ rest)
+    ≡ next_record default_config st.StartRecord [] [] (drop (cond (not (not t)) (1 + n) 0) (c ∷ rest))) [
+      | true ↦ λ e. rw one (line_end c rest e ∙ past_line_ends rest)
+      | false ↦ λ e. refl
+    ] refl
 
--- a read takes the first of the records left, and the reader goes on
-pub record Takes (a b : RecordReader) (fields : Fields) : Type 0 where
-  pub goes_on : IsOpen b
-  pub rows : rows_left a ≡ fields ∷ rows_left b
+nothing_left : next_record default_config st.StartRecord [] [] [] ≡ None
+unfolding next_record
+nothing_left = refl
 
-pub rows_left-takes : (a b : RecordReader) (fields : Fields) → IsOpen a → ReadRecord given a b true fields → Ready b → Takes a b fields
-rows_left-takes a b fields h r ready =
-    let left = Left-open a h in
-    let s = reader_state a in
-    let t = reader_state b in
-    let m = rows-more given a b fields default_config s left.bytes left.bytes [] h.config left.source (here s left.bytes) r in
-    let e = one_read s t left.bytes m.0 fields m.2 in
-    let p : Read = (fields, t, m.0) in
-    let after : IsAfter p left.bytes = next_record-after s [] [] left.bytes p e in
-    let less : length m.0 < length left.bytes = next_record-shorter s left.bytes p h.between e in
-    let all = left.rows ∙ (rw add-one (records_from-Some (length left.bytes) s left.bytes p e)) in
-    let fewer = enough (length left.bytes) (length m.0 + 1) t m.0 after.closed less (omega arith) in
+pub no_row : (xs : List ℕ) → None ≡ position starts xs → records_of xs ≡ []
+no_row xs none =
+    let rest : drop (position_or_len starts xs) xs ≡ [] = drop_all _ xs (none-of starts xs none) in
+    records_from-None (length xs + 1) st.StartRecord xs (past_line_ends xs ∙ rw rest nothing_left)
+
+not_true : (b : Bool) → not b ≡ true → b ≡ false
+not_true true e = absurd cc
+not_true false e = refl
+
+pub starts_row : (xs : List ℕ) (start : ℕ) → Some start ≡ position starts xs → StartsRow xs (drop start xs)
+starts_row xs start some =
+    let first : IsFirst starts xs start = first-of starts xs start some in
+    let at = at_first starts xs start first in
+    let skipped = rw (sym first.at, at.rest) at (past_line_ends xs) in
     record {
-      goes_on = record {
-        untrimmed = r.3 ∙ h.untrimmed;
-        ready = ready;
-        config = r.2 ∙ h.config;
-        between = after.closed;
-        known = rw m.1 refl;
-      };
-      rows = all ∙ ap (λ (rows : List Fields). fields ∷ rows) (fewer ∙ ap (λ (known : Option (List ℕ)). rows_left_in t known) (sym m.1));
+      same = skipped ∙ no_line_end (get_or xs start 0) (drop (start + 1) xs) (not_true _ at.passes)
+          ∙ ap (λ (ys : List ℕ). next_record default_config st.StartField [] [] ys) (sym at.rest);
+      shorter = omega (arith, length-drop start xs);
     }
 
--- the answer of a read on the records left: it took the first of them, or there was none
-pub rows_left-next : (a b : RecordReader) (found : Bool) (fields : Fields) → IsOpen a → ReadRecord given a b found fields → Ready b
-    → MatchBool found (IsOpen b × (rows_left a ≡ fields ∷ rows_left b)) (rows_left a ≡ [])
-rows_left-next a b true fields h r ready = let takes = rows_left-takes a b fields h r ready in (takes.goes_on, takes.rows)
-rows_left-next a b false fields h r ready = rows_left-none a b fields h r
+-- ---- one record
 
-first_low : (a : ℕ) (xs : List ℕ) (high : Bool) → nat_lt 127 a ≡ high → first_high (a ∷ xs) ≡ None → high ≡ false
-first_low a xs true p e =
-    let some : ltb 0 (length (a ∷ xs)) ≡ true = lt-ltb 0 (length (a ∷ xs)) (omega arith) in
-    absurd (let g = rw (p, some) at e in cc)
-first_low a xs false p e = refl
+-- the fields read so far, of which the first are kept
+pub record ReadsFields (text rest : List ℕ) (kept : Fields) : Type 0 where
+  pub fields : Fields
+  pub same : next_record default_config st.StartField [] [] text ≡ next_record default_config st.StartField fields [] rest
+  pub first : kept ≡ take most_kept fields
 
--- a text of ASCII bytes begins with no byte order mark
-pub strip_bom-ascii : (text : List ℕ) → first_high text ≡ None → strip_bom text ≡ text
-unfolding strip_bom
-strip_bom-ascii [] e = refl
-strip_bom-ascii (a ∷ []) e = refl
-strip_bom-ascii (a ∷ b ∷ []) e = refl
-strip_bom-ascii (a ∷ b ∷ c ∷ rest) e =
-    let low : nat_lt 127 a ≡ false = first_low a (b ∷ c ∷ rest) _ refl e in
-    let le : a ≤ 127 = ltb-false 127 a low in
-    let ne : eqb a 239 ≡ false = grind (arith, nat_tests) in
-    rw ne refl
-
--- a reader that has read nothing has all the records of its text left
-pub rows_left-start : (reader : RecordReader) (text : List ℕ) → first_high text ≡ None → reader_state reader ≡ st.StartRecord
-    → unread reader ≡ Some (strip_bom text)
-    → rows_left reader ≡ records_of text
-rows_left-start reader text ascii state source = rw (source, state, strip_bom-ascii text ascii) refl
+-- the first of the records left
+pub takes_first : (text start rest : List ℕ) (kept : Fields) → StartsRow text start → BeginsWithRow start rest kept
+    → TakesFirst (records_of text) (records_of rest) kept
+takes_first text start rest kept begins row =
+    let p : Read = (row.row, row.next, rest) in
+    let read : next_record default_config st.StartRecord [] [] text ≡ Some p = begins.same ∙ row.read in
+    let less : length rest < length text = next_record-shorter st.StartRecord text p refl read in
+    let first : records_of text ≡ row.row ∷ records_from default_config (length text) row.next rest =
+    rw add-one (records_from-Some (length text) st.StartRecord text p read) in
+    let others : records_from default_config (length text) row.next rest ≡ records_of rest =
+    enough (length text) (length rest + 1) row.next rest row.between less (omega arith) ∙ between (length rest + 1) row.next rest row.between in
+    record { row = row.row; rows = first ∙ ap (λ (rows : List Fields). row.row ∷ rows) others; first = row.first }

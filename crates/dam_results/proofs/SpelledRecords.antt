@@ -166,7 +166,7 @@ blank _ Returned _ LineFeed rest = refl
 blank _ Returned _ CarriageReturn rest = refl
 blank _ Returned _ Both rest = refl
 
-blank_from : (n : ℕ) (s t : State) (xs ys : List ℕ) → next_record default_config s [] [] xs ≡ next_record default_config t [] [] ys
+pub blank_from : (n : ℕ) (s t : State) (xs ys : List ℕ) → next_record default_config s [] [] xs ≡ next_record default_config t [] [] ys
     → records_from default_config n s xs ≡ records_from default_config n t ys
 unfolding records_from
 blank_from zero s t xs ys e = refl

@@ -1,14 +1,12 @@
-ghost use Rattle.std.specs.Prelude.{◌≡◌, ◌<◌, ◌≤◌, ◌+◌, ◌⊎◌, ℕ, List, [], ◌∷◌, true, length, None, IfOk, IfErr, MatchBool, MatchResult};
-ghost use Rattle.csv.specs.Reading.{is_flexible};
-ghost use Rattle.csv.specs.Records.{fields_of};
+ghost use Rattle.std.specs.Prelude.{◌≡◌, ◌<◌, ◌≤◌, ◌+◌, ◌⊎◌, ℕ, List, [], ◌∷◌, true, length, None, IfOk, IfErr, MatchResult};
 ghost use Rattle.dam_book.specs.Book.{is_day};
 ghost use Rattle.dam_book.specs.declared.command.Command.{Command};
 ghost use Rattle.dam_results.specs.Limits.{most_bytes, most_records};
-ghost use Rattle.dam_results.specs.Records.{records_of, kind_field, day_row};
+ghost use Rattle.dam_results.specs.Records.{kind_field, day_row};
 ghost use Rattle.dam_results.specs.Journal.{AreRecords, IsMadeFrom, ReadsAs};
 ghost use Rattle.dam_results.specs.Journal;
 ghost use Rattle.dam_results.specs.Faults.{IsJournalFault, IsFaultOfRecords, IsRecordFault};
-ghost use Rattle.dam_results.specs.inside.Reader.{IsOpen, rows_left};
+ghost use Rattle.dam_results.specs.inside.Reader.{fields_of, rows_left};
 ghost use Rattle.dam_results.specs.inside.NineFields.{fields_in, TakesRow};
 
 use crate::from_journal::FromJournal;
@@ -16,7 +14,7 @@ use crate::laws;
 use crate::limits::{MOST_BYTES, MOST_RECORDS};
 use crate::nine_fields::{NineFields, field_of};
 use crate::record::{read_command, read_day};
-use csv::{ByteRecord, Reader, ReaderBuilder};
+use crate::records::{Field, Records};
 use dam_book::{Command, DayLength, Seed};
 use std::alloc::{AllocError, Global};
 use thiserror::Error;
@@ -109,13 +107,13 @@ fn check_bytes(text: &[u8]) -> Result<(), JournalFault>
     }
 }
 
-fn kind(fields: &ByteRecord) -> &[u8]
+fn kind<'r, 'a>(fields: &'r [Field<'a>]) -> &'r [u8]
     ensures { result.now ≡ kind_field (fields_of fields.entry.now) }
 {
     field_of(fields, 0)
 }
 
-fn read_first(fields: &ByteRecord) -> Result<DayLength, JournalFault>
+fn read_first(fields: &[Field]) -> Result<DayLength, JournalFault>
     ensures { MatchResult result
         (λ periods. (is_day periods ≡ true) × (fields_of fields.now ≡ day_row periods))
         (IsRecordFault 1 (fields_of fields.now)) }
@@ -130,7 +128,7 @@ fn read_first(fields: &ByteRecord) -> Result<DayLength, JournalFault>
 }
 
 /// The fields of a later record, if its number is within the limit and it has nine.
-fn later_row<'a>(number: usize, fields: &'a ByteRecord) -> Result<NineFields<'a>, JournalFault>
+fn later_row<'r, 'a>(number: usize, fields: &'r [Field<'a>]) -> Result<NineFields<'r>, JournalFault>
     requires { 1 < number }
     ensures { MatchResult result
         (λ row. (number ≤ most_records) × (fields_of fields.entry.now ≡ fields_in row))
@@ -145,45 +143,14 @@ fn later_row<'a>(number: usize, fields: &'a ByteRecord) -> Result<NineFields<'a>
     Ok(row)
 }
 
-type Records<'a> = Reader<&'a [u8]>;
-
-fn records<'a>(alloc: Global, text: &'a [u8]) -> Records<'a>
-    requires { Journal.first_high text.now ≡ None }
-    ensures usable { IsOpen result }
-    ensures rows { rows_left result ≡ records_of text.entry.now }
-
-    // A record of another length than the first is read too.
-    ensures flexible { is_flexible result ≡ true }
-{
-    ReaderBuilder::new()
-        .has_headers(false)
-        .flexible(true)
-        .from_reader(alloc, text)
-}
-
-/// Reads the next record's fields into the record that is lent, and says whether there was one.
-fn next_record(records: &mut Records, fields: &mut ByteRecord) -> Result<bool, AllocError>
-    requires { IsOpen records.old }
-    ensures { IfOk result (λ found. MatchBool found
-        (IsOpen records.new
-        × (rows_left records.old ≡ fields_of fields.new ∷ rows_left records.new))
-        (rows_left records.old ≡ [])) }
-{
-    let Ok(found) = records.read_byte_record(fields) else {
-        return Err(AllocError);
-    };
-    Ok(found)
-}
-
-fn next_day(records: &mut Records, fields: &mut ByteRecord) -> Result<DayLength, JournalFault>
-    requires { IsOpen records.old }
+fn next_day(records: &mut Records) -> Result<DayLength, JournalFault>
     ensures { MatchResult result
-        (λ periods. (is_day periods ≡ true) × IsOpen records.new
+        (λ periods. (is_day periods ≡ true)
         × (rows_left records.old ≡ day_row periods ∷ rows_left records.new))
         (IsFaultOfRecords (rows_left records.old)) }
 {
-    if next_record(records, fields)? {
-        read_first(fields)
+    if records.read()? {
+        read_first(records.fields())
     } else {
         Err(JournalFault::NotDay)
     }
@@ -193,7 +160,7 @@ fn next_day(records: &mut Records, fields: &mut ByteRecord) -> Result<DayLength,
 fn take_record<T: FromJournal>(
     made: &mut T,
     number: u32,
-    fields: &ByteRecord,
+    fields: &[Field],
 ) -> Result<(), JournalFault>
     requires { 0 < number }
     ensures { MatchResult result
@@ -212,12 +179,7 @@ fn take_record<T: FromJournal>(
 }
 
 /// Takes the commands of all records after the day's.
-fn take_records<T: FromJournal>(
-    made: &mut T,
-    records: &mut Records,
-    fields: &mut ByteRecord,
-) -> Result<(), JournalFault>
-    requires { IsOpen records.old }
+fn take_records<T: FromJournal>(made: &mut T, records: &mut Records) -> Result<(), JournalFault>
     ensures { (periods : ℕ) → is_day periods ≡ true → T.made_of periods [] made.old
         → MatchResult result
         (λ _. (commands : List Command)
@@ -226,9 +188,9 @@ fn take_records<T: FromJournal>(
         (IsFaultOfRecords (day_row periods ∷ rows_left records.old)) }
 {
     let mut number = 0;
-    while next_record(records, fields)? {
+    while records.read()? {
         number += 1;
-        take_record(made, number, fields)?;
+        take_record(made, number, records.fields())?;
     }
     Ok(())
 }
@@ -239,17 +201,14 @@ fn read_records<T: FromJournal>(
     seed: Seed,
     records: &mut Records,
 ) -> Result<T, JournalFault>
-    requires { IsOpen records.old }
     ensures { MatchResult result
         (λ made. (periods : ℕ) × (commands : List Command)
         × AreRecords (rows_left records.old) periods commands × T.made_of periods commands made)
         (IsFaultOfRecords (rows_left records.old)) }
 {
-    // One for all records, so that its memory is asked for once.
-    let mut fields = ByteRecord::new(alloc);
-    let periods = next_day(records, &mut fields)?;
+    let periods = next_day(records)?;
     let mut made = T::begin(alloc, seed, periods)?;
-    take_records(&mut made, records, &mut fields)?;
+    take_records(&mut made, records)?;
     Ok(made)
 }
 
@@ -258,7 +217,7 @@ fn read_text<T: FromJournal>(alloc: Global, seed: Seed, text: &[u8]) -> Result<T
     ensures fault { IfErr result (IsJournalFault text.now) }
 {
     check_bytes(text)?;
-    let mut records = records(alloc, text);
+    let mut records = Records::of(alloc, text);
     read_records(alloc, seed, &mut records)
 }
 

@@ -32,6 +32,7 @@ mod publish;
 mod published;
 pub mod publishing_laws;
 mod record;
+mod records;
 mod replay;
 mod replies;
 pub mod spelling_laws;

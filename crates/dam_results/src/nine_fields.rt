@@ -1,8 +1,8 @@
 ghost use Rattle.std.specs.Prelude.{◌≡◌, ◌≢◌, length, MatchOption};
-ghost use Rattle.csv.specs.Records.{fields_of};
+ghost use Rattle.dam_results.specs.inside.Reader.{fields_of};
 ghost use Rattle.dam_results.specs.inside.NineFields.{field_or_empty, fields_in};
 
-use csv::ByteRecord;
+use crate::records::Field;
 
 /// The fields of a record that has nine, each named for its content in a submit.
 #[derive(Clone, Copy)]
@@ -20,18 +20,18 @@ pub(crate) struct NineFields<'a> {
 }
 
 /// The field at that place, counted from 0, or no byte if the record is shorter.
-pub(crate) fn field_of(fields: &ByteRecord, place: usize) -> &[u8]
+pub(crate) fn field_of<'r, 'a>(fields: &'r [Field<'a>], place: usize) -> &'r [u8]
     ensures { result.now ≡ field_or_empty (fields_of fields.entry.now) place }
 {
     match fields.get(place) {
-        Some(field) => field,
+        Some(field) => field.bytes(),
         None => &[],
     }
 }
 
 impl<'a> NineFields<'a> {
     /// `None` if the record doesn't have nine fields.
-    pub(crate) fn of(fields: &'a ByteRecord) -> Option<NineFields<'a>>
+    pub(crate) fn of<'t>(fields: &'a [Field<'t>]) -> Option<NineFields<'a>>
         ensures { MatchOption result
             (length (fields_of fields.entry.now) ≢ 9)
             (λ row. fields_of fields.entry.now ≡ fields_in row) }

@@ -1,6 +1,6 @@
 -- The kind of a record is its first field.
 use Rattle.std.proofs.Common.{◌∙◌}
-use Rattle.csv.specs.Records.{fields_of}
+use Rattle.dam_results.specs.inside.Reader.{fields_of}
 use Rattle.dam_results.proofs.FieldByField.{first_kind}
 use Rattle.dam_results.proofs.journal.kind.Goals as goal
 

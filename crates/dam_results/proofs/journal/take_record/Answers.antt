@@ -1,6 +1,6 @@
 -- A record's command is taken, or the record has a fault.
 use Rattle.std.proofs.Common.{◌+◌, inr, arith, ◌∙◌}
-use Rattle.csv.specs.Records.{fields_of}
+use Rattle.dam_results.specs.inside.Reader.{fields_of}
 use Rattle.dam_results.proofs.FaultFound.{bad_later}
 use Rattle.dam_results.proofs.journal.take_record.Goals as goal
 

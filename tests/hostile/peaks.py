@@ -1,0 +1,96 @@
+"""The most bytes that the program holds at once, on the longest texts: at most TIMES the text's, and ROOM.
+
+A journal's text is read into one block, which moves as it grows. A field is a part of that block, unless quotes part its bytes: then they
+are joined in a block of their own, which moves as it grows, and is at most as long as the text. A block that moves counts twice, and may
+have grown to twice its length. So a text and its longest field take at most TIMES the text's bytes, however many fields a record has.
+
+ROOM is for a book at its limits, the journal of a day and the search, which take 5 MiB with the shortest text of such a book."""
+
+from preload import Refusal  # by which `lib` is found
+from shared.printed import Printed
+from lib import rules
+
+TIMES, ROOM = 4, 8 << 20
+LONGEST = rules.MOST_BYTES
+ENGINES = [["replay"], ["clear", "--workers", "8", "--cut", "8"], ["day", "--workers", "8", "--cut", "8"]]
+REPLAY, CLEAR, DAY = ENGINES
+DAY_RECORD, CLOSE = b"day,100,,,,,,,\n", b"close,,,,,,,,\n"
+PERIODS = b";".join(b"%d:%d" % (period, rules.GREATEST_VOLUME) for period in range(1, 101))
+NAMES = [b"K-%010d" % number for number in range(rules.MOST_BLOCKS)]
+
+
+def filled(begin, part, end=b""):
+    """A text of the greatest length, or a few bytes less, with that part as often as it fits."""
+    return begin + part * ((LONGEST - len(begin) - len(end)) // len(part)) + end
+
+
+def faulty():
+    """Yields texts that aren't journals, each with the line of its fault."""
+    for number, begin in [(1, b"day,24"), (2, DAY_RECORD)]:
+        line = b"input: FieldCount in record %d\n" % number
+        yield f"commas in record {number}", filled(begin, b","), line
+        yield f"quoted empty fields in record {number}", filled(begin + b",", b'"",'), line
+    line = b"input: FieldCount in record 2\n"
+    yield "one field", filled(DAY_RECORD, b"A"), line
+    yield "one quoted field", filled(DAY_RECORD + b'"', b"A", b'"'), line
+    yield "one field with doubled quotes", filled(DAY_RECORD + b'"', b"A" * 1_000 + b'""', b'"'), line
+    yield "one field, quoted in part", filled(DAY_RECORD + b'"A"', b"A"), line
+    yield "quotes alone", filled(b"", b'"'), b"input: NotDay\n"
+    yield "a long name", filled(DAY_RECORD + b'cancel,A,"', b"A" * 1_000 + b'""', b'",,,,,,\n'), b"input: BadField in record 2 field 3\n"
+    yield "many records", filled(DAY_RECORD, CLOSE), b"input: TooManyRecords\n"
+    yield "empty lines", filled(b"", b"\r\n"), b"input: NotDay\n"
+    yield "a byte too many", filled(b"", b"A") + b"A", b"input: TooLong\n"
+
+
+def blocks(name):
+    return b"submit,ABCDEFGH,%b,block,sell,%d,%b,,G-%b\n" % (name, rules.GREATEST_PRICE, PERIODS, name[2:])
+
+
+def amends(name):
+    return b"amend,ABCDEFGH,%b,,,%d,%b,,\n" % (name, rules.GREATEST_PRICE, PERIODS)
+
+
+def in_quotes(records):
+    return b"".join(b'"%b"\r\n' % record.replace(b",", b'","') for record in b"".join(records).splitlines())
+
+
+def orders(count):
+    """As many hourly orders, in the shortest form."""
+    sides = [b"buy", b"sell"]
+    return [b"submit,A,%d,hour,%b,0,%d:1,,\n" % (at, sides[at % 2], at % 100 + 1) for at in range(count)]
+
+
+def journals():
+    """Yields journals, each with the engines that take it."""
+    begin = [DAY_RECORD, *map(blocks, NAMES)]
+    full = [*begin, *(amends(NAMES[at % len(NAMES)]) for at in range(rules.MOST_DAY_COMMANDS - len(NAMES)))]
+    text = in_quotes(full)
+    yield "blocks of every period, in quotes", text + b"\n" * (LONGEST - len(text)), [REPLAY, DAY]
+    yield "blocks of every period", b"".join([*full, CLOSE]), [REPLAY, CLEAR]
+    short = b"".join([*begin, *orders(rules.MOST_HOURLY)])
+    yield "a full book", short, [REPLAY, DAY]
+    yield "a full book, closed", short + CLOSE, [REPLAY, CLEAR]
+    yield "a close after empty lines", filled(DAY_RECORD, b"\n", CLOSE), [REPLAY, CLEAR]
+
+
+def texts():
+    """Yields each text, with the engines that it is tried with and the line of its fault, if it has one."""
+    for about, text, line in faulty():
+        yield about, text, ENGINES, line
+    for about, text, engines in journals():
+        yield about, text, engines, b""
+
+
+def peaks(runs):
+    """Runs each text, and compares the most bytes that the program held with the text's."""
+    most = 0
+    for about, text, engines, line in texts():
+        found = runs.pool.map(lambda words: (words[0], *runs.program.run(words, text, Refusal("peak"))), engines)
+        for word, got, peak in found:
+            is_right = got == Printed(1, b"", line) if line else got.status == 0 and got.stdout != b""
+            runs.check(f"{word} of {about}: status {got.status}, {got.stderr[:80]!r}", is_right)
+            fits = 0 < peak <= TIMES * len(text) + ROOM
+            runs.check(f"{word} of {about}: {peak:,} bytes were held, and the text has {len(text):,}", fits)
+            most = max(most, peak)
+        runs.program.given(text).unlink()
+    print(f"the longest texts: at most {most / 1e6:.1f} MB were held at once", flush=True)
