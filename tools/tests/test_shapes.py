@@ -10,7 +10,7 @@ FUNCTION = re.compile(r"^(    )?pub fn (\w+)", re.M)
 EXPORTED = re.compile(r"^pub use [\w:]+(?:::\{([^}]*)\}|::(\w+));", re.M)
 # Calls that no length of a day, name or number of volumes reaches: on the faults of a run, on single prices, on seeds, and on the system's
 # random bytes. The last one ends a run's writing, and every run on a shape makes it.
-SHAPELESS = {"dam_engines": {"fault_line", "short_line", "status", "write_text"}, "dam_book": {"at", "drawn", "get", "highest", "lowest"}}
+SHAPELESS = {"dam_engines": {"fault_line", "short_line", "status", "write_text"}, "dam_book": {"at", "drawn", "highest", "lowest"}}
 
 
 def exported(crate):
@@ -33,7 +33,7 @@ class Shapes(unittest.TestCase):
     def test_each_public_call_is_tested_on_each_shape(self):
         paths = (TOP / "tests/rattle").glob("*/src/**/*.rt.test")
         texts = [path.read_text(encoding="utf-8") for path in paths]
-        text = "".join(it for it in texts if re.search(r"\bin shapes\(\)|\bShape\b", it))
+        text = "".join(it for it in texts if "shapes()" in it)
         called = set(re.findall(r"\b(\w+)(?:::<[^(]*>)?\(", text))
         for crate in CRATES:
             with self.subTest(crate):
