@@ -74,6 +74,20 @@ DAY = b"day,24,,,,,,,\n"
 CLOSE = b"close,,,,,,,,\n"
 TWO_ORDERS = DAY + b"submit,A,S1,hour,sell,3000,1:10,,\nsubmit,B,B1,hour,buy,5000,1:10,,\n"
 TWO_BLOCKS = TWO_ORDERS + b"submit,A,K1,block,sell,4000,1:5,,\nsubmit,A,K2,block,sell,4000,1:5,K1,\n"
+# The longest day, with the longest names and codes, and blocks and amends of 100 volumes.
+WIDE = b";".join(b"%d:10" % period for period in range(1, 101))
+LONGEST = b"""day,100,,,,,,,
+submit,SELLERAB,SELL-ORDER-1,hour,sell,3000,100:10,,
+submit,BUYERABC,BUY-ORDER-01,hour,buy,5000,100:30,,
+submit,SELLERAB,PARENT-BLOCK,block,sell,4000,%b,,
+submit,SELLERAB,CHILD-BLOCK1,block,sell,4000,100:5,PARENT-BLOCK,GROUP-OF-TWO
+submit,SELLERAB,CHILD-BLOCK2,block,sell,3900,%b,PARENT-BLOCK,GROUP-OF-TWO
+amend,SELLERAB,PARENT-BLOCK,,,4100,%b,,
+amend,BUYERABC,BUY-ORDER-01,,,5100,100:20,,
+amend,BUYERABC,BUY-ORDER-01,,,5100,%b,,
+cancel,SELLERAB,CHILD-BLOCK2,,,,,,
+cancel,SELLERAB,PARENT-BLOCK,,,,,,
+""" % ((WIDE,) * 4)
 CLOSED_FIRST = DAY + CLOSE + b"submit,A,B1,hour,buy,5000,1:10,,\namend,A,B1,,,5000,1:10,,\ncancel,A,B1,,,,,,\n" + CLOSE
 
 CUTTINGS = [["--workers", "1", "--cut", "0"], ["--workers", "2", "--cut", "3"], ["--workers", "8", "--cut", "8"]]
@@ -107,6 +121,9 @@ def memory_rows():
         ("day of the auction day", ["day"], OPEN_AUCTION, MANY),
         ("day of the first day", ["day"], OPEN_FIRST, FEW),
         ("day of the closed auction day", ["day"], AUCTION, FEW),
+        ("replay of the longest day", ["replay"], LONGEST + CLOSE, FEW),
+        ("clear of the longest day", ["clear"], LONGEST + CLOSE, FEW),
+        ("day of the longest day", ["day"], LONGEST, FEW),
         ("a word that isn't UTF-8", [b"\xff"], b"", ANY),
     ]
     inputs += [(f"{word} by {' '.join(plan)}", [word, *plan], data, FEW)
@@ -122,10 +139,11 @@ def rows_of_calls(program):
     worked = {name: (words, data) for name, words, data in worked_cases()}
     days = [("two orders", TWO_ORDERS)]
     days += [(f"the commands of {name}", worked[f"replay/{name}"][1]) for name in ["stored-run", "closed", "links"]]
-    yield from again.days([*days, ("the auction day", OPEN_AUCTION)])
+    yield from again.days([*days, ("the longest day", LONGEST), ("the auction day", OPEN_AUCTION)])
     yield from again.gates()
     texts = [(name, data) for name, (words, data) in worked.items() if words == ["replay"] or name == "clear/quoted-crlf"]
-    yield from again.texts(program, texts, [("two orders", TWO_ORDERS + CLOSE), ("the auction day", AUCTION)])
+    written = [("two orders", TWO_ORDERS + CLOSE), ("the longest day", LONGEST + CLOSE), ("the auction day", AUCTION)]
+    yield from again.texts(program, [*texts, ("the longest day", LONGEST + CLOSE)], written)
     yield from again.searches(worked["clear/two-equal-blocks"][1], worked["clear/group"][1])
     yield from again.lines()
 
