@@ -1,6 +1,6 @@
 -- A day of given commands: participants enter theirs at the same time, and then the operator closes.
-use Rattle.std.specs.Prelude.{◌≡◌, ◌≢◌, ℕ, ◌+◌, ◌<◌, ◌≤◌, Bool, if◌then◌else◌, List, [], ◌∷◌, ◌++◌, length, map, take, slice_get, Option}
-use Rattle.std.specs.Prelude.{None, Some, ◌⊎◌, All}
+use Rattle.std.specs.Prelude.{◌≡◌, ℕ, ◌+◌, ◌<◌, ◌≤◌, Bool, if◌then◌else◌, List, [], ◌∷◌, ◌++◌, length, map, take, slice_get, Option}
+use Rattle.std.specs.Prelude.{None, Some}
 use Rattle.std.specs.List.{filter, list_any}
 use Rattle.dam_book.specs.Limits.{most_entries}
 use Rattle.dam_book.specs.Name.{same_text}
@@ -10,15 +10,12 @@ use Rattle.dam_book.specs.Command.{giver}
 use Rattle.dam_book.specs.declared.command.Command.TheVariants.{Close}
 use Rattle.dam_book.specs.declared.command.Entry.{Entry}
 use Rattle.dam_gate.specs.Limits.{most_participants}
-use Rattle.dam_gate.specs.Journal.{JournalState, IsJournal}
-use Rattle.dam_gate.specs.Pass.{PassState, IsPass, holders, is_from, is_close}
-use Rattle.dam_gate.specs.Settled.{IsMismatch, IsSettled}
+use Rattle.dam_gate.specs.Journal.{IsJournal}
+use Rattle.dam_gate.specs.Pass.{holders, is_from, is_close}
 use Rattle.dam_gate.specs.Headline.{IsWholeAccount}
 use Rattle.dam_gate.specs.declared.day.DayFault.{DayFault}
 use Rattle.dam_gate.specs.declared.day.DayFault.TheVariants.{TooManyCommands, CloseGiven, TooManyParticipants, NotSettled, Memory}
 use Rattle.dam_gate.specs.declared.day.SettledDay.{SettledDay}
-use Rattle.dam_gate.specs.declared.settlement.Mismatch.{Mismatch}
-use Rattle.dam_gate.specs.declared.settlement.Mismatch.TheVariants.{StillOpen, Memory as MismatchMemory}
 
 -- this participant's commands, in their order
 abbrev pub commands_by : List ℕ → List Command → List Command

@@ -2,7 +2,7 @@
 use Rattle.std.proofs.Common.{◌≡◌, ◌<◌, ◌++◌, ℕ, get_or, List, Some, length, map, take, drop, sym, ap, subst, ◌∙◌, arith, All}
 use Rattle.std.proofs.Math.Seq.{take-append_seam}
 use Rattle.std.proofs.lemmas.List.{length-map}
-use Rattle.dam_gate.specs.Pass.{Knowledge, IsKnowledge, PassState, holders}
+use Rattle.dam_gate.specs.Pass.{Knowledge, IsKnowledge, holders}
 use Rattle.dam_gate.specs.inside.Entering.{AreServed, AreShares, HasAll, at_places, share_at}
 use Rattle.dam_gate.proofs.Days.{accounts, accounts-all, accounts-enter, held-all, new-accounts, served-all}
 use Rattle.dam_gate.proofs.day.enter_day.Goals as goal

@@ -1,5 +1,5 @@
 -- It has learnt of one history more.
-use Rattle.std.proofs.Common.{List, ap, subst, ◌∙◌}
+use Rattle.std.proofs.Common.{ap, subst, ◌∙◌}
 use Rattle.std.proofs.lemmas.List.{get_or_default}
 use mathlib.Core.List.{IsPrefix}
 use Rattle.dam_gate.specs.Pass.{Knowledge, after_learning}

@@ -2,7 +2,7 @@
 use Rattle.std.proofs.Common.{◌≡◌, ◌<◌, ◌++◌, ◌∷◌, [], ℕ, List, None, length, get_or, ap, subst, sym, ◌∙◌}
 use mathlib.Core.List.{IsPrefix}
 use Rattle.dam_book.specs.Book.{IsLegalHistory}
-use Rattle.dam_gate.specs.Journal.{JournalState, IsJournal}
+use Rattle.dam_gate.specs.Journal.{JournalState}
 use Rattle.dam_gate.specs.Opening.{OpeningState}
 use Rattle.dam_gate.specs.Pass.{Knowledge, PassState, after_learning, holders, knowing_nothing}
 use Rattle.dam_gate.specs.Headline.{IsWholeAccount}
@@ -12,7 +12,7 @@ use Rattle.dam_gate.specs.inside.Tally.{AreReceipts}
 use Rattle.dam_gate.specs.declared.day.DayFault.{DayFault}
 use Rattle.dam_gate.specs.declared.day.DayFault.TheVariants.{Memory}
 use Rattle.dam_gate.proofs.Days.{accounts, day_run, passed_on}
-use Rattle.dam_gate.proofs.Settling.{IsCounted, counted, held_by}
+use Rattle.dam_gate.proofs.Settling.{counted, held_by}
 use Rattle.dam_gate.proofs.day.run_at_gate.Goals as goal
 
 pub returns-clause-day : goal.returns-clause-day
