@@ -80,12 +80,12 @@ entries-back es (r ∷ front) back are = entries-back es front back are.1
 numbered-both : (m : ℕ) (front back : List Entry) → numbered m (front ++ back) ≡ numbered m front ++ numbered m back
 numbered-both m front back = filter-append (λ (x : Entry). x.number == m) front back
 
--- two lists of entries have no number both, if one is of commands that the other has none of
-both-once : (p : Command → Bool) (es front back : List Entry) (m : ℕ) → AreEntries es (front ++ back) → length (numbered m front) ≤ 1
+-- two lists that have each number once, and no entry both, have it once together
+both-once : (es front back : List Entry) (m : ℕ) → AreEntries es (front ++ back) → length (numbered m front) ≤ 1
     → length (numbered m back) ≤ 1
     → ((r q : Entry) (xs ys : List Entry) → numbered m front ≡ r ∷ xs → numbered m back ≡ q ∷ ys → r ≡ q → ⊥)
     → length (numbered m (front ++ back)) ≤ 1
-both-once p es front back m are one two apart =
+both-once es front back m are one two apart =
     subst (λ (xs : List Entry). length xs ≤ 1) (sym (numbered-both m front back)) (go (numbered m front) (numbered m back) refl refl one two)
   where
     go : (xs ys : List Entry) → numbered m front ≡ xs → numbered m back ≡ ys → length xs ≤ 1 → length ys ≤ 1 → length (xs ++ ys) ≤ 1
@@ -111,7 +111,7 @@ theirs-once given (who ∷ participants) (p ∷ ps) es m apart served held are =
     let share = shares given who participants ps apart.1 served.2 in
     let gone : filter (of_command P) rest ≡ [] =
     no_commands (filter (of_command P) rest) (share.commands ∙ ap (λ (b : Bool). cond b (filter P given) []) apart.0) in
-    both-once P es p.receipts rest m are (own-once 0 p.seen m p.receipts served.1.in_order)
+    both-once es p.receipts rest m are (own-once 0 p.seen m p.receipts served.1.in_order)
     (theirs-once given participants ps es m apart.1 served.2 others (entries-back es p.receipts rest are))
     (λ r q xs ys is other same.
     not_theirs P m rest q ys gone other
@@ -133,7 +133,7 @@ each-number-once given participants ps op es m apart served held nobody ordered 
     let rs = receipts_of ps in
     let all = subst (AreEntries es) (receipts-last ps op) are in
     subst (λ (xs : List Entry). length (numbered m xs) ≤ 1) (sym (receipts-last ps op))
-    (both-once is_close es rs op.receipts m all
+    (both-once es rs op.receipts m all
     (theirs-once given participants ps es m apart served held (entries-front es rs op.receipts all))
     (own-once 0 op.seen m op.receipts ordered)
     (λ r q xs ys is other same.
