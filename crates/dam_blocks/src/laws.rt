@@ -21,8 +21,8 @@ ghost use Rattle.dam_blocks.specs.Result.{accepts_first, RanksAbove, RanksAtOrBe
 use crate::problem::MOST_PERIODS;
 
 /// The exported constant is the number of its limit. The greatest value of all hourly orders and of all
-/// blocks, surplus of one block and welfare of a selection are these products of the limits. The greatest
-/// welfare, and the greatest surpluses of all blocks, fit in an `i64`.
+/// blocks, surplus of one block and welfare of a selection are these products of the limits, which are these
+/// numbers. The greatest welfare, and the greatest surpluses of all blocks, fit in an `i64`.
 pub fn limits()
     ensures periods { MOST_PERIODS ≡ last_period }
     ensures hourly_value { greatest_hourly_value
@@ -32,6 +32,10 @@ pub fn limits()
     ensures surplus { greatest_surplus ≡ last_period * (price_span * greatest_volume) }
     ensures selection_welfare { greatest_selection_welfare
         ≡ (most_hourly + most_blocks * last_period) * (greatest_price * greatest_volume) }
+    ensures hourly_value_is { greatest_hourly_value ≡ 159998400000000 }
+    ensures block_value_is { greatest_block_value ≡ 95999040000000 }
+    ensures surplus_is { greatest_surplus ≡ 4499955000000 }
+    ensures selection_welfare_is { greatest_selection_welfare ≡ 255997440000000 }
     ensures welfare_fits { greatest_selection_welfare < 2 ^ 63 }
     ensures surpluses_fit { most_blocks * greatest_surplus < 2 ^ 63 }
 {}

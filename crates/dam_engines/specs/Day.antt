@@ -5,11 +5,11 @@ use Rattle.dam_book.specs.declared.command.Command.{Command}
 use Rattle.dam_book.specs.declared.command.Entry.{Entry}
 use Rattle.dam_gate.specs.Day.{AreTaken, IsDayFault, IsDayRun}
 use Rattle.dam_gate.specs.declared.day.DayFault.TheVariants.{TooManyCommands as ManyCommands, CloseGiven as CloseAt}
-use Rattle.dam_gate.specs.declared.day.DayFault.TheVariants.{TooManyParticipants as ManyAt, NotSettled}
+use Rattle.dam_gate.specs.declared.day.DayFault.TheVariants.{TooManyParticipants as ManyAt}
 use Rattle.dam_plan.specs.Plan.{PlanTerms}
 use Rattle.dam_results.specs.Written.{journal_text}
 use Rattle.dam_engines.specs.declared.fault.RunFault.{RunFault}
-use Rattle.dam_engines.specs.declared.fault.RunFault.TheVariants.{TooManyCommands, CloseGiven, TooManyParticipants, Mismatch, Unfinished}
+use Rattle.dam_engines.specs.declared.fault.RunFault.TheVariants.{TooManyCommands, CloseGiven, TooManyParticipants, Unfinished}
 use Rattle.dam_engines.specs.declared.fault.RunFault.TheVariants.{Memory}
 use Rattle.dam_engines.specs.Clear.{IsClearedWithin, IsCutShort}
 
@@ -41,15 +41,14 @@ pub record IsDayCutShort (plan : PlanTerms) (periods : ℕ) (commands : List Com
 abbrev pub record_number : ℕ → ℕ
 record_number place = place + 2
 
--- how a day of commands can fail: a day doesn't take them, for this reason; it takes them, and some journal and passes of such a
--- day aren't settled, for this reason, or the search of its book didn't finish, if that can be; or memory ran out
+-- how a day of commands can fail: a day doesn't take them, for this reason; it takes them, and the search of its book didn't
+-- finish, if that can be; or memory ran out
 abbrev pub IsCommandsFault : PlanTerms → ℕ → List Command → RunFault → Type 0
 IsCommandsFault plan periods commands TooManyCommands = IsDayFault commands ManyCommands
 IsCommandsFault plan periods commands (CloseGiven at) =
     (place : ℕ) × (at ≡ record_number place) × IsDayFault commands (CloseAt place)
 IsCommandsFault plan periods commands (TooManyParticipants at) =
     (place : ℕ) × (at ≡ record_number place) × IsDayFault commands (ManyAt place)
-IsCommandsFault plan periods commands (Mismatch why) = IsDayFault commands (NotSettled why)
 IsCommandsFault plan periods commands (Unfinished piece visited) =
     IsDayCutShort plan periods commands piece visited
 IsCommandsFault plan periods commands Memory = Unit {0}

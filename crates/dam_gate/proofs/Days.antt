@@ -2,7 +2,9 @@
 use Rattle.std.proofs.Common.{slice_get, ◌≡◌, ◌≢◌, ℕ, zero, suc, ◌+◌, ◌<◌, ◌≤◌, ◌==◌, ◌⊎◌, inl, inr, Bool, true, false, cond}
 use Rattle.std.proofs.Common.{if◌then◌else◌, ◌||◌, List, [], ◌∷◌, ◌++◌, length, get_or, map, take, drop, Option, Some, None, refl, sym, ap}
 use Rattle.std.proofs.Common.{ap₂, subst, ◌∙◌, append-nil, length-append, arith}
+use Rattle.std.proofs.Common.{Result, Ok, Err, IfErr}
 use Rattle.std.specs.List.{filter, cons_option}
+use Rattle.std.specs.Result.{IsErrAnd}
 use Rattle.std.specs.Bool.{Decides}
 use Rattle.std.proofs.lemmas.Bool.{eqb-true, eqb-false, cases_lt, or_parts}
 use Rattle.std.proofs.lemmas.Bool.Decides.{Decides-eqb}
@@ -49,10 +51,10 @@ from-not_close who Close from = absurd (cc)
 
 -- ---- filters
 
-filter-yes : {X : Type 0} (p : X → Bool) (x : X) (xs : List X) → p x ≡ true → filter p (x ∷ xs) ≡ x ∷ filter p xs
+pub filter-yes : {X : Type 0} (p : X → Bool) (x : X) (xs : List X) → p x ≡ true → filter p (x ∷ xs) ≡ x ∷ filter p xs
 filter-yes p x xs is = ap (λ (b : Bool). cond b (x ∷ filter p xs) (filter p xs)) is
 
-filter-no : {X : Type 0} (p : X → Bool) (x : X) (xs : List X) → p x ≡ false → filter p (x ∷ xs) ≡ filter p xs
+pub filter-no : {X : Type 0} (p : X → Bool) (x : X) (xs : List X) → p x ≡ false → filter p (x ∷ xs) ≡ filter p xs
 filter-no p x xs is = ap (λ (b : Bool). cond b (x ∷ filter p xs) (filter p xs)) is
 
 both-step : {X : Type 0} (p q : X → Bool) (x : X) (xs : List X) (s t : Bool) → filter p (filter q xs) ≡ filter q (filter p xs) → p x ≡ s
@@ -87,7 +89,7 @@ commands-filter : (p : Command → Bool) (es : List Entry) → commands_of (filt
 commands-filter p [] = refl
 commands-filter p (e ∷ es) = commands-step p e es (p e.command) (commands-filter p es) refl
 
-no_commands : (es : List Entry) → commands_of es ≡ [] → es ≡ []
+pub no_commands : (es : List Entry) → commands_of es ≡ [] → es ≡ []
 no_commands [] none = refl
 no_commands (e ∷ es) none = absurd (cc)
 
@@ -118,7 +120,7 @@ legal-order low b (e ∷ es) legal =
           (subst (λ (n : ℕ). AreInOrder (suc low) n es) last (legal-order (suc low) (book_after b e.command) es legal.2)),
     )
 
-none_in_order : (m low seen : ℕ) (es : List Entry) → m ≤ low → AreInOrder low seen es → numbered m es ≡ []
+pub none_in_order : (m low seen : ℕ) (es : List Entry) → m ≤ low → AreInOrder low seen es → numbered m es ≡ []
 none_in_order m low seen [] below ordered = refl
 none_in_order m low seen (e ∷ es) below ordered =
     numbered-tail m e es (λ same. omega (arith, same, below, ordered.0))
@@ -132,7 +134,7 @@ same-tails m last first x y xs ys head a b same (inl own) =
 same-tails m last first x y xs ys head a b same (inr other) =
     sym (numbered-tail m x xs other) ∙ same ∙ numbered-tail m y ys (λ own. other (ap (λ (e : Entry). e.number) head ∙ own))
 
-is_number : (n m : ℕ) → (n ≡ m) ⊎ (n ≢ m)
+pub is_number : (n m : ℕ) → (n ≡ m) ⊎ (n ≢ m)
 is_number n m = elim (n == m) as (λ (t : Bool). n == m ≡ t → (n ≡ m) ⊎ (n ≢ m))
     [ true ↦ λ e. inl (eqb-true n m e) | false ↦ λ e. inr (eqb-false n m e) ] refl
 
@@ -328,6 +330,12 @@ refused-at cs place participants c (TooManyParticipants other) room inside at ne
 refused-at cs place participants c (NotSettled why) room inside at next taken order is = absurd is
 refused-at cs place participants c Memory room inside at next taken order is = room
 
+-- a fault that is passed on
+pub passed_on : {X : Type 0} (P : DayFault → Type 0) (r : Result X DayFault) (fault : DayFault) → IsErrAnd r (λ e. e ≡ fault) → P fault
+    → IfErr r P
+passed_on P (Ok x) fault same is = tt
+passed_on P (Err e) fault same is = subst P (sym same) is
+
 -- ---- the shares of the participants in the journal
 
 -- the receipts that are from a participant
@@ -365,7 +373,7 @@ share-step given other who participants p rest false apart pass mine is share =
       commands = ap commands_of whole ∙ share.commands;
     }
 
-shares : (given : List Command) (other : List ℕ) (participants : List (List ℕ)) (ps : List PassState) → AreApart participants
+pub shares : (given : List Command) (other : List ℕ) (participants : List (List ℕ)) (ps : List PassState) → AreApart participants
     → AreServed given participants ps → Share given other (is_one_of participants other) (receipts_of ps)
 shares given other [] [] apart served = record { last = 0; in_order = omega arith; commands = refl }
 shares given other (who ∷ participants) (p ∷ ps) apart served =
@@ -375,7 +383,7 @@ shares given other (who ∷ participants) (p ∷ ps) apart served =
 shares given other [] (p ∷ ps) apart served = absurd served
 shares given other (who ∷ participants) [] apart served = absurd served
 
-no_closes : (given : List Command) (participants : List (List ℕ)) (ps : List PassState) → AreServed given participants ps
+pub no_closes : (given : List Command) (participants : List (List ℕ)) (ps : List PassState) → AreServed given participants ps
     → filter (of_command is_close) (receipts_of ps) ≡ []
 no_closes given [] [] served = refl
 no_closes given (who ∷ participants) (p ∷ ps) served =
@@ -620,3 +628,12 @@ accounts-enter own olds news same enters i d within =
     subst (λ (p : PassState). Enters (own i) p (get_or (accounts news) i d)) (sym (get_or-map f olds i k d below))
     (subst (λ (p : PassState). Enters (own i) (get_or olds i k).account p) (sym (get_or-map f news i k d (omega (arith, below, same))))
     (enters i k below))
+
+pub accounts-all : (own : ℕ → List ℕ) (ks : List Knowledge)
+    → ((i : ℕ) (d : Knowledge) → i < length ks → HasAll (own i) (get_or ks i d).account)
+    → (i : ℕ) (d : PassState) → i < length (accounts ks) → HasAll (own i) (get_or (accounts ks) i d)
+accounts-all own ks all i d within =
+    let f = λ (k : Knowledge). k.account in
+    let k : Knowledge = record { account = d; history = []; learnt = []; note = None } in
+    let below : i < length ks = omega (arith, within, length-map ks f) in
+    subst (HasAll (own i)) (sym (get_or-map f ks i k d below)) (all i k below)

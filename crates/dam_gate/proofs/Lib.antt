@@ -10,4 +10,6 @@ pub mod Permutations
 pub mod Accounts
 pub mod Days
 pub mod Places
-pub mod Witnesses
+pub mod Standing
+pub mod Counts
+pub mod Settling

@@ -11,7 +11,7 @@ slice_get-more [] i e x is = absurd (cc)
 slice_get-more (y ∷ es) zero e x is = is
 slice_get-more (y ∷ es) (suc i) e x is = slice_get-more es i e x is
 
-slice_get-last : (es : List Entry) (e : Entry) → slice_get (es ++ e ∷ []) (length es) ≡ Some e
+pub slice_get-last : (es : List Entry) (e : Entry) → slice_get (es ++ e ∷ []) (length es) ≡ Some e
 slice_get-last [] e = refl
 slice_get-last (x ∷ es) e = slice_get-last es e
 

@@ -1,6 +1,6 @@
 -- A day of given commands: participants enter theirs at the same time, and then the operator closes.
-use Rattle.std.specs.Prelude.{◌≡◌, ◌≢◌, ℕ, ◌+◌, ◌<◌, ◌≤◌, Bool, if◌then◌else◌, List, [], ◌∷◌, ◌++◌, length, map, take, slice_get, Option}
-use Rattle.std.specs.Prelude.{None, Some, ◌⊎◌, All}
+use Rattle.std.specs.Prelude.{◌≡◌, ℕ, ◌+◌, ◌<◌, ◌≤◌, Bool, if◌then◌else◌, List, [], ◌∷◌, ◌++◌, length, map, take, slice_get, Option}
+use Rattle.std.specs.Prelude.{None, Some}
 use Rattle.std.specs.List.{filter, list_any}
 use Rattle.dam_book.specs.Limits.{most_entries}
 use Rattle.dam_book.specs.Name.{same_text}
@@ -10,15 +10,12 @@ use Rattle.dam_book.specs.Command.{giver}
 use Rattle.dam_book.specs.declared.command.Command.TheVariants.{Close}
 use Rattle.dam_book.specs.declared.command.Entry.{Entry}
 use Rattle.dam_gate.specs.Limits.{most_participants}
-use Rattle.dam_gate.specs.Journal.{JournalState, IsJournal}
-use Rattle.dam_gate.specs.Pass.{PassState, IsPass, holders, is_from, is_close}
-use Rattle.dam_gate.specs.Settled.{IsMismatch, IsSettled}
+use Rattle.dam_gate.specs.Journal.{IsJournal}
+use Rattle.dam_gate.specs.Pass.{holders, is_from, is_close}
 use Rattle.dam_gate.specs.Headline.{IsWholeAccount}
 use Rattle.dam_gate.specs.declared.day.DayFault.{DayFault}
 use Rattle.dam_gate.specs.declared.day.DayFault.TheVariants.{TooManyCommands, CloseGiven, TooManyParticipants, NotSettled, Memory}
 use Rattle.dam_gate.specs.declared.day.SettledDay.{SettledDay}
-use Rattle.dam_gate.specs.declared.settlement.Mismatch.{Mismatch}
-use Rattle.dam_gate.specs.declared.settlement.Mismatch.TheVariants.{StillOpen, Memory as MismatchMemory}
 
 -- this participant's commands, in their order
 abbrev pub commands_by : List ℕ → List Command → List Command
@@ -76,36 +73,9 @@ pub record IsSettledDay (periods : ℕ) (given : List Command) (d : SettledDay) 
   pub account : IsWholeAccount d.settled d.passes.items
   pub held_by : holders d.passes.items ≡ day_holders given
 
--- the commands that the holder of a pass enters on a day: a participant its own of those given, and the operator the close
-abbrev pub entered_by : List Command → Option (List ℕ) → List Command
-entered_by cs None = Close ∷ []
-entered_by cs (Some who) = commands_by who cs
-
--- the journal's last command isn't a close, or it has none
-abbrev pub EndsOtherwise : JournalState → Type 0
-EndsOtherwise j = (before : List Command) → commands_of j.entries ≢ before ++ Close ∷ []
-
--- why a journal and the passes of a day aren't those of a settled day: they aren't settled, for this reason; or they are,
--- but the journal doesn't end with a close
-abbrev pub IsWhyUnsettled : JournalState → List PassState → Mismatch → Type 0
-IsWhyUnsettled j passes why =
-    ((why ≢ MismatchMemory) × IsMismatch j passes why)
-    ⊎ ((why ≡ StillOpen) × IsSettled j passes × EndsOtherwise j)
-
--- a day of given commands that came out unsettled for this reason: a journal and the passes of the day's participants and
--- its operator, which have receipts of just their commands, aren't those of a settled day
-pub record IsUnsettledDay (given : List Command) (why : Mismatch) : Type 0 where
-  pub journal : JournalState
-  pub is_journal : IsJournal journal
-  pub passes : List PassState
-  pub are_passes : All IsPass passes
-  pub held_by : holders passes ≡ day_holders given
-  pub receipts : map (λ (p : PassState). commands_of p.receipts) passes ≡ map (entered_by given) (day_holders given)
-  pub reason : IsWhyUnsettled journal passes why
-
 -- the faults of a day of these commands: there are too many of them; if there aren't, the place, from 0, of a command
--- that it doesn't take while it takes those before, a close or one that brings a participant too many; if it takes them
--- all, some journal and passes of such a day aren't settled, for this reason; or, unless there are too many, memory ran out
+-- that it doesn't take while it takes those before, a close or one that brings a participant too many, or that memory ran
+-- out. A day never comes out unsettled
 abbrev pub IsDayFault : List Command → DayFault → Type 0
 IsDayFault cs TooManyCommands = most_entries ≤ length cs
 IsDayFault cs (CloseGiven place) =
@@ -113,5 +83,5 @@ IsDayFault cs (CloseGiven place) =
 IsDayFault cs (TooManyParticipants place) =
     (length cs < most_entries) × AreTaken (take place cs) × (place < length cs)
     × (most_participants < length (givers_of (take (place + 1) cs)))
-IsDayFault cs (NotSettled why) = AreTaken cs × IsUnsettledDay cs why
+IsDayFault cs (NotSettled why) = ⊥
 IsDayFault cs Memory = length cs < most_entries

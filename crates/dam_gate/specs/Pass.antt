@@ -1,5 +1,5 @@
 -- A pass: who holds it, how many entries of the journal it has seen, and the entries that its calls were answered with.
-use Rattle.std.specs.Prelude.{◌≡◌, ℕ, ◌-◌, ◌<◌, ◌≤◌, Bool, true, false, List, [], ◌∷◌, ◌++◌, length, map, Option, None, Some}
+use Rattle.std.specs.Prelude.{◌≡◌, ℕ, ◌-◌, ◌<◌, ◌≤◌, Bool, true, false, List, [], ◌∷◌, ◌++◌, length, map, slice_get, Option, None, Some}
 use Rattle.dam_book.specs.Name.{same_text}
 use Rattle.dam_book.specs.declared.command.Command.{Command}
 use Rattle.dam_book.specs.Command.{giver}
@@ -88,7 +88,13 @@ after_look k history = record { account = having_seen k.account (length history)
 abbrev pub after_learning : Knowledge → List Entry → Knowledge
 after_learning k learnt = record { account = k.account; history = k.history; learnt = learnt; note = k.note }
 
--- the account is of a pass that has seen as many entries as its history has
+-- each of these is the entry of its number
+abbrev pub StandIn : List Entry → List Entry → Type 0
+StandIn es [] = Unit {0}
+StandIn es (r ∷ rs) = (slice_get es (r.number - 1) ≡ Some r) × StandIn es rs
+
+-- the account is of a pass that has seen as many entries as its history has, and whose receipts stand in that history
 pub record IsKnowledge (k : Knowledge) : Type 0 where
   pub account : IsPass k.account
   pub seen : k.account.seen ≡ length k.history
+  pub stand : StandIn k.history k.account.receipts

@@ -1,15 +1,16 @@
 ghost use Rattle.std.specs.Option.{option_copied};
 ghost use Rattle.dam_gate.specs.Limits.{most_participants};
-ghost use Rattle.std.specs.Prelude.{◌≡◌, ◌≤◌, ◌<◌, ◌∷◌, ◌++◌, [], ℕ, true, false, None, Some, length, map, slice_index_or, IfOk, IfErr, OnOk};
-ghost use Rattle.dam_book.specs.Book.{commands_of};
-ghost use Rattle.dam_gate.specs.Pass.{Knowledge, PassState, IsPass, holders, knowing_nothing};
+ghost use Rattle.std.specs.Prelude.{◌≡◌, ◌≤◌, ◌<◌, ◌+◌, ◌∷◌, ◌++◌, [], ℕ, true, Some, length, map, slice_index_or, IfOk, IfErr, OnOk, All};
+ghost use mathlib.Core.List.{IsPrefix};
+ghost use Rattle.dam_gate.specs.Pass.{Knowledge, IsKnowledge, after_learning, holders, knowing_nothing};
+ghost use Rattle.dam_gate.specs.Settled.{IsSettled, receipts_of};
 ghost use Rattle.dam_gate.specs.Headline.{IsWholeAccount};
-ghost use Rattle.dam_gate.specs.Day.{AreTaken, EndsOtherwise, IsDayFault, IsSettledDay, givers_of, is_one_of};
-ghost use Rattle.dam_gate.specs.inside.Entering.{AreApart, AreGivers, AreServed, Enters, HasAll, IsClosedDay, IsLateFault, IsRefusalAt, IsUnsettled, Takes, at_places, share_at};
+ghost use Rattle.dam_gate.specs.Day.{AreTaken, IsDayFault, IsSettledDay, givers_of, is_one_of};
+ghost use Rattle.dam_gate.specs.inside.Entering.{AreApart, AreGivers, AreServed, Enters, HasAll, IsRefusalAt, IsUnsettled, Takes, at_places, share_at};
 
 use crate::account::Account;
 use crate::gate::{Gate, GateFault, PassFault};
-use crate::history::{GateName, Opening};
+use crate::history::{Answered, GateName, Opening};
 use crate::keeper::Journal;
 use crate::limits::MOST_PARTICIPANTS;
 use crate::pass::Pass;
@@ -22,6 +23,7 @@ use left_right::Absorb;
 use std::alloc::{AllocError, AllocFailed, Global};
 use std::marker::Brand;
 use std::sync::Wait;
+use std::sync::ledger::Share as Part;
 use std::thread;
 use std::thread::Threads;
 use thiserror::Error;
@@ -38,8 +40,7 @@ pub enum DayFault {
     /// The command at this place brings one participant too many.
     #[error("command {0} brings one participant too many")]
     TooManyParticipants(usize),
-    /// The journal and the passes came out unsettled, or the journal doesn't end with the close (`StillOpen`). Neither
-    /// should happen on a day of one gate. The reason is never `Memory`.
+    /// The journal and the passes came out unsettled. By contract, this never happens.
     #[error("not settled: {0}")]
     NotSettled(Mismatch),
     /// Memory ran out, or a call or a pass was refused.
@@ -163,9 +164,10 @@ fn enter_all<J: GateName + Send + Sync, R: Threads + Wait + Sync, T: Turnstile +
 }
 
 /// Whether no call was refused: each pass has as many receipts as there are places in its share.
-fn have_all_entered(passes: &[Account], shares: &[Share]) -> bool
-    ensures { result ≡ true → (i : ℕ) (d : PassState) → i < length passes.now
-        → HasAll (share_at shares.now i) (slice_index_or passes.now i d) }
+fn have_all_entered<J: GateName>(passes: &[Pass<J>], shares: &[Share]) -> bool
+    ensures all { result ≡ true → (i : ℕ) (d : Knowledge) → i < length passes.now
+        → HasAll (share_at shares.now i) (slice_index_or passes.now i d).account }
+    ensures valid { result ≡ true → All IsKnowledge passes.now }
 {
     for (place, pass) in passes.iter().enumerate() {
         if pass.receipts().len() != share_of(shares, place).len() {
@@ -258,36 +260,41 @@ fn passes_for<J: GateName, H: Wait + Drop>(
     Ok(passes)
 }
 
-/// The operator's pass, through which it has closed.
-fn close<J: GateName, H: Wait + Drop>(
-    rt: &impl Wait,
-    gate: &Gate<J, H>,
-) -> Result<Account, DayFault>
-    ensures ok { IfOk result (λ operator. commands_of operator.receipts ≡ Command.Close ∷ []) }
-    ensures pass { IfOk result IsPass }
-    ensures holder { IfOk result (λ operator. operator.holder ≡ None) }
-    ensures err { IfErr result (λ fault. fault ≡ DayFault.Memory) }
+/// The pass learns all that these have seen.
+fn learn_from_all<J: GateName>(pass: &mut Pass<J>, others: &[Pass<J>])
+    ensures pass { pass.new ≡ after_learning pass.old pass.new.learnt }
+    ensures learnt { (i : ℕ) (d : Knowledge) → i < length others.now
+        → IsPrefix (slice_index_or others.now i d).history pass.new.learnt }
 {
-    let mut operator = gate.operator(rt)?;
-    let _entry = gate.call(rt, &mut operator, Command::Close)?;
-    let _receipts = operator.receipts(); // for the proof: the invariant of a pass
-    Ok(operator.into_account())
+    for other in others {
+        pass.learn_from(other);
+    }
 }
 
-/// The accounts of the passes.
-fn accounts_of<J: GateName>(alloc: Global, passes: Vec<Pass<J>>) -> Result<Vec<Account>, DayFault>
-    ensures ok { IfOk result (λ accounts.
-        accounts.items ≡ map (λ pass. pass.account) passes.items) }
+/// The accounts of the passes and then of the operator's, with their parts of the gate's count of entries.
+fn accounts_of<J: GateName>(
+    alloc: Global,
+    passes: Vec<Pass<J>>,
+    operator: Pass<J>,
+) -> Result<(Vec<Account>, Part<Answered<J>>), DayFault>
+    ensures accounts { IfOk result (λ r. r.0.items
+        ≡ map (λ pass. pass.account) passes.items ++ operator.account ∷ []) }
+    ensures parts { IfOk result (λ r. r.1.parts ≡ length passes.items + 1) }
+    ensures count { IfOk result (λ r. r.1.amount ≡ length (receipts_of r.0.items)) }
     ensures err { IfErr result (λ fault. fault ≡ DayFault.Memory) }
 {
     let mut accounts = Vec::with_capacity(alloc, passes.len() + 1)?;
+    let (last, mut parts) = operator.into_account_and_part();
     for pass in passes {
-        accounts.push(pass.into_account())?;
+        let (account, part) = pass.into_account_and_part();
+        accounts.push(account)?;
+        parts.merge(part);
     }
-    Ok(accounts)
+    accounts.push(last)?;
+    Ok((accounts, parts))
 }
 
-/// The accounts of the passes through which all commands were entered, one for each participant.
+/// The passes through which all commands were entered, one for each participant.
 fn enter_day<J: GateName + Send + Sync, R: Threads + Wait + Sync, T: Turnstile + Sync>(
     rt: &R,
     alloc: Global,
@@ -295,12 +302,14 @@ fn enter_day<J: GateName + Send + Sync, R: Threads + Wait + Sync, T: Turnstile +
     turnstile: &T,
     participants: &[Participant],
     commands: &[PackedCommand],
-) -> Result<Vec<Account>, DayFault>
+) -> Result<Vec<Pass<J>>, DayFault>
     requires few { length participants.now ≤ most_participants }
     requires apart { AreApart participants.now }
-    ensures ok { IfOk result (λ passes. AreServed commands.now participants.now passes.items) }
-    ensures holders { IfOk result (λ passes.
-        holders passes.items ≡ map (λ who. Some who) participants.now) }
+    ensures ok { IfOk result (λ passes. AreServed commands.now participants.now
+        (map (λ pass. pass.account) passes.items)) }
+    ensures holders { IfOk result (λ passes. holders (map (λ pass. pass.account) passes.items)
+        ≡ map (λ who. Some who) participants.now) }
+    ensures valid { IfOk result (λ passes. All IsKnowledge passes.items) }
     ensures err { IfErr result (λ fault. fault ≡ DayFault.Memory) }
 {
     let shares = shares_of(alloc, participants, commands)?;
@@ -309,25 +318,16 @@ fn enter_day<J: GateName + Send + Sync, R: Threads + Wait + Sync, T: Turnstile +
     // So that a journal which grows isn't copied.
     gate.make_room(rt, commands.len() + 1)?;
     enter_all(rt, gate, turnstile, &mut passes, commands, shares);
-    let accounts = accounts_of(alloc, passes)?;
-    if !have_all_entered(&accounts, shares) {
+    if !have_all_entered(&passes, shares) {
         return Err(DayFault::Memory);
     }
-    Ok(accounts)
-}
-
-/// Whether the journal's last command is a close.
-fn ends_with_a_close(journal: &Journal) -> bool
-    ensures close { result ≡ true → IsClosedDay journal.now }
-    ensures other { result ≡ false → EndsOtherwise journal.now }
-{
-    match journal.entries() {
-        [.., last] => matches!(last.entry().command, Command::Close),
-        [] => false,
-    }
+    Ok(passes)
 }
 
 /// The day of participants who give all the commands, at a gate of its own.
+///
+/// The operator first learns all that the participants have seen, and closes when they have left the gate. So its close
+/// is the journal's last entry, and the journal has all theirs. Their parts of the count show that it has no other.
 fn run_at_gate<J: GateName + Send + Sync, R: Threads + Wait + Sync, T: Turnstile + Sync>(
     rt: &R,
     alloc: Global,
@@ -340,22 +340,22 @@ fn run_at_gate<J: GateName + Send + Sync, R: Threads + Wait + Sync, T: Turnstile
 ) -> Result<SettledDay, DayFault>
     requires name { opening ≡ J.opening }
     requires day { opening.periods ≡ periods }
+    requires passes { opening.passes ≡ length participants.now + 1 }
     requires givers { AreGivers participants.now commands.now }
     requires order { participants.now ≡ givers_of commands.now }
     requires few { length participants.now ≤ most_participants }
     requires taken { AreTaken commands.now }
     ensures day { IfOk result (IsSettledDay periods commands.now) }
-    ensures err { IfErr result (IsLateFault commands.now) }
+    ensures err { IfErr result (λ fault. fault ≡ DayFault.Memory) }
 {
     let gate = Gate::<J, &R>::for_day(rt, alloc, opening, periods, seed)?;
-    let mut passes = enter_day(rt, alloc, &gate, turnstile, participants, commands)?;
-    let operator = close(rt, &gate)?;
-    passes.push(operator)?;
-    let journal = gate.finish();
+    let passes = enter_day(rt, alloc, &gate, turnstile, participants, commands)?;
+    let mut operator = gate.operator(rt)?;
+    learn_from_all(&mut operator, &passes);
+    let closed = gate.close(&mut operator)?;
+    let (passes, mut parts) = accounts_of(alloc, passes, operator)?;
+    let journal = closed.into_counted_journal(&mut parts);
     let settled = settle_day(alloc, journal, &passes)?;
-    if !ends_with_a_close(settled.journal()) {
-        return Err(DayFault::NotSettled(Mismatch::StillOpen));
-    }
     Ok(SettledDay { settled, passes })
 }
 
@@ -364,6 +364,8 @@ fn settle_day(alloc: Global, journal: Journal, passes: &[Account]) -> Result<Set
     ensures journal { IfOk result (λ settled. settled ≡ journal) }
     ensures account { IfOk result (λ settled. IsWholeAccount settled passes.now) }
     ensures why { IfErr result (IsUnsettled journal passes.now) }
+    ensures exact { IsSettled journal passes.now
+        → IfErr result (λ fault. fault ≡ DayFault.Memory) }
 {
     match settle(alloc, journal, passes) {
         Ok(settled) => Ok(settled),
@@ -422,7 +424,7 @@ pub fn run_packed<R: Threads + Wait + Sync, T: Turnstile + Sync>(
     ensures fault { IfErr result (IsDayFault commands.now) }
 {
     let participants = givers(alloc, commands)?;
-    let opening = Opening::new(periods.get());
+    let opening = Opening::with_passes(periods.get(), participants.len() as u8 + 1);
     run_at_gate::<Brand, R, T>(
         rt,
         alloc,

@@ -3,6 +3,7 @@ ghost use Rattle.dam_book.specs.Book.{is_day};
 ghost use Rattle.dam_gate.specs.Journal.{IsJournal};
 ghost use Rattle.dam_gate.specs.Pass.{is_own, knowing_nothing};
 ghost use Rattle.dam_gate.specs.Gate.{IsBeginFault, IsCalled, IsGateFault};
+ghost use Rattle.dam_gate.specs.inside.Entering.{IsClosed};
 ghost use Rattle.dam_gate.specs.inside.Locked.{entry_of};
 
 use crate::history::{GateName, Opening};
@@ -211,6 +212,20 @@ impl<J: GateName, R: Wait + Drop> Gate<J, R> {
     /// Makes room in the journal for this number of further entries.
     pub(crate) fn make_room(&self, rt: &impl Wait, entries: usize) -> Result<(), AllocError> {
         self.locked.lock(rt).make_room(entries)
+    }
+
+    /// The state under the lock after the operator has closed, when nobody else uses the gate any more.
+    pub(crate) fn close(self, operator: &mut Pass<J>) -> Result<Locked<J, R>, GateFault>
+        requires { operator.old.account.holder ≡ None }
+        ensures { IfOk result (λ locked.
+            IsClosed operator.old operator.new.account locked.journal) }
+    {
+        let mut locked = self.locked.into_inner();
+        let _held = locked.len(); // for the proof: the invariant of a journal
+        let close = locked.pack(&Command::Close)?;
+        let _answer = operator.step(&mut locked, &close)?;
+        let _receipts = operator.receipts(); // for the proof: the invariant of a pass
+        Ok(locked)
     }
 
     /// The journal, when nobody uses the gate any more. From then on, looks don't find a version.

@@ -1,10 +1,13 @@
 ghost use Rattle.std.specs.Prelude.{◌≡◌, ◌<◌, ◌^◌, ◌++◌, ◌∷◌, ◌⊎◌, [], true, length, IfSome, OnSome};
 ghost use mathlib.Core.List.{IsPrefix};
+ghost use Rattle.dam_gate.specs.Limits.{most_passes};
 ghost use Rattle.dam_gate.specs.inside.History.{count_of};
 
+use crate::limits::MOST_PASSES;
 use dam_book::PackedEntry;
 use logbook::{Gain, Offer, Plain, Play, Rule, Seen, Start, Word};
 use std::marker::{Brand, Model, PhantomData};
+use std::sync::ledger::{Blank, Book, Ledger, Share};
 
 /// The rule of the word that counts a gate's entries.
 pub(crate) struct CountRule;
@@ -64,17 +67,34 @@ impl GateName for Brand {
     ghost opening = { record {
       history = record { number = 0; log_name = 0; cells_name = 0 };
       periods = 0;
+      passes = 0;
+      ledger = 0;
     } };
 }
 
-/// The start of a gate: the length of its day, and its history, which is empty and has no name yet.
+/// The ledger in which a gate's entries are counted: as many as the calls of its passes were answered with.
+pub(crate) struct Answered<J: GateName> {
+    of: PhantomData<J>,
+}
+
+impl<J: GateName> Ledger for Answered<J> {
+    ghost name = { J.opening.ledger };
+
+    ghost parts = { J.opening.passes };
+}
+
+/// The start of a gate: the length of its day, the number of its passes, and its history, which is empty and has no name
+/// yet.
 #[derive(Drop)]
 pub struct Opening {
     periods: u8,
+    passes: u8,
     word: Word<PackedEntry, u64, CountRule>,
     seen: Seen<PackedEntry, u64, CountRule>,
+    blank: Blank,
     ghost empty: { seen.log ≡ [] },
     ghost count_is: { word ≡ count_of seen.book },
+    ghost a_part_each: { blank.parts ≡ passes },
 }
 
 impl Model for Opening {
@@ -82,19 +102,35 @@ impl Model for Opening {
 
     ghost Value = { OpeningState };
 
-    ghost view = { λ o. record { history = o.seen.book; periods = o.periods } };
+    ghost view = { λ o. record {
+      history = o.seen.book;
+      periods = o.periods;
+      passes = o.passes;
+      ledger = o.blank.name;
+    } };
 }
 
 impl Opening {
     /// The opening of a day with this number of periods. If no day has that number, no gate begins with it.
     pub fn new(periods: u8) -> Opening
-        ensures { result.periods ≡ periods }
+        ensures periods { result.periods ≡ periods }
+        ensures passes { result.passes ≡ most_passes }
+    {
+        Opening::with_passes(periods, MOST_PASSES)
+    }
+
+    /// The opening of `new`, of a gate that gives this number of passes.
+    pub(crate) fn with_passes(periods: u8, passes: u8) -> Opening
+        ensures periods { result.periods ≡ periods }
+        ensures passes { result.passes ≡ passes }
     {
         let (seen, mut first, _second) = Seen::open(Start::alone(), 0, 0);
         Opening {
             periods,
+            passes,
             word: Word::tracked(0, &mut first),
             seen,
+            blank: Blank::new(passes as u64),
         }
     }
 
@@ -105,24 +141,52 @@ impl Opening {
         self.periods
     }
 
-    /// The count of the entries under a name, and the empty history.
-    pub(crate) fn named<J: GateName>(self) -> (EntryCount<J>, History<J>)
-        requires { self ≡ J.opening }
-        ensures { result.1 ≡ [] }
+    /// How many passes the gate is to give.
+    pub(crate) fn passes(&self) -> u8
+        ensures { result ≡ self.now.passes }
     {
-        let Opening { word, seen, .. } = self;
-        (
-            EntryCount {
+        self.passes
+    }
+
+    /// The count of the entries under a name, and the empty history.
+    pub(crate) fn named<J: GateName>(self) -> Named<J>
+        requires { self ≡ J.opening }
+        ensures start { result.start ≡ [] }
+        ensures none { result.answered.total ≡ 0 }
+        ensures whole { result.rest.parts ≡ J.opening.passes }
+        ensures nothing { result.rest.amount ≡ 0 }
+    {
+        let Opening {
+            word,
+            seen,
+            blank,
+            ..
+        } = self;
+        let (answered, rest) = blank.open::<Answered<J>>();
+        Named {
+            count: EntryCount {
                 word,
                 of: PhantomData,
             },
-            History {
+            start: History {
                 held: 0,
                 seen,
                 of: PhantomData,
             },
-        )
+            answered,
+            rest,
+        }
     }
+}
+
+/// An opening under its name: the word that counts the entries, the empty history, and the ledger of the entries with all
+/// its parts, of which each pass gets one.
+#[derive(Drop)]
+pub(crate) struct Named<J: GateName> {
+    pub(crate) count: EntryCount<J>,
+    pub(crate) start: History<J>,
+    pub(crate) answered: Book<Answered<J>>,
+    pub(crate) rest: Share<Answered<J>>,
 }
 
 /// The word that counts the entries.

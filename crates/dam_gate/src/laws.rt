@@ -43,10 +43,12 @@ pub fn one_history_of_calls<J: GateName>(one: &Note<J>, other: &Note<J>)
     one.one_history(other);
 }
 
-/// Each exported constant is the number of its limit.
+/// Each exported constant is the number of its limit, and each limit is this number.
 pub fn limits()
     ensures most_passes { MOST_PASSES ≡ most_passes }
     ensures most_participants { MOST_PARTICIPANTS ≡ most_participants }
+    ensures most_passes_is { most_passes ≡ 9 }
+    ensures most_participants_is { most_participants ≡ 8 }
 {}
 
 // The invariant of a pass holds for these.

@@ -10,23 +10,24 @@ ghost use Rattle.dam_gate.specs.inside.Shown.{IsAtMostNext, IsNext, IsNoteOf, sl
 ghost use Rattle.left_right.specs.Handles.{pending, published};
 
 use crate::gate::{GateFault, PassFault};
-use crate::history::{EntryCount, GateName, History, Opening};
+use crate::history::{Answered, EntryCount, GateName, History, Named, Opening};
 use crate::keeper::{Journal, Keeper, KeeperFault, Ready};
 use crate::limits::MOST_PASSES;
-use crate::pass::Pass;
+use crate::pass::{FIRST_RECEIPTS, Pass};
 use crate::version::{NextShown, Shown, Slot, Version, filled};
 use dam_book::{Command, DayLength, PackedCommand, Participant, Reply, Seed};
 use left_right::{Absorb, WriteHandle};
 use once_cell::race::{Note as CellNote, OnceBox};
 use std::alloc::{AllocError, Global};
 use std::marker::Model;
+use std::sync::ledger::{Book as Ledger, Share};
 use std::sync::{Arc, Wait};
 
 /// The state under the lock: the keeper, and the parts that publish its versions.
 ///
 /// A contract sees the journal, and how many passes were given. Whenever the lock is free, the history of the name `J`
-/// that it has is exactly the journal's entries, the day is the name's day, and the slot that is shown has the
-/// journal's version in it.
+/// that it has is exactly the journal's entries, the day is the name's day, the slot that is shown has the journal's
+/// version in it, and the passes' calls were answered with as many entries as there are.
 #[derive(Drop)]
 pub(crate) struct Locked<J: GateName, R: Wait + Drop>
 where
@@ -43,8 +44,12 @@ where
     shown: CellNote<Version<J>>,
     // the slot that a refused call left at the writer
     next: Option<Slot<J>>,
-    // how many passes were given
+    // how many passes were given, and may be given
     passes: u8,
+    most: u8,
+    // as many as the entries, and the parts of the passes that weren't given
+    answered: Ledger<Answered<J>>,
+    rest: Share<Answered<J>>,
     ghost starts: { start ≡ [] },
 }
 
@@ -52,7 +57,7 @@ impl<J: GateName, R: Wait + Drop> Model for Locked<J, R>
 where
     Shown<J>: Absorb<NextShown<J>, State = u64>,
 {
-    ghost use Rattle.std.specs.Prelude.{◌≡◌};
+    ghost use Rattle.std.specs.Prelude.{◌≡◌, ◌+◌, length};
     ghost use Rattle.left_right.specs.Handles.{pending, published};
     ghost use Rattle.dam_gate.specs.inside.Locked.{LockedState};
     ghost use Rattle.dam_gate.specs.inside.Shown.{IsAtMostNext, IsNoteOf, slot_name};
@@ -64,7 +69,11 @@ where
     ghost invariant = { λ l. (l.history ≡ l.keeper.journal.entries)
         × (l.keeper.journal.book.periods ≡ J.opening.periods)
         × IsNoteOf (slot_name (published l.writer).slot) l.keeper.journal l.shown
-        × IsAtMostNext l.next (pending l.writer) };
+        × IsAtMostNext l.next (pending l.writer)
+        × (l.answered.total ≡ length l.keeper.journal.entries)
+        × (l.most ≡ J.opening.passes)
+        × (l.rest.parts + l.passes ≡ J.opening.passes)
+        × (l.rest.amount ≡ 0) };
 }
 
 /// The version with all entries of the journal.
@@ -190,7 +199,13 @@ impl<J: GateName, R: Wait + Drop> Locked<J, R> {
             locked ≡ record { journal = empty_journal opening.periods; passes = 0 }) }
     {
         let keeper = Keeper::for_day(alloc, periods, seed)?;
-        let (count, start) = opening.named::<J>();
+        let most = opening.passes();
+        let Named {
+            count,
+            start,
+            answered,
+            rest,
+        } = opening.named::<J>();
         let (slot, shown) = filled(alloc, version_of(alloc, &keeper, &start)?)?;
         let writer = writer_from(rt, alloc, &slot)?;
         Ok(Locked {
@@ -203,6 +218,9 @@ impl<J: GateName, R: Wait + Drop> Locked<J, R> {
             shown,
             next: None,
             passes: 0,
+            most,
+            answered,
+            rest,
         })
     }
 
@@ -243,37 +261,58 @@ impl<J: GateName, R: Wait + Drop> Locked<J, R> {
         keeper.into_journal()
     }
 
+    /// The journal of `into_journal`, of which the parts of all passes show how many entries it has.
+    pub(crate) fn into_counted_journal(self, parts: &mut Share<Answered<J>>) -> Journal
+        ensures value { result ≡ self.journal }
+        ensures valid { IsJournal result }
+        ensures day { result.book.periods ≡ J.opening.periods }
+        ensures count { parts.old.parts ≡ J.opening.passes
+            → parts.old.amount ≡ length result.entries }
+    {
+        let Locked {
+            keeper,
+            mut answered,
+            ..
+        } = self;
+        answered.audit(parts);
+        keeper.into_journal()
+    }
+
     /// A pass that has seen nothing.
     pub(crate) fn pass(&mut self, holder: Option<Participant>) -> Result<Pass<J>, PassFault>
         ensures pass { IfOk result (λ pass. pass ≡ knowing_nothing holder) }
-        ensures room { OnOk result (self.old.passes < most_passes) }
+        ensures room { OnOk result (self.old.passes < J.opening.passes) }
         ensures count { OnOk result (self.new.passes ≡ self.old.passes + 1) }
         ensures journal { self.new.journal ≡ self.old.journal }
         ensures err { OnErr result (self.new ≡ self.old) }
-        ensures fault { IfErr result (IsPassFault self.old.passes) }
+        ensures fault { IfErr result (IsPassFault J.opening.passes self.old.passes) }
     {
-        if self.passes >= MOST_PASSES {
+        if self.passes >= self.most {
             return Err(PassFault::PassesUsed);
         }
         let Ok(reader) = self.writer.handle() else {
             return Err(PassFault::NoPlace);
         };
-        let pass = Pass::new(self.alloc, holder, self.start.again(), reader)?;
+        let receipts = Vec::with_capacity(self.alloc, FIRST_RECEIPTS)?;
+        let part = self.rest.split_off(1, 0);
         self.passes += 1;
-        Ok(pass)
+        Ok(Pass::new(holder, receipts, self.start.again(), reader, part))
     }
 
     /// Journals the command, and shows the version after it. It returns the entry's number and reply, and the history
     /// that ends with it.
     ///
-    /// All that may be refused comes first. The next call takes the slot that a refused call has left at the writer.
+    /// All that may be refused comes first. The next call takes the slot that a refused call has left at the writer. The
+    /// caller's part counts the entry.
     pub(crate) fn enter(
         &mut self,
         seen: &History<J>,
         learnt: &History<J>,
+        part: &mut Share<Answered<J>>,
         command: &PackedCommand,
     ) -> Result<((u32, Reply), History<J>), GateFault>
-        requires { is_full (length self.old.journal.entries) command.now ≡ false }
+        requires room { is_full (length self.old.journal.entries) command.now ≡ false }
+        requires part { 0 < part.old.parts }
         ensures entry { IfOk result (λ r.
             entry_of command.now r.0 ≡ next_entry self.old.journal command.now) }
         ensures history { IfOk result (λ r.
@@ -283,6 +322,9 @@ impl<J: GateName, R: Wait + Drop> Locked<J, R> {
         ensures passes { self.new.passes ≡ self.old.passes }
         ensures seen { OnOk result (IsPrefix seen.now self.old.journal.entries) }
         ensures learnt { OnOk result (IsPrefix learnt.now self.old.journal.entries) }
+        ensures parts { part.new.parts ≡ part.old.parts }
+        ensures counted { OnOk result (part.new.amount ≡ part.old.amount + 1) }
+        ensures uncounted { OnErr result (part.new.amount ≡ part.old.amount) }
         ensures err { OnErr result (self.new ≡ self.old) }
         ensures fault { IfErr result (λ fault.
             (fault ≡ GateFault.Memory) ⊎ (fault ≡ GateFault.NoVersion)) }
@@ -309,6 +351,7 @@ impl<J: GateName, R: Wait + Drop> Locked<J, R> {
         let entry = ready.entry();
         let answer = (entry.number(), entry.reply());
         self.keeper.take(ready);
+        self.answered.add(part, 1);
         self.history = after.again();
         Ok((answer, after))
     }

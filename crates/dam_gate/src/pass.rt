@@ -9,15 +9,16 @@ ghost use Rattle.dam_gate.specs.inside.Locked.{IsFaultAt, entry_of};
 
 use crate::account::{Account, copy_of, owns};
 use crate::gate::GateFault;
-use crate::history::{GateName, History};
+use crate::history::{Answered, GateName, History};
 use crate::keeper::is_full;
 use crate::locked::Locked;
 use crate::version::{NextShown, Shown};
 use dam_book::{Name, Order, PackedCommand, PackedEntry, Participant, Reply};
 use left_right::{Absorb, ReadHandle};
-use std::alloc::{AllocError, Global};
+use std::alloc::AllocError;
 use std::marker::Model;
 use std::sync::Wait;
+use std::sync::ledger::Share;
 
 /// A note of a call: the gate's history up to the call's entry. Another pass of the gate can learn it.
 #[derive(Drop)]
@@ -57,6 +58,10 @@ pub struct Pass<J: GateName> {
     learnt: History<J>,
     note: Option<Note<J>>,
     reader: ReadHandle<Shown<J>>,
+    // its part of the gate's count of entries
+    part: Share<Answered<J>>,
+    ghost one_part: { part.parts ≡ 1 },
+    ghost as_many: { part.amount ≡ length receipts.items },
 }
 
 impl<J: GateName> Model for Pass<J> {
@@ -94,22 +99,27 @@ pub struct Look {
 impl<J: GateName> Pass<J> {
     /// A pass that has seen nothing.
     pub(crate) fn new(
-        alloc: Global,
         holder: Option<Participant>,
+        receipts: Vec<PackedEntry>,
         start: History<J>,
         reader: ReadHandle<Shown<J>>,
-    ) -> Result<Pass<J>, AllocError>
-        requires { start ≡ [] }
-        ensures { IfOk result (λ pass. pass ≡ knowing_nothing holder) }
+        part: Share<Answered<J>>,
+    ) -> Pass<J>
+        requires none { receipts.items ≡ [] }
+        requires start { start ≡ [] }
+        requires one_part { part.parts ≡ 1 }
+        requires nothing { part.amount ≡ 0 }
+        ensures { result ≡ knowing_nothing holder }
     {
-        Ok(Pass {
+        Pass {
             holder,
-            receipts: Vec::with_capacity(alloc, FIRST_RECEIPTS)?,
+            receipts,
             learnt: start.again(),
             history: start,
             note: None,
             reader,
-        })
+            part,
+        }
     }
 
     /// The participant that holds it; `None` if it is the operator's.
@@ -218,6 +228,8 @@ impl<J: GateName> Pass<J> {
         ensures passes { locked.new.passes ≡ locked.old.passes }
         ensures answered { IfOk result (λ answer.
             IsCalled J.opening.periods self.old self.new (entry_of command.now answer)) }
+        ensures learnt { OnOk result
+            (IsPrefix self.old.learnt locked.old.journal.entries) }
         ensures err { OnErr result ((locked.new ≡ locked.old) × (self.new ≡ self.old)) }
         ensures fault { IfErr result
             (IsFaultAt (length locked.old.journal.entries) self.old.account command.now) }
@@ -229,7 +241,7 @@ impl<J: GateName> Pass<J> {
         }
         self.receipts.reserve(1)?;
         let packed = command.clone()?;
-        let (answer, after) = locked.enter(&self.history, &self.learnt, command)?;
+        let (answer, after) = locked.enter(&self.history, &self.learnt, &mut self.part, command)?;
         self.receipts
             .push_reserved(PackedEntry::new(answer.0, packed, answer.1));
         self.note = Some(Note {
@@ -243,6 +255,16 @@ impl<J: GateName> Pass<J> {
     pub fn into_account(self) -> Account
         ensures { result ≡ self.account }
     {
+        let (account, _part) = self.into_account_and_part();
+        account
+    }
+
+    /// Its account, and its part of the gate's count of entries.
+    pub(crate) fn into_account_and_part(self) -> (Account, Share<Answered<J>>)
+        ensures account { result.0 ≡ self.account }
+        ensures one_part { result.1.parts ≡ 1 }
+        ensures as_many { result.1.amount ≡ length self.account.receipts }
+    {
         let Pass {
             holder,
             receipts,
@@ -250,10 +272,20 @@ impl<J: GateName> Pass<J> {
             learnt: _learnt,
             note: _note,
             reader: _reader,
+            part,
         } = self;
-        Account::new(holder, history.len(), receipts)
+        (Account::new(holder, history.len(), receipts), part)
+    }
+
+    /// From now on, its calls' histories begin with all that the other pass has seen.
+    pub(crate) fn learn_from(&mut self, other: &Pass<J>)
+        ensures pass { self.new ≡ after_learning self.old self.new.learnt }
+        ensures kept { IsPrefix self.old.learnt self.new.learnt }
+        ensures learnt { IsPrefix other.now.history self.new.learnt }
+    {
+        self.learnt = self.learnt.longer(&other.history);
     }
 }
 
 /// How many receipts a new pass has room for.
-const FIRST_RECEIPTS: usize = 16;
+pub(crate) const FIRST_RECEIPTS: usize = 16;

@@ -15,10 +15,14 @@ ghost use Rattle.dam_hour.specs.Best.{AreSmall, IsBest, welfare_of, execution_su
 
 use crate::hour::{GREATEST_NET, MOST_STEPS};
 
-/// Each exported constant is the number of its limit.
+/// Each exported constant is the number of its limit. The limits are these numbers, as is the price of a period whose
+/// supporting prices are all prices.
 pub fn limits()
     ensures steps { MOST_STEPS ≡ most_steps }
     ensures net { GREATEST_NET ≡ pos greatest_net }
+    ensures steps_is { most_steps ≡ 4024 }
+    ensures net_is { greatest_net ≡ 2399976 }
+    ensures middle_is { price_between lowest_price highest_price ≡ pos 175000 }
 {}
 
 /// The exchange law: the supporting prices are all whole cents from the one end to the other, and

@@ -1,5 +1,5 @@
--- One answer more changes the least unfinished piece, and the highest selection that was found.
-use Rattle.std.proofs.Common.{◌≡◌, ◌≢◌, ℕ, ◌+◌, ◌^◌, ◌<◌, ◌≤◌, ◌⊎◌, inl, inr, Bool, true, false, not, ◌&&◌, nat_lt, cond, ◌==◌, Option}
+-- One answer more changes the highest selection that was found.
+use Rattle.std.proofs.Common.{◌≡◌, ◌≢◌, ℕ, ◌+◌, ◌^◌, ◌<◌, ◌≤◌, ◌⊎◌, inl, inr, Bool, true, false, cond, ◌==◌, Option}
 use Rattle.std.proofs.Common.{Some, None, List, [], ◌∷◌, ◌++◌, length, take, slice_index_or, slice_set, replicate, ◌∙◌, ap, sym, subst}
 use Rattle.std.proofs.Common.{refl, arith}
 use Rattle.std.specs.List.{All, Contains, count_by}
@@ -14,64 +14,10 @@ use Rattle.dam_blocks.specs.Problem.{ProblemState, IsProblem}
 use Rattle.dam_search.specs.declared.answer.PieceAnswer.{PieceAnswer}
 use Rattle.dam_search.specs.Piece.{Rises}
 use Rattle.dam_search.specs.Answer.{AreAnswered, AreConclusive}
-use Rattle.dam_search.specs.inside.Collect.{IsWorked, answers_about, AreOneEach, IsLeastUnfinished, AreCounts, is_lesser, IsLong}
+use Rattle.dam_search.specs.inside.Collect.{IsWorked, answers_about, AreOneEach, AreCounts, IsLong}
 use Rattle.dam_search.specs.inside.Collect.{IsHighestFound}
 use Rattle.dam_search.specs.Words.{most_pieces}
 use Rattle.dam_search.proofs.Ranks.{IsTransitive, rises_twice}
-
-not_done : (b : Bool) → not b ≡ true → b ≡ false
-not_done true e = absurd (cc)
-not_done false e = refl
-
-is_done : (b : Bool) → not b ≡ false → b ≡ true
-is_done true e = refl
-is_done false e = absurd (cc)
-
--- ---- the least answer that isn't done
-
--- if the second answer isn't done, it is about no lesser piece than the first
-abbrev IsNoLesser : PieceAnswer → PieceAnswer → Type 0
-IsNoLesser u a = a.done ≡ false → u.piece ≤ a.piece
-
-pub lesser_step : (answers : List PieceAnswer) (a : PieceAnswer) (least : Option PieceAnswer) → IsLeastUnfinished answers least
-    → is_lesser a least ≡ true → IsLeastUnfinished (answers ++ a ∷ []) (Some a)
-lesser_step answers a None h e = (
-  Contains-push answers a,
-  not_done a.done e,
-  All-push (IsNoLesser a) answers a
-      (All-weaker (λ (x : PieceAnswer). x.done ≡ true) (IsNoLesser a)
-      (λ (x : PieceAnswer) (d : x.done ≡ true) (f : x.done ≡ false). absurd (cc)) answers h)
-      (λ f. omega arith),
-)
-lesser_step answers a (Some u) h e =
-    let both = parts a.done (nat_lt a.piece u.piece) e in
-    let less : a.piece < u.piece = grind (arith, nat_tests, both.1) in (
-      Contains-push answers a,
-      not_done a.done both.0,
-      All-push (IsNoLesser a) answers a
-          (All-weaker (IsNoLesser u) (IsNoLesser a)
-          (λ (x : PieceAnswer) (b : IsNoLesser u x) (f : x.done ≡ false). (let m = b f in omega (arith, m, less)))
-          answers h.2)
-          (λ f. omega arith),
-    )
-  where
-    parts : (b c : Bool) → (not b && c) ≡ true → (not b ≡ true) × (c ≡ true)
-    parts true c e = absurd (cc)
-    parts false c e = (refl, e)
-
-pub kept_step : (answers : List PieceAnswer) (a : PieceAnswer) (least : Option PieceAnswer) → IsLeastUnfinished answers least
-    → is_lesser a least ≡ false → IsLeastUnfinished (answers ++ a ∷ []) least
-kept_step answers a None h e = All-push (λ (x : PieceAnswer). x.done ≡ true) answers a h (is_done a.done e)
-kept_step answers a (Some u) h e = (
-  Contains-append_left answers (a ∷ []) u h.0,
-  h.1,
-  All-push (IsNoLesser u) answers a h.2
-      (λ f. (let m = not_lesser a.done (nat_lt a.piece u.piece) f e in grind (arith, nat_tests, m))),
-)
-  where
-    not_lesser : (b c : Bool) → b ≡ false → (not b && c) ≡ false → c ≡ false
-    not_lesser true c f e = absurd (cc)
-    not_lesser false c f e = e
 
 -- ---- the highest that was found
 

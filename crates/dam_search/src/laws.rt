@@ -18,11 +18,14 @@ ghost use Rattle.dam_search.specs.Answer.{greatest_found, IsHighest};
 
 use dam_plan::{MOST_CUT, MOST_NODES, MOST_WORKERS};
 
-/// The limits of a plan are the exported constants.
+/// The limits of a plan are the exported constants, and these numbers.
 pub fn limits()
     ensures workers { most_workers ≡ MOST_WORKERS }
     ensures cut { most_cut ≡ MOST_CUT }
     ensures nodes { most_nodes ≡ MOST_NODES }
+    ensures workers_is { most_workers ≡ 8 }
+    ensures cut_is { most_cut ≡ 8 }
+    ensures nodes_is { most_nodes ≡ 67108864 }
 {}
 
 /// The collecting law: the highest selection that conclusive answers found is the result, and they

@@ -1,15 +1,15 @@
 -- How the participants enter a day's commands.
-use Rattle.std.specs.Prelude.{◌≡◌, ◌≢◌, ℕ, ◌<◌, false, List, [], ◌∷◌, ◌++◌, length, filter_map, slice_get, slice_index_or}
-use Rattle.std.specs.Prelude.{None, Some}
+use Rattle.std.specs.Prelude.{◌≡◌, ◌≢◌, ℕ, ◌<◌, false, List, [], ◌∷◌, ◌++◌, length, filter_map, slice_get, slice_index_or, None, Some}
+use mathlib.Core.List.{IsPrefix}
 use Rattle.dam_book.specs.Book.{commands_of}
 use Rattle.dam_book.specs.declared.command.Command.{Command}
 use Rattle.dam_book.specs.declared.command.Command.TheVariants.{Close}
-use Rattle.dam_gate.specs.Pass.{PassState, IsPass}
-use Rattle.dam_gate.specs.Journal.{JournalState, IsJournal}
+use Rattle.dam_gate.specs.Pass.{Knowledge, PassState, IsPass, with_receipt}
+use Rattle.dam_gate.specs.Journal.{JournalState, IsJournal, journal_after, next_entry}
 use Rattle.dam_gate.specs.Limits.{most_participants}
 use Rattle.dam_gate.specs.Settled.{IsMismatch}
 use Rattle.dam_book.specs.Command.{giver}
-use Rattle.dam_gate.specs.Day.{IsUnsettledDay, commands_by, is_one_of, with_any, with_giver}
+use Rattle.dam_gate.specs.Day.{commands_by, is_one_of, with_any, with_giver}
 use Rattle.dam_gate.specs.declared.day.DayFault.{DayFault}
 use Rattle.dam_gate.specs.declared.day.DayFault.TheVariants.{TooManyCommands, CloseGiven, TooManyParticipants, NotSettled, Memory}
 use Rattle.dam_gate.specs.declared.settlement.Mismatch.TheVariants.{Memory as MismatchMemory}
@@ -80,20 +80,6 @@ pub record HasAll (share : List ℕ) (p : PassState) : Type 0 where
   pub pass : IsPass p
   pub as_many : length p.receipts ≡ length share
 
--- a journal whose last command is a close
-pub record IsClosedDay (j : JournalState) : Type 0 where
-  pub journal : IsJournal j
-  pub before : List Command
-  pub last : commands_of j.entries ≡ before ++ Close ∷ []
-
--- the faults of a day of these commands, which it takes: it came out unsettled, for this reason, or memory ran out
-abbrev pub IsLateFault : List Command → DayFault → Type 0
-IsLateFault cs TooManyCommands = ⊥
-IsLateFault cs (CloseGiven place) = ⊥
-IsLateFault cs (TooManyParticipants place) = ⊥
-IsLateFault cs (NotSettled why) = IsUnsettledDay cs why
-IsLateFault cs Memory = Unit {0}
-
 -- the faults of a day if this journal and these passes aren't found settled: why they aren't, or that memory ran out
 abbrev pub IsUnsettled : JournalState → List PassState → DayFault → Type 0
 IsUnsettled j passes TooManyCommands = ⊥
@@ -101,3 +87,13 @@ IsUnsettled j passes (CloseGiven place) = ⊥
 IsUnsettled j passes (TooManyParticipants place) = ⊥
 IsUnsettled j passes (NotSettled why) = (why ≢ MismatchMemory) × IsMismatch j passes why
 IsUnsettled j passes Memory = Unit {0}
+
+-- the operator, whose pass knew this before, closed: the journal went on, by the close, from one that begins with all that
+-- the pass had learnt of, and the close's entry is the receipt
+pub record IsClosed (before : Knowledge) (after : PassState) (j : JournalState) : Type 0 where
+  pub earlier : JournalState
+  pub journal : IsJournal earlier
+  pub learnt : IsPrefix before.learnt earlier.entries
+  pub closed : j ≡ journal_after earlier Close
+  pub receipt : after ≡ with_receipt before.account (next_entry earlier Close)
+  pub pass : IsPass after

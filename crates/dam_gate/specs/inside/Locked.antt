@@ -8,7 +8,6 @@ use Rattle.dam_gate.specs.declared.gate.GateFault.TheVariants.{NotYours, Journal
 use Rattle.dam_gate.specs.declared.gate.PassFault.{PassFault}
 use Rattle.dam_gate.specs.declared.gate.PassFault.TheVariants.{PassesUsed, NoPlace, Memory}
 use Rattle.dam_gate.specs.Journal.{JournalState, is_full}
-use Rattle.dam_gate.specs.Limits.{most_passes}
 use Rattle.dam_gate.specs.Pass.{PassState, is_own}
 
 -- the journal, and how many passes were given
@@ -16,11 +15,11 @@ pub record LockedState : Type 0 where
   pub journal : JournalState
   pub passes : ℕ
 
--- the faults that may be answered in place of a pass if this number was given
-abbrev pub IsPassFault : ℕ → PassFault → Type 0
-IsPassFault given PassesUsed = most_passes ≤ given
-IsPassFault given NoPlace = given < most_passes
-IsPassFault given Memory = given < most_passes
+-- the faults that may be answered in place of a pass if, of this many, this number was given
+abbrev pub IsPassFault : ℕ → ℕ → PassFault → Type 0
+IsPassFault most given PassesUsed = most ≤ given
+IsPassFault most given NoPlace = given < most
+IsPassFault most given Memory = given < most
 
 -- the faults that are answered to the command of a pass in place of its entry if the journal holds `held`: each fault
 -- only if the ones before it don't apply

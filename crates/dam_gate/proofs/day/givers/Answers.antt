@@ -9,8 +9,7 @@ use Rattle.dam_book.specs.Limits.{most_entries}
 use Rattle.dam_gate.specs.Pass.{is_close}
 use Rattle.dam_gate.specs.Day.{AreTaken, IsDayFault, givers_of}
 use Rattle.dam_gate.specs.inside.Entering.{AreGivers}
-use Rattle.dam_gate.proofs.Days.{givers-more, no_close-more, order-more, refused-at}
-use Rattle.dam_gate.proofs.Witnesses.{passed_on}
+use Rattle.dam_gate.proofs.Days.{givers-more, no_close-more, order-more, passed_on, refused-at}
 use Rattle.dam_gate.proofs.day.givers.Goals as goal
 
 pub loop-place-preserved : goal.loop-place-preserved

@@ -1,77 +1,80 @@
--- The settled journal is a day run, and the passes are the participants' and then the operator's.
-use Rattle.std.proofs.Common.{◌≡◌, ◌++◌, ◌∷◌, [], ℕ, List, ap, subst, sym, ◌∙◌, inr, refl}
+-- The journal is settled with the passes, which are the participants' and then the operator's, and is a day run.
+use Rattle.std.proofs.Common.{◌≡◌, ◌<◌, ◌++◌, ◌∷◌, [], ℕ, List, None, length, get_or, ap, subst, sym, ◌∙◌}
+use mathlib.Core.List.{IsPrefix}
 use Rattle.dam_book.specs.Book.{IsLegalHistory}
-use Rattle.dam_gate.specs.Journal.{JournalState, IsJournal}
+use Rattle.dam_gate.specs.Journal.{JournalState}
 use Rattle.dam_gate.specs.Opening.{OpeningState}
-use Rattle.dam_gate.specs.Pass.{PassState, holders}
+use Rattle.dam_gate.specs.Pass.{Knowledge, PassState, after_learning, holders, knowing_nothing}
 use Rattle.dam_gate.specs.Headline.{IsWholeAccount}
-use Rattle.dam_gate.specs.Settled.{receipts_of}
-use Rattle.dam_gate.specs.Day.{EndsOtherwise}
-use Rattle.dam_gate.specs.inside.Entering.{IsClosedDay, IsLateFault, IsUnsettled}
-use Rattle.dam_gate.specs.declared.settlement.Mismatch.TheVariants.{StillOpen}
+use Rattle.dam_gate.specs.Settled.{IsSettled, receipts_of}
+use Rattle.dam_gate.specs.inside.Entering.{IsClosed}
 use Rattle.dam_gate.specs.inside.Tally.{AreReceipts}
-use Rattle.dam_gate.proofs.Accounts.{each_number}
-use Rattle.dam_gate.proofs.Days.{day_run}
-use Rattle.dam_gate.proofs.Witnesses.{held_by, passed_on, settlement-fault, unsettled}
+use Rattle.dam_gate.specs.declared.day.DayFault.{DayFault}
+use Rattle.dam_gate.specs.declared.day.DayFault.TheVariants.{Memory}
+use Rattle.dam_gate.proofs.Days.{accounts, day_run, passed_on}
+use Rattle.dam_gate.proofs.Settling.{counted, held_by}
 use Rattle.dam_gate.proofs.day.run_at_gate.Goals as goal
 
 pub returns-clause-day : goal.returns-clause-day
 returns-clause-day g c =
-    let j = c.in_ok-settled.settled in
-    let es = j.entries in
-    let ps = c.deref.result.now in
-    let closed = subst IsClosedDay c.journal.ensures.value (c.ends_with_a_close.ensures.close c.if-not-ends_with_a_close.false) in
+    let given = c.args.commands.now in
+    let participants = c.args.participants.now in
+    let ks : List Knowledge = c.in_ok-passes.passes.items in
+    let before : Knowledge = c.learn_from_all.new.pass in
+    let op : PassState = c.close.new.operator.account in
+    let j = c.into_counted_journal-journal.result in
+    let passes = c.in_ok-passes-2.passes.items in
+    let closed : IsClosed before op j = subst (IsClosed before op) (sym c.into_counted_journal-journal.ensures.value) c.in_ok-closed.ensures in
+    let is : before ≡ after_learning (knowing_nothing None) before.learnt =
+    c.learn_from_all.ensures.pass ∙ ap (λ (k : Knowledge). after_learning k before.learnt) c.in_ok-operator.ensures in
+    let begin = subst (λ (xs : List Knowledge). (i : ℕ) (d : Knowledge) → i < length xs → IsPrefix (get_or xs i d).history before.learnt)
+    c.deref.ensures.value c.learn_from_all.ensures.learnt in
+    let most = sym (ap (λ (o : OpeningState). o.passes) c.requires.name) ∙ c.requires.passes in
+    let day = counted given participants ks before op j passes c.in_ok-passes-2.parts.parts g.J.GateName.opening.passes
+    c.in_ok-passes-2.parts.amount closed is c.into_counted_journal-journal.ensures.valid c.requires.givers.apart
+    c.in_ok-passes.ensures.ok c.in_ok-passes.ensures.holders c.in_ok-passes.ensures.valid begin c.in_ok-passes-2.ensures.accounts
+    c.in_ok-passes-2.ensures.parts most c.in_ok-passes-2.ensures.count c.into_counted_journal-journal.ensures.count in
+    let ps = accounts ks in
+    let settled = c.in_ok-settled.settled in
+    let same : settled ≡ j = c.in_ok-settled.ensures.journal in
     let periods : j.book.periods ≡ c.args.periods =
-    ap (λ (x : JournalState). x.book.periods) c.in_ok-settled.ensures.journal
-    ∙ (c.finish-journal.ensures.day ∙ (sym (ap (λ (o : OpeningState). o.periods) c.requires.name) ∙ c.requires.day)) in
-    let legal = subst (λ (n : ℕ). IsLegalHistory n es) periods closed.journal.history.legal in
-    record {
+    c.into_counted_journal-journal.ensures.day ∙ (sym (ap (λ (o : OpeningState). o.periods) c.requires.name) ∙ c.requires.day) in
+    let legal = subst (λ (n : ℕ). IsLegalHistory n j.entries) periods c.into_counted_journal-journal.ensures.valid.history.legal in
+    let all : passes ≡ ps ++ op ∷ [] = c.in_ok-passes-2.ensures.accounts in
+    let run = day_run c.args.periods given participants j.entries ps op day.before legal
+    (subst (λ (xs : List PassState). AreReceipts j.entries (receipts_of xs)) all day.are) c.requires.givers c.in_ok-passes.ensures.ok
+    day.closes closed.pass day.last in
+    rw same (record {
       taken = c.requires.taken;
       day_length = periods;
-      journal = closed.journal;
-      run = day_run c.args.periods c.args.commands.now c.args.participants.now es c.in_ok-passes.passes.items c.in_ok-operator.operator
-          closed.before legal
-          (subst (λ (ps : List PassState). AreReceipts es (receipts_of ps)) (c.deref.ensures.value ∙ c.in_ok-push.ensures.items)
-          (each_number c.args.periods es (receipts_of ps) legal c.in_ok-settled.ensures.account.each_once))
-          c.requires.givers c.in_ok-passes.ensures.ok c.in_ok-operator.ensures.ok c.in_ok-operator.ensures.pass closed.last;
-      account = subst (λ (ps : List PassState). IsWholeAccount j ps) c.deref.ensures.value c.in_ok-settled.ensures.account;
-      held_by = ap holders c.in_ok-push.ensures.items
-          ∙ held_by c.args.commands.now c.args.participants.now c.in_ok-passes.passes.items c.in_ok-operator.operator
-          c.in_ok-passes.ensures.holders c.in_ok-operator.ensures.holder c.requires.order;
-    }
+      journal = c.into_counted_journal-journal.ensures.valid;
+      run = run;
+      account = subst (λ (x : JournalState). IsWholeAccount x passes) same
+          (subst (λ (xs : List PassState). IsWholeAccount settled xs) c.deref-2.ensures.value c.in_ok-settled.ensures.account);
+      held_by = ap holders all ∙ held_by given participants ps op c.in_ok-passes.ensures.holders day.nobody c.requires.order;
+    })
 
--- the settlement's fault
+-- so its settlement may only run out of memory
 pub returns-in_err-settled-clause-err : goal.returns-in_err-settled-clause-err
 returns-in_err-settled-clause-err g c =
     let given = c.args.commands.now in
     let participants = c.args.participants.now in
-    let ps = c.in_ok-passes.passes.items in
-    let op = c.in_ok-operator.operator in
-    let j = c.finish-journal.result in
+    let ks : List Knowledge = c.in_ok-passes.passes.items in
+    let before : Knowledge = c.learn_from_all.new.pass in
+    let op : PassState = c.close.new.operator.account in
+    let j = c.into_counted_journal-journal.result in
+    let passes = c.in_ok-passes-2.passes.items in
+    let closed : IsClosed before op j = subst (IsClosed before op) (sym c.into_counted_journal-journal.ensures.value) c.in_ok-closed.ensures in
+    let is : before ≡ after_learning (knowing_nothing None) before.learnt =
+    c.learn_from_all.ensures.pass ∙ ap (λ (k : Knowledge). after_learning k before.learnt) c.in_ok-operator.ensures in
+    let begin = subst (λ (xs : List Knowledge). (i : ℕ) (d : Knowledge) → i < length xs → IsPrefix (get_or xs i d).history before.learnt)
+    c.deref.ensures.value c.learn_from_all.ensures.learnt in
+    let most = sym (ap (λ (o : OpeningState). o.passes) c.requires.name) ∙ c.requires.passes in
+    let day = counted given participants ks before op j passes c.in_ok-passes-2.parts.parts g.J.GateName.opening.passes
+    c.in_ok-passes-2.parts.amount closed is c.into_counted_journal-journal.ensures.valid c.requires.givers.apart
+    c.in_ok-passes.ensures.ok c.in_ok-passes.ensures.holders c.in_ok-passes.ensures.valid begin c.in_ok-passes-2.ensures.accounts
+    c.in_ok-passes-2.ensures.parts most c.in_ok-passes-2.ensures.count c.into_counted_journal-journal.ensures.count in
+    let settled = subst (λ (xs : List PassState). IsSettled j xs) (sym c.deref-2.ensures.value) day.settled in
     let fault = c.in_err-settled.field-0.0 in
-    let is = subst (λ (xs : List PassState). IsUnsettled j xs fault) (c.deref.ensures.value ∙ c.in_ok-push.ensures.items)
-    c.in_err-settled.ensures.why in
-    passed_on (IsLateFault given) c.from_residual-in_err-settled.result fault c.from_residual-in_err-settled.ensures.1
-    (settlement-fault given (ps ++ op ∷ []) j fault
-    (λ why reason. unsettled given participants ps op j why c.finish-journal.ensures.journal c.in_ok-passes.ensures.ok
-    c.in_ok-operator.ensures.ok c.in_ok-operator.ensures.pass c.in_ok-passes.ensures.holders c.in_ok-operator.ensures.holder
-    c.requires.order reason)
-    is)
-
--- the journal is settled, but another command is its last
-pub returns-then-not-ends_with_a_close-clause-err : goal.returns-then-not-ends_with_a_close-clause-err
-returns-then-not-ends_with_a_close-clause-err g c =
-    let ps = c.in_ok-passes.passes.items in
-    let op = c.in_ok-operator.operator in
-    let j = c.in_ok-settled.settled in
-    let account = subst (λ (xs : List PassState). IsWholeAccount j xs) (c.deref.ensures.value ∙ c.in_ok-push.ensures.items)
-    c.in_ok-settled.ensures.account in
-    unsettled c.args.commands.now c.args.participants.now ps op j StillOpen
-    (subst IsJournal (sym c.in_ok-settled.ensures.journal) c.finish-journal.ensures.journal) c.in_ok-passes.ensures.ok
-    c.in_ok-operator.ensures.ok c.in_ok-operator.ensures.pass c.in_ok-passes.ensures.holders c.in_ok-operator.ensures.holder
-    c.requires.order
-    (inr (
-      refl,
-      record { closed = account.closed; each_once = account.each_once },
-      subst EndsOtherwise c.journal.ensures.value (c.ends_with_a_close.ensures.other c.if-not-ends_with_a_close.true),
-    ))
+    passed_on (λ (f : DayFault). f ≡ Memory) c.from_residual-in_err-settled.result fault c.from_residual-in_err-settled.ensures.1
+    (c.in_err-settled.ensures.exact settled)

@@ -1,7 +1,10 @@
 -- A look at a longer history keeps the receipts in order.
-use Rattle.std.proofs.Common.{length, ap, refl, arith}
+use Rattle.std.proofs.Common.{List, length, ap, refl, sym, subst, arith}
+use Rattle.dam_book.specs.declared.command.Entry.{Entry}
+use Rattle.dam_gate.specs.Pass.{StandIn}
 use Rattle.dam_gate.proofs.Beginnings.{prefix_length}
 use Rattle.dam_gate.proofs.Receipts.{AreInOrder-seen}
+use Rattle.dam_gate.proofs.Standing.{stand-longer}
 use Rattle.dam_gate.proofs.pass.Pass.look.Goals as goal
 
 pub invariant_of-self-2 : goal.invariant_of-self-2
@@ -16,6 +19,9 @@ invariant_of-self-2 g c =
         own = c.self.invariant.account.own;
       };
       seen = refl;
+      stand = subst (λ (es : List Entry). StandIn es c.self.inside.receipts.items) (sym c.again.ensures)
+          (stand-longer c.self.inside.history shown c.self.inside.receipts.items
+          (c.begins_with.ensures c.if-not-begins_with.false) c.self.invariant.stand);
     }
 
 pub returns-clause-begins : goal.returns-clause-begins

@@ -12,6 +12,7 @@ use Rattle.dam_gate.specs.inside.Locked.{entry_of}
 use Rattle.dam_gate.proofs.Beginnings.{prefix_length}
 use Rattle.dam_gate.proofs.Receipts.{AreInOrder-snoc, AreOwn-snoc}
 use Rattle.dam_gate.proofs.Histories.{history-after}
+use Rattle.dam_gate.proofs.Standing.{stand-called}
 use Rattle.dam_gate.proofs.pass.Pass.step.Goals as goal
 
 -- the room for a command of its giver is the room for it
@@ -46,6 +47,8 @@ invariant_of-self-2 g c =
         own = AreOwn-snoc holder receipts e c.self.invariant.account.own mine room;
       };
       seen = refl;
+      stand = stand-called held receipts c.in_ok-answer.after c.self.inside.history e c.in_ok-answer.ensures.seen c.self.invariant.stand
+          c.in_ok-answer.ensures.history whole before;
     })
 
 -- the history after the call is the journal's with the entry, and all that the pass knew begins the journal's
@@ -85,3 +88,7 @@ returns-clause-answered g c =
         learnt = subst (λ (k : Knowledge). IsPrefix k.learnt j.entries) c.self.view_is c.in_ok-answer.ensures.learnt;
       };
     }
+
+pub returns-clause-learnt : goal.returns-clause-learnt
+returns-clause-learnt g c =
+    subst (λ (k : Knowledge). IsPrefix k.learnt c.args.locked.now.journal.entries) c.self.view_is c.in_ok-answer.ensures.learnt
