@@ -6,7 +6,8 @@ selection that ranks below, the best one that differs in one block and what hang
 selection above it. Each case is drawn from the seed and its number alone. With --families the days are those of bench/make_family.py with
 24 blocks, which are hard for a search: of 24 and 96 periods, with 500 and 4,000 hourly orders. With --books they are the 60 of
 bench/make_blocks.py, with 24 blocks as users have them and 3,800 hourly orders, with --thin its thin and wide markets, and with --profiles
-random days with such blocks. The last line printed is 'N passed, M failed'."""
+random days with such blocks. Without numpy, random days have at most 12 blocks, and the others can't be tried. The last line printed is
+'N passed, M failed'."""
 
 import argparse
 import itertools
@@ -26,6 +27,7 @@ from lib.progress import Progress
 
 BENCH = Path(__file__).resolve().parents[2] / "bench"
 LEAST_BLOCKS, MOST_BLOCKS = 5, 24
+FEW_BLOCKS = 12  # of a day, without numpy
 FAMILIES = ["market", "paradox", "spread", "nearties", "links", "groups", "ties"]
 
 
@@ -72,7 +74,7 @@ def made(script, words):
 
 def draw(rng, args):
     """A closed day with blocks whose prices and volumes meet, or not; or with profiles as users have them."""
-    blocks = args.blocks or rng.randint(LEAST_BLOCKS, MOST_BLOCKS)
+    blocks = args.blocks or min(rng.randint(LEAST_BLOCKS, MOST_BLOCKS), args.most_blocks)
     if args.profiles:
         return days.with_profiles(rng, blocks)
     draft = days.Draft(rng)
@@ -138,7 +140,10 @@ def wrong_of(program, data, jobs):
 
 def main():
     args = arguments()
-    command.need("numpy")
+    command.python_with("numpy")
+    if args.families or args.books or args.thin or (args.blocks or 0) > FEW_BLOCKS:
+        command.need("numpy")
+    args.most_blocks = MOST_BLOCKS if command.has("numpy") else FEW_BLOCKS
     program, counts, altered = compare.Program(args.program, args.wait), Counts(), {}
     for name, data in inputs(args):
         wrong, kind = wrong_of(program, data, args.jobs)

@@ -60,6 +60,12 @@ def answered(command, words, data, defect):
         time.sleep(60)
     if defect == "price" and NOMINAL in answer.stdout:
         answer = answer._replace(stdout=answer.stdout.replace(NOMINAL, b"period,1,%d" % (MIDDLE + 1)))
+    if defect == "memory" and words == ["--workers", "1", "--cut", "0"]:
+        return Printed(4, b"", b"memory\n")
+    if defect == "welfare":
+        answer = answer._replace(stdout=answer.stdout.replace(b"welfare,", b"welfare,1", 1))
+    if defect == "replies" and command == "replay":
+        answer = answer._replace(stdout=answer.stdout.replace(b",done\n", b",refused,Closed\n", 1))
     if defect == "lower" and command == "clear" and answer.status == 0:
         answer = answer._replace(stdout=lower(data))
     if defect == "plan" and words == ["--workers", "8", "--cut", "8"]:

@@ -190,7 +190,6 @@ class Doctored(unittest.TestCase):
             self.assertIsNone(doctored.decoded(text))
 
 
-@unittest.skipUnless(command.has("numpy"), "numpy is missing (Debian's python3-numpy)")
 class Selections(unittest.TestCase):
     def selections(self, *words, defect=""):
         with tempfile.TemporaryDirectory() as folder:
@@ -214,6 +213,36 @@ class Selections(unittest.TestCase):
         self.assertEqual(status, 1)
         self.assertRegex(out, r"differs: case \d+ of seed 1: the selection \[.+\] is better, with \d+\n")
         self.assertRegex(out, r"\n\d passed, [1-9]\d* failed\n$")
+
+    def test_without_numpy_random_days_have_fewer_blocks(self):
+        with mock.patch.object(command, "has", lambda module: False), mock.patch.object(command, "elsewhere", lambda *modules: False):
+            status, out = self.selections("--blocks", "7", "--count", "3")
+            self.assertEqual((status, out.splitlines()[-1]), (0, "3 passed, 0 failed"), out)
+            status, out = self.selections("--blocks", "7", "--count", "3", defect="lower")
+            self.assertEqual((status, "is better" in out), (1, True), out)
+            status, out = self.selections("--thin")
+            self.assertEqual((status, out), (command.FAILED, f"fuzz: {command.missing('numpy')}\n"))
+
+
+class Full(unittest.TestCase):
+    """The books at their limits; here the limits are low."""
+
+    def full(self, defect=""):
+        with tempfile.TemporaryDirectory() as folder:
+            return called("full.py", folder, "--hourly", "30", "--blocks", "5", "--commands", "90", defect=defect)
+
+    def test_a_program_that_is_right(self):
+        self.assertEqual(self.full(), (0, "24 passed, 0 failed\n"))
+
+    def test_each_defect_is_found(self):
+        for defect, words in {
+            "memory": "clear --workers 1 --cut 0: memory",
+            "plan": "clear --workers 8 --cut 8: other results",
+            "welfare": "the welfare is",
+            "replies": "stdout differs",
+        }.items():
+            status, out = self.full(defect)
+            self.assertEqual((status, words in out), (1, True), (defect, out))
 
 
 if __name__ == "__main__":

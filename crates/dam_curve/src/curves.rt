@@ -58,7 +58,8 @@ impl<A: Allocator> Model for Curves<A> {
 /// The number in 32 bits. If it doesn't fit, there are more segments or hints than can be kept, which is
 /// reported as out of memory.
 fn narrow(number: usize) -> Result<u32, AllocError>
-    ensures { IfOk result (λ narrow. narrow ≡ number) }
+    ensures value { IfOk result (λ narrow. narrow ≡ number) }
+    ensures fits { number < 2 ^ 32 → IsOk result }
 {
     let Ok(narrow) = u32::try_from(number) else {
         return Err(AllocError);

@@ -1,0 +1,214 @@
+#!/usr/bin/env python3
+"""Clears books at their limits, with 4,000 hourly orders and 24 blocks, and compares the results with the rules as `tools/audit` does.
+
+Each length of a day has a book in each of four markets: a deep one; one of 4,000 small orders, in which each block moves the prices; one
+with only two orders of each side in a period; and one with a single price. In every second book each block has another volume in each
+period. The blocks are free, linked, in groups, or both. Three of the books come from journals of 10,000 commands, which amend and cancel
+orders, submit them again, and submit orders that the book refuses; the replies to these journals are compared too. Each book is cleared
+under three plans, whose results must be equal. The last line is 'N passed, M failed'."""
+
+import argparse
+import math
+import random
+import sys
+from typing import NamedTuple
+
+sys.dont_write_bytecode = True
+
+import compare
+import days
+from shared.counts import Counts
+from lib import book, check, rules, selection
+
+MOST_COMMANDS = rules.MOST_RECORDS - 1
+PARTICIPANTS = ["A", "BRAVO", "CHARLIE", "DELTA", "ECHO", "FOXTROT", "GOLF", "PARTICIP"]
+PLANS = [[], ["--workers", "1", "--cut", "0"], ["--workers", "8", "--cut", "8"]]
+LEVEL = 6_000  # the mean price of a day, in cents per MWh
+
+
+class Market(NamedTuple):
+    """The hourly orders of a day, and the blocks: the limits of both are at most so far from the price, in cents."""
+
+    hourly: int  # how many; 0 for two of each side in a period
+    volumes: tuple[int, int]  # of hourly orders, in tenths of a MW
+    far: int
+    blocks: tuple[int, int]  # the volumes of blocks
+    near: int
+    swing: int = 1_500  # by which the price of a period differs from the mean
+
+
+MARKETS = {
+    "deep": Market(rules.MOST_HOURLY, (50, 399), 2_000, (20, 119), 50),
+    "thin": Market(rules.MOST_HOURLY, (1, 9), 2_000, (10, 39), 100),
+    "few": Market(0, (50, 399), 2_000, (1, 40), 100),
+    "level": Market(rules.MOST_HOURLY, (500, 999), 0, (10, 60), 0, swing=0),
+}
+BONDS = ["free", "links", "groups", "both"]
+LONG = [("deep", 24), ("thin", 100), ("level", 96)]  # the books that come from a long journal
+
+
+class Size(NamedTuple):
+    """The most orders and commands: a book's and a journal's limits, unless a test makes them smaller."""
+
+    hourly: int
+    blocks: int
+    commands: int
+
+
+class Drawn:
+    """A day in the making: its submits, and how its orders are drawn."""
+
+    def __init__(self, rng, periods, market, size, is_flat, bonds):
+        self.rng, self.periods, self.market, self.is_flat = rng, periods, MARKETS[market], is_flat
+        count = min(self.market.hourly or 4 * periods, size.hourly)
+        self.is_full = count == rules.MOST_HOURLY
+        self.submits = [self.hour(number) for number in range(count)]
+        self.submits += [self.block(number, bonds) for number in range(size.blocks)]
+
+    def price(self, period):
+        return LEVEL + round(self.market.swing * math.sin(2 * math.pi * period / self.periods))
+
+    def around(self, price, width):
+        return price + self.rng.randint(-width, width)
+
+    def hour(self, number):
+        """The record of an hourly order. The names have from 1 to 12 bytes."""
+        period, side = 1 + number % self.periods, "sell" if number // self.periods % 2 else "buy"
+        who, name = PARTICIPANTS[number % len(PARTICIPANTS)], f"H{number}" if number % 3 else f"HOURLY-{number:05}"
+        return f"submit,{who},{name if number else 'H'},hour,{side},{self.limit(period)},{self.volume(period)},,"
+
+    def limit(self, period):
+        return self.around(self.price(period), self.market.far)
+
+    def volume(self, period):
+        return f"{period}:{self.rng.randint(*self.market.volumes)}"
+
+    def block(self, number, bonds):
+        family, place = divmod(number, 4)
+        parent = group = ""
+        if bonds == "links" and place:
+            parent = f"K{4 * family + self.rng.randrange(place)}"
+        if bonds == "both" and place:
+            parent = f"K{4 * family}"
+        if bonds == "groups" or bonds == "both" and place:
+            group = f"GROUP-{family}"
+        side, (price, volumes) = self.rng.choice(["buy", "sell"]), self.offer()
+        return f"submit,{PARTICIPANTS[family % len(PARTICIPANTS)]},K{number},block,{side},{price},{volumes},{parent},{group}"
+
+    def offer(self):
+        """A limit price near the mean price of the volumes, and these."""
+        one = self.rng.randint(*self.market.blocks)
+        volumes = {period: one if self.is_flat else self.rng.randint(*self.market.blocks) for period in range(1, self.periods + 1)}
+        mean = sum(self.price(period) * volume for period, volume in volumes.items()) / sum(volumes.values())
+        return self.around(round(mean), self.market.near), ";".join(f"{period}:{volume}" for period, volume in volumes.items())
+
+    def amend(self, submit):
+        """A record that changes the limit and the volumes of this submit's order."""
+        _, who, name, kind, _, _, volumes, *_ = submit.split(",")
+        if kind == "block":
+            price, volumes = self.offer()
+        else:
+            period = int(volumes.partition(":")[0])
+            price, volumes = self.limit(period), self.volume(period)
+        return f"amend,{who},{name},,,{price},{volumes},,"
+
+    def change(self, submit):
+        """Commands that change this submit's order, or that the book refuses; the number of orders stays the same."""
+        kind, is_hour = self.rng.random(), ",hour," in submit
+        if kind < 0.6:
+            return [self.amend(submit)]
+        if kind < 0.9 and is_hour:
+            _, who, name, *_ = submit.split(",")
+            return [f"cancel,{who},{name},,,,,,", submit]
+        # The name is taken, or there is no place for another hourly order.
+        return [submit.replace(",H", ",X", 1) if self.is_full else submit]
+
+    def commands(self, count):
+        """This number of commands before the close: the submits in any order, changes, and the blocks again, of which some were refused
+        because their parent came later."""
+        hours, blocks = ([submit for submit in self.submits if kind in submit] for kind in (",hour,", ",block,"))
+        lines, last = list(self.submits), count - len(blocks)
+        self.rng.shuffle(lines)
+        while len(lines) < last:
+            change = self.change(self.rng.choice(hours if self.rng.random() < 0.95 else blocks))
+            if len(lines) + len(change) <= last:
+                lines += change
+        return lines + blocks
+
+    def text(self, count=None):
+        """The journal of the day; with this number of commands, if it is given."""
+        lines = self.submits if count is None else self.commands(count - 1)
+        return days.whole([f"day,{self.periods},,,,,,,", *lines, "close,,,,,,,,"])
+
+
+class Case(NamedTuple):
+    """A journal, and whether its book or itself is at the limits."""
+
+    name: str
+    data: bytes
+    is_full: bool
+    is_long: bool
+
+
+def cases(size):
+    for number, (market, periods) in enumerate((market, periods) for market in MARKETS for periods in rules.DAYS):
+        bonds, is_flat, is_long = BONDS[(number + number // 6) % 4], number % 2 == 0, (market, periods) in LONG
+        drawn = Drawn(random.Random(f"full {market} {periods}"), periods, market, size, is_flat, bonds)
+        name = f"{market} {periods}, {bonds}, {'one volume' if is_flat else 'a volume in each period'}"
+        yield Case(name, drawn.text(size.commands if is_long else None), MARKETS[market].hourly > 0, is_long)
+
+
+def wrong_sizes(case, held, size):
+    """Why the book or the journal isn't at its limits, if it should be."""
+    hourly, blocks = held.held["hour"], held.held["block"]
+    if blocks != size.blocks or case.is_full and hourly != size.hourly:
+        yield f"the book has {hourly} hourly orders and {blocks} blocks"
+    if case.is_long and len(case.data.splitlines()) != size.commands + 1:
+        yield f"the journal has {len(case.data.splitlines())} records"
+
+
+def wrong_results(program, data, held):
+    """The faults of the results, in words."""
+    printed = [program.printed(["clear", *plan], data) for plan in PLANS]
+    for plan, got in zip(PLANS, printed):
+        words = " ".join(["clear", *plan])
+        if got.status:
+            yield f"{words}: {got.stderr.decode().strip() or f'status {got.status}'}"
+        elif got != printed[0]:
+            yield f"{words}: other results than without a plan"
+    if not printed[0].status:
+        _, wrong = check.differences(selection.Problem(held), printed[0].stdout)
+        yield from wrong[:1]
+
+
+def wrong_of(program, case, size):
+    """The faults of a case."""
+    held, _ = book.run(compare.reading(case.data))
+    wrong = [*wrong_sizes(case, held, size), *wrong_results(program, case.data, held)]
+    if case.is_long:
+        wrong += compare.differences(program, "replay", [], case.data)
+    return wrong
+
+
+def arguments():
+    parser = argparse.ArgumentParser(
+        prog="tests/fuzz/full.py", description=__doc__, formatter_class=argparse.RawDescriptionHelpFormatter, allow_abbrev=False
+    )
+    parser.add_argument("program", metavar="PROGRAM", help="the built program, crates/dam_cli/out/dam_cli")
+    parser.add_argument("--hourly", type=int, default=rules.MOST_HOURLY, help="the most hourly orders of a book (4,000)")
+    parser.add_argument("--blocks", type=int, default=rules.MOST_BLOCKS, help="the blocks of a book (24)")
+    parser.add_argument("--commands", type=int, default=MOST_COMMANDS, help="the commands of a long journal (10,000)")
+    return parser.parse_args()
+
+
+def main():
+    args = arguments()
+    size = Size(args.hourly, args.blocks, args.commands)
+    program, counts = compare.Program(args.program), Counts()
+    for case in cases(size):
+        wrong = wrong_of(program, case, size)
+        counts.check(f"{case.name}: {'; '.join(map(str, wrong))}", not wrong)
+    return counts.end()
+
+
+sys.exit(main())
