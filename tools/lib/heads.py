@@ -65,6 +65,11 @@ class Receipt(NamedTuple):
     path: tuple
     head: Head
 
+    @property
+    def who(self):
+        """The participant whose entry it is; None for a close, which has none."""
+        return getattr(command_of(self.record), "who", None)
+
     def leaf(self):
         return leaf_of(self.number, self.record, self.reply, self.salt)
 
@@ -174,8 +179,10 @@ def head_read(value):
         raise Wrong(f"the day {said(day)} should be {A_DAY}")
     if type(periods) is not int or periods not in rules.DAYS:
         raise Wrong(f"the periods {said(periods)} should be one of {', '.join(map(str, sorted(rules.DAYS)))}")
-    size = number_read(size, 0, MOST_ENTRIES, "the size")
-    return Head(day, periods, size, bytes_read(root, HASH_BYTES), bytes_read(signature, SIGNATURE_BYTES))
+    size, root = number_read(size, 0, MOST_ENTRIES, "the size"), bytes_read(root, HASH_BYTES)
+    if size == 0 and root != merkle.EMPTY:
+        raise Wrong(f"the root of no entry is {packed(merkle.EMPTY)}")
+    return Head(day, periods, size, root, bytes_read(signature, SIGNATURE_BYTES))
 
 
 def path_read(value, most):
@@ -226,5 +233,7 @@ def parsed(data, read):
 
 
 def lines_of(data):
-    """The lines of a file, each with its end."""
-    return data.splitlines(keepends=True)
+    """The lines of a file, each with its end. There are at most as many as a journal has entries."""
+    if data.count(b"\n") + data.count(b"\r") > 2 * MOST_ENTRIES or len(lines := data.splitlines(keepends=True)) > MOST_ENTRIES:
+        raise Wrong(f"it has more than {MOST_ENTRIES:,} lines")
+    return lines

@@ -5,6 +5,17 @@ from cryptography.hazmat.primitives import serialization
 from cryptography.hazmat.primitives.asymmetric.ed25519 import Ed25519PrivateKey, Ed25519PublicKey
 
 
+# The keys for which anyone can make signatures, without the bit of the sign: the points of order 1, 2, 4 and 8.
+SMALL = {
+    bytes(32),
+    bytes([1]) + bytes(31),
+    bytes.fromhex("26e8958fc2b227b045c3f489f2ef98f0d5dfac05d3c63339b13802886d53fc05"),
+    bytes.fromhex("c7176a703d4dd84fba3c0b760d10670f2a2053fa2c39ccc64ec7fd7792ac037a"),
+    *(bytes([last]) + bytes([255]) * 30 + bytes([127]) for last in (236, 237, 238)),
+}
+BEGIN = b"-----BEGIN "
+
+
 class Wrong(Exception):
     """The text isn't a key."""
 
@@ -28,7 +39,11 @@ def private(data):
 
 
 def public(data):
-    return read(data, serialization.load_pem_public_key, Ed25519PublicKey, "a public key")
+    key = read(data, serialization.load_pem_public_key, Ed25519PublicKey, "a public key")
+    raw = key.public_bytes(serialization.Encoding.Raw, serialization.PublicFormat.Raw)
+    if raw[:31] + bytes([raw[31] & 127]) in SMALL:
+        raise Wrong("its order is small: anyone can sign for it")
+    return key
 
 
 def read(data, load, kind, name):
@@ -36,7 +51,7 @@ def read(data, load, kind, name):
         key = load(data)
     except (ValueError, TypeError, UnsupportedAlgorithm):
         key = None
-    if not isinstance(key, kind):
+    if not isinstance(key, kind) or data.count(BEGIN) != 1:
         raise Wrong(f"it isn't {name} of Ed25519 in PEM without a password")
     return key
 

@@ -12,6 +12,7 @@ class UnderHead:
 
     def __init__(self, key, head, salts, read, reasons, findings):
         self.key, self.head, self.findings = key, head, findings
+        self.odd = [finding for finding in findings if finding.verdict == receipts.ENCODING]
         self.replies = [sealing.reply_of(reason) for reason in reasons]
         self.records = [journal.command_line(command) for command in read.commands]
         self.periods = read.periods
@@ -21,6 +22,9 @@ class UnderHead:
         )
         self.proved = {}  # of each record that the journal lacks as it was signed, the first receipt
         for finding in findings:
+            day = finding.receipt.head.day
+            if day != head.day:
+                raise command.Stop(f"{command.shown(finding.file)} line {finding.line}: the receipt is of {day}, and the head of {head.day}")
             if finding.verdict in (receipts.RIGHT, receipts.ENCODING) and self.receipt_fault(finding.receipt):
                 self.proved.setdefault(finding.receipt.record, finding.receipt)
 
@@ -46,7 +50,7 @@ class UnderHead:
 
     def earlier_faults(self, path):
         """The differences of the journal's beginning from an earlier head."""
-        head = receipts.read_one(path, heads.head_read, "a head")
+        head = receipts.read_one(path, heads.head_read, "a head", self.odd)
         name = command.shown(path)
         if not signing.is_signed(self.key, head):
             return [Fault(f"{name}: it isn't signed by this key", "head")]
@@ -57,8 +61,6 @@ class UnderHead:
 
     def receipt_fault(self, receipt):
         """How the journal differs from a receipt that the operator signed; None if it has the entry."""
-        if receipt.head.day != self.head.day:
-            return f"it is of {receipt.head.day}, and the journal's head of {self.head.day}"
         at, signed = receipt.number - 1, (receipt.record, receipt.reply)
         words = f"the operator signed entry {receipt.number} as {', '.join(signed)}"
         if at >= len(self.records):
@@ -83,21 +85,31 @@ class UnderHead:
             if fault:
                 yield Fault(f"{name}: {fault}", "receipt", receipt.number + 1)
             head = receipts.unsigned(receipt.head)
-            if finding.verdict != receipts.WRONG and head not in seen and head.day == self.head.day:
+            if finding.verdict != receipts.WRONG and head not in seen:
                 seen.add(head)
                 if fault := self.beginning_fault(head):
                     yield Fault(f"{name}: {head}: {fault}", "head")
 
 
-def of_folder(folder, key):
-    """The findings on the receipts of a folder, or of one file: whether the operator signed each. All have to be receipts."""
-    paths = sorted(Path(folder).glob("*.jsonl")) if os.path.isdir(folder) else [folder]
+def files_of(folder):
+    """The files of receipts of a folder, or the one that is given. A folder has no others."""
+    if not os.path.isdir(folder):
+        return [folder]
+    paths = sorted(path for path in Path(folder).iterdir() if not path.name.startswith("."))
+    for path in paths:
+        if path.suffix != ".jsonl":
+            raise command.Stop(f"{command.shown(folder)} has {text.quoted(path.name)}, which isn't a file of receipts, NAME.jsonl")
+        if fault := command.unread_file(path):
+            raise command.Stop(fault)
     if not paths:
         raise command.Stop(f"{command.shown(folder)} has no file of receipts, NAME.jsonl")
-    links, findings = receipts.Links([], key), []
-    for path in paths:
-        if os.path.isdir(folder) and (fault := command.unread_file(path)):
-            raise command.Stop(fault)
+    return paths
+
+
+def of_folder(folder, key):
+    """The findings on the receipts of a folder, or of one file: whether the operator signed each. All have to be receipts."""
+    links, findings = receipts.Links([], key, []), []
+    for path in files_of(folder):
         for finding in receipts.judged(str(path), None, key, links):
             if finding.verdict == receipts.UNREAD:
                 raise command.Stop(str(finding))

@@ -188,12 +188,15 @@ class Audit:
 
         options = self.options
         key = receipts.key_read(options.key)
-        head = receipts.head_of(options.head, self.read("head", options.head), key)
-        salts = receipts.read_one(options.salts, heads.salts_read, "the salts of a journal")
+        odd = []
+        head = receipts.head_of(options.head, self.read("head", options.head), key, odd)
+        salts = receipts.read_one(options.salts, heads.salts_read, "the salts of a journal", odd)
         if salts.day != head.day:
             raise command.Stop(f"{command.shown(options.salts)} has the salts of {salts.day}, and the head is of {head.day}")
         found = under_head.of_folder(options.receipts, key) if options.receipts is not None else []
-        return under_head.UnderHead(key, head, salts, read, reasons, found)
+        signed = under_head.UnderHead(key, head, salts, read, reasons, found)
+        signed.odd += odd
+        return signed
 
     def check_head(self, signed):
         """Compares the journal and its replies with the head that the operator signed, with earlier heads, and with receipts."""
@@ -207,6 +210,7 @@ class Audit:
         if options.receipts is not None:
             right += f"; {text.counted(len(signed.findings), 'receipt')} of its entries"
         self.wrong += wrong
+        self.odd += [Fault(str(finding), "encoding") for finding in signed.odd]
         self.unsigned = len(wrong)
         self.right += [] if wrong else [right]
 

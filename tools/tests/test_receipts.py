@@ -18,7 +18,8 @@ from support import AUCTION, AUCTION_RESULTS, FIRST, QUARTERS, SUNNY, TOP, tool
 from lib import book, command, heads, journal, merkle
 
 try:
-    from cryptography.hazmat.primitives.asymmetric.ed25519 import Ed25519PrivateKey
+    from cryptography.hazmat.primitives import serialization
+    from cryptography.hazmat.primitives.asymmetric.ed25519 import Ed25519PrivateKey, Ed25519PublicKey
 
     from lib import receipts, sealing, signing, under_head
 except ImportError:  # without python3-cryptography
@@ -46,7 +47,7 @@ def replies_of(data):
 def verdict_of(data, head, key, links=None):
     """The verdict on the text of a receipt, compared with a head."""
     with mock.patch.object(command, "read_bytes", lambda path: data):
-        return receipts.verdict(list(receipts.judged("receipts", head, key, links or receipts.Links([], key))))
+        return receipts.verdict(list(receipts.judged("receipts", head, key, links or receipts.Links([], key, []))))
 
 
 def lines_of(seal, head=None):
@@ -213,24 +214,24 @@ class Receipts(unittest.TestCase):
                 path.write_bytes(heads.line(seal.extension(published[size], last)))
                 line = heads.line(seal.receipt(size, published[size]))
                 self.assertEqual(verdict_of(line, last, self.public), receipts.UNDECIDED)
-                self.assertEqual(verdict_of(line, last, self.public, receipts.Links([path], self.public)), receipts.RIGHT)
+                self.assertEqual(verdict_of(line, last, self.public, receipts.Links([path], self.public, [])), receipts.RIGHT)
             # A published head that ends before an entry, and one that has it.
             early = heads.line(seal.receipt(3, published[5]))
-            links = receipts.Links([], self.public)
+            links = receipts.Links([], self.public, [])
             self.assertEqual(verdict_of(early, published[2], self.public, links), receipts.WRONG)
             self.assertEqual(verdict_of(early, published[3], self.public, links), receipts.UNDECIDED)
             path.write_bytes(heads.line(seal.extension(published[2], published[5])))
-            self.assertEqual(verdict_of(early, published[2], self.public, receipts.Links([path], self.public)), receipts.WRONG)
+            self.assertEqual(verdict_of(early, published[2], self.public, receipts.Links([path], self.public, [])), receipts.WRONG)
             path.write_bytes(heads.line(seal.extension(published[3], published[5])))
-            self.assertEqual(verdict_of(early, published[3], self.public, receipts.Links([path], self.public)), receipts.RIGHT)
+            self.assertEqual(verdict_of(early, published[3], self.public, receipts.Links([path], self.public, [])), receipts.RIGHT)
             steps = []
             for size in range(1, last.size):
                 steps.append(Path(folder, f"{size}.json"))
                 steps[-1].write_bytes(heads.line(seal.extension(published[size], published[size + 1])))
-            links = receipts.Links(steps, self.public)
+            links = receipts.Links(steps, self.public, [])
             self.assertEqual(verdict_of(heads.line(seal.receipt(1, published[1])), last, self.public, links), receipts.RIGHT)
             self.assertEqual(links.compared(published[0], last)[0], receipts.RIGHT)
-            broken = receipts.Links(steps[1:], self.public)
+            broken = receipts.Links(steps[1:], self.public, [])
             self.assertEqual(verdict_of(heads.line(seal.receipt(1, published[1])), last, self.public, broken), receipts.UNDECIDED)
 
     def test_a_fork_shows_nothing_of_its_other_end(self):
@@ -245,9 +246,9 @@ class Receipts(unittest.TestCase):
 
     def test_two_journals_of_one_day(self):
         heads_of = [sealed_of(data, key=self.key).head() for data in (FIRST, FIRST)]
-        self.assertEqual(receipts.Links([], self.public).compared(*heads_of)[0], receipts.WRONG)
+        self.assertEqual(receipts.Links([], self.public, []).compared(*heads_of)[0], receipts.WRONG)
         days = [sealed_of(data, key=self.key).head() for data in (AUCTION.read_bytes(), QUARTERS.read_bytes())]
-        self.assertEqual(receipts.Links([], self.public).compared(*days)[0], receipts.WRONG)
+        self.assertEqual(receipts.Links([], self.public, []).compared(*days)[0], receipts.WRONG)
 
     def test_the_example_of_the_formats(self):
         page = (TOP / "docs" / "FORMATS.md").read_text()
@@ -274,15 +275,62 @@ class Receipts(unittest.TestCase):
             for number in (1, 2, head.size // 2, head.size):
                 made = seal.receipt(number, head)
                 wrong = made._replace(record=made.record.replace(",", ",,", 1)), made._replace(number=number % head.size + 1)
-                for each, right in ((made, "right\n"), *((other, "wrong\n") for other in wrong)):
-                    receipt.write_bytes(heads.line(each))
+                line = heads.line(made).decode()
+                texts = [heads.line(other).decode() for other in wrong]
+                texts += [line.replace('{"format"', '{"more":1,"format"', 1), line.replace('","reply"', '","record":"x","reply"', 1)]
+                texts += [line.replace("dam-receipt-1", "nonsense"), line.replace('"number":', '"number": ')]
+                for each, said in ((line, f"right: {made.record}, {made.reply}\n"), *((other, "wrong\n") for other in texts)):
+                    receipt.write_text(each)
                     ran = subprocess.run([BY_OPENSSL, receipt, public], capture_output=True, text=True)
-                    self.assertEqual(ran.stdout, right, ran.stderr)
+                    self.assertEqual(ran.stdout, said, ran.stderr)
+
+    def test_keys_that_sign_for_anyone(self):
+        """Keys of small order, with either sign, and a file of two keys."""
+        for raw in signing.SMALL:
+            for sign in (0, 128):
+                key = Ed25519PublicKey.from_public_bytes(raw[:31] + bytes([raw[31] | sign]))
+                form = serialization.PublicFormat.SubjectPublicKeyInfo
+                with self.assertRaisesRegex(signing.Wrong, "its order is small"):
+                    signing.public(key.public_bytes(serialization.Encoding.PEM, form))
+        with self.assertRaises(signing.Wrong):
+            signing.public(signing.public_text(self.key) + signing.public_text(signing.made()))
+
+    def test_the_head_of_no_entry(self):
+        head = sealing.Seal(DAY, 24, sealing.new_salts(DAY), self.key).head()
+        self.assertEqual(heads.parsed(heads.line(head), heads.head_read)[0], head)
+        with self.assertRaises(heads.Wrong):
+            heads.parsed(heads.line(head._replace(root=merkle.leaf_hash(b""))), heads.head_read)
+
+    def test_extensions_that_prove_nothing(self):
+        """One with another path, of other heads, between two days or lengths of a day, or with a head of another key."""
+        seal = sealed_of(AUCTION.read_bytes(), key=self.key)
+        last, other = seal.head(), sealed_of(AUCTION.read_bytes())
+        early = signing.signed(self.key, heads.Head(DAY, 24, 5, seal.tree.root(5)))
+        right = seal.extension(early, last)
+        changes = [right._replace(path=(*right.path[:-1], merkle.leaf_hash(b""))), right._replace(path=())]
+        for name, value in {"day": "2026-11-29", "periods": 25, "root": merkle.leaf_hash(b""), "size": 6}.items():
+            changes.append(right._replace(old=signing.signed(self.key, early._replace(**{name: value}))))
+            changes.append(right._replace(new=signing.signed(self.key, last._replace(**{name: value}))))
+        changes += [right._replace(old=signing.signed(other.key, early)), right._replace(new=signing.signed(other.key, last))]
+        with tempfile.TemporaryDirectory() as folder:
+            path = Path(folder, "extension.json")
+            path.write_bytes(heads.line(right))
+            receipts.Links([path], self.public, [])
+            for changed in changes:
+                path.write_bytes(heads.line(changed))
+                with self.subTest(changed), self.assertRaises(command.Stop) as stopped:
+                    receipts.Links([path], self.public, [])
+                self.assertEqual(stopped.exception.status, command.DIFFERS)
+
+    def test_the_empty_journal_is_the_beginning_of_those_of_its_day(self):
+        empty = sealing.Seal(DAY, 24, sealing.new_salts(DAY), self.key).head()
+        head, links = sealed_of(AUCTION.read_bytes(), key=self.key).head(), receipts.Links([], self.public, [])
+        self.assertEqual(links.compared(empty, head)[0], receipts.RIGHT)
+        self.assertEqual(links.compared(empty._replace(day="2026-11-29"), head)[0], receipts.UNREAD)
+        self.assertEqual(links.compared(empty._replace(periods=25), head)[0], receipts.WRONG)
 
 
 def raw_of(public):
-    from cryptography.hazmat.primitives import serialization
-
     return public.public_bytes(serialization.Encoding.Raw, serialization.PublicFormat.Raw)
 
 
@@ -313,7 +361,7 @@ class Command(unittest.TestCase):
     def test_a_day(self):
         self.assertIn("with receipts for", self.seal())
         every = sorted(Path("sealed/receipts").iterdir())
-        self.assertRegex(self.verify(0, *every), r"^right: \d+ receipts of the head of 2026-11-28 with \d+ entries\n$")
+        self.assertRegex(self.verify(0, *every), r"^right: 94 receipts of the head of 2026-11-28 with 94 entries, 1 of them refused\n$")
         self.assertIn("right: 1 head", self.run_tool(0, "heads", "sealed/head.json", "--key", "key.pem.pub"))
         for path in (Path("key.pem"), Path("sealed/salts.json"), *every):
             self.assertEqual(stat.S_IMODE(path.stat().st_mode), 0o600)
@@ -350,7 +398,92 @@ class Command(unittest.TestCase):
         Path("mine.csv").write_bytes(sent)
         self.verify(0, "sealed/receipts/STAD.jsonl", "--sent", "mine.csv", "--participant", "STAD")
         out = self.verify(1, "less/receipts/STAD.jsonl", "--sent", "mine.csv", "--participant", "STAD", head="less/head.json")
-        self.assertIn(f"has no receipt: {lines[place].decode().strip()}", out)
+        self.assertIn(f"is missing in the receipts: {lines[place].decode().strip()}", out)
+        # A receipt under an earlier head is one too.
+        out = self.verify(4, "sealed/receipts/STAD.jsonl", "--sent", "mine.csv", "--participant", "STAD", head="less/head.json")
+        self.assertRegex(out, r"undecided: \d+ receipts undecided; ")
+
+    def test_receipts_of_other_commands_than_the_sent(self):
+        """An operator that swaps a participant's commands, adds one in its name, or refuses one; receipts of others; one command twice."""
+        amends = [b"submit,NORD,W,hour,sell,100,8:10,,\n", b"amend,NORD,W,,,200,8:10,,\n", b"amend,NORD,W,,,300,8:10,,\n"]
+        Path("mine.csv").write_bytes(b"".join(amends))
+        words = ["--sent", "mine.csv", "--participant", "NORD"]
+        own = "x/receipts/NORD.jsonl"
+
+        def outcome(status, commands, *more):
+            shutil.rmtree("x", ignore_errors=True)
+            Path("x.csv").write_bytes(b"day,24,,,,,,,\n" + b"".join(commands))
+            Path("x.txt").write_bytes(replies_of(Path("x.csv").read_bytes()))
+            self.seal("x", "x.csv", "x.txt")
+            return self.verify(status, own, *more, *words, head="x/head.json")
+
+        self.assertEqual(outcome(0, amends), "right: 3 receipts of the head of 2026-11-28 with 3 entries\n")
+        self.assertIn("is out of its order", outcome(1, [amends[0], amends[2], amends[1]]))
+        self.assertIn("the receipt of entry 4 was not sent: cancel,NORD,W,,,,,,", outcome(1, [*amends, b"cancel,NORD,W,,,,,,\n"]))
+        self.assertIn("right: 3 receipts of the head of 2026-11-28 with 4 entries, 3 of them refused", outcome(0, [b"close,,,,,,,,\n", *amends]))
+        self.assertIn("repeats what was sent once", outcome(1, [*amends, amends[2]]))
+        self.assertIn("is missing in the receipts", outcome(1, amends[:2]))
+        Path("mine.csv").write_bytes(b"".join([*amends, amends[2]]))
+        self.assertIn("is missing in the receipts", outcome(1, amends))
+        Path("mine.csv").write_bytes(b"".join(amends))
+        outcome(0, [*amends, b"submit,GAS,W,hour,sell,100,8:10,,\n"])
+        self.assertIn("it isn't a receipt of NORD", self.verify(3, own, "x/receipts/GAS.jsonl", "--participant", "NORD", head="x/head.json"))
+        # A forged receipt, and one that was given twice.
+        data = Path(own).read_bytes()
+        Path(own).write_bytes(data.replace(b",300,", b",301,"))
+        self.assertIn("wrong: 2 receipts right; 1 receipt wrong; 1 difference from", self.verify(1, own, *words, head="x/head.json"))
+        Path(own).write_bytes(data + data)
+        self.verify(0, own, *words, head="x/head.json")
+        Path("mine.csv").write_bytes(b"close,,,,,,,,\n")
+        self.verify(1, own, *words, head="x/head.json")
+
+    def test_heads_of_another_key_or_writing(self):
+        self.seal()
+        self.run_tool(0, "keys", "other.pem")
+        for words in (["verify", "sealed/receipts/STAD.jsonl", "--head", "sealed/head.json"], ["heads", "sealed/head.json"]):
+            self.assertEqual(self.run_tool(1, *words, "--key", "other.pem.pub"), "")
+        Path("results.txt").write_bytes(AUCTION_RESULTS.read_bytes())
+        signed = ["--salts", "sealed/salts.json", "--head", "sealed/head.json"]
+        self.assertEqual(tool("audit", "day.csv", "results.txt", *signed, "--key", "other.pem.pub")[0], 1)
+        self.run_tool(1, "extend", "sealed", "day.csv", "replies.txt", "--key", "other.pem", "-o", "later")
+        head = Path("sealed/head.json")
+        head.write_text(json.dumps(json.loads(head.read_text()), indent=1))
+        self.assertIn("isn't in its written form", self.verify(6, "sealed/receipts/STAD.jsonl"))
+        self.assertIn("isn't in its written form", self.audit(6))
+        self.run_tool(6, "heads", "sealed/head.json", "--key", "key.pem.pub")
+
+    def test_a_fork_between_other_heads(self):
+        """Heads are compared by day, each with the next one."""
+        key = signing.private(Path("key.pem").read_bytes())
+        made = [sealed_of(AUCTION.read_bytes(), key=key), sealed_of(AUCTION.read_bytes(), key=key), sealed_of(FIRST, day="2026-11-29", key=key)]
+        paths = [Path(f"{name}.json") for name in "abc"]
+        for path, seal in zip(paths, made):
+            path.write_bytes(heads.line(seal.head()))
+        for order in ((0, 2, 1), (2, 0, 1), (0, 1, 2), (0, 0, 2, 1, 0)):
+            out = self.run_tool(1, "heads", *(paths[at] for at in order), "--key", "key.pem.pub")
+            self.assertIn("the operator signed two trees of 2026-11-28 with 94 entries", out)
+        self.assertIn("right: 2 heads of 2 days", self.run_tool(0, "heads", paths[0], paths[2], "--key", "key.pem.pub"))
+        self.verify(3, self.receipt_of(made[2]), head=paths[0])
+
+    def receipt_of(self, seal, number=1):
+        path = Path("receipt.jsonl")
+        path.write_bytes(lines_of(seal)[number - 1])
+        return path
+
+    def test_files_of_many_lines(self):
+        self.seal()
+        Path("many.jsonl").write_bytes(b"\n" * 2_000_000)
+        self.assertIn("more than 10,000 lines", self.verify(3, "many.jsonl"))
+        Path("many.jsonl").write_bytes(b"{}\n" * 9_000)
+        self.assertEqual(len(self.verify(3, "many.jsonl").splitlines()), 2)
+
+    def test_salts_of_another_day(self):
+        self.seal()
+        salts = Path("sealed/salts.json")
+        salts.write_bytes(heads.line(sealing.new_salts("2026-11-29")))
+        self.run_tool(3, "extend", "sealed", "day.csv", "replies.txt", "--key", "key.pem", "-o", "later")
+        Path("results.txt").write_bytes(AUCTION_RESULTS.read_bytes())
+        self.audit(3)
 
     def test_replies_that_are_not_the_books(self):
         Path("wrong.txt").write_bytes(Path("replies.txt").read_bytes().replace(b"1,done", b"1,refused,Closed", 1))
@@ -465,7 +598,7 @@ class Command(unittest.TestCase):
         os.mkfifo("sealed/receipts/A.jsonl")
         self.audit(3, "day.csv", "--receipts", "sealed/receipts")
         Path("sealed/receipts/A.jsonl").unlink()
-        Path("sealed/receipts/A.jsonl").write_bytes(b"x\n" * 10**6)
+        Path("sealed/receipts/A.jsonl").write_bytes(b"x\n" * heads.MOST_ENTRIES)
         with mock.patch.object(heads, "parsed", wraps=heads.parsed) as parsed, self.assertRaisesRegex(command.Stop, r"A\.jsonl line 1: "):
             under_head.of_folder("sealed/receipts", receipts.key_read("key.pem.pub"))
         self.assertEqual(parsed.call_count, 1)
@@ -480,6 +613,60 @@ class Command(unittest.TestCase):
         with mock.patch.object(signed, "receipt_fault", side_effect=AssertionError):
             proofs = {signed.proof(one) for one in read.commands}
         self.assertEqual(proofs, {"; no receipt proves that the operator had it"})
+
+    def test_the_audit_of_other_heads(self):
+        """A journal that is longer than its head's, or of another length of a day; earlier heads of another key and another day."""
+        Path("results.txt").write_bytes(AUCTION_RESULTS.read_bytes())
+        key = signing.private(Path("key.pem").read_bytes())
+        self.seal()
+        head, _ = heads.parsed(Path("sealed/head.json").read_bytes(), heads.head_read)
+        salts, _ = heads.parsed(Path("sealed/salts.json").read_bytes(), heads.salts_read)
+        seal = sealed_of(AUCTION.read_bytes(), key=key, salts=salts)
+        shorter = signing.signed(key, head._replace(size=head.size - 1, root=seal.tree.root(head.size - 1)))
+        for other, said in (
+            (shorter, "the journal has 1 entry after the 93 that the operator signed"),
+            (signing.signed(key, head._replace(periods=25)), "the journal's day has 24 periods, and the head's 25"),
+        ):
+            Path("sealed/head.json").write_bytes(heads.line(other))
+            self.assertIn(said, self.audit(1))
+        Path("sealed/head.json").write_bytes(heads.line(head))
+        for earlier, said in (
+            (signing.signed(signing.made(), shorter), "it isn't signed by this key"),
+            (signing.signed(key, shorter._replace(day="2026-11-29")), "it is of 2026-11-29"),
+        ):
+            Path("earlier.json").write_bytes(heads.line(earlier))
+            self.assertIn(said, self.audit(1, "day.csv", "--earlier", "earlier.json"))
+
+    def test_the_audit_of_receipts_of_other_days_and_forged_ones(self):
+        """Neither is the operator's fault."""
+        Path("results.txt").write_bytes(AUCTION_RESULTS.read_bytes())
+        key = signing.private(Path("key.pem").read_bytes())
+        lines = AUCTION.read_bytes().splitlines(keepends=True)
+        place = next(at for at, line in enumerate(lines) if line.startswith(b"submit,STAD"))
+        Path("day.csv").write_bytes(b"".join(lines[:place] + lines[place + 1 :]))
+        Path("replies.txt").write_bytes(replies_of(Path("day.csv").read_bytes()))
+        Path("mine.csv").write_bytes(b"".join(line for line in lines if line.split(b",")[1] == b"STAD"))
+        self.seal()
+        words = ["--sent", "mine.csv", "--participant", "STAD", "--receipts", "receipt.jsonl"]
+        other = sealed_of(AUCTION.read_bytes(), day="2026-11-27", key=key)
+        self.receipt_of(other, place)
+        self.assertEqual(self.audit(3, "day.csv", *words), "")
+        self.receipt_of(sealed_of(AUCTION.read_bytes()), place)  # by another key
+        out = self.audit(1, "day.csv", *words)
+        self.assertIn("no receipt proves that the operator had it", out)
+        self.assertNotIn("the operator's fault", out)
+        self.receipt_of(sealed_of(AUCTION.read_bytes(), key=key), place)
+        self.assertIn("the operator's fault, proved", self.audit(1, "day.csv", *words))
+        # The reply is signed too.
+        seal = sealing.Seal(DAY, 24, sealing.new_salts(DAY), key)
+        entries = list(sealed_of(Path("day.csv").read_bytes()).entries)
+        for entry in [entries[0]._replace(reply="refused,Closed"), *entries[1:]]:
+            seal.append(entry)
+        self.receipt_of(seal)
+        self.assertIn("the operator signed entry 1 as", self.audit(1, "day.csv", "--receipts", "receipt.jsonl"))
+        Path("folder").mkdir()
+        Path("folder/STAD.json").write_bytes(b"")
+        self.audit(3, "day.csv", "--receipts", "folder")
 
     def test_command_lines_of_the_audit(self):
         for words in (["--head", "h"], ["--salts", "s", "--key", "k"], ["--receipts", "r"], ["--earlier", "e"]):

@@ -1,6 +1,6 @@
 #!/bin/sh
-# verify_receipt.sh RECEIPT PUBLIC_KEY: verifies a receipt under its own head, by FORMATS.md and with openssl alone. Prints 'right' or 'wrong'.
-# It is a second reading of the format: nothing of it is shared with tools/receipts.
+# verify_receipt.sh RECEIPT PUBLIC_KEY: verifies a receipt under its own head, by FORMATS.md and with openssl alone. Prints 'right', with the
+# record and the reply, or 'wrong'. It is a second reading of the format: nothing of it is shared with tools/receipts.
 set -eu
 receipt=$(cat "$1")
 work=$(mktemp -d)
@@ -12,6 +12,14 @@ decoded() { printf '%s\n' "$1" | openssl base64 -d -A; }
 hashed() { openssl dgst -sha256 -binary; }
 wrong() { echo wrong; exit 1; }
 
+# The written form: the members that were found, and nothing else.
+head='{"format":"dam-head-1","day":"%s","periods":%s,"size":%s,"root":"%s","signature":"%s"}'
+head=$(printf "$head" "$(text day)" "$(number periods)" "$(number size)" "$(text root)" "$(text signature)")
+path=$(printf '%s' "$receipt" | sed 's/.*"path":\(\[[^]]*\]\).*/\1/')
+own='{"format":"dam-receipt-1","number":%s,"record":"%s","reply":"%s","salt":"%s","path":%s,"head":%s}'
+own=$(printf "$own" "$(number number)" "$(text record)" "$(text reply)" "$(text salt)" "$path" "$head")
+[ "$own" = "$receipt" ] || wrong
+
 # The signature of the head.
 printf 'dam-head-1\n%s\n%s\n%s\n%s\n' "$(text day)" "$(number periods)" "$(number size)" "$(text root)" > "$work/head"
 decoded "$(text signature)" > "$work/signature"
@@ -21,7 +29,7 @@ openssl pkeyutl -verify -pubin -inkey "$2" -rawin -in "$work/head" -sigfile "$wo
 { printf '\000'; decoded "$(text salt)"; printf '%s\n%s\n%s\n' "$(number number)" "$(text record)" "$(text reply)"; } | hashed > "$work/at"
 node=$(($(number number) - 1)) last=$(($(number size) - 1))
 [ "$node" -le "$last" ] || wrong
-for step in $(printf '%s' "$receipt" | sed 's/.*"path":\[\([^]]*\)\].*/\1/; s/[",]/ /g'); do
+for step in $(printf '%s' "$path" | tr '[],"' '    '); do
     [ "$last" -gt 0 ] || wrong
     decoded "$step" > "$work/step"
     if [ $((node % 2)) -eq 1 ] || [ "$node" -eq "$last" ]; then
@@ -34,4 +42,4 @@ for step in $(printf '%s' "$receipt" | sed 's/.*"path":\[\([^]]*\)\].*/\1/; s/["
     node=$((node / 2)) last=$((last / 2))
 done
 [ "$last" -eq 0 ] && [ "$(openssl base64 -A < "$work/at")" = "$(text root)" ] || wrong
-echo right
+echo "right: $(text record), $(text reply)"
