@@ -17,6 +17,7 @@ NO_MEMORY = ("cannot allocate memory", "failed to map segment", "can't start new
 NO_FILES = ("too many open files", "cannot open shared object file: error 24")
 # What a tool has to do before it ends like this: a call that gets the status and the message.
 last_duties = []
+watched = []  # the name of the tool that `watch` was called for
 
 
 def is_memory(fault):
@@ -68,4 +69,5 @@ def watch(tool):
     if sys.version_info < (3, 10):
         os.write(2, f"{tool}: it needs Python 3.10 or newer\n".encode())
         sys.exit(FAILED)
+    watched[:] = [tool]
     sys.excepthook = lambda _, fault, trace: fail(tool, fault.with_traceback(trace))

@@ -37,6 +37,8 @@ def without_verdict(words, status, message):
 
 def print_last(status, message):
     """Prints the record of an audit that fails, unless it has printed one or was interrupted."""
+    if ending.watched != ["audit"]:
+        return
     words = sys.argv[1 : sys.argv.index("--")] if "--" in sys.argv else sys.argv[1:]
     if "--json" in words and status == ending.FAILED:
         os.write(1, f"{json.dumps(without_verdict(words, status, message), indent=1)}\n".encode())
