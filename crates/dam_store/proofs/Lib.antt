@@ -1,0 +1,6 @@
+mod Lines
+mod Parts
+mod Unmade
+mod Rest
+mod Steps
+mod Histories

@@ -1,0 +1,354 @@
+-- What a journal's file stands for while lines are written after a gate, the gate is opened, or the end is repaired.
+use Rattle.std.proofs.Common.{◌≡◌, inl, inr, ℕ, zero, suc, ◌+◌, ◌-◌, ◌<◌, ◌≤◌, ◌==◌, ◌&&◌, nat_lt, replicate, true, false, List, [], ◌∷◌, ◌++◌, Some, None, length, take, drop, slice_index, refl, sym, ap, ◌∙◌, subst, arith, append_assoc, length-append, length-drop, append-nil, take-append-drop}
+use Rattle.std.proofs.lemmas.Bool.{or_parts, or_from, and_cases, both_ways, cases_lt, cases_Bool, cond-true, cond-false, eqb-true, lt-ltb, le-ltb}
+use Rattle.std.proofs.lemmas.List.{drop_at, drop_all, take_at, drop-drop, drop_more, get_or_past, take_rest, length-take-le}
+use Rattle.std.proofs.lemmas.Slice.Eq.{bytes_eq-Decides}
+use Rattle.std.specs.Str.{bytes_eq}
+use Rattle.sqlite_disk.specs.Disk.{Torn, Holds}
+use Rattle.dam_store.specs.Limits.{most_bytes}
+use Rattle.dam_store.specs.Journal.{marked, written, lines_in, with_room, head_line, stands_for, StandsFor, StandsForEither}
+use Rattle.dam_store.specs.inside.Shape.{has_newline, AreWhole, IsShut, IsJournal, IsAtRest, IsClosed, EndsAt}
+use Rattle.dam_store.proofs.Lines.{lines_then_shut, marked-append, whole-append, whole_lines}
+use Rattle.dam_store.proofs.Parts.{middle, middle_short, middle_whole, torn_is, written_is}
+use Rattle.dam_store.proofs.Unmade.{stands_after_head}
+
+pub lines_written : (lines : List (List ℕ)) (rest : List ℕ) → AreWhole lines → IsShut rest → lines_in (written lines ++ rest) ≡ lines
+lines_written lines rest whole shut = lines_then_shut lines rest whole shut
+
+pub stands_written : (lines : List (List ℕ)) (rest : List ℕ) → AreWhole lines → IsShut rest → length (written lines) < most_bytes
+    → length (written lines ++ rest) ≤ most_bytes → StandsFor lines (written lines ++ rest)
+stands_written lines rest whole shut room short =
+    stands_after_head (marked lines ++ rest) short ∙ ap with_room (lines_then_shut lines rest whole shut)
+    ∙ cond-true (nat_lt (length (written lines)) most_bytes) (Some lines) None (lt-ltb _ _ room)
+
+written-append : (lines more : List (List ℕ)) (rest : List ℕ) → written (lines ++ more) ++ rest ≡ written lines ++ (marked more ++ rest)
+written-append lines more rest = ap (λ (l : List ℕ). head_line ++ l) (marked-append lines more rest)
+
+shut_byte : (byte : ℕ) (rest : List ℕ) → has_newline rest ≡ false → IsShut (byte ∷ rest)
+shut_byte byte rest none = elim (cases_Bool (byte == 43)) [
+  | inl mark ↦ let is : byte ≡ 43 = eqb-true byte 43 mark in inr (subst (λ (b : ℕ). has_newline (b ∷ rest) ≡ false) (sym is) none)
+  | inr other ↦ inl other
+]
+
+shut_short : (bytes rest : List ℕ) → length bytes ≤ 1 → has_newline rest ≡ false → IsShut (bytes ++ rest)
+shut_short [] rest short none = inr none
+shut_short (byte ∷ []) rest short none = shut_byte byte rest none
+shut_short (byte ∷ other ∷ bytes) rest short none = absurd (omega arith)
+
+pub at_rest_from : (lines : List (List ℕ)) (tail file : List ℕ) (end : ℕ) → file ≡ written lines ++ 45 ∷ tail
+    → end ≡ length (written lines) → AreWhole lines → has_newline tail ≡ false → length file ≤ most_bytes → IsAtRest file end lines
+at_rest_from lines tail file end is end_is whole last short =
+    let rest : drop (end + 1) file ≡ tail = ap (drop (end + 1)) is ∙ sym (drop-drop 1 end (written lines ++ 45 ∷ tail))
+    ∙ ap (drop 1) (drop_at (written lines) (45 ∷ tail) end (sym end_is)) in
+    record {
+      split = is ∙ ap (λ (l : List ℕ). written lines ++ 45 ∷ l) (sym rest);
+      end_is = end_is;
+      whole = whole;
+      last = ap has_newline rest ∙ last;
+      short = short;
+    }
+
+module _ (file : List ℕ) (end : ℕ) (lines : List (List ℕ)) (r : IsAtRest file end lines) where
+  pub rest_lines : lines_in file ≡ lines
+  rest_lines = ap lines_in r.split ∙ lines_written lines (45 ∷ drop (end + 1) file) r.whole (inl refl)
+
+  pub rest_length : length file ≡ end + 1 + length (drop (end + 1) file)
+  rest_length = omega (arith, ap length r.split, length-append (written lines) (45 ∷ drop (end + 1) file), r.end_is)
+
+  pub rest_stands : StandsFor lines file
+  rest_stands =
+      subst (StandsFor lines) (sym r.split)
+      (stands_written lines (45 ∷ drop (end + 1) file) r.whole (inl refl) (omega (arith, rest_length, r.short, r.end_is))
+      (omega (arith, ap length r.split, r.short)))
+
+  gated : file ≡ (written lines ++ 45 ∷ []) ++ drop (end + 1) file
+  gated = r.split ∙ sym (append_assoc (written lines) (45 ∷ []) (drop (end + 1) file))
+
+  gated_length : end + 1 ≡ length (written lines ++ 45 ∷ [])
+  gated_length = omega (arith, length-append (written lines) (45 ∷ []), r.end_is)
+
+  module _ (n : ℕ) (room : end + 1 + n ≤ most_bytes) (c : List ℕ) (torn : Torn (end + 1) n file c) where
+    -- as what is torn is after the gate
+    moved : Torn (end + 1) n ((written lines ++ 45 ∷ []) ++ drop (end + 1) file) c
+    moved = subst (λ (f : List ℕ). Torn (end + 1) n f c) gated torn
+
+    -- whatever stands after the gate
+    pub staged_torn : StandsFor lines c
+    staged_torn =
+        let front = written lines ++ 45 ∷ [] in
+        let tail = drop (end + 1) file in
+        let rest = middle front tail (end + 1) n c gated_length moved ++ drop n tail in
+        let is : c ≡ written lines ++ 45 ∷ rest = torn_is front tail (end + 1) n c gated_length moved
+        ∙ append_assoc (written lines) (45 ∷ []) rest in
+        subst (StandsFor lines) (sym is)
+        (stands_written lines (45 ∷ rest) r.whole (inl refl) (omega (arith, r.end_is))
+        (omega (arith, ap length is, torn.no_longer, r.short)))
+
+    pub staged_is : (bytes : List ℕ) → n ≡ length bytes → Holds c (end + 1) bytes
+        → c ≡ written lines ++ 45 ∷ (bytes ++ drop n (drop (end + 1) file))
+    staged_is bytes n_is holds =
+        written_is (written lines ++ 45 ∷ []) (drop (end + 1) file) (end + 1) n c gated_length moved bytes n_is holds
+        ∙ append_assoc (written lines) (45 ∷ []) (bytes ++ drop n (drop (end + 1) file))
+
+-- lines staged after a gate, which a second write opens
+module _ (lines batch : List (List ℕ)) (end : ℕ) (bytes tail file : List ℕ) (end_is : end ≡ length (written lines)) (whole : AreWhole lines) (also : AreWhole batch) (bytes_are : marked batch ++ 45 ∷ [] ≡ 43 ∷ bytes) (is : file ≡ written lines ++ 45 ∷ (bytes ++ tail)) (short : length file ≤ most_bytes) (c : List ℕ) (torn : Torn end 1 file c) where
+  file_length : length file ≡ end + 1 + length (bytes ++ tail)
+  file_length = omega (arith, ap length is, length-append (written lines) (45 ∷ (bytes ++ tail)), end_is)
+
+  moved_gate : Torn end 1 (written lines ++ 45 ∷ (bytes ++ tail)) c
+  moved_gate = subst (λ (f : List ℕ). Torn end 1 f c) is torn
+
+  opened : 43 ∷ (bytes ++ tail) ≡ marked batch ++ 45 ∷ tail
+  opened = ap (λ (l : List ℕ). l ++ tail) (sym bytes_are) ∙ append_assoc (marked batch) (45 ∷ []) tail
+
+  both_is : written lines ++ 43 ∷ (bytes ++ tail) ≡ written (lines ++ batch) ++ 45 ∷ tail
+  both_is = ap (λ (l : List ℕ). written lines ++ l) opened ∙ sym (written-append lines batch (45 ∷ tail))
+
+  both_length : length (written (lines ++ batch)) + 1 + length tail ≡ length file
+  both_length =
+      omega (
+        arith,
+        ap length (sym both_is),
+        length-append (written (lines ++ batch)) (45 ∷ tail),
+        length-append (written lines) (43 ∷ (bytes ++ tail)),
+        file_length,
+        end_is,
+      )
+
+  either : (gate : List ℕ) → length gate ≡ 1 → length (written lines ++ (gate ++ (bytes ++ tail))) ≤ most_bytes
+      → StandsForEither lines batch (written lines ++ (gate ++ (bytes ++ tail)))
+  either [] one fits = absurd (omega arith)
+  either (g ∷ h ∷ gate) one fits = absurd (omega arith)
+  either (g ∷ []) one fits = elim (cases_Bool (g == 43)) [
+    | inl mark ↦
+        let is_mark : g ≡ 43 = eqb-true g 43 mark in
+        inr (subst (λ (b : ℕ). StandsFor (lines ++ batch) (written lines ++ b ∷ (bytes ++ tail))) (sym is_mark)
+        (subst (StandsFor (lines ++ batch)) (sym both_is)
+        (stands_written (lines ++ batch) (45 ∷ tail) (whole-append lines batch whole also) (inl refl) (omega (arith, both_length, short))
+        (omega (arith, both_length, short, length-append (written (lines ++ batch)) (45 ∷ tail))))))
+    | inr other ↦ inl (stands_written lines (g ∷ (bytes ++ tail)) whole (inl other) (omega (arith, file_length, short, end_is)) fits)
+  ]
+
+  pub opened_torn : StandsForEither lines batch c
+  opened_torn =
+      let rest = 45 ∷ (bytes ++ tail) in
+      let gate = middle (written lines) rest end 1 c end_is moved_gate in
+      let c_is : c ≡ written lines ++ (gate ++ (bytes ++ tail)) = torn_is (written lines) rest end 1 c end_is moved_gate in
+      subst (StandsForEither lines batch) (sym c_is)
+      (either gate (middle_whole (written lines) rest end 1 c end_is moved_gate (omega arith))
+      (omega (arith, ap length c_is, torn.no_longer, short, file_length)))
+
+  pub opened_at_rest : Holds c end (43 ∷ []) → has_newline tail ≡ false → IsAtRest c (end + length bytes) (lines ++ batch)
+  opened_at_rest holds last =
+      let c_is : c ≡ written (lines ++ batch) ++ 45 ∷ tail = written_is (written lines) (45 ∷ (bytes ++ tail)) end 1 c end_is moved_gate (43 ∷ []) refl holds ∙ both_is in
+      at_rest_from (lines ++ batch) tail c (end + length bytes) c_is
+      (omega (arith, both_length, file_length, length-append bytes tail)) (whole-append lines batch whole also) last
+      (omega (arith, torn.no_longer, short, file_length))
+
+-- no newline, then none further on
+pub newline_after : (n : ℕ) (bytes : List ℕ) → has_newline bytes ≡ false → has_newline (drop n bytes) ≡ false
+newline_after zero bytes none = none
+newline_after (suc n) [] none = refl
+newline_after (suc n) (b ∷ bytes) none = newline_after n bytes (or_parts (b == 10) (has_newline bytes) none).1
+
+module _ (file : List ℕ) (end : ℕ) (lines : List (List ℕ)) (r : IsJournal file end lines) where
+  pub journal_length : length file ≡ end + length (drop end file)
+  journal_length = omega (arith, ap length r.split, length-append (written lines) (drop end file), r.end_is)
+
+  pub journal_lines : lines_in file ≡ lines
+  journal_lines = ap lines_in r.split ∙ lines_written lines (drop end file) r.whole r.shut
+
+  pub journal_stands : end < most_bytes → StandsFor lines file
+  journal_stands room =
+      subst (StandsFor lines) (sym r.split) (stands_written lines (drop end file) r.whole r.shut (omega (arith, r.end_is))
+      (omega (arith, ap length r.split, r.short)))
+
+  after_gate_is : drop 1 (drop end file) ≡ drop (end + 1) file
+  after_gate_is = drop-drop 1 end file
+
+  module _ (last : has_newline (drop (end + 1) file) ≡ false) where
+    -- the gate is there
+    pub closed_at_rest : end < length file → slice_index file end ≡ 45 → IsAtRest file end lines
+    closed_at_rest within gate =
+        at_rest_from lines (drop (end + 1) file) file end
+        (r.split ∙ ap (λ (l : List ℕ). written lines ++ l) (drop_more file end 0 within
+        ∙ ap (λ (b : ℕ). b ∷ drop (end + 1) file) gate)) r.end_is r.whole last r.short
+
+    module _ (room : end < most_bytes) (c : List ℕ) (torn : Torn end 1 file c) where
+      moved_end : Torn end 1 (written lines ++ drop end file) c
+      moved_end = subst (λ (f : List ℕ). Torn end 1 f c) r.split torn
+
+      -- while the gate is written
+      pub closed_torn : StandsFor lines c
+      closed_torn =
+          let gate = middle (written lines) (drop end file) end 1 c r.end_is moved_end in
+          let is : c ≡ written lines ++ (gate ++ drop (end + 1) file) = torn_is (written lines) (drop end file) end 1 c r.end_is moved_end ∙ ap (λ (l : List ℕ). written lines ++ (gate ++ l)) after_gate_is in
+          subst (StandsFor lines) (sym is)
+          (stands_written lines (gate ++ drop (end + 1) file) r.whole (shut_short gate (drop (end + 1) file)
+          (middle_short (written lines) (drop end file) end 1 c r.end_is moved_end) last) (omega (arith, r.end_is))
+          (omega (arith, ap length is, torn.no_longer, r.short)))
+
+      pub closed_is : Holds c end (45 ∷ []) → IsAtRest c end lines
+      closed_is holds =
+          let is : c ≡ written lines ++ 45 ∷ drop (end + 1) file = written_is (written lines) (drop end file) end 1 c r.end_is moved_end (45 ∷ []) refl holds ∙ ap (λ (l : List ℕ). written lines ++ 45 ∷ l) after_gate_is in
+          at_rest_from lines (drop (end + 1) file) c end is r.end_is r.whole last (omega (arith, torn.no_longer, r.short))
+
+  -- a newline comes after the end's first byte, which is then no mark
+  module _ (within : end < length file) (some : has_newline (drop (end + 1) file) ≡ true) where
+    abbrev first : ℕ
+    first = slice_index file end
+
+    end_split : drop end file ≡ first ∷ drop (end + 1) file
+    end_split = drop_more file end 0 within
+
+    no_mark : (first == 43) ≡ false
+    no_mark = elim r.shut [
+      | inl other ↦ ap (λ (l : List ℕ). slice_index l 0 == 43) (sym end_split) ∙ other
+      | inr none ↦ absurd (both_ways (has_newline (drop (end + 1) file)) (or_parts (first == 10) (has_newline (drop (end + 1) file))
+          (ap has_newline (sym end_split) ∙ none)).1 some)
+    ]
+
+    blank_front : file ≡ (written lines ++ first ∷ []) ++ drop (end + 1) file
+    blank_front = r.split ∙ ap (λ (l : List ℕ). written lines ++ l) end_split
+        ∙ sym (append_assoc (written lines) (first ∷ []) (drop (end + 1) file))
+
+    blank_length : end + 1 ≡ length (written lines ++ first ∷ [])
+    blank_length = omega (arith, length-append (written lines) (first ∷ []), r.end_is)
+
+    blank_take : take (end + 1) file ≡ written lines ++ first ∷ []
+    blank_take = ap (take (end + 1)) blank_front ∙ take_at (written lines ++ first ∷ []) (drop (end + 1) file) (end + 1) (sym blank_length)
+
+    module _ (n : ℕ) (n_is : end + 1 + n ≡ length file) (c : List ℕ) (torn : Torn (end + 1) n file c) where
+      moved_blank : Torn (end + 1) n ((written lines ++ first ∷ []) ++ drop (end + 1) file) c
+      moved_blank = subst (λ (f : List ℕ). Torn (end + 1) n f c) blank_front torn
+
+      -- while the bytes after that byte are blanked
+      pub blank_torn : StandsFor lines c
+      blank_torn =
+          let front = written lines ++ first ∷ [] in
+          let tail = drop (end + 1) file in
+          let rest = middle front tail (end + 1) n c blank_length moved_blank ++ drop n tail in
+          let is : c ≡ written lines ++ first ∷ rest = torn_is front tail (end + 1) n c blank_length moved_blank
+          ∙ append_assoc (written lines) (first ∷ []) rest in
+          subst (StandsFor lines) (sym is)
+          (stands_written lines (first ∷ rest) r.whole (inl no_mark) (omega (arith, r.end_is, r.short))
+          (omega (arith, ap length is, torn.no_longer, r.short)))
+
+      pub blank_seen : (blanks : List ℕ) → n ≡ length blanks → Holds c (end + 1) blanks → c ≡ take (end + 1) file ++ blanks
+      blank_seen blanks long holds =
+          let tail = drop (end + 1) file in
+          let front = written lines ++ first ∷ [] in
+          written_is front tail (end + 1) n c blank_length moved_blank blanks long holds
+          ∙ ap (λ (l : List ℕ). front ++ (blanks ++ l)) (drop_all n tail (omega (arith, length-drop (end + 1) file)))
+          ∙ ap (λ (l : List ℕ). front ++ l) (append-nil blanks) ∙ ap (λ (l : List ℕ). l ++ blanks) (sym blank_take)
+
+    pub blank_journal : (blanks : List ℕ) → end + 1 + length blanks ≡ length file → has_newline blanks ≡ false
+        → IsJournal (take (end + 1) file ++ blanks) end lines × (has_newline (drop (end + 1) (take (end + 1) file ++ blanks)) ≡ false)
+    blank_journal blanks long none =
+        let new = take (end + 1) file ++ blanks in
+        let front = written lines ++ first ∷ [] in
+        let is : new ≡ front ++ blanks = ap (λ (l : List ℕ). l ++ blanks) blank_take in
+        let is_split : new ≡ written lines ++ first ∷ blanks = is ∙ append_assoc (written lines) (first ∷ []) blanks in
+        let rest : drop end new ≡ first ∷ blanks = ap (drop end) is_split ∙ drop_at (written lines) (first ∷ blanks) end (sym r.end_is) in
+        let after : drop (end + 1) new ≡ blanks = ap (drop (end + 1)) is ∙ drop_at front blanks (end + 1) (sym blank_length) in (
+          record {
+            split = is_split ∙ ap (λ (l : List ℕ). written lines ++ l) (sym rest);
+            end_is = r.end_is;
+            whole = r.whole;
+            shut = subst IsShut (sym rest) (inl no_mark);
+            short = omega (arith, ap length is, length-append front blanks, blank_length, r.short);
+          },
+          ap has_newline after ∙ none,
+        )
+
+pub newline_within : (n : ℕ) (bytes : List ℕ) → has_newline (drop n bytes) ≡ true → n < length bytes
+newline_within n bytes some = elim (cases_lt n (length bytes)) [
+  | inl within ↦ within
+  | inr past ↦ absurd (both_ways (has_newline (drop n bytes)) (ap has_newline (drop_all n bytes past)) some)
+]
+
+pub no_newline_in : (n byte : ℕ) → (byte == 10) ≡ false → has_newline (replicate n byte) ≡ false
+no_newline_in zero byte other = refl
+no_newline_in (suc n) byte other = or_from (byte == 10) (has_newline (replicate n byte)) other (no_newline_in n byte other)
+
+pub no_gate : (bytes : List ℕ) (at : ℕ) → (nat_lt at (length bytes) && slice_index bytes at == 45) ≡ false
+    → (slice_index bytes at == 45) ≡ false
+no_gate bytes at none = elim (cases_lt at (length bytes)) [
+  | inl within ↦
+      elim (and_cases (nat_lt at (length bytes)) (slice_index bytes at == 45) none) [
+        | inl past ↦ absurd (both_ways (nat_lt at (length bytes)) past (lt-ltb at (length bytes) within))
+        | inr other ↦ other
+      ]
+  | inr past ↦ ap (λ (b : ℕ). b == 45) (get_or_past bytes at 0 past)
+]
+
+-- the bytes from a place on, where blanks were put
+pub blanks_are : (bytes new : List ℕ) (at : ℕ) → at ≤ length bytes → new ≡ take at bytes ++ replicate (length bytes - at) 32
+    → take (length new - at) (drop at new) ≡ replicate (length bytes - at) 32
+blanks_are bytes new at low is = take_rest new at ∙ ap (drop at) is
+    ∙ drop_at (take at bytes) (replicate (length bytes - at) 32) at (length-take-le at bytes low)
+
+-- a first line and whole marked lines, as they were read
+pub journal_from : (bytes : List ℕ) (end : ℕ) (lines : List (List ℕ)) → bytes ≡ head_line ++ drop (length head_line) bytes
+    → length bytes ≤ most_bytes → EndsAt (drop (length head_line) bytes) end lines → IsJournal bytes (length head_line + end) lines
+journal_from bytes end lines head short ends =
+    let rest : drop (length head_line + end) bytes ≡ drop end (drop (length head_line) bytes) = sym (drop-drop end (length head_line) bytes) in
+    record {
+      split = head ∙ ap (λ (l : List ℕ). head_line ++ l) (ends.split ∙ ap (λ (l : List ℕ). marked lines ++ l) (sym rest));
+      end_is = omega (arith, ends.end_is);
+      whole = ends.whole;
+      shut = subst IsShut (sym rest) ends.shut;
+      short = short;
+    }
+
+pub head_is : (bytes : List ℕ) → bytes_eq (take (length head_line) bytes) head_line ≡ true
+    → bytes ≡ head_line ++ drop (length head_line) bytes
+head_is bytes same = sym (take-append-drop (length head_line) bytes)
+    ∙ ap (λ (l : List ℕ). l ++ drop (length head_line) bytes) ((bytes_eq-Decides (take (length head_line) bytes) head_line).0 same)
+
+-- no room for one more byte
+pub no_room : (bytes : List ℕ) (end : ℕ) (lines : List (List ℕ)) → IsJournal bytes end lines → most_bytes ≤ end → stands_for bytes ≡ None
+no_room bytes end lines r full =
+    ap stands_for r.split ∙ stands_after_head (marked lines ++ drop end bytes) (omega (arith, ap length r.split, r.short))
+    ∙ ap with_room (lines_then_shut lines (drop end bytes) r.whole r.shut)
+    ∙ cond-false (nat_lt (length (written lines)) most_bytes) (Some lines) None (le-ltb (length (written lines)) most_bytes
+    (omega (arith, r.end_is)))
+
+pub after_mark : (batch : List (List ℕ)) → (length batch == 0) ≡ false → marked batch ++ 45 ∷ [] ≡ 43 ∷ drop 1 (marked batch ++ 45 ∷ [])
+after_mark [] some = absurd (both_ways true some refl)
+after_mark (line ∷ batch) some = refl
+
+pub after_mark_some : (batch : List (List ℕ)) → (length batch == 0) ≡ false → 0 < length (drop 1 (marked batch ++ 45 ∷ []))
+after_mark_some [] some = absurd (both_ways true some refl)
+after_mark_some (line ∷ batch) some = omega (arith, length-append (line ++ 10 ∷ marked batch) (45 ∷ []))
+
+pub rest_from : (file : List ℕ) (end : ℕ) → IsClosed file end → IsAtRest file end (lines_in file)
+rest_from file end closed = record { split = closed.split; end_is = closed.end_is; whole = whole_lines (drop (length head_line) file); last = closed.last; short = closed.short }
+
+pub closed_from : (file : List ℕ) (end : ℕ) (lines : List (List ℕ)) → IsAtRest file end lines → IsClosed file end
+closed_from file end lines rest =
+    let same : lines ≡ lines_in file = sym (rest_lines file end lines rest) in
+    record {
+      split = rest.split ∙ ap (λ (ls : List (List ℕ)). written ls ++ 45 ∷ drop (end + 1) file) same;
+      end_is = rest.end_is ∙ ap (λ (ls : List (List ℕ)). length (written ls)) same;
+      last = rest.last;
+      short = rest.short;
+    }
+
+-- a file that is closed stands for the lines that it holds
+pub closed_stands : (file : List ℕ) (end : ℕ) → IsClosed file end → StandsFor (lines_in file) file
+closed_stands file end closed = rest_stands file end (lines_in file) (rest_from file end closed)
+
+-- lines for which a file has no room with the mark after them
+pub no_room_after : (file : List ℕ) (end : ℕ) → IsClosed file end → (batch : List (List ℕ))
+    → most_bytes ≤ end + length (drop 1 (marked batch ++ 45 ∷ [])) → most_bytes ≤ length (written (lines_in file ++ batch))
+no_room_after file end closed batch full =
+    let lines = lines_in file in
+    let all : length (written (lines ++ batch)) ≡ length (written lines) + length (marked batch) =
+    omega (
+      arith,
+      ap length (sym (append-nil (written (lines ++ batch))) ∙ written-append lines batch []
+          ∙ ap (λ (l : List ℕ). written lines ++ l) (append-nil (marked batch))),
+      length-append (written lines) (marked batch),
+    ) in
+    omega (arith, all, closed.end_is, length-drop 1 (marked batch ++ 45 ∷ []), length-append (marked batch) (45 ∷ []))

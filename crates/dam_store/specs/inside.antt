@@ -1,0 +1,3 @@
+-- Only contracts inside this crate cite these, and the invariants of its types.
+pub mod Shape
+pub mod Synced

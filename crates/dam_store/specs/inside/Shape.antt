@@ -1,0 +1,68 @@
+-- The bytes of a journal's file.
+use Rattle.std.specs.Prelude.{◌≡◌, ◌⊎◌, ℕ, ◌+◌, ◌≤◌, ◌==◌, Bool, false, List, [], ◌∷◌, ◌++◌, length, drop, slice_index}
+use Rattle.dam_store.specs.Limits.{most_bytes}
+use Rattle.dam_store.specs.Journal.{text_of, marked, marked_lines, written, lines_in, has_byte}
+
+-- some byte is a newline
+abbrev pub has_newline : List ℕ → Bool
+has_newline bytes = has_byte 10 bytes
+
+-- none of the lines has a newline
+abbrev pub AreWhole : List (List ℕ) → Type 0
+AreWhole [] = Unit {0}
+AreWhole (line ∷ lines) = (has_newline line ≡ false) × AreWhole lines
+
+-- the bytes begin with a marked line, of this length with its mark and its newline
+pub record BeginsWithLine (bytes : List ℕ) (len : ℕ) : Type 0 where
+  pub line : List ℕ
+  pub whole : has_newline line ≡ false
+  pub split : bytes ≡ 43 ∷ line ++ 10 ∷ drop len bytes
+  pub len_is : len ≡ length line + 2
+  pub within : len ≤ length bytes
+
+-- the bytes don't begin with a whole marked line
+abbrev pub IsShut : List ℕ → Type 0
+IsShut bytes = ((slice_index bytes 0 == 43) ≡ false) ⊎ (has_newline bytes ≡ false)
+
+-- whole marked lines were read from the bytes, `end` bytes of them, and `rest` is left
+pub record AreRead (bytes rest text : List ℕ) (end : ℕ) : Type 0 where
+  pub lines : List (List ℕ)
+  pub whole : AreWhole lines
+  pub split : bytes ≡ marked lines ++ rest
+  pub end_is : end ≡ length (marked lines)
+  pub text_is : text ≡ text_of lines
+
+-- the bytes are these whole marked lines up to `end`, and no whole marked line comes next
+pub record EndsAt (bytes : List ℕ) (end : ℕ) (lines : List (List ℕ)) : Type 0 where
+  pub split : bytes ≡ marked lines ++ drop end bytes
+  pub end_is : end ≡ length (marked lines)
+  pub whole : AreWhole lines
+  pub shut : IsShut (drop end bytes)
+
+-- the file is the first line and these lines up to `end`, and no whole marked line comes next
+pub record IsJournal (file : List ℕ) (end : ℕ) (lines : List (List ℕ)) : Type 0 where
+  pub split : file ≡ written lines ++ drop end file
+  pub end_is : end ≡ length (written lines)
+  pub whole : AreWhole lines
+  pub shut : IsShut (drop end file)
+  pub short : length file ≤ most_bytes
+
+-- the file is the first line and these lines up to `end`, and then one line that doesn't count yet
+pub record IsAtRest (file : List ℕ) (end : ℕ) (lines : List (List ℕ)) : Type 0 where
+  pub split : file ≡ written lines ++ 45 ∷ drop (end + 1) file
+  pub end_is : end ≡ length (written lines)
+  pub whole : AreWhole lines
+  pub last : has_newline (drop (end + 1) file) ≡ false
+  pub short : length file ≤ most_bytes
+
+-- the same of the lines that the file holds
+pub record IsClosed (file : List ℕ) (end : ℕ) : Type 0 where
+  pub split : file ≡ written (lines_in file) ++ 45 ∷ drop (end + 1) file
+  pub end_is : end ≡ length (written (lines_in file))
+  pub last : has_newline (drop (end + 1) file) ≡ false
+  pub short : length file ≤ most_bytes
+
+-- the bytes of a batch: whole marked lines, and then the mark of a line that doesn't count yet
+pub record IsBatch (bytes : List ℕ) : Type 0 where
+  pub split : bytes ≡ marked (marked_lines bytes) ++ 45 ∷ []
+  pub whole : AreWhole (marked_lines bytes)

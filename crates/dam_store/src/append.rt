@@ -1,0 +1,91 @@
+ghost use Rattle.std.specs.Prelude.{◌≡◌, ◌⊎◌, ◌+◌, ◌≤◌, ◌++◌, ◌∷◌, ◌==◌, [], List, ℕ, true, false, length, drop, IsTrue, IfErr, OnOk};
+ghost use Rattle.sqlite_disk.specs.Disk.{CountsFault, MoreFaults};
+ghost use Rattle.dam_store.specs.Limits.{most_bytes};
+ghost use Rattle.dam_store.specs.Journal.{marked, written, lines_in, StandsForEither};
+ghost use Rattle.dam_store.specs.Store.{disk_of, is_broken, held, IsSafe, IsTidy};
+ghost use Rattle.dam_store.specs.Faults.{is_failure};
+ghost use Rattle.dam_store.specs.inside.Shape.{IsClosed};
+ghost use Rattle.dam_store.specs.inside.Synced.{IsSynced, CrashLeaves};
+ghost use Rattle.dam_store.specs.declared.fault.StoreFault.TheVariants.{Full, Broken};
+
+use crate::batch::Batch;
+use crate::device::put;
+use crate::fault::StoreFault;
+use crate::limits::MOST_BYTES;
+use crate::store::Store;
+use sqlite_disk::Disk;
+
+/// Writes a batch after the mark at `end` and syncs it, and only then opens the mark and syncs that.
+fn write_lines<D: Disk>(disk: &mut D, end: usize, batch: &Batch) -> Result<(), StoreFault>
+    requires synced { IsSynced D.Disk disk.old }
+    requires closed { IsTrue (D.Disk.is_clean disk.old) → IsClosed (D.Disk.seen disk.old) end }
+    requires some { (length batch.now == 0) ≡ false }
+    requires room { end + 1 + length (drop 1 (marked batch.now ++ 45 ∷ [])) ≤ most_bytes }
+    ensures synced { OnOk result (IsSynced D.Disk disk.new) }
+    ensures closed { OnOk result (IsTrue (D.Disk.is_clean disk.new)
+        → IsClosed (D.Disk.seen disk.new) (end + length (drop 1 (marked batch.now ++ 45 ∷ [])))) }
+    ensures lines { OnOk result (IsTrue (D.Disk.is_clean disk.new)
+        → lines_in (D.Disk.seen disk.new) ≡ lines_in (D.Disk.seen disk.old) ++ batch.now) }
+    ensures crash { CrashLeaves D.Disk disk.new (StandsForEither (lines_in (D.Disk.seen disk.old)) batch.now) }
+    ensures clean { D.Disk.is_clean disk.new ≡ D.Disk.is_clean disk.old }
+    ensures faults { CountsFault result (D.Disk.faults disk.old) (D.Disk.faults disk.new) }
+    ensures failure { IfErr result (λ fault. is_failure fault ≡ true) }
+{
+    let bytes = batch.after_gate();
+    put(disk, end + 1, bytes)?;
+    put(disk, end, b"+")?;
+    Ok(())
+}
+
+impl<D: Disk> Store<D> {
+    /// Appends the lines, all or none. At `Ok` each crash from then on leaves a file that stands for them.
+    pub fn append(&mut self, batch: &Batch) -> Result<(), StoreFault>
+        ensures ready { OnOk result (is_broken self.new ≡ false) }
+        ensures acknowledged { OnOk result (IsTrue (D.Disk.is_clean (disk_of self.new)) → held self.new ≡ held self.old ++ batch.now) }
+        ensures safe { OnOk result (IsTrue (D.Disk.is_clean (disk_of self.new)) → IsSafe self.new) }
+        ensures tidy { OnOk result (IsTrue (D.Disk.is_clean (disk_of self.new)) → IsTidy self.new) }
+        ensures crash { is_broken self.old ≡ false → IsTrue (D.Disk.is_clean (disk_of self.new)) → (file : List ℕ)
+            → D.Disk.may_leave (disk_of self.new) file
+            → StandsForEither (held self.old) batch.now file }
+        ensures broken { is_broken self.old ≡ true → disk_of self.new ≡ disk_of self.old }
+        ensures full { IfErr result (λ fault. fault ≡ Full → (disk_of self.new ≡ disk_of self.old) × (is_broken self.new ≡ false)
+            × (IsTrue (D.Disk.is_clean (disk_of self.old)) → most_bytes ≤ length (written (held self.old ++ batch.now)))) }
+        ensures failure { IfErr result (λ fault. is_failure fault ≡ true
+            → (is_broken self.new ≡ true) × MoreFaults (D.Disk.faults (disk_of self.old)) (D.Disk.faults (disk_of self.new))) }
+        ensures no_other { IfErr result
+            (λ fault. (is_failure fault ≡ true) ⊎ (fault ≡ Full) ⊎ ((fault ≡ Broken) × (is_broken self.old ≡ true))) }
+        ensures stays_broken { is_broken self.old ≡ true → is_broken self.new ≡ true }
+        ensures clean { D.Disk.is_clean (disk_of self.new) ≡ D.Disk.is_clean (disk_of self.old) }
+    {
+        if self.is_broken {
+            return Err(StoreFault::Broken);
+        }
+        if batch.is_empty() {
+            return Ok(());
+        }
+        let len = batch.after_gate().len();
+        if len > MOST_BYTES - 1 - self.end {
+            return Err(StoreFault::Full);
+        }
+        self.is_broken = true;
+        write_lines(&mut self.disk, self.end, batch)?;
+        self.end += len;
+        self.is_broken = false;
+        Ok(())
+    }
+
+    /// Whether a write or a sync has failed.
+    pub fn is_broken(&self) -> bool
+        ensures value { result ≡ is_broken self.now }
+        ensures safe { is_broken self.now ≡ false → IsTrue (D.Disk.is_clean (disk_of self.now)) → IsSafe self.now }
+    {
+        self.is_broken
+    }
+
+    /// Gives the disk back.
+    pub fn into_disk(self) -> D
+        ensures { result ≡ disk_of self }
+    {
+        self.disk
+    }
+}

@@ -1,0 +1,104 @@
+ghost use Rattle.std.specs.Prelude.{◌≡◌, ◌++◌, [], ◌∷◌, ◌==◌, false, length, take, drop, IfOk, IfErr, OnOk, OnErr};
+ghost use Rattle.dam_store.specs.Journal.{IsLine, has_byte, marked, marked_lines};
+ghost use Rattle.dam_store.specs.inside.Shape.{AreWhole, IsBatch};
+ghost use Rattle.dam_store.specs.declared.fault.LineFault.TheVariants.{NotALine};
+
+use crate::fault::LineFault;
+use std::alloc::{AllocError, Global};
+use std::marker::Model;
+
+/// Lines that are to be appended together. A contract sees their list.
+#[derive(Drop)]
+pub struct Batch {
+    // The marked lines, and then the mark of a line that doesn't count yet.
+    bytes: Vec<u8>,
+}
+
+impl Model for Batch {
+    ghost use Rattle.std.specs.Prelude.{List, ℕ};
+    ghost use Rattle.dam_store.specs.Journal.{marked_lines};
+    ghost use Rattle.dam_store.specs.inside.Shape.{IsBatch};
+
+    ghost Value = { List (List ℕ) };
+
+    ghost view = { λ batch. marked_lines batch.bytes.items };
+
+    ghost invariant = { λ batch. IsBatch batch.bytes.items };
+}
+
+impl Batch {
+    /// A batch with no lines.
+    pub fn new(alloc: Global) -> Result<Batch, AllocError>
+        ensures { IfOk result (λ batch. batch ≡ []) }
+    {
+        Ok(Batch {
+            bytes: Vec::from_slice(alloc, b"-")?,
+        })
+    }
+
+    /// Adds a line, given without a newline.
+    pub fn push(&mut self, line: &[u8]) -> Result<(), LineFault>
+        ensures ok { OnOk result (self.new ≡ self.old ++ line.now ∷ []) }
+        ensures line { OnOk result (IsLine line.now) }
+        ensures err { OnErr result (self.new ≡ self.old) }
+        ensures not_a_line { IfErr result (λ fault. fault ≡ NotALine → ¬ (IsLine line.now)) }
+    {
+        if line.contains(&b'\n') || line.contains(&0) {
+            return Err(LineFault::NotALine);
+        }
+        if add_line(&mut self.bytes, line).is_err() {
+            return Err(LineFault::Memory);
+        }
+        Ok(())
+    }
+
+    /// Removes all lines, and keeps the memory.
+    pub fn clear(&mut self)
+        ensures { self.new ≡ [] }
+    {
+        self.bytes.truncate(1);
+        self.bytes[0] = b'-';
+    }
+
+    pub fn is_empty(&self) -> bool
+        ensures { result ≡ (length self.now == 0) }
+    {
+        self.bytes.len() == 1
+    }
+
+    /// The bytes that follow the mark of a line that doesn't count yet, once these lines are written there.
+    pub(crate) fn after_gate(&self) -> &[u8]
+        ensures value { result.now ≡ drop 1 (marked self.now ++ 45 ∷ []) }
+        ensures whole { AreWhole self.now }
+    {
+        &self.bytes[1..]
+    }
+}
+
+fn add_line(bytes: &mut Vec<u8>, line: &[u8]) -> Result<(), AllocError>
+    requires batch { IsBatch bytes.old.items }
+    requires line { has_byte 10 line.now ≡ false }
+    ensures batch { IsBatch bytes.new.items }
+    ensures ok { OnOk result (marked_lines bytes.new.items ≡ marked_lines bytes.old.items ++ line.now ∷ []) }
+    ensures err { OnErr result (marked_lines bytes.new.items ≡ marked_lines bytes.old.items) }
+{
+    let gate = bytes.len() - 1;
+    match extend(bytes, line) {
+        Ok(()) => {
+            bytes[gate] = b'+';
+            Ok(())
+        }
+        Err(error) => {
+            bytes.truncate(gate + 1);
+            Err(error)
+        }
+    }
+}
+
+fn extend(bytes: &mut Vec<u8>, line: &[u8]) -> Result<(), AllocError>
+    ensures ok { OnOk result (bytes.new.items ≡ bytes.old.items ++ (line.now ++ 10 ∷ 45 ∷ [])) }
+    ensures err { OnErr result (take (length bytes.old.items) bytes.new.items ≡ bytes.old.items) }
+{
+    bytes.extend_from_slice(line)?;
+    bytes.extend_from_slice(b"\n-")
+}

@@ -1,0 +1,51 @@
+ghost use Rattle.std.specs.Prelude.{◌≡◌, ◌<◌, ◌≤◌, ℕ, List, true, None, length, IsTrue, IfOk, IfErr, OnOk};
+ghost use Rattle.sqlite_disk.specs.Disk.{Torn, Holds, Follows, CountsFault, MoreFaults};
+ghost use Rattle.dam_store.specs.Limits.{most_bytes};
+ghost use Rattle.dam_store.specs.Journal.{stands_for};
+ghost use Rattle.dam_store.specs.Faults.{is_failure, is_refusal};
+ghost use Rattle.dam_store.specs.inside.Synced.{IsSynced, IsRead};
+
+use crate::fault::StoreFault;
+use crate::limits::MOST_BYTES;
+use sqlite_disk::Disk;
+use std::alloc::Global;
+
+/// Writes bytes and syncs the file. Nothing is retried.
+pub(crate) fn put<D: Disk>(disk: &mut D, at: usize, bytes: &[u8]) -> Result<(), StoreFault>
+    requires usable { IsTrue (D.Disk.is_usable disk.old) }
+    requires some { 0 < length bytes.now }
+    ensures synced { OnOk result (IsSynced D.Disk disk.new) }
+    ensures written { OnOk result (Holds (D.Disk.seen disk.new) at bytes.now) }
+    ensures others { Torn at (length bytes.now) (D.Disk.seen disk.old) (D.Disk.seen disk.new) }
+    ensures crash { Follows (Torn at (length bytes.now)) (D.Disk.may_leave disk.old) (D.Disk.may_leave disk.new) }
+    ensures clean { D.Disk.is_clean disk.new ≡ D.Disk.is_clean disk.old }
+    ensures faults { CountsFault result (D.Disk.faults disk.old) (D.Disk.faults disk.new) }
+    ensures failure { IfErr result (λ fault. is_failure fault ≡ true) }
+{
+    disk.write_at(at, bytes).map_err(StoreFault::Write)?;
+    disk.sync().map_err(StoreFault::Sync)?;
+    Ok(())
+}
+
+/// The bytes of the file.
+pub(crate) fn read_file<D: Disk>(alloc: Global, disk: &mut D) -> Result<Vec<u8>, StoreFault>
+    requires synced { IsSynced D.Disk disk.old }
+    ensures read { IfOk result (λ bytes. IsRead D.Disk disk.new bytes.items) }
+    ensures short { IfOk result (λ bytes. length bytes.items ≤ most_bytes) }
+    ensures seen { D.Disk.seen disk.new ≡ D.Disk.seen disk.old }
+    ensures clean { IsTrue (D.Disk.is_clean disk.new) → IsTrue (D.Disk.is_clean disk.old) }
+    ensures crash { (file : List ℕ) → D.Disk.may_leave disk.new file → D.Disk.may_leave disk.old file }
+    ensures faults { OnOk result (D.Disk.faults disk.new ≡ D.Disk.faults disk.old) }
+    ensures failure { IfErr result (λ fault. is_failure fault ≡ true → MoreFaults (D.Disk.faults disk.old) (D.Disk.faults disk.new)) }
+    ensures refusal { IfErr result (λ fault. is_refusal fault ≡ true → IsTrue (D.Disk.is_clean disk.new)
+        → stands_for (D.Disk.seen disk.old) ≡ None) }
+{
+    let len = disk.len().map_err(StoreFault::Read)?;
+    if len > MOST_BYTES {
+        return Err(StoreFault::TooLong);
+    }
+    let mut bytes = vec![in alloc; 0u8; len]?;
+    disk.read_at(0, bytes.as_mut_slice())
+        .map_err(StoreFault::Read)?;
+    Ok(bytes)
+}

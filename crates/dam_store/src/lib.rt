@@ -1,0 +1,22 @@
+//! A journal of lines on a disk, which no crash makes forget an acknowledged line.
+//!
+//! Nothing is assumed of a write that a crash cuts short: any bytes may stand in its range.
+#![tactic(auto)]
+
+mod append;
+mod batch;
+mod device;
+mod fault;
+mod file;
+pub mod laws;
+mod limits;
+mod open;
+mod recovery;
+mod scan;
+mod store;
+
+pub use batch::Batch;
+pub use fault::{LineFault, StoreFault};
+pub use file::{FileFault, open_file};
+pub use limits::MOST_BYTES;
+pub use store::{Opened, Store, Unopened};

@@ -1,0 +1,214 @@
+ghost use Rattle.std.specs.Prelude.{◌≡◌, ◌⊎◌, ◌+◌, ◌∷◌, ◌<◌, ◌≤◌, [], List, ℕ, false, true, None, ◌&&◌, ◌==◌, ◌-◌, ◌++◌, nat_lt, slice_index, length, take, drop, replicate, IsTrue, IfOk, IfErr, OnOk};
+ghost use Rattle.dam_store.specs.Limits.{most_bytes};
+ghost use Rattle.dam_store.specs.Journal.{is_unmade, head_line, lines_in, stands_for, text_of, StandsFor};
+ghost use Rattle.dam_store.specs.inside.Shape.{has_newline, IsAtRest, IsJournal};
+ghost use Rattle.dam_store.specs.inside.Synced.{IsSynced, IsRead, IsOpened, CrashLeaves};
+ghost use Rattle.dam_store.specs.Faults.{is_failure, is_refusal};
+ghost use Rattle.sqlite_disk.specs.Disk.{MoreFaults};
+
+use crate::device::{put, read_file};
+use crate::fault::StoreFault;
+use crate::limits::MOST_BYTES;
+use crate::scan::{Lines, read_lines};
+use sqlite_disk::Disk;
+use std::alloc::{AllocError, Global};
+
+const HEAD_LINE: [u8; 12] = *b"+dam-desk 1\n";
+
+const AFTER_FIRST: [u8; 12] = *b"dam-desk 1\n-";
+
+fn is_unmade(bytes: &[u8]) -> bool
+    ensures { result ≡ is_unmade bytes.now }
+{
+    match bytes {
+        [] | [_] => true,
+        [first, rest @ ..] => {
+            (*first == b'-' && rest.len() <= AFTER_FIRST.len()) || rest == AFTER_FIRST.as_slice()
+        }
+    }
+}
+
+/// Whether the mark of a line that doesn't count yet is at `at`.
+fn has_gate(bytes: &[u8], at: usize) -> bool
+    ensures { result ≡ (nat_lt at (length bytes.now) && slice_index bytes.now at == 45) }
+{
+    at < bytes.len() && bytes[at] == b'-'
+}
+
+fn has_newline_after(bytes: &[u8], at: usize) -> bool
+    ensures { result ≡ has_newline (drop at bytes.now) }
+{
+    at < bytes.len() && bytes[at..].contains(&b'\n')
+}
+
+/// Makes the first byte of a file that was never made whole the mark of a line that doesn't count yet.
+fn begin<D: Disk>(disk: &mut D, bytes: &[u8]) -> Result<(), StoreFault>
+    requires read { IsRead D.Disk disk.old bytes.now }
+    requires unmade { is_unmade bytes.now ≡ true }
+    ensures synced { OnOk result (IsSynced D.Disk disk.new) }
+    ensures begun { OnOk result (IsTrue (D.Disk.is_clean disk.new) → D.Disk.seen disk.new ≡ 45 ∷ drop 1 bytes.now) }
+    ensures crash { CrashLeaves D.Disk disk.new (StandsFor []) }
+    ensures clean { D.Disk.is_clean disk.new ≡ D.Disk.is_clean disk.old }
+    ensures faults { OnOk result (D.Disk.faults disk.new ≡ D.Disk.faults disk.old) }
+    ensures failure { IfErr result (λ fault. is_failure fault ≡ true → MoreFaults (D.Disk.faults disk.old) (D.Disk.faults disk.new)) }
+    ensures refusal { IfErr result (λ fault. is_refusal fault ≡ false) }
+{
+    if has_gate(bytes, 0) {
+        return Ok(());
+    }
+    put(disk, 0, b"-")?;
+    Ok(())
+}
+
+/// Makes a file whole that never was.
+fn create<D: Disk>(disk: &mut D, bytes: &[u8]) -> Result<(), StoreFault>
+    requires read { IsRead D.Disk disk.old bytes.now }
+    requires unmade { is_unmade bytes.now ≡ true }
+    ensures synced { OnOk result (IsSynced D.Disk disk.new) }
+    ensures at_rest { OnOk result (IsTrue (D.Disk.is_clean disk.new) → IsAtRest (D.Disk.seen disk.new) (length head_line) []) }
+    ensures crash { CrashLeaves D.Disk disk.new (StandsFor []) }
+    ensures clean { D.Disk.is_clean disk.new ≡ D.Disk.is_clean disk.old }
+    ensures faults { OnOk result (D.Disk.faults disk.new ≡ D.Disk.faults disk.old) }
+    ensures failure { IfErr result (λ fault. is_failure fault ≡ true → MoreFaults (D.Disk.faults disk.old) (D.Disk.faults disk.new)) }
+    ensures refusal { IfErr result (λ fault. is_refusal fault ≡ false) }
+{
+    begin(disk, bytes)?;
+    put(disk, 1, &AFTER_FIRST)?;
+    put(disk, 0, b"+")?;
+    Ok(())
+}
+
+/// Replaces the bytes from `at` on with blanks.
+fn clear_after(bytes: &mut Vec<u8>, at: usize) -> Result<(), AllocError>
+    requires { at ≤ length bytes.old.items }
+    ensures { OnOk result (bytes.new.items ≡ take at bytes.old.items ++ replicate (length bytes.old.items - at) 32) }
+{
+    let len = bytes.len();
+    bytes.truncate(at);
+    bytes.resize(len, b' ')?;
+    Ok(())
+}
+
+/// Writes blanks over the bytes after the byte at `end`, if a newline is among them.
+fn blank<D: Disk>(disk: &mut D, end: usize, bytes: &mut Vec<u8>) -> Result<(), StoreFault>
+    requires read { IsRead D.Disk disk.old bytes.old.items }
+    requires journal { IsJournal bytes.old.items end (lines_in bytes.old.items) }
+    requires room { end < most_bytes }
+    ensures read { OnOk result (IsRead D.Disk disk.new bytes.new.items) }
+    ensures journal { OnOk result (IsJournal bytes.new.items end (lines_in bytes.new.items)) }
+    ensures lines { OnOk result (lines_in bytes.new.items ≡ lines_in bytes.old.items) }
+    ensures last { OnOk result (has_newline (drop (end + 1) bytes.new.items) ≡ false) }
+    ensures crash { CrashLeaves D.Disk disk.new (StandsFor (lines_in bytes.old.items)) }
+    ensures clean { D.Disk.is_clean disk.new ≡ D.Disk.is_clean disk.old }
+    ensures faults { OnOk result (D.Disk.faults disk.new ≡ D.Disk.faults disk.old) }
+    ensures failure { IfErr result (λ fault. is_failure fault ≡ true → MoreFaults (D.Disk.faults disk.old) (D.Disk.faults disk.new)) }
+    ensures refusal { IfErr result (λ fault. is_refusal fault ≡ false) }
+{
+    if !has_newline_after(bytes, end + 1) {
+        return Ok(());
+    }
+    clear_after(bytes, end + 1)?;
+    put(disk, end + 1, &bytes[end + 1..])?;
+    Ok(())
+}
+
+/// Writes the mark of a line that doesn't count yet at `end`, unless it is there.
+fn close<D: Disk>(disk: &mut D, end: usize, bytes: &[u8]) -> Result<(), StoreFault>
+    requires read { IsRead D.Disk disk.old bytes.now }
+    requires journal { IsJournal bytes.now end (lines_in bytes.now) }
+    requires last { has_newline (drop (end + 1) bytes.now) ≡ false }
+    requires room { end < most_bytes }
+    ensures synced { OnOk result (IsSynced D.Disk disk.new) }
+    ensures at_rest { OnOk result (IsTrue (D.Disk.is_clean disk.new) → IsAtRest (D.Disk.seen disk.new) end (lines_in bytes.now)) }
+    ensures crash { CrashLeaves D.Disk disk.new (StandsFor (lines_in bytes.now)) }
+    ensures clean { D.Disk.is_clean disk.new ≡ D.Disk.is_clean disk.old }
+    ensures faults { OnOk result (D.Disk.faults disk.new ≡ D.Disk.faults disk.old) }
+    ensures failure { IfErr result (λ fault. is_failure fault ≡ true → MoreFaults (D.Disk.faults disk.old) (D.Disk.faults disk.new)) }
+    ensures refusal { IfErr result (λ fault. is_refusal fault ≡ false) }
+{
+    if has_gate(bytes, end) {
+        return Ok(());
+    }
+    put(disk, end, b"-")?;
+    Ok(())
+}
+
+/// Opens a file that begins with the first line: closes its end.
+fn reopen<D: Disk>(alloc: Global, disk: &mut D, mut bytes: Vec<u8>) -> Result<Lines, StoreFault>
+    requires read { IsRead D.Disk disk.old bytes.items }
+    requires short { length bytes.items ≤ most_bytes }
+    requires head { bytes.items ≡ head_line ++ drop (length head_line) bytes.items }
+    ensures synced { OnOk result (IsSynced D.Disk disk.new) }
+    ensures opened { IfOk result (λ found. IsTrue (D.Disk.is_clean disk.new)
+        → IsOpened D.Disk disk.new bytes.items found.text.items found.end) }
+    ensures room { IfOk result (λ found. found.end < most_bytes) }
+    ensures crash { CrashLeaves D.Disk disk.new (λ file. stands_for file ≡ stands_for bytes.items) }
+    ensures untouched { stands_for bytes.items ≡ None → disk.new ≡ disk.old }
+    ensures clean { D.Disk.is_clean disk.new ≡ D.Disk.is_clean disk.old }
+    ensures faults { OnOk result (D.Disk.faults disk.new ≡ D.Disk.faults disk.old) }
+    ensures failure { IfErr result (λ fault. is_failure fault ≡ true → MoreFaults (D.Disk.faults disk.old) (D.Disk.faults disk.new)) }
+    ensures refusal { IfErr result (λ fault. is_refusal fault ≡ true → stands_for bytes.items ≡ None) }
+{
+    let found = read_lines(alloc, &bytes[HEAD_LINE.len()..])?;
+    let end = HEAD_LINE.len() + found.end;
+    if end >= MOST_BYTES {
+        return Err(StoreFault::Full);
+    }
+    blank(disk, end, &mut bytes)?;
+    close(disk, end, &bytes)?;
+    Ok(Lines {
+        text: found.text,
+        end,
+    })
+}
+
+/// Opens the file whose bytes are given: makes it whole, or closes its end.
+fn settle<D: Disk>(alloc: Global, disk: &mut D, bytes: Vec<u8>) -> Result<Lines, StoreFault>
+    requires read { IsRead D.Disk disk.old bytes.items }
+    requires short { length bytes.items ≤ most_bytes }
+    ensures synced { OnOk result (IsSynced D.Disk disk.new) }
+    ensures opened { IfOk result (λ found. IsTrue (D.Disk.is_clean disk.new)
+        → IsOpened D.Disk disk.new bytes.items found.text.items found.end) }
+    ensures room { IfOk result (λ found. found.end < most_bytes) }
+    ensures crash { CrashLeaves D.Disk disk.new (λ file. stands_for file ≡ stands_for bytes.items) }
+    ensures untouched { stands_for bytes.items ≡ None → disk.new ≡ disk.old }
+    ensures clean { D.Disk.is_clean disk.new ≡ D.Disk.is_clean disk.old }
+    ensures faults { OnOk result (D.Disk.faults disk.new ≡ D.Disk.faults disk.old) }
+    ensures failure { IfErr result (λ fault. is_failure fault ≡ true → MoreFaults (D.Disk.faults disk.old) (D.Disk.faults disk.new)) }
+    ensures refusal { IfErr result (λ fault. is_refusal fault ≡ true → stands_for bytes.items ≡ None) }
+{
+    if bytes.starts_with(&HEAD_LINE) {
+        return reopen(alloc, disk, bytes);
+    }
+    if !is_unmade(&bytes) {
+        return Err(StoreFault::NotAJournal);
+    }
+    create(disk, &bytes)?;
+    Ok(Lines {
+        text: Vec::new(alloc),
+        end: HEAD_LINE.len(),
+    })
+}
+
+/// Opens a file that a crash may have left.
+pub(crate) fn recover<D: Disk>(alloc: Global, disk: &mut D) -> Result<Lines, StoreFault>
+    requires usable { IsTrue (D.Disk.is_usable disk.old) }
+    ensures synced { OnOk result (IsSynced D.Disk disk.new) }
+    ensures opened { IfOk result (λ found. IsTrue (D.Disk.is_clean disk.new)
+        → IsOpened D.Disk disk.new (D.Disk.seen disk.old) found.text.items found.end) }
+    ensures room { IfOk result (λ found. found.end < most_bytes) }
+    ensures crash { CrashLeaves D.Disk disk.new
+        (λ file. D.Disk.may_leave disk.old file ⊎ (stands_for file ≡ stands_for (D.Disk.seen disk.old))) }
+    ensures untouched { IsTrue (D.Disk.is_clean disk.new) → stands_for (D.Disk.seen disk.old) ≡ None
+        → D.Disk.seen disk.new ≡ D.Disk.seen disk.old }
+    ensures clean { IsTrue (D.Disk.is_clean disk.new) → IsTrue (D.Disk.is_clean disk.old) }
+    ensures faults { OnOk result (D.Disk.faults disk.new ≡ D.Disk.faults disk.old) }
+    ensures failure { IfErr result (λ fault. is_failure fault ≡ true → MoreFaults (D.Disk.faults disk.old) (D.Disk.faults disk.new)) }
+    ensures refusal { IfErr result (λ fault. is_refusal fault ≡ true → IsTrue (D.Disk.is_clean disk.new)
+        → stands_for (D.Disk.seen disk.old) ≡ None) }
+{
+    disk.sync().map_err(StoreFault::Sync)?;
+    let bytes = read_file(alloc, disk)?;
+    let found = settle(alloc, disk, bytes)?;
+    Ok(found)
+}
