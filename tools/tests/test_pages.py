@@ -30,11 +30,11 @@ MOST_BYTES = {
     "ASSURANCE.md": 22_000,
     "DECISIONS.md": 15_700,
     "MEASURED.md": 8_000,
-    "OPERATING.md": 7_200,
+    "OPERATING.md": 7_500,
     "READING.md": 4_500,
     "TESTED.md": 12_100,
     "THEOREM.md": 10_000,
-    "TRUST.md": 10_900,
+    "TRUST.md": 11_500,
     "USING.md": 14_000,
 }
 WRITTEN = re.compile(r"<!-- the (.*?): tools/reading-list --write -->.*?<!-- the end of the \1 -->", re.DOTALL)
