@@ -72,9 +72,9 @@ struct dam_answer dam_replay(const uint8_t *text, size_t text_length, uint8_t *b
  * (docs/FORMATS.md; docs/TABLES.md for EUR and MW).
  *
  * The calling thread searches alone and can't be stopped; `nodes` is the only limit on its time. A search that needs more nodes ends with
- * status 3. Every number is allowed: 0 stops the search of each closed book, and DAM_MOST_NODES or more never stops a search. If `nodes`
- * allows more than a trial of 4,096 to 46,875 nodes, that trial comes first, and isn't counted. The more the volumes of the blocks differ
- * from period to period, the longer a node takes. */
+ * status 3. Every number is allowed: 0 stops the search of each closed book, and DAM_MOST_NODES or more never stops a search. Before the
+ * nodes, a first selection is looked for, which isn't counted. The search of n blocks has at most 2^(n+1) - 1 nodes; a limit below that
+ * makes it slower. Without such a limit, a node takes longer the more the volumes of the blocks differ from period to period. */
 struct dam_answer dam_clear(const uint8_t *text, size_t text_length, uint32_t nodes, uint8_t *buffer, size_t buffer_length);
 
 /* The same two calls, for journals from people who are not trusted. Names are hashed with the first 16 bytes of the secret. The hash of the

@@ -29,8 +29,8 @@
 //! welfare, the live count, and the classes. A contract sees a [`ClassCurves`] or a [`Relaxed`] as the problem that it was
 //! built from, without its rows. Only tests show that a call reports out of memory only if memory was refused.
 //!
-//! The crate doesn't know exclusive groups, or which selections are admissible. The only links it knows are which block
-//! descends from which.
+//! The crate doesn't know exclusive groups. Its code doesn't look at which selections are admissible. The only links it
+//! knows are which block descends from which.
 #![tactic(auto)]
 
 mod class_curves;

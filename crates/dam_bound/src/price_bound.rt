@@ -12,8 +12,9 @@ use dam_curve::Line;
 /// A bound by prices: at some prices, the surplus of all hourly orders, and the surplus of each block.
 ///
 /// At any prices, the welfare of a selection is at most the surplus of all hourly orders plus the surpluses of the
-/// selection's blocks (`laws::price_bound`). So the prices need not be clearing prices of anything. All numbers are in
-/// cents per MWh times tenths of a MW.
+/// selection's blocks. So the prices need not be clearing prices of anything. `laws::price_bound` says so of the prices
+/// and surpluses of lines that are nowhere below the curves of the classes. All numbers are in cents per MWh times
+/// tenths of a MW.
 #[derive(Clone, Copy)]
 pub struct PriceBound {
     /// The surplus of all hourly orders at the prices.

@@ -47,8 +47,8 @@ fn greatest_product(volume: i64, range: PriceRange) -> i64
 
 impl<A: Allocator, B: Allocator> ClassCurves<'_, A, B> {
     /// Whether at least one of two blocks loses at the prices of any selection that accepts both, so that no eligible one
-    /// does. The first has to sell and the second to buy, both in some period. It may be `false` even if they are rivals;
-    /// it is if another block descends from one of them. Takes no memory.
+    /// does. It is `true` only if the first sells and the second buys in a same class. It may be `false` even if they
+    /// are rivals; it is if another block descends from one of them. Takes no memory.
     ///
     /// The prices of a class fall as its net volume rises, so they lie between those at its greatest and at its least net
     /// volume. If the two surpluses, weighed so that the volumes cancel in some class, are below 0 together at the best

@@ -29,10 +29,10 @@ fn clear_book_alone(alloc: Global, book: &Book, nodes: u32) -> Result<Vec<u8>, R
 
 /// The results text of a journal's text, as `run_clear` prints it, found on the calling thread alone.
 ///
-/// It doesn't start a thread, and it reads and writes only memory. The search visits at most `nodes` nodes, besides
-/// those of a trial that may come first. `nodes` may be any number: with 0, a search never finishes; with 67,108,864 or
-/// more, it always does. The book hashes names with the seed. `StillOpen` comes only if the book is open after the last
-/// command.
+/// It doesn't start a thread, and it reads and writes only memory. The search visits at most `nodes` nodes. Before the
+/// nodes, a first selection is looked for, which isn't counted. `nodes` may be any number: with 0, a search never
+/// finishes; with 67,108,864 or more, it always does. The book hashes names with the seed. `StillOpen` comes only if
+/// the book is open after the last command.
 pub fn clear_text_alone(
     alloc: Global,
     seed: Seed,

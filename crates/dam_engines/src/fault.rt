@@ -25,11 +25,11 @@ pub enum RunFault {
     TooManyParticipants(usize),
     /// The journal's commands leave the book open, so there is nothing to clear.
     StillOpen,
-    /// The journal of a day's gate and the receipts of its participants don't fit together. It isn't known
-    /// to occur in any run. If memory ran out, the fault is `Memory` of this type.
+    /// The journal of a day's gate and the receipts of its participants don't fit together. By contract, no run
+    /// ends so. If memory ran out, the fault is `Memory` of this type.
     Mismatch(Mismatch),
-    /// The search visited as many nodes of this piece as the plan allows, and needed another. It is the least
-    /// such piece.
+    /// The search visited as many nodes of this piece as the plan allows, and needed another. Only tests show
+    /// that it is the least such piece.
     Unfinished { piece: u32, visited: u32 },
     /// The answers of the search's workers lack this piece or repeat it. The search never answers so, and
     /// so no run does.

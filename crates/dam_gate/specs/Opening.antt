@@ -1,4 +1,5 @@
--- What a gate's name stands for: its history, the length of its day, and the count of its entries.
+-- What a gate's name stands for: its history, the length of its day, the number of its passes, and the count of its
+-- entries.
 use Rattle.std.specs.Prelude.{ℕ}
 use Rattle.logbook.specs.Pages.{Book}
 

@@ -56,7 +56,8 @@ impl Plain<PackedEntry, PackedEntry, u64> for Add {
     ghost state = { λ entry. None };
 }
 
-/// Which gate it is, by its history and its day. A program that begins a gate picks the name: `Brand`.
+/// Which gate it is, by its history, its day, the number of its passes, and the count of its entries. A program that
+/// begins a gate picks the name: `Brand`.
 pub trait GateName {
     ghost use Rattle.dam_gate.specs.Opening.{OpeningState};
 
@@ -83,8 +84,8 @@ impl<J: GateName> Ledger for Answered<J> {
     ghost parts = { J.opening.passes };
 }
 
-/// The start of a gate: the length of its day, the number of its passes, and its history, which is empty and has no name
-/// yet.
+/// The start of a gate: the length of its day, the number of its passes, the count of its entries, and its history,
+/// which is empty and has no name yet.
 #[derive(Drop)]
 pub struct Opening {
     periods: u8,

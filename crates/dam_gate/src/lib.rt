@@ -28,8 +28,8 @@
 //! Two passes have seen one history ([`laws::one_history`]).
 //!
 //! About the state under the lock, contracts state only facts of any gate that hold whenever the lock is free: the
-//! journal is a legal one of the day of the gate's name, and the slot that is shown has the journal's version in it. So
-//! only tests show that
+//! journal is a legal one of the day of the gate's name, the passes' receipts together count its entries, and the slot
+//! that is shown has the journal's version in it. So only tests show that
 //!
 //! - a gate begins without an entry, and gives nine passes
 //! - a call journals at this gate and just once, or, if it is refused, not at all

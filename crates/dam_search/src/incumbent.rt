@@ -19,8 +19,9 @@ pub trait Incumbent {
     ghost kept: { Self → Self.Kept };
 
     /// A welfare to prune by, never less than this incumbent's earlier answers, in cents per MWh
-    /// times tenths of a MW. A walk compares a node's bound with it. A walk by prices asks for it at each node, and a
-    /// walk by relaxed welfares at each that leaves a block undecided.
+    /// times tenths of a MW. A walk compares a node's bound with it. A walk by prices asks for it once as it begins and
+    /// at each node. A walk by relaxed welfares, for a limit on nodes that may stop a piece, asks only at nodes that
+    /// leave a block undecided.
     fn read(&mut self) -> u64
         ensures rises { greatest_read self.old ≤ result }
         ensures greatest_read { greatest_read self.new ≡ result }
