@@ -13,6 +13,7 @@ from lib import book, command, engine, journal
 TRUST, GUIDE = TOP / "docs" / "TRUST.md", TOP / "docs" / "GUIDE.md"
 NUMBER = re.compile(r"(?<![\w.-])-?\d[\d,]*(?:\.\d+)?(?![\w-])")
 HIDDEN = re.compile(r"^```.*?^```$|`[^`\n]*`|\]\([^)]*\)|Python 3\.\d+", re.MULTILINE | re.DOTALL)  # the parts that aren't prose
+NEEDS_CRYPTOGRAPHY = unittest.skipUnless(command.has("cryptography"), "cryptography is missing (Debian's python3-cryptography)")
 NEEDS_NUMPY = unittest.skipUnless(command.has("numpy"), "numpy is missing (Debian's python3-numpy)")
 NEEDS_PROGRAM = unittest.skipUnless(engine.BUILT.exists(), "the program isn't built")
 
@@ -34,6 +35,7 @@ class Shown(unittest.TestCase):
                     self.assertEqual((status, said), (0, ""))
                     self.assertEqual(printed, quoted or "")
 
+    @NEEDS_CRYPTOGRAPHY
     @NEEDS_NUMPY
     @NEEDS_PROGRAM
     def test_trust(self):
