@@ -26,7 +26,7 @@ OTHER_PAGES = {"CONTRIBUTING.md", "CHECK.md", "OPERATING.md", "DEFINITIONS.md", 
 # The most bytes of a page, without the parts that a script writes. A page that grows beyond is split, or says things twice.
 MOST_BYTES = {
     "README.md": 7_168,
-    "ARCHITECTURE.md": 6_600,
+    "ARCHITECTURE.md": 6_650,
     "ASSURANCE.md": 22_000,
     "DECISIONS.md": 15_700,
     "MEASURED.md": 8_000,

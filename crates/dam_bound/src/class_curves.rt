@@ -104,7 +104,8 @@ impl<A: Allocator, B: Allocator> ClassCurves<'_, A, B> {
         requires { IsPriceBound self.now bound.now }
         ensures some { IfSome result (λ w. (selection_welfare self.now selection ≡ Some w)
             × (least ≤ℤ w)) }
-        ensures none { result ≡ None → (w : ℤ) → selection_welfare self.now selection ≡ Some w
+        ensures none { result ≡ None → (w : ℤ)
+            → selection_welfare self.now selection ≡ Some w
             → w <ℤ least }
     {
         let counts = counts_of(selection);
@@ -126,7 +127,8 @@ impl<A: Allocator, B: Allocator> ClassCurves<'_, A, B> {
     /// selection with which every period balances: one for which `welfare` returns a welfare. Takes no memory.
     pub fn has_loss(&self, selection: Selection) -> bool
         requires { (w : ℤ) × (selection_welfare self.now selection ≡ Some w) }
-        ensures { (prices : List ℤ) → ArePrices self.now.blocks selection 1 self.now.hours prices
+        ensures { (prices : List ℤ)
+            → ArePrices self.now.blocks selection 1 self.now.hours prices
             → (result ≡ false) ↔ HasNoLoss self.now.blocks selection prices }
     {
         dam_blocks::laws::descendants();

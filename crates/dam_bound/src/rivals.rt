@@ -56,7 +56,8 @@ impl<A: Allocator, B: Allocator> ClassCurves<'_, A, B> {
     pub fn are_rivals(&self, sell: usize, buy: usize) -> bool
         requires sell { sell < length self.now.blocks }
         requires buy { buy < length self.now.blocks }
-        ensures { result ≡ true → (selection : List Bool) (w : ℤ) → IsEligible self.now selection w
+        ensures { result ≡ true → (selection : List Bool) (w : ℤ)
+            → IsEligible self.now selection w
             → accepts selection sell ≡ true → accepts selection buy ≡ false }
     {
         laws::descendants();

@@ -41,14 +41,19 @@ impl<D: Disk> Store<D> {
     /// Appends the lines, all or none. At `Ok` each crash from then on leaves a file that stands for them.
     pub fn append(&mut self, batch: &Batch) -> Result<(), StoreFault>
         ensures ready { OnOk result (is_broken self.new ≡ false) }
-        ensures acknowledged { OnOk result (IsTrue (D.Disk.is_clean (disk_of self.new)) → held self.new ≡ held self.old ++ batch.now) }
-        ensures safe { OnOk result (IsTrue (D.Disk.is_clean (disk_of self.new)) → IsSafe self.new) }
-        ensures tidy { OnOk result (IsTrue (D.Disk.is_clean (disk_of self.new)) → IsTidy self.new) }
-        ensures crash { is_broken self.old ≡ false → IsTrue (D.Disk.is_clean (disk_of self.new)) → (file : List ℕ)
+        ensures acknowledged { OnOk result (IsTrue (D.Disk.is_clean (disk_of self.new))
+            → held self.new ≡ held self.old ++ batch.now) }
+        ensures safe { OnOk result (IsTrue (D.Disk.is_clean (disk_of self.new))
+            → IsSafe self.new) }
+        ensures tidy { OnOk result (IsTrue (D.Disk.is_clean (disk_of self.new))
+            → IsTidy self.new) }
+        ensures crash { is_broken self.old ≡ false
+            → IsTrue (D.Disk.is_clean (disk_of self.new)) → (file : List ℕ)
             → D.Disk.may_leave (disk_of self.new) file
             → StandsForEither (held self.old) batch.now file }
         ensures broken { is_broken self.old ≡ true → disk_of self.new ≡ disk_of self.old }
-        ensures full { IfErr result (λ fault. fault ≡ Full → (disk_of self.new ≡ disk_of self.old) × (is_broken self.new ≡ false)
+        ensures full { IfErr result (λ fault. fault ≡ Full
+            → (disk_of self.new ≡ disk_of self.old) × (is_broken self.new ≡ false)
             × (IsTrue (D.Disk.is_clean (disk_of self.old)) → most_bytes ≤ length (written (held self.old ++ batch.now)))) }
         ensures failure { IfErr result (λ fault. is_failure fault ≡ true
             → (is_broken self.new ≡ true) × MoreFaults (D.Disk.faults (disk_of self.old)) (D.Disk.faults (disk_of self.new))) }
@@ -77,7 +82,8 @@ impl<D: Disk> Store<D> {
     /// Whether a write or a sync has failed.
     pub fn is_broken(&self) -> bool
         ensures value { result ≡ is_broken self.now }
-        ensures safe { is_broken self.now ≡ false → IsTrue (D.Disk.is_clean (disk_of self.now)) → IsSafe self.now }
+        ensures safe { is_broken self.now ≡ false
+            → IsTrue (D.Disk.is_clean (disk_of self.now)) → IsSafe self.now }
     {
         self.is_broken
     }

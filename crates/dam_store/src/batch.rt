@@ -79,7 +79,8 @@ fn add_line(bytes: &mut Vec<u8>, line: &[u8]) -> Result<(), AllocError>
     requires batch { IsBatch bytes.old.items }
     requires line { has_byte 10 line.now ≡ false }
     ensures batch { IsBatch bytes.new.items }
-    ensures ok { OnOk result (marked_lines bytes.new.items ≡ marked_lines bytes.old.items ++ line.now ∷ []) }
+    ensures ok { OnOk result (marked_lines bytes.new.items
+        ≡ marked_lines bytes.old.items ++ line.now ∷ []) }
     ensures err { OnErr result (marked_lines bytes.new.items ≡ marked_lines bytes.old.items) }
 {
     let gate = bytes.len() - 1;
@@ -96,7 +97,8 @@ fn add_line(bytes: &mut Vec<u8>, line: &[u8]) -> Result<(), AllocError>
 }
 
 fn extend(bytes: &mut Vec<u8>, line: &[u8]) -> Result<(), AllocError>
-    ensures ok { OnOk result (bytes.new.items ≡ bytes.old.items ++ (line.now ++ 10 ∷ 45 ∷ [])) }
+    ensures ok { OnOk result (bytes.new.items
+        ≡ bytes.old.items ++ (line.now ++ 10 ∷ 45 ∷ [])) }
     ensures err { OnErr result (take (length bytes.old.items) bytes.new.items ≡ bytes.old.items) }
 {
     bytes.extend_from_slice(line)?;

@@ -34,10 +34,13 @@ pub(crate) fn read_file<D: Disk>(alloc: Global, disk: &mut D) -> Result<Vec<u8>,
     ensures short { IfOk result (λ bytes. length bytes.items ≤ most_bytes) }
     ensures seen { D.Disk.seen disk.new ≡ D.Disk.seen disk.old }
     ensures clean { IsTrue (D.Disk.is_clean disk.new) → IsTrue (D.Disk.is_clean disk.old) }
-    ensures crash { (file : List ℕ) → D.Disk.may_leave disk.new file → D.Disk.may_leave disk.old file }
+    ensures crash { (file : List ℕ) → D.Disk.may_leave disk.new file
+        → D.Disk.may_leave disk.old file }
     ensures faults { OnOk result (D.Disk.faults disk.new ≡ D.Disk.faults disk.old) }
-    ensures failure { IfErr result (λ fault. is_failure fault ≡ true → MoreFaults (D.Disk.faults disk.old) (D.Disk.faults disk.new)) }
-    ensures refusal { IfErr result (λ fault. is_refusal fault ≡ true → IsTrue (D.Disk.is_clean disk.new)
+    ensures failure { IfErr result (λ fault. is_failure fault ≡ true
+        → MoreFaults (D.Disk.faults disk.old) (D.Disk.faults disk.new)) }
+    ensures refusal { IfErr result (λ fault. is_refusal fault ≡ true
+        → IsTrue (D.Disk.is_clean disk.new)
         → stands_for (D.Disk.seen disk.old) ≡ None) }
 {
     let len = disk.len().map_err(StoreFault::Read)?;

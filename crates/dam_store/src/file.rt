@@ -31,9 +31,11 @@ pub fn open_file<S: Start>(
     start: S,
 ) -> Result<Opened<FileFrom<S>>, FileFault>
     ensures ready { IfOk result (λ opened. is_broken opened.store ≡ false) }
-    ensures found { IfOk result (λ opened. IsTrue (⟦<FileFrom<S> as Disk>⟧.is_clean (disk_of opened.store))
+    ensures found { IfOk result
+        (λ opened. IsTrue (⟦<FileFrom<S> as Disk>⟧.is_clean (disk_of opened.store))
         → StandsFor (held opened.store) S.Start.db) }
-    ensures text { IfOk result (λ opened. IsTrue (⟦<FileFrom<S> as Disk>⟧.is_clean (disk_of opened.store))
+    ensures text { IfOk result
+        (λ opened. IsTrue (⟦<FileFrom<S> as Disk>⟧.is_clean (disk_of opened.store))
         → opened.text.items ≡ text_of (held opened.store)) }
 {
     match open(rt, path, start) {
@@ -46,9 +48,11 @@ fn open_db<S: Start>(alloc: Global, db: FileFrom<S>) -> Result<Opened<FileFrom<S
     requires usable { IsTrue (file_is_usable S.Start db) }
     requires fresh { IsFresh false db }
     ensures ready { IfOk result (λ opened. is_broken opened.store ≡ false) }
-    ensures found { IfOk result (λ opened. IsTrue (⟦<FileFrom<S> as Disk>⟧.is_clean (disk_of opened.store))
+    ensures found { IfOk result
+        (λ opened. IsTrue (⟦<FileFrom<S> as Disk>⟧.is_clean (disk_of opened.store))
         → StandsFor (held opened.store) S.Start.db) }
-    ensures text { IfOk result (λ opened. IsTrue (⟦<FileFrom<S> as Disk>⟧.is_clean (disk_of opened.store))
+    ensures text { IfOk result
+        (λ opened. IsTrue (⟦<FileFrom<S> as Disk>⟧.is_clean (disk_of opened.store))
         → opened.text.items ≡ text_of (held opened.store)) }
 {
     match Store::open(alloc, db) {

@@ -15,11 +15,13 @@ pub fn limits()
 /// them every line that was acknowledged, in order. Between these there may be batches that were given and not
 /// acknowledged, each whole.
 pub fn nothing_is_lost()
-    ensures { (events : List Event) (known last : Known) → known.pending ≡ [] → IsStoreHistory known events last
+    ensures { (events : List Event) (known last : Known) → known.pending ≡ []
+        → IsStoreHistory known events last
         → (more : List (List ℕ)) × (last.sure ≡ known.sure ++ more) × AreGiven events more }
 {}
 
 /// The text of lines and then others is the text of the first, and then the text of the others.
 pub fn texts_follow()
-    ensures { (lines more : List (List ℕ)) → text_of (lines ++ more) ≡ text_of lines ++ text_of more }
+    ensures { (lines more : List (List ℕ))
+        → text_of (lines ++ more) ≡ text_of lines ++ text_of more }
 {}

@@ -20,25 +20,36 @@ impl<D: Disk> Store<D> {
             → StandsFor (held opened.store) (D.Disk.seen disk)) }
         ensures text { IfOk result (λ opened. IsTrue (D.Disk.is_clean (disk_of opened.store))
             → opened.text.items ≡ text_of (held opened.store)) }
-        ensures safe { IfOk result (λ opened. IsTrue (D.Disk.is_clean (disk_of opened.store)) → IsSafe opened.store) }
-        ensures tidy { IfOk result (λ opened. IsTrue (D.Disk.is_clean (disk_of opened.store)) → IsTidy opened.store) }
-        ensures crash { IfOk result (λ opened. IsTrue (D.Disk.is_clean (disk_of opened.store)) → (file : List ℕ)
+        ensures safe { IfOk result
+            (λ opened. IsTrue (D.Disk.is_clean (disk_of opened.store)) → IsSafe opened.store) }
+        ensures tidy { IfOk result
+            (λ opened. IsTrue (D.Disk.is_clean (disk_of opened.store)) → IsTidy opened.store) }
+        ensures crash { IfOk result
+            (λ opened. IsTrue (D.Disk.is_clean (disk_of opened.store)) → (file : List ℕ)
             → D.Disk.may_leave (disk_of opened.store) file
             → D.Disk.may_leave disk file ⊎ (stands_for file ≡ stands_for (D.Disk.seen disk))) }
-        ensures crash_unopened { IfErr result (λ unopened. IsTrue (D.Disk.is_clean unopened.disk) → (file : List ℕ)
+        ensures crash_unopened { IfErr result
+            (λ unopened. IsTrue (D.Disk.is_clean unopened.disk) → (file : List ℕ)
             → D.Disk.may_leave unopened.disk file
             → D.Disk.may_leave disk file ⊎ (stands_for file ≡ stands_for (D.Disk.seen disk))) }
-        ensures known { IfOk result (λ opened. IsTrue (D.Disk.is_clean (disk_of opened.store)) → (known : Known)
+        ensures known { IfOk result
+            (λ opened. IsTrue (D.Disk.is_clean (disk_of opened.store)) → (known : Known)
             → IsKnown (D.Disk.may_leave disk) known → IsPossible known (held opened.store)) }
-        ensures still_known { IfErr result (λ unopened. IsTrue (D.Disk.is_clean unopened.disk) → (known : Known)
+        ensures still_known { IfErr result
+            (λ unopened. IsTrue (D.Disk.is_clean unopened.disk) → (known : Known)
             → IsKnown (D.Disk.may_leave disk) known → IsKnown (D.Disk.may_leave unopened.disk) known) }
         ensures failure { IfErr result (λ unopened. is_failure unopened.why ≡ true
             → MoreFaults (D.Disk.faults disk) (D.Disk.faults unopened.disk)) }
-        ensures refusal { IfErr result (λ unopened. is_refusal unopened.why ≡ true → IsTrue (D.Disk.is_clean unopened.disk)
+        ensures refusal { IfErr result (λ unopened. is_refusal unopened.why ≡ true
+            → IsTrue (D.Disk.is_clean unopened.disk)
             → stands_for (D.Disk.seen disk) ≡ None) }
-        ensures untouched { IfErr result (λ unopened. IsTrue (D.Disk.is_clean unopened.disk) → stands_for (D.Disk.seen disk) ≡ None
+        ensures untouched { IfErr result
+            (λ unopened. IsTrue (D.Disk.is_clean unopened.disk)
+            → stands_for (D.Disk.seen disk) ≡ None
             → D.Disk.seen unopened.disk ≡ D.Disk.seen disk) }
-        ensures clean { IfOk result (λ opened. IsTrue (D.Disk.is_clean (disk_of opened.store)) → IsTrue (D.Disk.is_clean disk)) }
+        ensures clean { IfOk result
+            (λ opened. IsTrue (D.Disk.is_clean (disk_of opened.store))
+            → IsTrue (D.Disk.is_clean disk)) }
     {
         match recover(alloc, &mut disk) {
             Ok(found) => Ok(Opened {

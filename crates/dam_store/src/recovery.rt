@@ -46,11 +46,13 @@ fn begin<D: Disk>(disk: &mut D, bytes: &[u8]) -> Result<(), StoreFault>
     requires read { IsRead D.Disk disk.old bytes.now }
     requires unmade { is_unmade bytes.now ≡ true }
     ensures synced { OnOk result (IsSynced D.Disk disk.new) }
-    ensures begun { OnOk result (IsTrue (D.Disk.is_clean disk.new) → D.Disk.seen disk.new ≡ 45 ∷ drop 1 bytes.now) }
+    ensures begun { OnOk result (IsTrue (D.Disk.is_clean disk.new)
+        → D.Disk.seen disk.new ≡ 45 ∷ drop 1 bytes.now) }
     ensures crash { CrashLeaves D.Disk disk.new (StandsFor []) }
     ensures clean { D.Disk.is_clean disk.new ≡ D.Disk.is_clean disk.old }
     ensures faults { OnOk result (D.Disk.faults disk.new ≡ D.Disk.faults disk.old) }
-    ensures failure { IfErr result (λ fault. is_failure fault ≡ true → MoreFaults (D.Disk.faults disk.old) (D.Disk.faults disk.new)) }
+    ensures failure { IfErr result (λ fault. is_failure fault ≡ true
+        → MoreFaults (D.Disk.faults disk.old) (D.Disk.faults disk.new)) }
     ensures refusal { IfErr result (λ fault. is_refusal fault ≡ false) }
 {
     if has_gate(bytes, 0) {
@@ -65,11 +67,13 @@ fn create<D: Disk>(disk: &mut D, bytes: &[u8]) -> Result<(), StoreFault>
     requires read { IsRead D.Disk disk.old bytes.now }
     requires unmade { is_unmade bytes.now ≡ true }
     ensures synced { OnOk result (IsSynced D.Disk disk.new) }
-    ensures at_rest { OnOk result (IsTrue (D.Disk.is_clean disk.new) → IsAtRest (D.Disk.seen disk.new) (length head_line) []) }
+    ensures at_rest { OnOk result (IsTrue (D.Disk.is_clean disk.new)
+        → IsAtRest (D.Disk.seen disk.new) (length head_line) []) }
     ensures crash { CrashLeaves D.Disk disk.new (StandsFor []) }
     ensures clean { D.Disk.is_clean disk.new ≡ D.Disk.is_clean disk.old }
     ensures faults { OnOk result (D.Disk.faults disk.new ≡ D.Disk.faults disk.old) }
-    ensures failure { IfErr result (λ fault. is_failure fault ≡ true → MoreFaults (D.Disk.faults disk.old) (D.Disk.faults disk.new)) }
+    ensures failure { IfErr result (λ fault. is_failure fault ≡ true
+        → MoreFaults (D.Disk.faults disk.old) (D.Disk.faults disk.new)) }
     ensures refusal { IfErr result (λ fault. is_refusal fault ≡ false) }
 {
     begin(disk, bytes)?;
@@ -81,7 +85,8 @@ fn create<D: Disk>(disk: &mut D, bytes: &[u8]) -> Result<(), StoreFault>
 /// Replaces the bytes from `at` on with blanks.
 fn clear_after(bytes: &mut Vec<u8>, at: usize) -> Result<(), AllocError>
     requires { at ≤ length bytes.old.items }
-    ensures { OnOk result (bytes.new.items ≡ take at bytes.old.items ++ replicate (length bytes.old.items - at) 32) }
+    ensures { OnOk result (bytes.new.items
+        ≡ take at bytes.old.items ++ replicate (length bytes.old.items - at) 32) }
 {
     let len = bytes.len();
     bytes.truncate(at);
@@ -101,7 +106,8 @@ fn blank<D: Disk>(disk: &mut D, end: usize, bytes: &mut Vec<u8>) -> Result<(), S
     ensures crash { CrashLeaves D.Disk disk.new (StandsFor (lines_in bytes.old.items)) }
     ensures clean { D.Disk.is_clean disk.new ≡ D.Disk.is_clean disk.old }
     ensures faults { OnOk result (D.Disk.faults disk.new ≡ D.Disk.faults disk.old) }
-    ensures failure { IfErr result (λ fault. is_failure fault ≡ true → MoreFaults (D.Disk.faults disk.old) (D.Disk.faults disk.new)) }
+    ensures failure { IfErr result (λ fault. is_failure fault ≡ true
+        → MoreFaults (D.Disk.faults disk.old) (D.Disk.faults disk.new)) }
     ensures refusal { IfErr result (λ fault. is_refusal fault ≡ false) }
 {
     if !has_newline_after(bytes, end + 1) {
@@ -119,11 +125,13 @@ fn close<D: Disk>(disk: &mut D, end: usize, bytes: &[u8]) -> Result<(), StoreFau
     requires last { has_newline (drop (end + 1) bytes.now) ≡ false }
     requires room { end < most_bytes }
     ensures synced { OnOk result (IsSynced D.Disk disk.new) }
-    ensures at_rest { OnOk result (IsTrue (D.Disk.is_clean disk.new) → IsAtRest (D.Disk.seen disk.new) end (lines_in bytes.now)) }
+    ensures at_rest { OnOk result (IsTrue (D.Disk.is_clean disk.new)
+        → IsAtRest (D.Disk.seen disk.new) end (lines_in bytes.now)) }
     ensures crash { CrashLeaves D.Disk disk.new (StandsFor (lines_in bytes.now)) }
     ensures clean { D.Disk.is_clean disk.new ≡ D.Disk.is_clean disk.old }
     ensures faults { OnOk result (D.Disk.faults disk.new ≡ D.Disk.faults disk.old) }
-    ensures failure { IfErr result (λ fault. is_failure fault ≡ true → MoreFaults (D.Disk.faults disk.old) (D.Disk.faults disk.new)) }
+    ensures failure { IfErr result (λ fault. is_failure fault ≡ true
+        → MoreFaults (D.Disk.faults disk.old) (D.Disk.faults disk.new)) }
     ensures refusal { IfErr result (λ fault. is_refusal fault ≡ false) }
 {
     if has_gate(bytes, end) {
@@ -142,12 +150,15 @@ fn reopen<D: Disk>(alloc: Global, disk: &mut D, mut bytes: Vec<u8>) -> Result<Li
     ensures opened { IfOk result (λ found. IsTrue (D.Disk.is_clean disk.new)
         → IsOpened D.Disk disk.new bytes.items found.text.items found.end) }
     ensures room { IfOk result (λ found. found.end < most_bytes) }
-    ensures crash { CrashLeaves D.Disk disk.new (λ file. stands_for file ≡ stands_for bytes.items) }
+    ensures crash { CrashLeaves D.Disk disk.new (λ file. stands_for file
+        ≡ stands_for bytes.items) }
     ensures untouched { stands_for bytes.items ≡ None → disk.new ≡ disk.old }
     ensures clean { D.Disk.is_clean disk.new ≡ D.Disk.is_clean disk.old }
     ensures faults { OnOk result (D.Disk.faults disk.new ≡ D.Disk.faults disk.old) }
-    ensures failure { IfErr result (λ fault. is_failure fault ≡ true → MoreFaults (D.Disk.faults disk.old) (D.Disk.faults disk.new)) }
-    ensures refusal { IfErr result (λ fault. is_refusal fault ≡ true → stands_for bytes.items ≡ None) }
+    ensures failure { IfErr result (λ fault. is_failure fault ≡ true
+        → MoreFaults (D.Disk.faults disk.old) (D.Disk.faults disk.new)) }
+    ensures refusal { IfErr result (λ fault. is_refusal fault ≡ true
+        → stands_for bytes.items ≡ None) }
 {
     let found = read_lines(alloc, &bytes[HEAD_LINE.len()..])?;
     let end = HEAD_LINE.len() + found.end;
@@ -170,12 +181,15 @@ fn settle<D: Disk>(alloc: Global, disk: &mut D, bytes: Vec<u8>) -> Result<Lines,
     ensures opened { IfOk result (λ found. IsTrue (D.Disk.is_clean disk.new)
         → IsOpened D.Disk disk.new bytes.items found.text.items found.end) }
     ensures room { IfOk result (λ found. found.end < most_bytes) }
-    ensures crash { CrashLeaves D.Disk disk.new (λ file. stands_for file ≡ stands_for bytes.items) }
+    ensures crash { CrashLeaves D.Disk disk.new (λ file. stands_for file
+        ≡ stands_for bytes.items) }
     ensures untouched { stands_for bytes.items ≡ None → disk.new ≡ disk.old }
     ensures clean { D.Disk.is_clean disk.new ≡ D.Disk.is_clean disk.old }
     ensures faults { OnOk result (D.Disk.faults disk.new ≡ D.Disk.faults disk.old) }
-    ensures failure { IfErr result (λ fault. is_failure fault ≡ true → MoreFaults (D.Disk.faults disk.old) (D.Disk.faults disk.new)) }
-    ensures refusal { IfErr result (λ fault. is_refusal fault ≡ true → stands_for bytes.items ≡ None) }
+    ensures failure { IfErr result (λ fault. is_failure fault ≡ true
+        → MoreFaults (D.Disk.faults disk.old) (D.Disk.faults disk.new)) }
+    ensures refusal { IfErr result (λ fault. is_refusal fault ≡ true
+        → stands_for bytes.items ≡ None) }
 {
     if bytes.starts_with(&HEAD_LINE) {
         return reopen(alloc, disk, bytes);
@@ -199,12 +213,15 @@ pub(crate) fn recover<D: Disk>(alloc: Global, disk: &mut D) -> Result<Lines, Sto
     ensures room { IfOk result (λ found. found.end < most_bytes) }
     ensures crash { CrashLeaves D.Disk disk.new
         (λ file. D.Disk.may_leave disk.old file ⊎ (stands_for file ≡ stands_for (D.Disk.seen disk.old))) }
-    ensures untouched { IsTrue (D.Disk.is_clean disk.new) → stands_for (D.Disk.seen disk.old) ≡ None
+    ensures untouched { IsTrue (D.Disk.is_clean disk.new)
+        → stands_for (D.Disk.seen disk.old) ≡ None
         → D.Disk.seen disk.new ≡ D.Disk.seen disk.old }
     ensures clean { IsTrue (D.Disk.is_clean disk.new) → IsTrue (D.Disk.is_clean disk.old) }
     ensures faults { OnOk result (D.Disk.faults disk.new ≡ D.Disk.faults disk.old) }
-    ensures failure { IfErr result (λ fault. is_failure fault ≡ true → MoreFaults (D.Disk.faults disk.old) (D.Disk.faults disk.new)) }
-    ensures refusal { IfErr result (λ fault. is_refusal fault ≡ true → IsTrue (D.Disk.is_clean disk.new)
+    ensures failure { IfErr result (λ fault. is_failure fault ≡ true
+        → MoreFaults (D.Disk.faults disk.old) (D.Disk.faults disk.new)) }
+    ensures refusal { IfErr result (λ fault. is_refusal fault ≡ true
+        → IsTrue (D.Disk.is_clean disk.new)
         → stands_for (D.Disk.seen disk.old) ≡ None) }
 {
     disk.sync().map_err(StoreFault::Sync)?;
