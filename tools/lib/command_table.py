@@ -35,6 +35,11 @@ class Columns:
         """Whether a row adds no command to a day: it has none, or the close, before which the commands are put."""
         return not any(self.cell(cells, name) for name in (WHAT, *self.table.places)) or self.cell(cells, WHAT).lower() == "close"
 
+    def read(self, cells, periods):
+        """The command that a row adds to a day, None if it adds none; and the faults of the row."""
+        row = order_table.Row(cells, self.table, periods)
+        return None if self.is_empty(cells) else read_command(row, self.cell(cells, WHAT).lower()), row.wrong
+
 
 def header_of(found):
     """The names of a table's columns, by its cells."""
@@ -68,11 +73,9 @@ def read_commands(given, periods):
     """The commands of a table by its cells, each with its line. Their faults, a line each, are `order_table.Wrong`."""
     columns, found, wrong = Columns(given, ()), [], []
     for line, cells in columns.table.rows:
-        if columns.is_empty(cells):
-            continue
-        row = order_table.Row(cells, columns.table, periods)
-        found.append((line, read_command(row, columns.cell(cells, WHAT).lower())))
-        wrong += [f"line {line}, {words}" for words in row.wrong]
+        command, faults = columns.read(cells, periods)
+        found += [(line, command)] if command else []
+        wrong += [f"line {line}, {words}" for words in faults]
     if wrong:
         raise order_table.Wrong("\n".join(wrong))
     return found

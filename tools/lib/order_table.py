@@ -199,7 +199,7 @@ class Row:
         """`raises`: names that aren't in capitals are put into them."""
         self.cells, self.table, self.periods, self.raises = cells, table, periods, raises
         self.decimal_comma = table.decimal_comma
-        self.wrong = []
+        self.wrong = table.strays(cells)
         self.raised = {}  # these names, by their text
 
     def cell(self, name):
@@ -233,8 +233,6 @@ class Row:
 
     def command(self):
         """The submit that the row is; of no use if something is wrong."""
-        if len(self.cells) > self.table.width:
-            self.wrong.append(f"it has {len(self.cells)} cells, but the header has {self.table.width}")
         who, name = self.read("participant", read_participant), self.read("order", read_name)
         kind = self.read("kind", read_word("hour", "block"))
         side = self.read("side", read_word("buy", "sell"))
@@ -281,6 +279,10 @@ class Table(NamedTuple):
     decimal_comma: bool
     notes: list
     read: list  # those of the notes that say what was read of the file
+
+    def strays(self, cells):
+        """The faults of a row with cells that are in no column."""
+        return [f"it has {len(cells)} cells, but the header has {self.width}"] if len(cells) > self.width else []
 
     def line(self, number):
         """A line of the table in a message about another one."""

@@ -9,7 +9,7 @@ from typing import NamedTuple
 
 from . import changes, order_table, rules, text
 from .cleared import NO_RESULTS, book_text
-from .command_table import WHAT, Columns, read_command
+from .command_table import Columns
 from .engine import Fault
 
 SCENARIO = "scenario"
@@ -108,15 +108,12 @@ def read_table(name, data, held):
 def entered(name, columns, rows, held):
     """The book with the commands of the lines of a scenario."""
     for line, _, cells in rows:
-        if columns.is_empty(cells):
-            continue
-        row = order_table.Row(cells, columns.table, held.periods)
-        command = read_command(row, columns.cell(cells, WHAT).lower())
-        if row.wrong:
-            wrong = "\n".join(f"line {line}, {words}" for words in row.wrong)
+        command, faults = columns.read(cells, held.periods)
+        if faults:
+            wrong = "\n".join(f"line {line}, {words}" for words in faults)
             raise Fault(f"{name}: {changes.in_few_lines(wrong)}")
         try:
-            held = changes.entered(held, [(f"line {line}", command)])
+            held = changes.entered(held, [(f"line {line}", command)] if command else [])
         except Fault as fault:
             raise Fault(f"{name}: {fault}") from None
     return held
