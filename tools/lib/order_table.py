@@ -360,7 +360,8 @@ class Orders(NamedTuple):
 
 def read_tables(sources, periods, who=None, raises=False):
     """The orders of tables, given as pairs of a name for messages and bytes or cells, for a day of `periods` periods; of one participant,
-    or of all. `raises`: names are put into capitals, with a note. If something is wrong with the tables, all of it, one line each."""
+    or of all. Of the others' rows only the participant and the number of cells are read. `raises`: names are put into capitals, with a
+    note. If something is wrong with the tables, all of it, one line each."""
     if periods not in rules.DAYS:
         raise Wrong(f"a day has {', '.join(DAYS[:-1])} or {DAYS[-1]} periods, not {periods}")
     wrong, notes, tables = [], [], []
@@ -376,12 +377,13 @@ def read_tables(sources, periods, who=None, raises=False):
         for line, cells in table.rows:
             row = Row(cells, table, periods, raises)
             number += 1
-            if who and row.cell("participant").upper() != who:
+            if who and row.meant("participant") != who:
+                row.read("participant", read_participant)
                 others += 1
-                continue
-            submits.append((number, row.command()))
-            entered.enter(table.line(line), row, submits[-1][1])
-            raised.update(row.raised)
+            else:
+                submits.append((number, row.command()))
+                entered.enter(table.line(line), row, submits[-1][1])
+                raised.update(row.raised)
             wrong += [table.told(f"line {line}, {words}") for words in row.wrong]
         notes += [table.told(in_capitals(raised))] if raised else []
     if wrong:
