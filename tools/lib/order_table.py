@@ -329,6 +329,7 @@ def table_of(name, found, needed=NEEDED, further=()):
         refuse_commands(header, rows[1:])
     try:
         places, notes = columns_of(header, needed, further)
+        refuse_unnamed(header, rows[1:])
     except Wrong as fault:
         raise Wrong("\n".join([str(fault), *read])) from None
     notes = [*read, *notes]
@@ -337,6 +338,17 @@ def table_of(name, found, needed=NEEDED, further=()):
         notes.append(f"line {', '.join(map(str, again))} names the columns once more")
     rows = [(number, cells) for number, cells in rows[1:] if cells != header]
     return Table(name, rows, places, len(header), decimal_comma, notes, read)
+
+
+def refuse_unnamed(header, rows):
+    """Refuses a table with a cell below an empty heading, which may be one that orders have: of each such column the first cell."""
+    first = {}
+    for line, cells in rows:
+        for at, (heading, cell) in enumerate(zip(header, cells), 1):
+            if cell.strip() and not heading.strip() and at not in first:
+                first[at] = f"line {line}, column {at}: {text.quoted(cell.strip())} is in a column without a name: write one, or remove it"
+    if first:
+        raise Wrong("\n".join(first.values()))
 
 
 def refuse_commands(header, rows):

@@ -43,6 +43,18 @@ class Columns(unittest.TestCase):
         self.assertEqual(tool("table", "--journal", "-", data=data)[2], "table: standard input: the column 'comment' isn't used\n")
         self.assertEqual(tool("table", "--journal", "--quiet", "-", data=data)[2], "")
 
+    def test_a_column_without_a_name(self):
+        """It may be one that orders have; if its cells are empty too, it separates others."""
+        header = HEADER.replace("parent", " ")
+        rows = ["A,K1,block,buy,1,8,5,,", "A,K2,block,buy,1,8,5, ,G", "B,K3,block,buy,1,8,5,K1,", "B,K4,block,buy,1,8,5,K2,"]
+        said = ["line 4, column 8: 'K1' is in a column without a name: write one, or remove it"]
+        self.assertEqual(wrong(*rows, header=header), said)
+        first = ["line 2, column 1: 'X' is in a column without a name: write one, or remove it", said[0].replace("8", "9")]
+        self.assertEqual(wrong(*(f"X,{row}" for row in rows), header=f",{header}"), first)
+        self.assertEqual(made(*rows[:2], header=header), made(*rows[:2]))
+        with self.assertRaises(order_table.Wrong):  # also if the row is one of others
+            order_table.read_tables([("", table(*rows, header=header))], 24, "A")
+
     def test_all_wrong_columns_at_once(self):
         found = wrong(self.ROW, header="participants,order,order,side,price,periods,volume,parnt,group")
         self.assertEqual(found[0], "line 1, column 1: 'participants' is not a column: write participant")
