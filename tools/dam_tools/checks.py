@@ -197,5 +197,6 @@ def whatif_change(
     """The differences if further commands come before the close of a journal: records as in a journal, or a table, as tools/whatif change
     takes them. With a participant only its orders, with its gain and net amount."""
     held = changes.before_close(as_journal(source))
-    after = changes.entered(held, changes.read_changes(bytes_of(commands), held.periods))
+    further, _ = changes.read_changes(bytes_of(commands), held.periods)
+    after = changes.entered(held, further)
     return [Change(**row) for row in shapes.records(whatif.compared([held, after], participant, program))]

@@ -70,7 +70,8 @@ def read_command(row, what):
 
 
 def read_commands(given, periods):
-    """The commands of a table by its cells, each with its line. Their faults, a line each, are `order_table.Wrong`."""
+    """The commands of a table by its cells, each with its line; and notes on the table. Their faults, a line each, are
+    `order_table.Wrong`."""
     columns, found, wrong = Columns(given, ()), [], []
     for line, cells in columns.table.rows:
         command, faults = columns.read(cells, periods)
@@ -78,4 +79,4 @@ def read_commands(given, periods):
         wrong += [f"line {line}, {words}" for words in faults]
     if wrong:
         raise order_table.Wrong("\n".join(wrong))
-    return found
+    return found, columns.table.notes

@@ -7,7 +7,7 @@ from fractions import Fraction
 from typing import NamedTuple
 
 from . import book, clock, fields, journal, kinds, rules, sheets, spans, text
-from .tables import ORDER, RESULT
+from .tables import ORDER, REPLY, RESULT
 
 # The columns that a row may leave empty, or a table out.
 OPTIONAL = ["parent", "group"]
@@ -58,7 +58,7 @@ def columns_of(header, needed, further):
             wrong.append(f"line 1, column {at}: the column {text.quoted(name)} appears twice")
         elif name in ORDER + RESULT:
             places[name] = at - 1
-        elif name in further:
+        elif name in further or WHAT in further and name in REPLY:
             continue
         elif alike := difflib.get_close_matches(name, missing, 1, ALIKE):
             wrong.append(f"line 1, column {at}: {text.quoted(cell)} is not a column: write {alike[0]}")

@@ -58,6 +58,7 @@ class Own(NamedTuple):
     commands: list  # of `Sent`
     others: int  # how many commands of others the list has
     is_table: bool  # whether it is a table of orders, which may also be the orders at the end
+    notes: list  # on the table: what was read of it, and what wasn't
 
 
 def read_sent(data, who, periods, has_none):
@@ -66,14 +67,14 @@ def read_sent(data, who, periods, has_none):
     book at the end, having cancelled them."""
     is_table = not WORDS.match(data.removeprefix(text.MARK))
     if is_table:
-        own, others = read_table(data, periods, who)
+        own, notes, others = read_table(data, periods, who)
     else:
         every = list(read_records(data, periods))
-        own = [sent for sent in every if sent.command.who == who]
+        own, notes = [sent for sent in every if sent.command.who == who], []
         others = len(every) - len(own)
     if others and not own and not (is_table and has_none):
         raise Wrong(f"it has {text.counted(others, 'command')} of others, and none of {who}")
-    return Own(own, others, is_table)
+    return Own(own, others, is_table, notes)
 
 
 def read_records(data, periods):
@@ -89,7 +90,7 @@ def read_records(data, periods):
 
 
 def read_table(data, periods, who):
-    """The orders of a participant in a table, as the sent commands, and how many others it has."""
+    """The orders of a participant in a table, as the sent commands; notes on the table; and how many others it has."""
     try:
         table = order_table.cells_of(data)
         if command_table.is_command_table(table):
@@ -99,7 +100,7 @@ def read_table(data, periods, who):
         is_table = kinds.kind_of(data) == kinds.ORDERS
         where = "its table has rows that aren't orders" if is_table else "it has no journal records and isn't a table of orders"
         raise Wrong(f"{where}: {fault}") from None
-    return [Sent(number, submit) for number, submit in orders.submits], orders.others
+    return [Sent(number, submit) for number, submit in orders.submits], orders.notes, orders.others
 
 
 def published_of(read, reasons, who):

@@ -11,6 +11,8 @@ from .book import REASONS
 ORDER = ["participant", "order", "kind", "side", "price_eur_mwh", "periods", "volume_mw", "parent", "group"]
 # The further columns of the table of a result's orders.
 RESULT = ["offered_mwh", "executed_mwh", "outcome", "surplus_eur", "amount_eur"]
+# Those that tables of commands have apart from these and the first, `what`.
+REPLY = ["command", "reply", "reason", "code", "why"]
 MOST_NAMED = 5  # participants whose commands were refused
 
 

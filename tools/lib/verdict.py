@@ -42,6 +42,7 @@ class Audit:
         self.checked = []
         self.day = None  # figures of the day, if its journal could be read
         self.wrong, self.odd = [], []  # faults, and differences of encoding alone
+        self.notes = []  # on a table of orders that was sent
         self.unlike = 0  # how many of the faults, the first ones, are of the commands that were sent
         self.unsigned = 0  # and how many after these are differences from the signed head and the receipts
         self.search = None  # a record of the search for a better selection
@@ -171,6 +172,9 @@ class Audit:
             own = sent.read_sent(self.read("sent", options.sent), options.participant, read.periods, has_none)
         except sent.Wrong as fault:
             raise command.Stop(f"{command.shown(options.sent)} isn't what {options.participant} sent: {fault}") from None
+        self.notes = [f"{command.shown(options.sent)}: {note}" for note in own.notes]
+        for note in [] if options.quiet else self.notes:
+            command.tell("audit", note)
         self.progress = Progress("audit", self.seconds, options.quiet)
         words = f"the commands of {options.participant} aren't compared yet"
         try:
@@ -239,6 +243,7 @@ class Audit:
             "checked": self.checked,
             "day": self.day,
             "search": self.search,
+            "notes": self.notes,
         }
         made["faults"] = [fault.record() for fault in [*self.wrong, *self.odd]]
         return made

@@ -69,6 +69,11 @@ def add_change(commands, epilog):
     parser.add_argument("changes", metavar="CHANGES", help=words)
     words = "only this participant's orders, with its gain and net amount"
     parser.add_argument("--participant", metavar="NAME", type=command.participant, help=words)
+    add_quiet(parser)
+
+
+def add_quiet(parser):
+    parser.add_argument("--quiet", action="store_true", help="leave out notes on standard error; faults are still printed")
 
 
 def main(description, epilog):
@@ -206,11 +211,14 @@ def change(args):
         raise command.Stop("only one file can be standard input", command.COMMAND_LINE)
     before = read(args)
     try:
-        books = [before, changes.entered(before, changes.read_changes(command.read_bytes(args.changes), before.periods))]
+        further, notes = changes.read_changes(command.read_bytes(args.changes), before.periods)
+        for note in [] if args.quiet else notes:
+            command.tell("whatif", f"{command.shown(args.changes)}: {note}")
+        books = [before, changes.entered(before, further)]
     except engine.Fault as fault:
         raise command.Stop(f"{command.shown(args.changes)}: {fault}") from None
     rows = list(compared(books, args.participant, args.program))
-    if len(rows) == 1:
+    if len(rows) == 1 and not args.quiet:
         command.tell("whatif", "nothing differs")
     output.write("whatif", args, "changes", rows, before.periods)
     return command.DONE
@@ -243,7 +251,7 @@ def add_scenarios(commands, epilog):
     add("--price-sd", metavar="EUR", type=standard_deviation, help="the standard deviation of the changes of limits (default: 3)")
     add("--volume-sd", metavar="SHARE", type=standard_deviation, help="the standard deviation of the factor of volumes (default: 0.1)")
     add("--cluster", metavar="ADDRESS", help="the scheduler of a dask cluster to run on, such as tcp://10.0.0.1:8786")
-    add("--quiet", action="store_true", help="leave out notes on standard error; faults are still printed")
+    add_quiet(parser)
 
 
 def sample_count(word):

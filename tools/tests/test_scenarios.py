@@ -197,7 +197,7 @@ class Tool(unittest.TestCase):
             program.write_text(f"#!/bin/sh\ncat > /dev/null\nprintf 'day,24\\nwelfare,0\\n{printed}'\n")
             program.chmod(0o755)
             for name in ("change", "scenarios"):
-                found = tool("whatif", name, "--program", program, self.journal, self.table)
+                found = tool("whatif", name, "--quiet", "--program", program, self.journal, self.table)
                 self.assertEqual(found, (command.NO_INPUT, b"", f"whatif: {cleared.NO_RESULTS}\n"), printed)
 
     def test_few_files(self):

@@ -183,6 +183,18 @@ class Worked(unittest.TestCase):
             said = "as sent: 24 commands of STAD, each once, in their order, and no others (65 of others left out)"
             self.assertEqual((status, out.decode().splitlines()[0], err), (command.DONE, said, ""))
 
+    def test_notes_say_how_a_table_was_read(self):
+        heads, row = "participant,order,kind,side,price_eur_mwh,periods,volume_mw,sub-group", "A,H1,hour,buy,3.00,1,1,\u00fc"
+        data = f"{heads}\n{row}\nA,K1,block,buy,1.00,1-2,1\n".encode("cp1252")
+        notes = ["sent: line 2: the table isn't in UTF-8, and was read as Windows-1252", "sent: the column 'sub-group' isn't used"]
+        status, out, err = audit(PUBLISHED, data)
+        self.assertEqual((status, err.splitlines()), (command.DONE, [f"audit: {note}" for note in notes]))
+        self.assertEqual(audit(PUBLISHED, data, "A", "--quiet"), (command.DONE, "", ""))
+        status, out, again = audit(PUBLISHED, data, "A", "--json")
+        self.assertEqual(([note.rpartition("/")[2] for note in json.loads(out)["notes"]], again), (notes, err))
+        self.assertEqual(json.loads(audit(PUBLISHED, text_of(OWN), "A", "--json")[1])["notes"], [])
+        self.assertEqual(json.loads(audit(b"", data, "A", "--json")[1])["notes"], [])
+
     def test_with_results_the_lines_are_checked_too(self):
         data, right = AUCTION.read_bytes(), printed(AUCTION)
         own = text_of(own_lines(data, "GAS"))

@@ -105,8 +105,10 @@ class Record(unittest.TestCase):
         junk = b"".join(b"%d\n" % number for number in range(500))
         self.assertEqual(len(self.record(DATA, TEXT + junk)[0]["faults"]), 500)
 
-    def test_every_kind_is_described(self):
+    def test_every_member_and_kind_is_described(self):
         page = (TOP / "docs" / "FORMATS.md").read_text()
+        for member in self.record(DATA, TEXT)[0]:
+            self.assertRegex(page, rf"\n\| (`\w+`, )?`{member}`[, ].*\|")
         for kind, words in faults.KINDS.items():
             self.assertIn(f"| `{kind}` |", page)
             self.assertTrue(words)

@@ -337,6 +337,23 @@ class Tools(unittest.TestCase):
         *_, last = self.whatif("change", self.journal, "-", data=TABLE + b"move,A,X,hour,buy,1,1,1\n" * 9)[2].splitlines()
         self.assertEqual(last, "  and 4 more")
 
+    def test_notes_say_how_a_table_was_read(self):
+        amended = self.whatif("change", self.journal, "-", data=b"amend,GEN,UNIT,,,6000,1:20,,\n")[1]
+        head, row = "what,participant,order,price_eur_mwh,periods,volume_mw,sub-group,note\n", "amend,GEN,UNIT,60,1,2,,f\u00fcr\n"
+        orders = "participant,order,kind,side,price_eur_mwh,periods,volume_mw,note\n", "GEN,MORE,hour,sell,60,1,2,f\u00fcr\n"
+        code = ["line 2: the table isn't in UTF-8, and was read as Windows-1252"]
+        unused = ["the column 'sub-group' isn't used", "the column 'note' isn't used"]
+        for table, said in (((head, row), code + unused), (orders, code + unused[1:])):
+            data = "".join(table).encode("cp1252")
+            status, out, err = self.whatif("change", self.journal, "-", data=data)
+            self.assertEqual((status, err.splitlines()), (0, [f"whatif: standard input: {note}" for note in said]))
+            self.assertEqual(self.whatif("change", "--quiet", self.journal, "-", data=data), (0, out, ""))
+        self.assertEqual(self.whatif("change", self.journal, "-", data=(head + row).encode("cp1252"))[1], amended)
+        # before a refusal too
+        refused = self.whatif("change", self.journal, "-", data=(orders[0] + orders[1].replace("MORE", "UNIT")).encode())
+        self.assertEqual((refused[0], refused[2].splitlines()[0]), (3, f"whatif: standard input: {unused[1]}"))
+        self.assertEqual(self.whatif("change", "--quiet", self.journal, "-", data=b"close,,,,,,,,\n")[::2], (0, ""))
+
     def test_a_cell_beyond_the_header_is_a_fault_of_each_command(self):
         head = b"what,participant,order,price_eur_mwh,periods,volume_mw\n"
         for row, count in ((b"amend,GEN,UNIT,60,1,2,30", 7), (b"cancel,GEN,UNIT,,,,30", 7), (b"close,,,,,,,30", 8), (b",,,,,,30", 7)):
