@@ -54,7 +54,7 @@ def columns_of(header, needed, further):
     missing = [name for name in ORDER if name not in names]
     places, wrong, notes = {}, [], []
     for at, (name, cell) in enumerate(zip(names, header), 1):
-        if name in places:
+        if name in places or name in further and name in names[: at - 1]:
             wrong.append(f"line 1, column {at}: the column {text.quoted(name)} appears twice")
         elif name in ORDER + RESULT:
             places[name] = at - 1

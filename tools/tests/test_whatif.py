@@ -364,6 +364,15 @@ class Tools(unittest.TestCase):
             said = f"whatif: standard input: line 3, it has {count + 1} cells, but the header has 7\n"
             self.assertEqual(self.whatif("scenarios", self.journal, "-", data=table), (3, b"", said))
 
+    def test_a_column_of_a_table_of_commands_that_appears_twice(self):
+        for name, table, column in (
+            ("change", b"what,participant,order,what\ncancel,GEN,UNIT,amend\n", "4: the column 'what'"),
+            ("scenarios", b"scenario,what,participant,order,What\nS,cancel,GEN,UNIT,amend\n", "5: the column 'what'"),
+            ("scenarios", b"scenario,what,participant,order,scenario\nS,cancel,GEN,UNIT,T\n", "5: the column 'scenario'"),
+        ):
+            said = f"whatif: standard input: line 1, column {column} appears twice\n"
+            self.assertEqual(self.whatif(name, self.journal, "-", data=table), (3, b"", said))
+
     def test_a_table_needs_the_columns_of_its_commands(self):
         """An amend has no kind and no side, a cancel has neither limit nor volumes, and a close is left out."""
         amended = self.whatif("change", self.journal, "-", data=b"amend,GEN,UNIT,,,6000,1:20,,\n")
