@@ -153,8 +153,19 @@ def read_times(cell, periods):
     return numbers
 
 
+def refuse_thousands(cell):
+    """Refuses a list with a part that may be one number, with spaces as separators of thousands, or several numbers."""
+    for part in cell.split(";"):
+        numbers = part.split()
+        found = GROUPED.fullmatch(" ".join(numbers))
+        if found and found[2] == " ":
+            either = f"write {''.join(numbers)} or {';'.join(numbers)}"
+            raise Wrong(f"{text.quoted(part.strip())} may be one number or {len(numbers)}: {either}")
+
+
 def read_volumes(cell, numbers, decimal_comma):
     """One volume for all periods, or one for each, separated by `;`."""
+    refuse_thousands(cell)
     found = parts(cell)
     values = [scaled(part, 10, 1, rules.GREATEST_VOLUME, "MW", decimal_comma) for part in found[: rules.GREATEST_PERIOD]]
     if len(found) == 1:

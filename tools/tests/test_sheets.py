@@ -179,6 +179,18 @@ class ForSpreadsheets(unittest.TestCase):
             status, out, _ = tool("audit", AUCTION, "--sent", "-", "--participant", "GAS", "--json", data=data)
             self.assertEqual((status, zeros[:80] in out.decode()), (command.NO_INPUT, True))
 
+    def test_a_space_that_separates_thousands(self):
+        for space, quoted in ((" ", " "), ("\u00a0", "\\xa0"), ("\u202f", "\\u202f"), ("  ", "  ")):
+            said = f"line 2, column volume_mw: '1{quoted}500' may be one number or 2: write 1500 or 1;500"
+            for periods, volumes in (("8-9", "1{}500"), ("8-10", "2;1{}500"), ("8-10", "1{}500 ; 2"), ("8", "1{}500")):
+                self.assertEqual(wrong(f"A,K,block,buy,1,{periods},{volumes.format(space)},,"), [said])
+        said = "line 2, column volume_mw: '1 500 200.5' may be one number or 3: write 1500200.5 or 1;500;200.5"
+        self.assertEqual(wrong("A,K,block,buy,1,8-10,1 500 200.5,,"), [said])
+        # these are several numbers
+        for volumes in ("1 50", "1 5000", "1;500", "1.5 500", "1; 500"):
+            (line,), _ = made(f"A,K,block,buy,1,8-9,{volumes},,")
+            self.assertEqual(line.count(":"), 2)
+
     def test_a_decimal_comma(self):
         status, out, _ = tool("table", "--decimal-comma", "--rows", "orders", *TEXTS)
         rows = list(csv.reader(io.StringIO(out.decode()), delimiter=";"))
