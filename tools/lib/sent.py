@@ -73,7 +73,7 @@ def read_sent(data, who, periods, has_none):
         own, notes = [sent for sent in every if sent.command.who == who], []
         others = len(every) - len(own)
     if others and not own and not (is_table and has_none):
-        raise Wrong(f"it has {text.counted(others, 'command')} of others, and none of {who}")
+        raise Wrong("\n".join([f"it has {text.counted(others, 'command')} of others, and none of {who}", *notes]))
     return Own(own, others, is_table, notes)
 
 

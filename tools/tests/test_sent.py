@@ -193,6 +193,9 @@ class Worked(unittest.TestCase):
         status, out, again = audit(PUBLISHED, data, "A", "--json")
         self.assertEqual(([note.rpartition("/")[2] for note in json.loads(out)["notes"]], again), (notes, err))
         self.assertEqual(json.loads(audit(PUBLISHED, text_of(OWN), "A", "--json")[1])["notes"], [])
+        # Those of another table may be why it has none of the participant.
+        said = ["audit: sent isn't what C sent: it has 2 commands of others, and none of C", *(note.removeprefix("sent: ") for note in notes)]
+        self.assertEqual(audit(PUBLISHED, data, "C"), (command.NO_INPUT, "", text_of(said).decode()))
         self.assertEqual(json.loads(audit(b"", data, "A", "--json")[1])["notes"], [])
 
     def test_with_results_the_lines_are_checked_too(self):
