@@ -329,10 +329,14 @@ def texts(runs):
 
 
 def copies(runs):
-    """A day asks for memory as often for each order, however many the book holds: no command copies the book."""
-    few, many = (b"".join([b"day,24,,,,,,,\n", *(b"submit,A,N-%d,hour,buy,0,1:1,,\n" % at for at in range(count))]) for count in (500, 1_000))
-    asked, twice = (runs.program.run(["day"], data, Refusal("memory"))[1] for data in (few, many))
-    runs.check(f"day asks for memory {asked} times, and {twice} times with twice the orders", 500 < asked < twice < 3 * asked)
+    """A day asks for memory as often for each command, however many orders the book holds: no command copies the book."""
+    records = {"submits": b"submit,A,N-%d,hour,buy,0,1:1,,\n", "amends": b"amend,A,N-%d,,,1,1:1,,\n", "cancels": b"cancel,A,N-%d,,,,,,\n"}
+    for last, about in enumerate(records):
+        kinds = list(records.values())[: last + 1]
+        few, many = (b"".join([b"day,24,,,,,,,\n", *(kind % at for kind in kinds for at in range(count))]) for count in (500, 1_000))
+        asked, twice = (runs.program.run(["day"], data, Refusal("memory"))[1] for data in (few, many))
+        wrong = f"day with {about} asks for memory {asked} times, and {twice} times with twice the orders"
+        runs.check(wrong, 500 < asked < twice < 3 * asked)
 
 
 def main():
