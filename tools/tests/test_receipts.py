@@ -5,15 +5,17 @@ import json
 import os
 import random
 import re
+import resource
 import shutil
 import stat
 import subprocess
+import sys
 import tempfile
 import unittest
 from pathlib import Path
 from unittest import mock
 
-from support import AUCTION, AUCTION_RESULTS, FIRST, QUARTERS, SUNNY, TOP, tool
+from support import AUCTION, AUCTION_RESULTS, FIRST, QUARTERS, SUNNY, TOOLS, TOP, tool
 
 from lib import book, command, heads, journal, merkle
 
@@ -490,6 +492,15 @@ class Command(unittest.TestCase):
         self.seal("wrong", replies="wrong.txt", status=1)
         self.seal("wrong", replies="day.csv", status=3)
         self.assertFalse(Path("wrong").exists())
+
+    def test_no_half_of_a_key_is_left(self):
+        """On a full disk, and if only the public half can't be written: its name is too long."""
+        small = {"preexec_fn": lambda: resource.setrlimit(resource.RLIMIT_FSIZE, (50, 50))}
+        ran = subprocess.run([sys.executable, TOOLS / "receipts", "keys", "new.pem"], capture_output=True, text=True, **small)
+        self.assertEqual((ran.returncode, ran.stderr), (3, "receipts: new.pem can't be written: File too large\n"))
+        self.run_tool(3, "keys", "n" * 252)
+        self.assertEqual(sorted(os.listdir()), ["day.csv", "key.pem", "key.pem.pub", "replies.txt"])
+        self.run_tool(0, "keys", "new.pem")
 
     def test_nothing_is_written_over(self):
         key = Path("key.pem").read_bytes()
