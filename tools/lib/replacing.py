@@ -9,6 +9,7 @@ from pathlib import Path
 
 # The errors if an old file can be written but not replaced, because of its folder, its owner or its file system.
 FIXED = (errno.EACCES, errno.EPERM, errno.EROFS, errno.EBUSY, errno.EXDEV, errno.ENOTSUP)
+FULL = (errno.ENOSPC, errno.EDQUOT, errno.EFBIG)
 MOST_LINKS = 40  # that Linux follows
 
 
@@ -26,7 +27,22 @@ def write(path, data):
     except OSError as fault:
         if old is None or fault.errno not in FIXED:
             raise
-        Path(target).write_bytes(data)
+        write_in_place(target, data)
+
+
+def write_in_place(target, data):
+    """Writes over an old file. Its room is taken first: on a full disk the old bytes stay."""
+    number = os.open(target, os.O_WRONLY | os.O_CLOEXEC)
+    with open(number, "wb") as file:
+        old = os.fstat(number).st_size
+        try:
+            os.posix_fallocate(number, 0, max(1, len(data)))
+        except OSError as fault:
+            os.ftruncate(number, old)
+            if fault.errno in FULL:
+                raise
+        file.write(data)
+        file.truncate()
 
 
 def end_of(path):

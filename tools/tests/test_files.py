@@ -1,5 +1,6 @@
 """The files that tools read and write: no input is lost, written files are named, and oddities of results are reported."""
 
+import errno
 import gzip
 import io
 import itertools
@@ -73,6 +74,22 @@ class Files(unittest.TestCase):
             self.assertEqual((ran.returncode, ran.stderr), (command.NO_INPUT, f"table: {path} can't be written: File too large\n"))
         self.assertEqual(out.read_text(), "old")
         self.assertEqual(sorted(path.name for path in self.folder.iterdir()), ["a.csv", "day.csv", "results.txt"])
+
+    def test_an_old_file_that_cant_be_replaced_stays_on_a_full_disk(self):
+        out, old = self.folder / "a.csv", b"old" * 100
+        out.write_bytes(old)
+        number, limits = out.stat().st_ino, resource.getrlimit(resource.RLIMIT_FSIZE)
+        with mock.patch.object(replacing, "replace", side_effect=OSError(errno.EBUSY, "")):
+            resource.setrlimit(resource.RLIMIT_FSIZE, (1_000, limits[1]))
+            try:
+                with self.assertRaisesRegex(OSError, "File too large"):
+                    replacing.write(out, b"new" * 1_000)
+            finally:
+                resource.setrlimit(resource.RLIMIT_FSIZE, limits)
+            self.assertEqual(out.read_bytes(), old)
+            for data in (b"new" * 1_000, b"less", b""):
+                replacing.write(out, data)
+                self.assertEqual((out.read_bytes(), out.stat().st_ino), (data, number))
 
     def test_the_rights_of_an_old_file_and_a_link_to_it_stay(self):
         out, link = self.folder / "a.csv", self.folder / "link"
