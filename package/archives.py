@@ -169,10 +169,19 @@ def below(name, top):
     return name[len(top) + 1 :] if f"{name}/".startswith(f"{top}/") else f"/{name}"
 
 
+def numbered(name, found, times):
+    """The name, or if it is found already, the name with a number. How often each occurs is counted, so that many take little time."""
+    own = name
+    while own in found:
+        times[name] = times.get(name, 0) + 1
+        own = f"{name} (again)" if times[name] == 1 else f"{name} (again {times[name]})"
+    return own
+
+
 def entries(path, data, top=None, prefix=""):
     """The contents of a tar archive, by name, below its top folder; if none is named, that is the folder of its first member. A member that
     is there again has a name of its own."""
-    found, size = {}, 0
+    found, times, size = {}, {}, 0
     with tarfile.open(fileobj=io.BytesIO(data), mode="r:") as archive:
         for member in archive:
             size += member.size
@@ -181,9 +190,7 @@ def entries(path, data, top=None, prefix=""):
             kind = "file" if member.isfile() else KINDS.get(member.type, "device")
             name = member.name.removeprefix("./").rstrip("/").removesuffix(".")
             top = name.partition("/")[0] if top is None and name else top
-            name = prefix + below(name, top)
-            while name in found:
-                name += " (again)"
+            name = numbered(prefix + below(name, top), found, times)
             found[name] = Entry(kind, member.mode, (member.uid, member.gid), held)
     return found
 
