@@ -412,6 +412,26 @@ def declared(count):
     return b"".join(b' xmlns:p%d="u"' % number for number in range(count))
 
 
+def long_names(form):
+    return (form % (b"a" * 60_000 + b"%d" % number) for number in range(1_500))
+
+
+def of_sheets(sheets):
+    """A workbook whose sheets have these rows, none of which is named as the one that is preferred; the last one is a table of orders."""
+    sheets = [*sheets, [b"<row>", HEADS, b"</row>", order(1)]]
+    relation = '<Relationship Id="r{0}" Type="{1}/worksheet" Target="worksheets/{0}.xml"/>'
+    listed = "".join(f'<sheet name="S{at}" sheetId="{at + 1}" r:id="r{at}"/>' for at in range(len(sheets)))
+    rels = f'<Relationships xmlns="{RELATIONS}">{{}}</Relationships>'
+    told = rels.format("".join(relation.format(at, OFFICE[0]) for at in range(len(sheets))))
+    texts = {
+        "_rels/.rels": rels.format(f'<Relationship Id="r1" Type="{OFFICE[0]}/officeDocument" Target="xl/workbook.xml"/>'),
+        "xl/workbook.xml": f'<workbook xmlns="{MAIN[0]}" xmlns:r="{OFFICE[0]}"><sheets>{listed}</sheets></workbook>',
+        "xl/_rels/workbook.xml.rels": told,
+    }
+    cells = {f"xl/worksheets/{at}.xml": [ROOT, b"<sheetData>", *rows, CLOSE] for at, rows in enumerate(sheets)}
+    return archive({**{name: content.encode() for name, content in texts.items()}, **cells})
+
+
 SHARED = "xl/sharedStrings.xml"
 # The few, and all: each with the words of its fault, None for a table that is read, and "" for either.
 FEW = {
@@ -424,6 +444,10 @@ FEW = {
     "elements in one another": ("in one another", lambda: of_sheet(ROOT, b"<a>" * 2**20, CLOSE)),
     "names": ("names of elements", lambda: of_sheet(ROOT, (b"<a%d/>" % number for number in range(10**6)), CLOSE)),
     "namespaces": ("namespaces", lambda: of_sheet(OPEN, (b"<row%s/>" % declared(4_000) for _ in range(50)), CLOSE)),
+    "long names": ("the name of an element has more than", lambda: of_sheet(ROOT, long_names(b"<%s/>"), CLOSE)),
+    "long names of attributes": ("the name of an element has more than", lambda: of_sheet(ROOT, long_names(b"<a %s=''/>"), CLOSE)),
+    "long namespaces": ("the name of an element has more than", lambda: of_sheet(ROOT, long_names(b"<a xmlns='%s'/>"), CLOSE)),
+    "first rows": (None, lambda: of_sheets([[b"<row>", b"<c t='str'><v>%s</v></c>" % (b"x" * 32_000) * 124, b"</row>"]] * 23)),
     "parts": ("more than 10,000 parts", lambda: archive({str(number): b"" for number in range(12_000)})),
 }
 LARGE = {
@@ -445,6 +469,8 @@ LARGE = {
     "long formats": ("a format has more than", lambda: of_sheet(OPEN, CLOSE, **{"xl/styles.xml": formats(1_500, b"[" * 60_000)})),
     "many formats": ("number formats", lambda: of_sheet(OPEN, CLOSE, **{"xl/styles.xml": formats(10**6, b"[")})),
     "unused strings": (None, lambda: of_sheet(OPEN, b"<row><c t='s'><v>5</v></c></row>", CLOSE, **{SHARED: strings(700_000, 3)})),
+    "strings of first rows": ("in the first rows of its sheets", lambda: of_sheets(
+        [[b"<row>", *(b"<c t='s'><v>%d</v></c>" % (2**14 * sheet + at) for at in range(2**14)), b"</row>"] for sheet in range(40)])),
     "used strings": ("characters in its cells", lambda: of_sheet(
         OPEN, (b"<row><c t='s'><v>%d</v></c></row>" % row for row in range(9_999)), CLOSE, **{SHARED: strings(10_000, 500)})),
     "one string often": ("characters before this cell", lambda: of_sheet(

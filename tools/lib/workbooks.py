@@ -6,6 +6,7 @@ size that a sheet states, drops cells out of order, and keeps all strings and em
 import datetime
 import functools
 import io
+import itertools
 import math
 import posixpath
 import re
@@ -20,10 +21,11 @@ MOST_UNPACKED = 96 * 2**20  # bytes of the parts that are read
 MOST_ELEMENTS = 1_500_000  # in these parts
 MOST_CELLS = 300_000  # of a table; an empty cell counts if one after it in its row has a value
 MOST_CHARACTERS = 4 * 2**20  # in these cells
-MOST_NAMES = 10_000  # of elements and attributes in a part
+MOST_NAMES, MOST_NAMED = 10_000, 2**20  # of elements, attributes and namespaces in a part, and characters of these
 MOST_NAMESPACES = 100_000  # declared in a part
+MOST_HEADS = 100_000  # shared strings in the first rows of all sheets
 MOST_SHEETS, MOST_OWN_FORMATS, MOST_FORMATS = 1_000, 5_000, 100_000
-LONGEST_MARKUP, LONGEST_NAME = 65_536, 1_000  # bytes of a tag or comment; characters of the name of a part or a sheet, or of a format
+LONGEST_MARKUP, LONGEST_NAME = 65_536, 1_000  # bytes of a tag or comment; characters of a name, or of a format
 DEEPEST = 32  # elements in one another
 CHUNK = 65_536
 # Those of Excel.
@@ -76,6 +78,14 @@ def rows_of(data, preferred, needed=(), most=None):
     sheet = Sheet(name, part, book, most)
     package.read(sheet.part, sheet)
     return sheet.whole(book.strings(sheet.needed)), note
+
+
+def checked(name):
+    """The length of a name of XML, or of none, if it isn't too long."""
+    length = len(name or "")
+    if length > LONGEST_NAME:
+        raise broken(f"the name of an element has more than {LONGEST_NAME:,} characters")
+    return length
 
 
 class Package:
@@ -157,15 +167,22 @@ class Part:
         parser.XmlDeclHandler, parser.StartDoctypeDeclHandler = self.refuse_encoding, self.refuse_type
         parser.StartNamespaceDeclHandler = self.declared
         parser.StartElementHandler, parser.EndElementHandler = self.opened, self.closed
-        fed = 0
-        for chunk in chunks:
-            parser.Parse(chunk, False)
-            fed += len(chunk)
-            if len(names) > MOST_NAMES:
-                raise too_many(MOST_NAMES, "names of elements")
-            if fed - parser.CurrentByteIndex > LONGEST_MARKUP:
-                raise broken(f"a tag has more than {LONGEST_MARKUP} bytes")
-        parser.Parse(b"", True)
+        fed = seen = characters = 0
+        try:
+            for chunk in chunks:
+                parser.Parse(chunk, False)
+                fed += len(chunk)
+                if len(names) > MOST_NAMES:
+                    raise too_many(MOST_NAMES, "names of elements")
+                characters += sum(map(checked, itertools.islice(names, seen, None)))
+                seen = len(names)
+                if characters > MOST_NAMED:
+                    raise too_many(MOST_NAMED, "characters in the names of elements")
+                if fed - parser.CurrentByteIndex > LONGEST_MARKUP:
+                    raise broken(f"a tag has more than {LONGEST_MARKUP} bytes")
+            parser.Parse(b"", True)
+        finally:
+            self.parser = None  # with its names
 
     def refuse_encoding(self, version, encoding, standalone):
         if encoding and encoding.lower() not in ("utf-8", "utf-16"):
@@ -178,6 +195,7 @@ class Part:
         self.namespaces += 1
         if self.namespaces > MOST_NAMESPACES:
             raise too_many(MOST_NAMESPACES, "namespaces")
+        checked(uri)
 
     def opened(self, name, attributes):
         self.package.elements += 1
@@ -338,9 +356,12 @@ class Book(Part):
 
     def having(self, sheets, needed):
         """The sheets with the needed names in their first rows."""
-        rows = {name: FirstRow(name, part, self) for name, part in sheets.items()} if needed else {}
+        rows, heads = {name: FirstRow(name, part, self, needed) for name, part in sheets.items()} if needed else {}, 0
         for row in rows.values():
             row.begin_part()
+            heads += len(row.needed)
+            if heads > MOST_HEADS:
+                raise too_many(MOST_HEADS, "strings in the first rows of its sheets")
         strings = self.strings(set().union(*(row.needed for row in rows.values())))
         return [name for name, row in rows.items() if set(needed) <= row.names(strings)]
 
@@ -634,10 +655,17 @@ class Enough(Exception):
 
 
 class FirstRow(Sheet):
-    """The first row of a sheet that isn't empty. A sheet that can't be read has none: if it is read as the table, it is a fault."""
+    """The needed names in the first row of a sheet that isn't empty. A sheet that can't be read has none: if it is read as the table, it is a
+    fault."""
 
-    def __init__(self, name, part, book):
+    def __init__(self, name, part, book, names):
         super().__init__(name, part, book, None)
+        self.sought = names
+
+    def words(self):
+        """The content of a cell, or a word in its place if it isn't needed."""
+        words = super().words()
+        return words if isinstance(words, int) or not words or words.strip().lower() in self.sought else "other"
 
     def close_row(self):
         super().close_row()
@@ -648,13 +676,13 @@ class FirstRow(Sheet):
         try:
             self.book.package.read(self.part, self)
         except Enough:
-            return
+            self.rows = [(row, list(set(cells))) for row, cells in self.rows]
         except Wrong:
-            self.rows = []
+            self.rows, self.needed = [], set()
 
     def names(self, strings):
         try:
-            return {cell.strip().lower() for _, cells in self.whole(strings) for cell in cells} - {""}
+            return {cell.strip().lower() for _, cells in self.whole(strings) for cell in cells} & set(self.sought)
         except Wrong:
             return set()
 

@@ -111,6 +111,17 @@ class Faults(unittest.TestCase):
         with mock.patch.dict("sys.modules", {"openpyxl": None}):
             self.assertEqual(sheets.rows_of(book(row(2, ("B2", "x"))))[0][1:], [(2, ["", "x"])])
 
+    def test_names_of_elements_are_limited(self):
+        cant, tail = "line 1: the Excel workbook can't be read: ", b"</row>"
+        long = f"{cant}the name of an element has more than 1,000 characters"
+        many = f"{cant}it has more than 1,048,576 characters in the names of elements"
+        for form in ("<{}/>", "<a {}=''/>", "<a xmlns='{}'/>", "<a xmlns:{}='a'/>"):
+            for names, said in (["a" * 900], None), (["a" * 1_001], long), ([f"a{number:0900}" for number in range(1_200)], many):
+                left_out = f"<extLst>{''.join(map(form.format, names))}</extLst></row>".encode()
+                data = book(order(2, "K1").replace(tail, left_out))
+                with self.subTest(form, said=said):
+                    self.assertEqual(self.fault(data) if said else self.orders(data), said or [("K1", "")])
+
     def test_other_archives(self):
         said = "line 1: the Excel workbook can't be read: it isn't an Excel workbook (.xlsx), but another archive"
         self.assertEqual(self.fault(made.archive({"xl/other": b""})), said)
