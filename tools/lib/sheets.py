@@ -8,6 +8,7 @@ import re
 from . import shapes, workbooks
 
 XLSX = b"PK\x03\x04"  # the first bytes of a workbook
+PART, LONGEST_ROW = 1 << 20, 1 << 20  # bytes that are decoded at once, and characters of a row of a text
 PREFERRED = "orders"  # the sheet that is read if there are several
 # The marks by which a program takes a cell for a formula, also the wide ones. In some languages a comma, a semicolon or a tab in a cell
 # begins another one.
@@ -28,11 +29,11 @@ def is_workbook(data):
 def rows_of(data, needed=(), notes=None, most=None):
     """The rows of a table, each with the number of its first line; and whether a comma may be the decimal point. A text is separated by
     commas, semicolons or tabs, whichever its first line has most of. Of a workbook it is the sheet `orders`, or else the first that has the
-    needed columns; it isn't read further if it has `most` rows after its first one. Notes say which sheet was read, and that a text isn't in
-    UTF-8."""
+    needed columns. It isn't read further if it has more than `most` rows after its first one. Notes say which sheet was read, and that a
+    text isn't in UTF-8."""
     notes = [] if notes is None else notes
     if not is_workbook(data):
-        return text_rows(data, notes)
+        return text_rows(data, notes, most)
     try:
         rows, note = workbooks.rows_of(data, PREFERRED, needed, most)
     except workbooks.Wrong as fault:
@@ -41,31 +42,67 @@ def rows_of(data, needed=(), notes=None, most=None):
     return rows, True
 
 
-def decoded(data, notes):
-    """The text of a table: in UTF-8, in UTF-16 with its mark, or else in Windows-1252, whose letters no order has."""
+def encoding_of(data, notes):
+    """The encoding of a table: UTF-8, UTF-16 with its mark, or else Windows-1252, whose letters no order has."""
     if data.startswith((codecs.BOM_UTF16_LE, codecs.BOM_UTF16_BE)):
-        return data.decode("utf-16", errors="replace")
-    try:
-        return data.decode("utf-8-sig")
-    except UnicodeDecodeError as fault:
-        line = data[: fault.start].count(b"\n") + 1
-    try:
-        notes.append(f"line {line}: the table isn't in UTF-8, and was read as Windows-1252")
-        return data.decode("cp1252")
-    except UnicodeDecodeError:
-        raise Wrong(f"line {line}: the table is neither in UTF-8 nor in Windows-1252: save it as CSV in UTF-8") from None
+        return "utf-16"
+    place = first_other(data, "utf-8-sig")
+    if place is None:
+        return "utf-8-sig"
+    line = data.count(b"\n", 0, place) + 1
+    notes.append(f"line {line}: the table isn't in UTF-8, and was read as Windows-1252")
+    if first_other(data, "cp1252") is not None:
+        raise Wrong(f"line {line}: the table is neither in UTF-8 nor in Windows-1252: save it as CSV in UTF-8")
+    return "cp1252"
 
 
-def text_rows(data, notes=None):
-    table = decoded(data, [] if notes is None else notes)
-    first = table.splitlines()[0] if table.strip() else ""
-    delimiter = max(",;\t", key=first.count)
-    reader = csv.reader(io.StringIO(table, newline=""), delimiter=delimiter, strict=True)
+def first_other(data, encoding):
+    """The place of the first byte that isn't of an encoding, if there is one. The text isn't kept."""
+    decoder = codecs.getincrementaldecoder(encoding)()
+    for start in range(0, len(data), PART):
+        end = min(start + PART, len(data))
+        try:
+            decoder.decode(data[start:end], end == len(data))
+        except UnicodeDecodeError as fault:
+            return end - len(fault.object) + fault.start
+    return None
+
+
+class Lines:
+    """The lines of a text, of which no row has too many characters."""
+
+    def __init__(self, file):
+        self.file, self.length = file, 0
+
+    def __iter__(self):
+        return self
+
+    def __next__(self):
+        line = self.file.readline(LONGEST_ROW + 1)
+        self.length += len(line)
+        if self.length > LONGEST_ROW:
+            raise csv.Error(f"a row has more than {LONGEST_ROW:,} characters")
+        if not line:
+            raise StopIteration
+        return line
+
+
+def text_rows(data, notes=None, most=None):
+    """The rows of a text that aren't empty, in bounded memory: if they have more than `most` after the first, only one more."""
+    encoding = encoding_of(data, [] if notes is None else notes)
+    file = io.TextIOWrapper(io.BytesIO(data), encoding, "replace" if encoding == "utf-16" else "strict", newline="")
+    delimiter = max(",;\t", key=file.readline(LONGEST_ROW).count)
+    file.seek(0)
+    lines = Lines(file)
+    reader = csv.reader(lines, delimiter=delimiter, strict=True)
     rows, line = [], 1
     try:
         for cells in reader:
-            rows.append((line, cells))
-            line = reader.line_num + 1
+            if any(cell.strip() for cell in cells):
+                rows.append((line, cells))
+            if most is not None and len(rows) > most + 1:
+                break
+            line, lines.length = reader.line_num + 1, 0
     except csv.Error as fault:
         raise Wrong(f"line {line}: the table can't be read: {fault}") from None
     return rows, delimiter != ","

@@ -2,6 +2,7 @@
 
 import csv
 import tempfile
+import tracemalloc
 import unittest
 from pathlib import Path
 from unittest import mock
@@ -95,6 +96,26 @@ class Faults(unittest.TestCase):
         self.assertEqual(self.fault(table.encode()), f"line {order_table.MOST_ROWS + 2}: {said}")
         self.assertIn("(NameTaken)", self.fault(book(*rows[:-1])))
         self.assertIn("(NameTaken)", self.fault(table.encode()[:-23]))
+
+    def test_a_text_takes_little_memory(self):
+        """Empty rows aren't kept, rows after those that a table may have aren't read, and no row is too long."""
+        for data, most, wanted in (
+            (b"a\n" + b"\n" * 200_000 + b"b", 1, [(1, ["a"]), (200_002, ["b"])]),
+            (b"a\r\n" + b" , \r" * 10**5 + b"b;", None, [(1, ["a"]), (10**5 + 2, ["b;"])]),
+            (b"a\n" * 200_000, 1, [(1, ["a"]), (2, ["a"]), (3, ["a"])]),
+            ("a\n".encode("utf-16") + "\n".encode("utf-16-le") * 200_000, 1, [(1, ["a"])]),
+            (b"a\n" + b"," * 4_000_000, 1, "line 2: the table can't be read: a row has more than 1,048,576 characters"),
+            (b'a\n"' + b'b\n","' * 600_000 + b'"', 1, "line 2: the table can't be read: a row has more than 1,048,576 characters"),
+        ):
+            tracemalloc.start()
+            try:
+                found = sheets.rows_of(data, most=most)[0]
+            except sheets.Wrong as fault:
+                found = str(fault)
+            most_memory = tracemalloc.get_traced_memory()[1]
+            tracemalloc.stop()
+            self.assertEqual(found, wanted)
+            self.assertLess(most_memory, 24 * 2**20)
 
     def test_every_table_is_read_by_the_same_code(self):
         data, said = book(order(3, "K1"), order(2, "K2")), "sheet 'orders', row 2: it stands after row 3"
