@@ -26,7 +26,8 @@ fn write_lines<D: Disk>(disk: &mut D, end: usize, batch: &Batch) -> Result<(), S
         → IsClosed (D.Disk.seen disk.new) (end + length (drop 1 (marked batch.now ++ 45 ∷ [])))) }
     ensures lines { OnOk result (IsTrue (D.Disk.is_clean disk.new)
         → lines_in (D.Disk.seen disk.new) ≡ lines_in (D.Disk.seen disk.old) ++ batch.now) }
-    ensures crash { CrashLeaves D.Disk disk.new (StandsForEither (lines_in (D.Disk.seen disk.old)) batch.now) }
+    ensures crash { CrashLeaves D.Disk disk.new
+        (StandsForEither (lines_in (D.Disk.seen disk.old)) batch.now) }
     ensures clean { D.Disk.is_clean disk.new ≡ D.Disk.is_clean disk.old }
     ensures faults { CountsFault result (D.Disk.faults disk.old) (D.Disk.faults disk.new) }
     ensures failure { IfErr result (λ fault. is_failure fault ≡ true) }

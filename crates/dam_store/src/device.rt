@@ -17,7 +17,8 @@ pub(crate) fn put<D: Disk>(disk: &mut D, at: usize, bytes: &[u8]) -> Result<(), 
     ensures synced { OnOk result (IsSynced D.Disk disk.new) }
     ensures written { OnOk result (Holds (D.Disk.seen disk.new) at bytes.now) }
     ensures others { Torn at (length bytes.now) (D.Disk.seen disk.old) (D.Disk.seen disk.new) }
-    ensures crash { Follows (Torn at (length bytes.now)) (D.Disk.may_leave disk.old) (D.Disk.may_leave disk.new) }
+    ensures crash { Follows (Torn at (length bytes.now))
+        (D.Disk.may_leave disk.old) (D.Disk.may_leave disk.new) }
     ensures clean { D.Disk.is_clean disk.new ≡ D.Disk.is_clean disk.old }
     ensures faults { CountsFault result (D.Disk.faults disk.old) (D.Disk.faults disk.new) }
     ensures failure { IfErr result (λ fault. is_failure fault ≡ true) }
