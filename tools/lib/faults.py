@@ -26,7 +26,8 @@ KINDS = {
     "repeated": "a command was sent fewer times",
     "unsent": "a command was not sent",
     "head": "the journal differs from a head that the operator signed, or another key signed the head",
-    "receipt": "the journal doesn't have a receipt's entry, or the receipt isn't the operator's",
+    "receipt": "the journal doesn't have a receipt's entry",
+    "foreign": "a receipt or an earlier head isn't the operator's, or is of another day",
     "encoding": "line endings, trailing blank lines, a byte order mark or quotes: no number or word differs",
 }
 

@@ -1,20 +1,15 @@
 """The verdict on receipts and heads: whether they are the operator's, and whether each belongs to one journal that only grew."""
 
-from collections import defaultdict
+from collections import Counter, defaultdict
+from itertools import groupby
 from typing import NamedTuple
 
 from . import command, heads, merkle, sent, signing, text
+from .contradictions import Signed, periods_differ, roots_differ, unsigned
+from .findings import CONTRADICTION, ENCODING, EXTENSION, HEAD, RECEIPT, RIGHT, STATUSES, UNDECIDED, UNREAD, WRONG, Finding, Place, verdict
 
-# In the order in which one of them decides the status of a run.
-WRONG, UNREAD, UNDECIDED, ENCODING, RIGHT = "wrong", "unread", "undecided", "encoding", "right"
-STATUSES = {
-    WRONG: command.DIFFERS,
-    UNREAD: command.NO_INPUT,
-    UNDECIDED: command.UNDECIDED,
-    ENCODING: command.ENCODING,
-    RIGHT: command.DONE,
-}
 NOT_WRITTEN = "the content is right, but the text isn't in its written form"
+NOT_SIGNED = "isn't signed by this key: it isn't the operator's, or it was changed"
 
 
 class Received(NamedTuple):
@@ -32,30 +27,6 @@ class Received(NamedTuple):
         return f"the receipt of entry {self.number}"
 
     line = None  # it is no line of a journal
-
-
-class Finding(NamedTuple):
-    """The verdict on one line of a file."""
-
-    file: str
-    line: int  # of the file, from 1; None for the whole file
-    verdict: str
-    words: str
-    receipt: object = None  # if the line could be read as one
-
-    def __str__(self):
-        place = "" if self.line is None else f" line {self.line}"
-        return f"{command.shown(self.file)}{place}: {self.words}"
-
-    def record(self):
-        made = {"file": self.file, "line": self.line, "verdict": self.verdict, "words": self.words}
-        if self.receipt is not None:
-            made.update(number=self.receipt.number, record=self.receipt.record, reply=self.receipt.reply)
-        return made
-
-
-def verdict(findings):
-    return min((finding.verdict for finding in findings), key=list(STATUSES).index, default=RIGHT)
 
 
 def key_read(path, read=signing.public):
@@ -81,38 +52,45 @@ def value_of(path, data, read, name, odd):
     return value
 
 
-def head_read(path, key, odd):
-    """The head in a file, which has to be signed by the key."""
-    return head_of(path, command.read_bytes(path), key, odd)
+def head_read(path, key, odd, day=None):
+    """The head in a file, which has to be signed by the key, and of a day if one is named."""
+    return head_of(path, command.read_bytes(path), key, odd, day)
 
 
-def head_of(path, data, key, odd):
+def head_of(path, data, key, odd, day=None):
     """The same from the bytes of the file."""
     head = value_of(path, data, heads.head_read, "a head", odd)
     if not signing.is_signed(key, head):
-        raise command.Stop(f"{command.shown(path)} isn't signed by this key: it isn't the operator's, or it was changed", command.DIFFERS)
+        raise command.Stop(f"{command.shown(path)} {NOT_SIGNED}", command.DIFFERS)
+    if day not in (None, head.day):
+        raise command.Stop(f"{command.shown(path)} is {head}, and not of {day}")
     return head
 
 
-def unsigned(head):
-    """The signed content of a head. One content may have several signatures."""
-    return head._replace(signature=b"")
-
-
 class Links:
-    """The extensions that are given: which heads' journals begin with which."""
+    """What is given of an operator: the extensions, which show whose journals begin with which, and all that it signed. `findings` gets those
+    on the extensions."""
 
-    def __init__(self, paths, key, odd):
-        self.later = defaultdict(set)  # of each head, those that begin with it
+    def __init__(self, paths, key, findings):
+        self.key, self.signed = key, Signed()
+        later = defaultdict(set)  # of each head, those that begin with it
         for path in paths:
-            extension = read_one(path, heads.extension_read, "an extension", odd)
-            ends = (extension.old, extension.new)
-            if not all(signing.is_signed(key, head) for head in ends):
-                raise command.Stop(f"{command.shown(path)} has a head that isn't signed by this key", command.DIFFERS)
-            if not extension.is_right():
-                words = "the later head's journal doesn't begin with the earlier head's"
-                raise command.Stop(f"{command.shown(path)} proves nothing: by its path {words}", command.DIFFERS)
-            self.later[unsigned(extension.old)].add(unsigned(extension.new))
+            extension = read_one(path, heads.extension_read, "an extension", findings)
+            ends = [self.add_head(path, end, findings, EXTENSION) for end in (extension.old, extension.new)]
+            if all(ends) and extension.is_right():
+                later[unsigned(extension.old)].add(unsigned(extension.new))
+            elif all(ends):
+                words = "it proves nothing: its path doesn't lead from the earlier head to the later one"
+                findings.append(Finding(path, None, UNDECIDED, words, about=EXTENSION))
+        self.earlier = longest(later)
+
+    def add_head(self, path, head, findings, about=HEAD):
+        """Whether the key signed a head. If it didn't, `findings` gets that."""
+        if signing.is_signed(self.key, head):
+            self.signed.add_head(head, Place(path))
+            return True
+        findings.append(Finding(path, None, WRONG, f"{'it' if about == HEAD else head} {NOT_SIGNED}", about=about))
+        return False
 
     def compared(self, one, other):
         """The verdict on two heads of one operator, and the words for it."""
@@ -120,40 +98,91 @@ class Links:
         if one.day != other.day:
             return UNREAD, f"the heads are of different days, {one.day} and {other.day}"
         if one.periods != other.periods:
-            return WRONG, f"the operator signed {one.day} with {one.periods} and with {other.periods} periods"
+            return WRONG, periods_differ(one, other)
         if one == other:
             return RIGHT, f"the heads are the same: {one}"
         if one.size == other.size:
-            count = text.counted(one.size, "entry", "entries")
-            return WRONG, f"the operator signed two trees of {one.day} with {count}: two journals, or one journal twice"
+            return WRONG, roots_differ(one)
         if self.leads(one, other):
             return RIGHT, f"{other} begins with {one}"
         return UNDECIDED, f"whether {other} begins with {one} isn't shown: the operator has to give an extension"
 
     def leads(self, one, other):
-        """Whether the extensions lead from a head to a later one, in one step or in several. Each journal begins with the empty one."""
-        seen, reached = set(), {one}
-        while reached:
-            seen |= reached
-            reached = {later for head in reached for later in self.later.get(head, ())} - seen
-        return other in seen or one.size == 0
+        """Whether the extensions show that a head's journal begins with an earlier one. Each journal begins with the empty one."""
+        one, other = unsigned(one), unsigned(other)
+        while other is not None and other.size > one.size:
+            other = self.earlier.get(other)
+        return other == one or one.size == 0
 
 
-def judge(receipt, head, key, links):
-    """The verdict on a receipt, compared with a head that was published if one is given, and the words for it."""
+    def gaps(self):
+        """The findings on the heads of a day, each compared with the next one. Contradictions are told elsewhere."""
+        signed = self.signed.heads()
+        for one, other in zip(signed, signed[1:]):
+            found, words = self.compared(one, other)
+            if found in (RIGHT, UNDECIDED):
+                yield Finding(*self.signed.places[other], found, words, about=HEAD)
+
+    def days(self):
+        """A line for each day of the heads."""
+        for day, own in groupby(self.signed.heads(), lambda head: head.day):
+            *others, last = own
+            yield f"{day}: {text.counted(len(others) + 1, 'head')}, the last with {text.counted(last.size, 'entry', 'entries')}"
+
+    def counted(self):
+        """How many heads there are, of how many days."""
+        signed = self.signed.heads()
+        return f"{text.counted(len(signed), 'head')} of {text.counted(len({head.day for head in signed}), 'day')}"
+
+
+def longest(later):
+    """Of each head, the longest of the earlier ones with which its journal begins. Of two that it begins with, the longer one begins with the
+    shorter one, so that this one need not be kept."""
+    earlier = defaultdict(set)
+    for one, others in later.items():
+        for other in others - {one}:
+            earlier[other].add(one)
+    found = {}
+    for head in sorted({*later, *earlier}, key=by_size, reverse=True):
+        if earlier[head]:
+            *others, found[head] = sorted(earlier[head], key=by_size)
+            earlier[found[head]].update(others)
+    return found
+
+
+def by_size(head):
+    return head.size, head.root
+
+
+def judge(receipt, head, key, links, place=Place("the receipt")):
+    """The verdict on a receipt, compared with a head that was published if one is given, and the words for it. The links get what the operator
+    signed."""
     entry = f"entry {receipt.number} of {receipt.head}"
     if not signing.is_signed(key, receipt.head):
-        return WRONG, "its head isn't signed by this key: it isn't the operator's, or it was changed"
+        return WRONG, f"its head {NOT_SIGNED}"
+    links.signed.add_head(receipt.head, place)
     root = merkle.root_of_inclusion(receipt.leaf(), receipt.number - 1, receipt.head.size, receipt.path)
     if root != receipt.head.root:
         return WRONG, f"it isn't {entry}: its record, reply, salt or path was changed, or belongs to another entry"
+    links.signed.add_entry(receipt, place)
     shown = f"{entry}: {receipt.record}, {receipt.reply}"
     if head is None:
         return RIGHT, shown
+    if fault := reply_fault(receipt):
+        return WRONG, f"{shown}; {fault}"
     found, words = links.compared(receipt.head, head)
     if found in (RIGHT, UNDECIDED) and receipt.number > head.size:
         return WRONG, f"{shown}; but the journal of {head} ends before it"
     return found, shown if found == RIGHT else f"{shown}; {words}"
+
+
+def reply_fault(receipt):
+    """Why no book gives this reply; None if one may. Only the periods are looked at: of the rest, the entries before it decide."""
+    found = heads.command_of(receipt.record)
+    last = max((period for period, _ in getattr(getattr(found, "order", found), "volumes", ())), default=0)
+    if receipt.reply == heads.DONE and last > receipt.head.periods:
+        return f"the operator signed the reply {heads.DONE} for period {last} of a day with {receipt.head.periods}, which no book gives"
+    return None
 
 
 def judged(path, head, key, links, who=None):
@@ -172,7 +201,7 @@ def judged(path, head, key, links, who=None):
         except heads.Wrong as fault:
             yield Finding(path, number, UNREAD, f"it isn't a receipt: {fault}")
             return
-        found, words = judge(receipt, head, key, links)
+        found, words = judge(receipt, head, key, links, Place(path, number))
         if who is not None and receipt.who != who and found != WRONG:
             found, words = UNREAD, f"it isn't a receipt of {who}: {words}"
         if found == RIGHT and not is_written:
@@ -192,14 +221,32 @@ def differences(path, commands, findings):
     return [Finding(path, None, WRONG, str(fault)) for fault in sent.differences(commands, received(findings), "the receipts")]
 
 
+def refusals(findings):
+    """The entries of right receipts that the book refused, each once, in words."""
+    kept = [finding.receipt for finding in findings if finding.receipt and finding.verdict == RIGHT]
+    every = {receipt.number: receipt for receipt in kept if receipt.reply != heads.DONE}
+    return [f"entry {number}: {receipt.record}, {receipt.reply}" for number, receipt in sorted(every.items())]
+
+
+def counted(findings):
+    """How many findings there are of each kind and verdict, and how many receipts are of an entry that another one has too."""
+    own = [(finding.verdict, finding.receipt.number, finding.receipt.leaf()) for finding in findings if finding.receipt]
+    count = Counter((RECEIPT, kind) for kind, _, _ in set(own))
+    count.update((finding.about, finding.verdict) for finding in findings if not finding.receipt)
+    return count, len(own) - len(set(own))
+
+
 def summary(findings, unlike, head):
-    """The last line about receipts, and about the differences from the commands that were sent."""
-    found = verdict([*findings, *unlike])
-    refused = sum(finding.verdict == RIGHT and finding.receipt.reply != heads.DONE for finding in findings if finding.receipt)
-    more = f", {refused} of them refused" if refused else ""
-    count = {kind: sum(finding.verdict == kind for finding in findings) for kind in reversed(STATUSES)}
+    """The last line about receipts, and about the differences from the commands that were sent. Of several receipts of an entry one counts."""
+    found, refused = verdict([*findings, *unlike]), len(refusals(findings))
+    count, more = counted(findings)
+    repeats = [f"{more} more of the same entries"] if more else []
+    refusal = f", {refused} of them refused" if refused else ""
     if found == RIGHT:
-        return f"right: {text.counted(count[RIGHT], 'receipt')} of {head}{more}"
-    parts = [f"{text.counted(number, 'receipt')} {kind}{more if kind == RIGHT else ''}" for kind, number in count.items() if number]
+        return "; ".join([f"right: {text.counted(count[RECEIPT, RIGHT], 'receipt')} of {head}{refusal}", *repeats])
+    order = sorted(count.items(), key=lambda one: (one[0][0] != RECEIPT, -list(STATUSES).index(one[0][1])))
+    kinds = {(about, kind): "" if about == CONTRADICTION else f" {kind}" for about, kind in count}
+    kinds[RECEIPT, RIGHT] = f" {RIGHT}{refusal}"
+    parts = [f"{text.counted(number, about)}{kinds[about, kind]}" for (about, kind), number in order]
     parts += [f"{text.counted(len(unlike), 'difference')} from the commands that were sent"] if unlike else []
-    return f"{found}: {'; '.join(parts)}; {head}"
+    return f"{found}: {'; '.join([*parts, *repeats])}; {head}"

@@ -1,5 +1,7 @@
 """The operator's key: Ed25519 signatures by python3-cryptography, with keys as PEM files that openssl reads too."""
 
+import contextlib
+
 from cryptography.exceptions import InvalidSignature, UnsupportedAlgorithm
 from cryptography.hazmat.primitives import serialization
 from cryptography.hazmat.primitives.asymmetric.ed25519 import Ed25519PrivateKey, Ed25519PublicKey
@@ -18,6 +20,23 @@ BEGIN = b"-----BEGIN "
 
 class Wrong(Exception):
     """The text isn't a key."""
+
+
+class Keys:
+    """Public keys, each with a name. A signature is right if it is by one of them."""
+
+    def __init__(self, keys):
+        self.keys = keys  # by name
+
+    def verify(self, signature, signed):
+        for key in self.keys.values():
+            with contextlib.suppress(InvalidSignature):
+                return key.verify(signature, signed)
+        raise InvalidSignature
+
+    def signer(self, head):
+        """The name of the key that signed a head; None if none did."""
+        return next((name for name, key in self.keys.items() if is_signed(key, head)), None)
 
 
 def made():

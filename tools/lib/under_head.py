@@ -6,13 +6,18 @@ from pathlib import Path
 from . import command, heads, journal, merkle, receipts, sealing, signing, text
 from .faults import Fault
 
+NOT_OWN = "not the operator's"
+
 
 class UnderHead:
     """A journal and its replies, compared with what the operator signed: heads, and receipts with a finding on each."""
 
     def __init__(self, key, head, salts, read, reasons, findings):
-        self.key, self.head, self.findings = key, head, findings
-        self.odd = [finding for finding in findings if finding.verdict == receipts.ENCODING]
+        self.key, self.head = key, head
+        self.earlier = 0  # how many earlier heads were compared
+        self.findings = [finding for finding in findings if self.is_own(finding)]
+        self.foreign = [self.foreign_fault(finding) for finding in findings if not self.is_own(finding)]
+        self.odd = [finding for finding in self.findings if finding.verdict == receipts.ENCODING]
         self.replies = [sealing.reply_of(reason) for reason in reasons]
         self.records = [journal.command_line(command) for command in read.commands]
         self.periods = read.periods
@@ -21,11 +26,8 @@ class UnderHead:
             for number, (record, reply) in enumerate(zip(self.records, self.replies), 1)
         )
         self.proved = {}  # of each record that the journal lacks as it was signed, the first receipt
-        for finding in findings:
-            day = finding.receipt.head.day
-            if day != head.day:
-                raise command.Stop(f"{command.shown(finding.file)} line {finding.line}: the receipt is of {day}, and the head of {head.day}")
-            if finding.verdict in (receipts.RIGHT, receipts.ENCODING) and self.receipt_fault(finding.receipt):
+        for finding in self.findings:
+            if self.receipt_fault(finding.receipt):
                 self.proved.setdefault(finding.receipt.record, finding.receipt)
 
     def beginning_fault(self, head):
@@ -48,14 +50,29 @@ class UnderHead:
             fault = f"the journal has {more} after the {self.head.size} that the operator signed"
         return [Fault(f"{self.head}: {fault}", "head")] if fault else []
 
+    def is_own(self, finding):
+        """Whether the operator signed a receipt, for this day."""
+        return finding.verdict != receipts.WRONG and finding.receipt.head.day == self.head.day
+
+    def foreign_fault(self, finding):
+        """Why a receipt isn't compared with the journal."""
+        words = f"{NOT_OWN}: {finding.words}" if finding.verdict == receipts.WRONG else self.of_another_day(finding.receipt.head)
+        return Fault(f"{receipts.Place(finding.file, finding.line)}: {words}", "foreign")
+
+    def of_another_day(self, head):
+        return f"it is of {head.day}, and the journal's head of {self.head.day}"
+
     def earlier_faults(self, path):
         """The differences of the journal's beginning from an earlier head."""
-        head = receipts.read_one(path, heads.head_read, "a head", self.odd)
-        name = command.shown(path)
-        if not signing.is_signed(self.key, head):
-            return [Fault(f"{name}: it isn't signed by this key", "head")]
-        if head.day != self.head.day:
-            return [Fault(f"{name}: it is of {head.day}, and the journal's head of {self.head.day}", "head")]
+        odd = []
+        head = receipts.read_one(path, heads.head_read, "a head", odd)
+        is_own, name = signing.is_signed(self.key, head), command.shown(path)
+        if not is_own or head.day != self.head.day:
+            words = self.of_another_day(head) if is_own else f"{NOT_OWN}: it {receipts.NOT_SIGNED}"
+            self.foreign.append(Fault(f"{name}: {words}", "foreign"))
+            return []
+        self.odd += odd
+        self.earlier += 1
         fault = self.beginning_fault(head)
         return [Fault(f"{name}: {head}: {fault}", "head")] if fault else []
 
@@ -80,12 +97,11 @@ class UnderHead:
         """The faults of receipts, and of the heads that they are under."""
         seen = {receipts.unsigned(self.head)}
         for finding in self.findings:
-            receipt, name = finding.receipt, f"{command.shown(finding.file)} line {finding.line}"
-            fault = finding.words if finding.verdict == receipts.WRONG else self.receipt_fault(receipt)
-            if fault:
+            receipt, name = finding.receipt, receipts.Place(finding.file, finding.line)
+            if fault := self.receipt_fault(receipt):
                 yield Fault(f"{name}: {fault}", "receipt", receipt.number + 1)
             head = receipts.unsigned(receipt.head)
-            if finding.verdict != receipts.WRONG and head not in seen:
+            if head not in seen:
                 seen.add(head)
                 if fault := self.beginning_fault(head):
                     yield Fault(f"{name}: {head}: {fault}", "head")
@@ -95,7 +111,7 @@ def files_of(folder):
     """The files of receipts of a folder, or the one that is given. A folder has no others."""
     if not os.path.isdir(folder):
         return [folder]
-    paths = sorted(path for path in Path(folder).iterdir() if not path.name.startswith("."))
+    paths = sorted(Path(folder).iterdir())
     for path in paths:
         if path.suffix != ".jsonl":
             raise command.Stop(f"{command.shown(folder)} has {text.quoted(path.name)}, which isn't a file of receipts, NAME.jsonl")

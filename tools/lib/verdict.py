@@ -45,6 +45,8 @@ class Audit:
         self.notes = []  # on a table of orders that was sent
         self.unlike = 0  # how many of the faults, the first ones, are of the commands that were sent
         self.unsigned = 0  # and how many after these are differences from the signed head and the receipts
+        self.foreign = []  # receipts and earlier heads that weren't compared
+        self.is_signed = True  # whether the key signed the head, if there is one
         self.search = None  # a record of the search for a better selection
         self.right, self.last = [], None  # lines about the right parts, and one after the faults
         self.progress = None
@@ -56,7 +58,13 @@ class Audit:
         read = self.read_journal(written)
         closed, reasons = book.run(read)
         self.day = {"periods": read.periods, "commands": len(reasons), "refused": sum(reason is not None for reason in reasons)}
-        signed = self.read_signed(read, reasons) if options.head is not None else None
+        try:
+            signed = self.read_signed(read, reasons) if options.head is not None else None
+        except command.Stop as fault:
+            if fault.status != command.DIFFERS:
+                raise
+            self.is_signed, self.wrong, self.last = False, [Fault(str(fault), "head")], f"{WRONG}: {fault}"
+            return
         if options.sent is not None:
             self.check_sent(read, reasons, closed, signed.proof if options.receipts is not None else sent.no_proof)
         if signed is not None:
@@ -70,7 +78,17 @@ class Audit:
     def status(self):
         if self.wrong:
             return command.DIFFERS
+        if self.foreign:
+            return command.NO_INPUT
         return command.ENCODING if self.odd else command.DONE
+
+    @property
+    def message(self):
+        """Why there is no verdict, though the audit ended; None if there is one."""
+        return f"{self.uncompared()}: not the operator's, or of another day" if self.status == command.NO_INPUT else None
+
+    def uncompared(self):
+        return f"not compared: {text.counted(len(self.foreign), 'receipt or head', 'receipts or heads')}"
 
     @property
     def seconds(self):
@@ -114,8 +132,9 @@ class Audit:
         self.checked.append("replies")
         data, odd = results.plain(published)
         self.odd += odd
-        self.wrong += reply_faults(periods, reasons, data)
-        if self.wrong:
+        wrong = reply_faults(periods, reasons, data)
+        self.wrong += wrong
+        if wrong:
             return
         self.right.append(f"as the rules say: {text.counted(len(reasons), 'reply', 'replies')}{sent.refused(reasons)}")
 
@@ -193,7 +212,7 @@ class Audit:
         options = self.options
         key = receipts.key_read(options.key)
         odd = []
-        head = receipts.head_of(options.head, self.read("head", options.head), key, odd)
+        head = receipts.head_of(options.head, self.read("head", options.head), key, odd, options.day)
         salts = receipts.read_one(options.salts, heads.salts_read, "the salts of a journal", odd)
         if salts.day != head.day:
             raise command.Stop(f"{command.shown(options.salts)} has the salts of {salts.day}, and the head is of {head.day}")
@@ -209,27 +228,31 @@ class Audit:
         earlier = [fault for path in options.earlier for fault in signed.earlier_faults(path)]
         wrong = [*signed.head_faults(), *earlier, *signed.receipt_faults()]
         right = f"as signed: {signed.head}"
-        if options.earlier:
-            right += f", which begins with {text.counted(len(options.earlier), 'earlier head')}"
+        if signed.earlier:
+            right += f", which begins with {text.counted(signed.earlier, 'earlier head')}"
         if options.receipts is not None:
             right += f"; {text.counted(len(signed.findings), 'receipt')} of its entries"
         self.wrong += wrong
+        self.foreign = signed.foreign
         self.odd += [Fault(str(finding), "encoding") for finding in signed.odd]
         self.unsigned = len(wrong)
         self.right += [] if wrong else [right]
 
     def parts(self):
         """The faults by part, each a headline and its faults; without --sent and --head there is one part, which has no headline."""
+        if not self.is_signed:
+            return []
         if self.options.sent is None and self.options.head is None:
             return [(None, self.wrong)]
         unlike, signed = self.unlike, self.unlike + self.unsigned
         own, unsigned, rest = self.wrong[:unlike], self.wrong[unlike:signed], self.wrong[signed:]
         headlines = [
+            self.uncompared(),
             f"not as sent: {text.counted(len(own), 'difference')} in the commands of {self.options.participant}",
             f"not as signed: {text.counted(len(unsigned), 'difference')} from what the operator signed",
             f"not as the rules say: {text.counted(len(rest), 'fault')} in the results",
         ]
-        return [(headline, faults) for headline, faults in zip(headlines, (own, unsigned, rest)) if faults]
+        return [(headline, faults) for headline, faults in zip(headlines, (self.foreign, own, unsigned, rest)) if faults]
 
     def record(self, status, message=None):
         """The verdict for programs."""
@@ -245,7 +268,7 @@ class Audit:
             "search": self.search,
             "notes": self.notes,
         }
-        made["faults"] = [fault.record() for fault in [*self.wrong, *self.odd]]
+        made["faults"] = [fault.record() for fault in [*self.wrong, *self.foreign, *self.odd]]
         return made
 
 

@@ -15,19 +15,19 @@ import unittest
 from pathlib import Path
 from unittest import mock
 
-from support import AUCTION, AUCTION_RESULTS, FIRST, QUARTERS, SUNNY, TOOLS, TOP, tool
+from signed import DAY, NEEDS_CRYPTOGRAPHY, InFolder, lines_of, replies_of, sealed_of, verdict_of
+from support import AUCTION, FIRST, QUARTERS, SUNNY, TOOLS, TOP, tool
 
-from lib import book, command, heads, journal, merkle
+from lib import book, heads, journal, merkle
 
 try:
     from cryptography.hazmat.primitives import serialization
     from cryptography.hazmat.primitives.asymmetric.ed25519 import Ed25519PrivateKey, Ed25519PublicKey
 
-    from lib import receipts, sealing, signing, under_head
+    from lib import receipts, sealing, signing
 except ImportError:  # without python3-cryptography
-    signing = None
+    pass
 
-DAY = "2026-11-28"
 BY_OPENSSL = Path(__file__).with_name("verify_receipt.sh")
 CHANGES = 5_000
 # A block of 100 volumes with the longest names.
@@ -37,27 +37,7 @@ LONGEST = ",".join(
 )
 
 
-def sealed_of(data, day=DAY, salts=None, key=None):
-    read = journal.read_journal(data)
-    return sealing.sealed(read, book.run(read)[1], day, salts or sealing.new_salts(day), key or signing.made())
-
-
-def replies_of(data):
-    return book.replies_text(journal.read_journal(data)).encode()
-
-
-def verdict_of(data, head, key, links=None):
-    """The verdict on the text of a receipt, compared with a head."""
-    with mock.patch.object(command, "read_bytes", lambda path: data):
-        return receipts.verdict(list(receipts.judged("receipts", head, key, links or receipts.Links([], key, []))))
-
-
-def lines_of(seal, head=None):
-    head = head or seal.head()
-    return [heads.line(seal.receipt(number, head)) for number in range(1, head.size + 1)]
-
-
-@unittest.skipIf(signing is None, "python3-cryptography is missing")
+@NEEDS_CRYPTOGRAPHY
 class Receipts(unittest.TestCase):
     def setUp(self):
         self.key = signing.made()
@@ -265,26 +245,80 @@ class Receipts(unittest.TestCase):
         seal = sealing.sealed(read, book.run(read)[1], DAY, salts, private)
         self.assertEqual(heads.line(seal.receipt(2, seal.head())), line)
 
-    def test_by_openssl(self):
-        """The second reading of the format agrees."""
+    def said_by_openssl(self, data, key=None):
+        """What the second reading of the format says about the text of a receipt."""
         if not shutil.which("openssl"):
             self.skipTest("openssl is missing")
-        seal = sealed_of(SUNNY.read_bytes(), key=self.key)
-        head = seal.head()
         with tempfile.TemporaryDirectory() as folder:
             public, receipt = Path(folder, "public.pem"), Path(folder, "receipt.json")
-            public.write_bytes(signing.public_text(self.key))
-            for number in (1, 2, head.size // 2, head.size):
-                made = seal.receipt(number, head)
-                wrong = made._replace(record=made.record.replace(",", ",,", 1)), made._replace(number=number % head.size + 1)
-                line = heads.line(made).decode()
-                texts = [heads.line(other).decode() for other in wrong]
-                texts += [line.replace('{"format"', '{"more":1,"format"', 1), line.replace('","reply"', '","record":"x","reply"', 1)]
-                texts += [line.replace("dam-receipt-1", "nonsense"), line.replace('"number":', '"number": ')]
-                for each, said in ((line, f"right: {made.record}, {made.reply}\n"), *((other, "wrong\n") for other in texts)):
-                    receipt.write_text(each)
-                    ran = subprocess.run([BY_OPENSSL, receipt, public], capture_output=True, text=True)
-                    self.assertEqual(ran.stdout, said, ran.stderr)
+            public.write_bytes(signing.public_text(self.key) if key is None else key)
+            receipt.write_bytes(data)
+            ran = subprocess.run([BY_OPENSSL, receipt, public], capture_output=True, text=True)
+        self.assertEqual(ran.returncode, 0 if ran.stdout.startswith("right: ") else 1)
+        return ran.stdout
+
+    def test_by_openssl(self):
+        """The second reading of the format agrees."""
+        seal = sealed_of(SUNNY.read_bytes(), key=self.key)
+        head = seal.head()
+        for number in (1, 2, head.size // 2, head.size):
+            made = seal.receipt(number, head)
+            self.assertEqual(self.said_by_openssl(heads.line(made)), f"right: {made.record}, {made.reply}\n")
+            for other in (made._replace(record=made.record.replace(",", ",,", 1)), made._replace(number=number % head.size + 1)):
+                self.assertEqual(self.said_by_openssl(heads.line(other)), "wrong\n")
+
+    def test_other_writings_by_openssl(self):
+        """It takes the written form alone, as `verify` does for status 0."""
+        seal = sealed_of(b"".join(FIRST.splitlines(keepends=True)[:4]), key=self.key)
+        line = heads.line(seal.receipt(2, seal.head()))
+        self.assertEqual(self.said_by_openssl(line), "right: submit,STAD,BASE-8,hour,buy,9500,8:300,,, done\n")
+        salt = re.search(rb'"salt":"(.*?)"', line)[1]
+        digits = b"ABCDEFGHIJKLMNOPQRSTUVWXYZabcdefghijklmnopqrstuvwxyz0123456789+/"
+        bits = salt[:-2] + digits[digits.index(salt[-2]) + 1 :][:1] + b"="  # the same bytes
+        changes = [(b'"dam-receipt-1"', b'"nonsense"'), (b'{"format"', b'{"more":1,"format"'), (b'","reply"', b'","record":"x","reply"')]
+        changes += [(b'=","', b'=""'), (b'=","', b'=,'), (b'"path":["', b'"path":[,"'), (b'=","', b'=",,"'), (b'"],"head', b'",],"head')]
+        changes += [(b"\n", b""), (b"\n", b"\n\n"), (b"\n", b"\r\n"), (b"\n", b"\0\n"), (b"{", b" {"), (b'":', b'": ')]
+        changes += [(salt, bits), (salt, salt + b"*"), (salt, salt[:-1]), (b'="],', b'=*"],'), (b'"number":2', b'"number":02')]
+        self.assertEqual(self.said_by_openssl(line * 2), "wrong\n")
+        for old, new in changes:
+            other = line.replace(old, new, 1)
+            with self.subTest(other):
+                self.assertNotEqual(verdict_of(other, seal.head(), self.public), receipts.RIGHT)
+                self.assertEqual(self.said_by_openssl(other), "wrong\n")
+
+    def test_other_members_by_openssl(self):
+        """Members that no head or receipt may have, though they are signed."""
+        entry = {"number": 1, "record": "cancel,A,B,,,,,,", "reply": heads.DONE}
+        head = {"day": DAY, "periods": 24, "size": 1}
+
+        def line_of(own, signed):
+            own, root = {**entry, **own, "salt": bytes(32)}, {**head, **signed}
+            root["root"] = heads.leaf_of(*own.values())
+            return heads.line(heads.Receipt(**own, path=(), head=signing.signed(self.key, heads.Head(**root))))
+
+        self.assertEqual(self.said_by_openssl(line_of({}, {})), "right: cancel,A,B,,,,,,, done\n")
+        own = [{"number": 0}, {"record": "I OWE YOU"}, {"record": "cancel,A,B"}, {"record": "day,24,,,,,,,"}, {"record": "cancel,A,B ,,,,,,"}]
+        own += [{"reply": "refused,"}, {"reply": "Done"}, {"reply": "done\ndone"}]
+        signed = [{"day": "D" * 33}, {"day": "28 Nov"}, {"periods": 26}, {"size": 10_001}, {"size": 2}]
+        for line in (*(line_of(one, {}) for one in own), *(line_of({}, one) for one in signed)):
+            with self.subTest(line):
+                self.assertNotEqual(verdict_of(line, None, self.public), receipts.RIGHT)
+                self.assertEqual(self.said_by_openssl(line), "wrong\n")
+
+    def test_keys_that_sign_for_anyone_by_openssl(self):
+        """Each signature is right under its key."""
+        seal = sealed_of(b"day,24,,,,,,,\ncancel,A,B,,,,,,\n", key=self.key)
+        identity = bytes([1]) + bytes(31)
+        for raw in signing.SMALL:
+            for sign in (0, 128):
+                key = Ed25519PublicKey.from_public_bytes(raw[:31] + bytes([raw[31] | sign]))
+                every = (seal.head()._replace(day=f"D{number}", signature=identity + bytes(32)) for number in range(1_000))
+                head = next(head for head in every if signing.is_signed(key, head))
+                line = heads.line(seal.receipt(1, seal.head())._replace(head=head))
+                text = key.public_bytes(serialization.Encoding.PEM, serialization.PublicFormat.SubjectPublicKeyInfo)
+                self.assertEqual(self.said_by_openssl(line, text), "wrong\n")
+        line = heads.line(seal.receipt(1, seal.head()))
+        self.assertEqual(self.said_by_openssl(line, signing.public_text(self.key) * 2), "wrong\n")
 
     def test_keys_that_sign_for_anyone(self):
         """Keys of small order, with either sign, and a file of two keys."""
@@ -304,7 +338,8 @@ class Receipts(unittest.TestCase):
             heads.parsed(heads.line(head._replace(root=merkle.leaf_hash(b""))), heads.head_read)
 
     def test_extensions_that_prove_nothing(self):
-        """One with another path, of other heads, between two days or lengths of a day, or with a head of another key."""
+        """One with another path, of other heads, or between two days or lengths of a day: anyone can make one of right heads, so it isn't a
+        fault of the operator. A head of another key is wrong."""
         seal = sealed_of(AUCTION.read_bytes(), key=self.key)
         last, other = seal.head(), sealed_of(AUCTION.read_bytes())
         early = signing.signed(self.key, heads.Head(DAY, 24, 5, seal.tree.root(5)))
@@ -313,16 +348,22 @@ class Receipts(unittest.TestCase):
         for name, value in {"day": "2026-11-29", "periods": 25, "root": merkle.leaf_hash(b""), "size": 6}.items():
             changes.append(right._replace(old=signing.signed(self.key, early._replace(**{name: value}))))
             changes.append(right._replace(new=signing.signed(self.key, last._replace(**{name: value}))))
-        changes += [right._replace(old=signing.signed(other.key, early)), right._replace(new=signing.signed(other.key, last))]
+        foreign = [right._replace(old=signing.signed(other.key, early)), right._replace(new=signing.signed(other.key, last))]
         with tempfile.TemporaryDirectory() as folder:
-            path = Path(folder, "extension.json")
+            path, findings = Path(folder, "extension.json"), []
             path.write_bytes(heads.line(right))
-            receipts.Links([path], self.public, [])
-            for changed in changes:
+            self.assertTrue(receipts.Links([path], self.public, findings).leads(early, last))
+            self.assertEqual(findings, [])
+            for changed in [*changes, *foreign]:
                 path.write_bytes(heads.line(changed))
-                with self.subTest(changed), self.assertRaises(command.Stop) as stopped:
-                    receipts.Links([path], self.public, [])
-                self.assertEqual(stopped.exception.status, command.DIFFERS)
+                findings = []
+                links = receipts.Links([path], self.public, findings)
+                with self.subTest(changed):
+                    self.assertFalse(links.earlier)
+                    (finding,) = findings
+                    self.assertEqual(finding.verdict, receipts.WRONG if changed in foreign else receipts.UNDECIDED)
+                    self.assertIn("isn't signed by this key" if changed in foreign else "proves nothing", str(finding))
+                    self.assertTrue(changed in foreign or not links.leads(early, last))
 
     def test_the_empty_journal_is_the_beginning_of_those_of_its_day(self):
         empty = sealing.Seal(DAY, 24, sealing.new_salts(DAY), self.key).head()
@@ -336,37 +377,27 @@ def raw_of(public):
     return public.public_bytes(serialization.Encoding.Raw, serialization.PublicFormat.Raw)
 
 
-@unittest.skipIf(signing is None, "python3-cryptography is missing")
-class Command(unittest.TestCase):
+@NEEDS_CRYPTOGRAPHY
+class Command(InFolder):
     """The tool itself."""
-
-    def setUp(self):
-        folder = tempfile.TemporaryDirectory()
-        self.addCleanup(folder.cleanup)
-        self.addCleanup(os.chdir, os.getcwd())
-        os.chdir(folder.name)
-        Path("day.csv").write_bytes(AUCTION.read_bytes())
-        Path("replies.txt").write_bytes(replies_of(AUCTION.read_bytes()))
-        self.run_tool(0, "keys", "key.pem")
-
-    def run_tool(self, status, *words):
-        ran = tool("receipts", *map(str, words))
-        self.assertEqual(ran[0], status, ran)
-        return ran[1].decode()
-
-    def seal(self, out="sealed", journal="day.csv", replies="replies.txt", status=0):
-        return self.run_tool(status, "seal", journal, replies, "--day", DAY, "--key", "key.pem", "-o", out)
-
-    def verify(self, status, *words, head="sealed/head.json"):
-        return self.run_tool(status, "verify", *words, "--key", "key.pem.pub", "--head", head)
 
     def test_a_day(self):
         self.assertIn("with receipts for", self.seal())
         every = sorted(Path("sealed/receipts").iterdir())
-        self.assertRegex(self.verify(0, *every), r"^right: 94 receipts of the head of 2026-11-28 with 94 entries, 1 of them refused\n$")
+        said = ["entry 93: cancel,GAS,START,,,,,,, refused,HasChildren"]
+        said.append("right: 94 receipts of the head of 2026-11-28 with 94 entries, 1 of them refused")
+        self.assertEqual(self.verify(0, *every, "--day", DAY).splitlines(), said)
+        self.assertIn("is the head of 2026-11-28 with 94 entries, and not of 2026-11-29", self.error(3, "--day", "2026-11-29"))
         self.assertIn("right: 1 head", self.run_tool(0, "heads", "sealed/head.json", "--key", "key.pem.pub"))
         for path in (Path("key.pem"), Path("sealed/salts.json"), *every):
             self.assertEqual(stat.S_IMODE(path.stat().st_mode), 0o600)
+        self.assertEqual(stat.S_IMODE(Path("sealed/receipts").stat().st_mode), 0o700)
+
+    def error(self, status, *words):
+        """What `verify` says on standard error."""
+        ran = tool("receipts", "verify", "sealed/receipts/STAD.jsonl", "--key", "key.pem.pub", "--head", "sealed/head.json", *words)
+        self.assertEqual(ran[:2], (status, b""))
+        return ran[2]
 
     def test_a_journal_that_grew(self):
         lines = AUCTION.read_bytes().splitlines(keepends=True)
@@ -385,7 +416,8 @@ class Command(unittest.TestCase):
         # A journal that doesn't begin with the sealed one.
         Path("d.csv").write_bytes(b"".join([lines[0], *lines[2:]]))
         Path("d.txt").write_bytes(replies_of(b"".join([lines[0], *lines[2:]])))
-        self.run_tool(1, "extend", "a", "d.csv", "d.txt", "--key", "key.pem", "-o", "d")
+        out = self.run_tool(1, "extend", "a", "d.csv", "d.txt", "--key", "key.pem", "-o", "d")
+        self.assertEqual(out, "wrong: the first 3 entries of this journal aren't the entries of the earlier head\n")
         self.assertFalse(Path("d").exists())
 
     def test_an_order_that_was_left_out(self):
@@ -435,23 +467,28 @@ class Command(unittest.TestCase):
         Path(own).write_bytes(data.replace(b",300,", b",301,"))
         self.assertIn("wrong: 2 receipts right; 1 receipt wrong; 1 difference from", self.verify(1, own, *words, head="x/head.json"))
         Path(own).write_bytes(data + data)
-        self.verify(0, own, *words, head="x/head.json")
+        said = "right: 3 receipts of the head of 2026-11-28 with 4 entries; 3 more of the same entries\n"
+        self.assertEqual(self.verify(0, own, *words, head="x/head.json"), said)
         Path("mine.csv").write_bytes(b"close,,,,,,,,\n")
         self.verify(1, own, *words, head="x/head.json")
 
     def test_heads_of_another_key_or_writing(self):
         self.seal()
         self.run_tool(0, "keys", "other.pem")
-        for words in (["verify", "sealed/receipts/STAD.jsonl", "--head", "sealed/head.json"], ["heads", "sealed/head.json"]):
-            self.assertEqual(self.run_tool(1, *words, "--key", "other.pem.pub"), "")
-        Path("results.txt").write_bytes(AUCTION_RESULTS.read_bytes())
-        signed = ["--salts", "sealed/salts.json", "--head", "sealed/head.json"]
-        self.assertEqual(tool("audit", "day.csv", "results.txt", *signed, "--key", "other.pem.pub")[0], 1)
-        self.run_tool(1, "extend", "sealed", "day.csv", "replies.txt", "--key", "other.pem", "-o", "later")
+        said = "isn't signed by this key: it isn't the operator's, or it was changed\n"
+        words = ["verify", "sealed/receipts/STAD.jsonl", "--head", "sealed/head.json", "--key", "other.pem.pub"]
+        self.assertEqual(self.run_tool(1, *words), f"wrong: sealed/head.json {said}")
+        record = json.loads(self.run_tool(1, *words, "--json"))
+        self.assertEqual((record["verdict"], record["message"]), ("wrong", f"sealed/head.json {said[:-1]}"))
+        out = self.run_tool(1, "heads", "sealed/head.json", "--key", "other.pem.pub")
+        self.assertEqual(out, f"sealed/head.json: it {said}wrong: 0 heads of 0 days\n")
+        out = self.run_tool(1, "extend", "sealed", "day.csv", "replies.txt", "--key", "other.pem", "-o", "later")
+        self.assertEqual(out, f"wrong: sealed/head.json {said}")
         head = Path("sealed/head.json")
         head.write_text(json.dumps(json.loads(head.read_text()), indent=1))
-        self.assertIn("isn't in its written form", self.verify(6, "sealed/receipts/STAD.jsonl"))
-        self.assertIn("isn't in its written form", self.audit(6))
+        out = self.verify(6, "sealed/receipts/STAD.jsonl")
+        self.assertIn("isn't in its written form", out)
+        self.assertRegex(out, r"\nencoding: \d+ receipts right; 1 file encoding; the head")
         self.run_tool(6, "heads", "sealed/head.json", "--key", "key.pem.pub")
 
     def test_a_fork_between_other_heads(self):
@@ -464,13 +501,10 @@ class Command(unittest.TestCase):
         for order in ((0, 2, 1), (2, 0, 1), (0, 1, 2), (0, 0, 2, 1, 0)):
             out = self.run_tool(1, "heads", *(paths[at] for at in order), "--key", "key.pem.pub")
             self.assertIn("the operator signed two trees of 2026-11-28 with 94 entries", out)
-        self.assertIn("right: 2 heads of 2 days", self.run_tool(0, "heads", paths[0], paths[2], "--key", "key.pem.pub"))
+        out = self.run_tool(0, "heads", paths[0], paths[2], "--key", "key.pem.pub")
+        days = ["2026-11-28: 1 head, the last with 94 entries", "2026-11-29: 1 head, the last with 15 entries"]
+        self.assertEqual(out.splitlines(), [*days, "right: 2 heads of 2 days"])
         self.verify(3, self.receipt_of(made[2]), head=paths[0])
-
-    def receipt_of(self, seal, number=1):
-        path = Path("receipt.jsonl")
-        path.write_bytes(lines_of(seal)[number - 1])
-        return path
 
     def test_files_of_many_lines(self):
         self.seal()
@@ -484,12 +518,10 @@ class Command(unittest.TestCase):
         salts = Path("sealed/salts.json")
         salts.write_bytes(heads.line(sealing.new_salts("2026-11-29")))
         self.run_tool(3, "extend", "sealed", "day.csv", "replies.txt", "--key", "key.pem", "-o", "later")
-        Path("results.txt").write_bytes(AUCTION_RESULTS.read_bytes())
-        self.audit(3)
 
     def test_replies_that_are_not_the_books(self):
         Path("wrong.txt").write_bytes(Path("replies.txt").read_bytes().replace(b"1,done", b"1,refused,Closed", 1))
-        self.seal("wrong", replies="wrong.txt", status=1)
+        self.assertIn("wrong: wrong.txt isn't signed, since it isn't the book's", self.seal("wrong", replies="wrong.txt", status=1))
         self.seal("wrong", replies="day.csv", status=3)
         self.assertFalse(Path("wrong").exists())
 
@@ -522,176 +554,16 @@ class Command(unittest.TestCase):
         self.run_tool(2, "verify", "sealed/receipts/STAD.jsonl", "--key", "key.pem.pub", "--head", "sealed/head.json", "--sent", "day.csv")
         self.run_tool(2)
 
-    def audit(self, status, journal="day.csv", *words, results="results.txt"):
-        signed = ["--head", "sealed/head.json", "--salts", "sealed/salts.json", "--key", "key.pem.pub"]
-        ran = tool("audit", journal, results, *signed, *map(str, words))
-        self.assertEqual(ran[0], status, ran)
-        return ran[1].decode()
-
-    def test_the_audit_of_a_signed_day(self):
-        Path("results.txt").write_bytes(AUCTION_RESULTS.read_bytes())
-        self.seal()
-        self.assertIn("as signed: the head of 2026-11-28", self.audit(0))
-        self.assertRegex(self.audit(0, "day.csv", "--receipts", "sealed/receipts", "--best"), r"as signed: .*; \d+ receipts of its entries\n")
-        self.assertIn("as signed", self.audit(0, "day.csv", "--replies", results="replies.txt"))
-
-    def test_the_audit_finds_each_changed_entry(self):
-        """An entry that is left out, repeated, moved or changed after the head was signed."""
-        Path("results.txt").write_bytes(AUCTION_RESULTS.read_bytes())
-        self.seal()
-        first, *lines = AUCTION.read_bytes().splitlines(keepends=True)
-        for at in range(0, len(lines) - 2, 7):
-            for changed in (
-                lines[:at] + lines[at + 1 :],
-                [*lines[: at + 1], *lines[at:]],
-                [*lines[:at], lines[at + 1], lines[at], *lines[at + 2 :]],
-                [*lines[:at], lines[at].replace(b",hour,", b",block,", 1).replace(b"cancel,", b"cancel,X", 1), *lines[at + 1 :]],
-            ):
-                if changed == lines:
-                    continue
-                Path("other.csv").write_bytes(b"".join([first, *changed]))
-                with self.subTest(at=at, changed=changed[at : at + 2]):
-                    out = self.audit(1, "other.csv", "--receipts", "sealed/receipts")
-                    self.assertIn("not as signed", out)
-                    self.assertRegex(out, r"receipts/\w+\.jsonl line \d+: the operator signed entry")
-
-    def test_the_audit_of_changed_receipts(self):
-        Path("results.txt").write_bytes(AUCTION_RESULTS.read_bytes())
-        self.seal()
-        path = Path("sealed/receipts/STAD.jsonl")
-        right = path.read_bytes()
-        path.write_bytes(right.replace(b'"reply":"done"', b'"reply":"refused,Closed"', 1))
-        self.assertIn("STAD.jsonl line 1: it isn't entry", self.audit(1, "day.csv", "--receipts", "sealed/receipts"))
-        path.write_bytes(b"{}\n" + right)
-        self.audit(3, "day.csv", "--receipts", "sealed/receipts")
-        # A receipt of the same key for another journal of the day.
-        other = sealed_of(SUNNY.read_bytes(), key=signing.private(Path("key.pem").read_bytes()))
-        path.write_bytes(b"".join(lines_of(other)[:1]))
-        out = self.audit(1, "day.csv", "--receipts", path)
-        self.assertIn("the operator signed entry 1 as", out)
-        self.assertIn("not as signed: 2 differences", out)
-
-    def test_the_audit_of_earlier_heads(self):
-        Path("results.txt").write_bytes(AUCTION_RESULTS.read_bytes())
-        lines = AUCTION.read_bytes().splitlines(keepends=True)
-        Path("a.csv").write_bytes(b"".join(lines[:5]))
-        Path("a.txt").write_bytes(replies_of(b"".join(lines[:5])))
-        self.seal("a", "a.csv", "a.txt")
-        self.run_tool(0, "extend", "a", "day.csv", "replies.txt", "--key", "key.pem", "-o", "sealed")
-        self.assertIn("begins with 1 earlier head", self.audit(0, "day.csv", "--earlier", "a/head.json"))
-        self.seal("b", "a.csv", "a.txt")  # other salts, so another tree
-        self.assertIn("b/head.json", self.audit(1, "day.csv", "--earlier", "a/head.json", "--earlier", "b/head.json"))
-
-    def test_sent_commands_with_receipts(self):
-        """A command without an entry, with a receipt and without one."""
-        Path("results.txt").write_bytes(AUCTION_RESULTS.read_bytes())
-        first, *lines = AUCTION.read_bytes().splitlines(keepends=True)
-        own = [line for line in lines if line.split(b",")[1] == b"STAD"]
-        Path("mine.csv").write_bytes(b"".join(own))
-        self.seal()
-        Path("day.csv").rename("whole.csv")
-        Path("day.csv").write_bytes(b"".join([first, *(line for line in lines if line not in own[:2])]))
-        receipt_of_first = Path("sealed/receipts/STAD.jsonl").read_bytes().splitlines(keepends=True)[0]
-        Path("kept.jsonl").write_bytes(receipt_of_first)
-        words = ["--sent", "mine.csv", "--participant", "STAD", "--receipts", "kept.jsonl"]
-        out = self.audit(1, "day.csv", *words)
-        proved = [line for line in out.splitlines() if "the operator's fault, proved" in line]
-        unproved = [line for line in out.splitlines() if "no receipt proves" in line]
-        self.assertEqual((len(proved), len(unproved)), (1, 1), out)
-        self.assertIn(own[0].decode().strip(), proved[0])
-        self.assertIn(own[1].decode().strip(), unproved[0])
-        self.assertIn("as sent", self.audit(0, "whole.csv", *words))
-
-    def test_receipts_without_an_end(self):
-        """Nothing is waited for, and what isn't a receipt ends the audit before the next line is read."""
-        Path("results.txt").write_bytes(AUCTION_RESULTS.read_bytes())
-        self.seal()
-        os.mkfifo("sealed/receipts/A.jsonl")
-        self.audit(3, "day.csv", "--receipts", "sealed/receipts")
-        Path("sealed/receipts/A.jsonl").unlink()
-        Path("sealed/receipts/A.jsonl").write_bytes(b"x\n" * heads.MOST_ENTRIES)
-        with mock.patch.object(heads, "parsed", wraps=heads.parsed) as parsed, self.assertRaisesRegex(command.Stop, r"A\.jsonl line 1: "):
-            under_head.of_folder("sealed/receipts", receipts.key_read("key.pem.pub"))
-        self.assertEqual(parsed.call_count, 1)
-
-    def test_many_commands_that_the_journal_lacks(self):
-        """Each with as many receipts of the same command: the time doesn't grow with the product."""
-        count = 5_000
-        seal = sealed_of(b"day,24,,,,,,,\n" + b"cancel,A,B,,,,,,\n" * count)
-        finding = receipts.Finding("f", 1, receipts.RIGHT, "", seal.receipt(1, seal.head()))
-        read = journal.read_journal(b"day,24,,,,,,,\n" + b"cancel,A,B,,,,,,\n" * count)
-        signed = under_head.UnderHead(None, seal.head(), seal.salts, read, book.run(read)[1], [finding] * count)
-        with mock.patch.object(signed, "receipt_fault", side_effect=AssertionError):
-            proofs = {signed.proof(one) for one in read.commands}
-        self.assertEqual(proofs, {"; no receipt proves that the operator had it"})
-
-    def test_the_audit_of_other_heads(self):
-        """A journal that is longer than its head's, or of another length of a day; earlier heads of another key and another day."""
-        Path("results.txt").write_bytes(AUCTION_RESULTS.read_bytes())
-        key = signing.private(Path("key.pem").read_bytes())
-        self.seal()
-        head, _ = heads.parsed(Path("sealed/head.json").read_bytes(), heads.head_read)
-        salts, _ = heads.parsed(Path("sealed/salts.json").read_bytes(), heads.salts_read)
-        seal = sealed_of(AUCTION.read_bytes(), key=key, salts=salts)
-        shorter = signing.signed(key, head._replace(size=head.size - 1, root=seal.tree.root(head.size - 1)))
-        for other, said in (
-            (shorter, "the journal has 1 entry after the 93 that the operator signed"),
-            (signing.signed(key, head._replace(periods=25)), "the journal's day has 24 periods, and the head's 25"),
-        ):
-            Path("sealed/head.json").write_bytes(heads.line(other))
-            self.assertIn(said, self.audit(1))
-        Path("sealed/head.json").write_bytes(heads.line(head))
-        for earlier, said in (
-            (signing.signed(signing.made(), shorter), "it isn't signed by this key"),
-            (signing.signed(key, shorter._replace(day="2026-11-29")), "it is of 2026-11-29"),
-        ):
-            Path("earlier.json").write_bytes(heads.line(earlier))
-            self.assertIn(said, self.audit(1, "day.csv", "--earlier", "earlier.json"))
-
-    def test_the_audit_of_receipts_of_other_days_and_forged_ones(self):
-        """Neither is the operator's fault."""
-        Path("results.txt").write_bytes(AUCTION_RESULTS.read_bytes())
-        key = signing.private(Path("key.pem").read_bytes())
-        lines = AUCTION.read_bytes().splitlines(keepends=True)
-        place = next(at for at, line in enumerate(lines) if line.startswith(b"submit,STAD"))
-        Path("day.csv").write_bytes(b"".join(lines[:place] + lines[place + 1 :]))
-        Path("replies.txt").write_bytes(replies_of(Path("day.csv").read_bytes()))
-        Path("mine.csv").write_bytes(b"".join(line for line in lines if line.split(b",")[1] == b"STAD"))
-        self.seal()
-        words = ["--sent", "mine.csv", "--participant", "STAD", "--receipts", "receipt.jsonl"]
-        other = sealed_of(AUCTION.read_bytes(), day="2026-11-27", key=key)
-        self.receipt_of(other, place)
-        self.assertEqual(self.audit(3, "day.csv", *words), "")
-        self.receipt_of(sealed_of(AUCTION.read_bytes()), place)  # by another key
-        out = self.audit(1, "day.csv", *words)
-        self.assertIn("no receipt proves that the operator had it", out)
-        self.assertNotIn("the operator's fault", out)
-        self.receipt_of(sealed_of(AUCTION.read_bytes(), key=key), place)
-        self.assertIn("the operator's fault, proved", self.audit(1, "day.csv", *words))
-        # The reply is signed too.
-        seal = sealing.Seal(DAY, 24, sealing.new_salts(DAY), key)
-        entries = list(sealed_of(Path("day.csv").read_bytes()).entries)
-        for entry in [entries[0]._replace(reply="refused,Closed"), *entries[1:]]:
-            seal.append(entry)
-        self.receipt_of(seal)
-        self.assertIn("the operator signed entry 1 as", self.audit(1, "day.csv", "--receipts", "receipt.jsonl"))
-        Path("folder").mkdir()
-        Path("folder/STAD.json").write_bytes(b"")
-        self.audit(3, "day.csv", "--receipts", "folder")
-
-    def test_command_lines_of_the_audit(self):
-        for words in (["--head", "h"], ["--salts", "s", "--key", "k"], ["--receipts", "r"], ["--earlier", "e"]):
-            self.assertEqual(tool("audit", "day.csv", "results.txt", *words)[0], 2)
-        self.assertEqual(tool("audit", "--days", ".", "--head", "h", "--salts", "s", "--key", "k")[0], 2)
-        for words in (["--head", "-", "--salts", "-", "--key", "k"], ["--head", "h", "--salts", "s", "--key", "k", "--earlier", "-", "--receipts", "-"]):
-            self.assertEqual(tool("audit", "day.csv", "results.txt", *words)[0], 2)
-
     def test_records_for_programs(self):
+        self.run_tool(0, "keys", "other.pem")
+        Path("wrong.txt").write_bytes(Path("replies.txt").read_bytes().replace(b"1,done", b"1,refused,Closed", 1))
         for status, *words in (
             (0, "seal", "day.csv", "replies.txt", "--day", DAY, "--key", "key.pem", "-o", "sealed"),
             (0, "verify", "sealed/receipts/STAD.jsonl", "--key", "key.pem.pub", "--head", "sealed/head.json"),
             (3, "verify", "sealed/head.json", "--key", "key.pem.pub", "--head", "sealed/head.json"),
             (3, "verify", "none", "--key", "key.pem.pub", "--head", "sealed/head.json"),
+            (1, "verify", "sealed/receipts/STAD.jsonl", "--key", "other.pem.pub", "--head", "sealed/head.json"),
+            (1, "seal", "day.csv", "wrong.txt", "--day", DAY, "--key", "key.pem", "-o", "wrong"),
             (0, "heads", "sealed/head.json", "--key", "key.pem.pub"),
             (3, "keys", "key.pem"),
         ):

@@ -1,0 +1,300 @@
+"""What an operator signed, from all files: two heads or entries that no one journal can have are found in every file that may have them."""
+
+import itertools
+import json
+import random
+import unittest
+from pathlib import Path
+from unittest import mock
+
+from signed import DAY, NEEDS_CRYPTOGRAPHY, InFolder, lines_of
+from support import AUCTION
+
+from lib import command, heads
+
+try:
+    from lib import receipts, sealing, signing
+    from lib.contradictions import unsigned
+except ImportError:  # without python3-cryptography
+    pass
+
+KEYS = ["--key", "key.pem.pub"]
+TREES = "the operator signed two trees of 2026-11-28 with"
+ENTRY = "submit,TOWN,K{},hour,buy,{},8:10,,"
+
+
+def grown(key, prices, sizes, salts=None, day=DAY, periods=24):
+    """A journal of one entry for each price, and its heads with these sizes."""
+    seal, signed = sealing.Seal(day, periods, salts or sealing.new_salts(day), key), {}
+    for number, price in enumerate(prices, 1):
+        seal.append(sealing.Entry(ENTRY.format(number, price), heads.DONE, "TOWN"))
+        if number in sizes:
+            signed[number] = seal.head()
+    return seal, signed
+
+
+def fork(prices, at):
+    """The same, but for one."""
+    return [price + (number == at) for number, price in enumerate(prices, 1)]
+
+
+@NEEDS_CRYPTOGRAPHY
+class Contradictions(InFolder):
+    """A journal that grew (A, B, C), one that forks from it after A (F), and one with another first entry (A2, C2)."""
+
+    def setUp(self):
+        super().setUp()
+        self.key = signing.private(Path("key.pem").read_bytes())
+        prices, salts = [100] * 18, sealing.new_salts(DAY)
+        for names, own in (("A B C", prices), ("A B F", fork(prices, 17)), ("A2 B2 C2", fork(prices, 1))):
+            seal, signed = grown(self.key, own, (6, 9, 18), salts)
+            for name, head in zip(names.split(), signed.values()):
+                Path(f"{name}.head").write_bytes(heads.line(head))
+                Path(f"{name}.receipts").write_bytes(b"".join(lines_of(seal, head)))
+                if head.size > 6:
+                    Path(f"{name}.extension").write_bytes(heads.line(seal.extension(signed[6], head)))
+
+    def told(self, status, *words):
+        """The lines of a run before the last one, and the last one."""
+        *lines, last = self.run_tool(status, *words).splitlines()
+        return lines, last
+
+    def lines(self, name, source, *numbers):
+        """A file with some receipts of another one."""
+        data = Path(f"{source}.receipts").read_bytes().splitlines(keepends=True)
+        with open(name, "ab") as file:
+            file.writelines(data[number - 1] for number in numbers)
+        return name
+
+    def test_two_heads_in_any_two_files(self):
+        """Heads that are given, in extensions, and in receipts."""
+        Path("cf.jsonl").write_bytes(Path("C.receipts").read_bytes() + Path("F.receipts").read_bytes())
+        ends = ["--extension", "C.extension", "--extension", "F.extension"]
+        for words, place, other, count in (
+            (["heads", "A.head", "A2.head"], "A2.head", "A.head", 6),
+            (["heads", "C2.head", "--extension", "C.extension"], "C2.head", "C.extension", 18),
+            (["heads", "A.head", *ends], "F.extension", "C.extension", 18),
+            (["heads", "A2.head", "C2.head", "--extension", "C.extension", "--extension", "C2.extension"], "C2.extension", "C.extension", 18),
+            (["verify", "cf.jsonl", "--head", "A.head", *ends], "F.extension", "C.extension", 18),
+            (["verify", "cf.jsonl", "--head", "A.head"], "cf.jsonl line 19", "cf.jsonl line 1", 18),
+            (["verify", "A.receipts", "--head", "C2.head", "--extension", "C.extension"], "C2.head", "C.extension", 18),
+            (["verify", "A.receipts", "A2.receipts", "--head", "C.head"], "A2.receipts line 1", "A.receipts line 1", 6),
+            (["verify", "B2.receipts", "--head", "C.head", "--extension", "B.extension"], "B2.receipts line 1", "B.extension", 9),
+        ):
+            with self.subTest(words):
+                lines, last = self.told(1, *words, *KEYS)
+                said = f"{place}: {TREES} {count} entries: two journals, or one journal twice; the other one is in {other}"
+                self.assertIn(said, lines)
+                self.assertTrue(last.startswith("wrong: "), last)
+                record = json.loads(self.run_tool(1, *words, *KEYS, "--json"))
+                self.assertIn(said.split(": ", 1)[1], [finding["words"] for finding in record.get("findings", record.get("receipts"))])
+
+    def test_what_grew_is_right(self):
+        ends = ["--extension", "B.extension", "--extension", "C.extension"]
+        for name, head, count in (("A", "C", 6), ("C", "C", 18), ("B", "B", 9), ("A", "B", 6)):
+            lines, last = self.told(0, "verify", f"{name}.receipts", "--head", f"{head}.head", *ends, *KEYS)
+            self.assertEqual(last, f"right: {count} receipts of the head of 2026-11-28 with {18 if head == 'C' else 9} entries")
+        lines, last = self.told(0, "verify", "A.receipts", "B.receipts", "--head", "B.head", *ends, *KEYS)
+        self.assertEqual(lines, ["the operator has signed a later head too: the head of 2026-11-28 with 18 entries"])
+        self.assertEqual(last, "right: 9 receipts of the head of 2026-11-28 with 9 entries; 6 more of the same entries")
+
+    def test_two_heads_with_other_periods(self):
+        """Of one size, or of two."""
+        for size in (6, 9):
+            _, signed = grown(self.key, [100] * size, (size,), periods=96)
+            Path("other.head").write_bytes(heads.line(signed[size]))
+            lines, _ = self.told(1, "heads", "A.head", "other.head", *KEYS)
+            self.assertIn("other.head: the operator signed 2026-11-28 with 96 periods, and with 24, in A.head", lines)
+            lines, _ = self.told(1, "verify", "A.receipts", "--head", "other.head", *KEYS)
+            self.assertIn("A.receipts line 1: the operator signed 2026-11-28 with 24 periods, and with 96, in other.head", lines)
+
+    def test_two_signatures_of_one_head(self):
+        """Anyone with the key can make them. They are of one tree."""
+        head, _ = heads.parsed(Path("A.head").read_bytes(), heads.head_read)
+        with mock.patch.object(signing, "is_signed", return_value=True):
+            links = receipts.Links([], self.key.public_key(), [])
+            for signature in (head.signature, bytes(64)):
+                self.assertTrue(links.add_head("file", head._replace(signature=signature), []))
+        self.assertEqual((links.signed.findings, links.signed.heads()), ([], [unsigned(head)]))
+
+    def test_one_number_with_two_entries(self):
+        """No journal has both, whether their heads are connected or not."""
+        first, other = (f"{ENTRY.format(1, price)}, done" for price in (100, 101))
+        path = self.lines("ab.jsonl", "A", 1)
+        self.lines("ab.jsonl", "B2", 1)
+        lines, last = self.told(1, "verify", path, "--head", "C.head", *KEYS)
+        said = f"the operator signed entry 1 of 2026-11-28 as {other}; and as {first}, in ab.jsonl line 1: two journals, or one journal twice"
+        self.assertEqual(lines[2:], [f"ab.jsonl line 2: {said}"])
+        self.assertEqual(last, "wrong: 2 receipts undecided; 1 contradiction; the head of 2026-11-28 with 18 entries")
+        # Receipts of equal entries that were given after the fork are no contradiction; those of a journal that was sealed twice are.
+        path = self.lines("same.jsonl", "A", 2)
+        self.lines("same.jsonl", "B2", 2)
+        self.told(4, "verify", path, "--head", "C.head", *KEYS)
+        seal, signed = grown(self.key, [100] * 7, (7,))
+        Path("again.jsonl").write_bytes(lines_of(seal, signed[7])[1])
+        lines, _ = self.told(1, "verify", path, "again.jsonl", "--head", "C.head", *KEYS)
+        self.assertIn("again.jsonl line 1: the operator signed entry 2 of 2026-11-28 as", lines[-1])
+        self.assertIn("; and with another salt, in same.jsonl line 1: ", lines[-1])
+        # Of another day, and of another key: nothing is contradicted.
+        seal, signed = grown(self.key, [101] * 7, (7,), day="2026-11-29")
+        foreign, theirs = grown(signing.made(), [101] * 7, (7,))
+        Path("others.jsonl").write_bytes(lines_of(seal, signed[7])[0] + lines_of(foreign, theirs[7])[0])
+        lines, _ = self.told(1, "verify", self.lines("one.jsonl", "A", 1), "others.jsonl", "--head", "A.head", *KEYS)
+        self.assertFalse([line for line in lines if "the operator signed" in line])
+
+    def test_a_changed_receipt_contradicts_nothing(self):
+        """Its head is the operator's, and its entry isn't."""
+        line = Path("A.receipts").read_bytes().splitlines(keepends=True)[0]
+        Path("changed.jsonl").write_bytes(line + line.replace(b",100,", b",101,"))
+        lines, last = self.told(1, "verify", "changed.jsonl", "--head", "A.head", *KEYS)
+        self.assertEqual(len(lines), 1)
+        self.assertTrue(lines[0].startswith("changed.jsonl line 2: it isn't entry 1 of the head"))
+        self.assertEqual(last, "wrong: 1 receipt right; 1 receipt wrong; the head of 2026-11-28 with 6 entries")
+        Path("changed.jsonl").write_bytes(Path("F.receipts").read_bytes().splitlines(keepends=True)[0].replace(b",100,", b",101,"))
+        lines, _ = self.told(1, "verify", "changed.jsonl", "--head", "C.head", *KEYS)
+        self.assertIn(f"changed.jsonl line 1: {TREES} 18 entries: two journals, or one journal twice; the other one is in C.head", lines)
+
+    def test_the_later_head(self):
+        """It is one that the operator signed, of this day."""
+        said = "the operator has signed a later head too: the head of 2026-11-28 with {} entries"
+        for others, size in ((["B"], 9), (["B", "C"], 18), ([], None)):
+            files = [self.lines(f"{name}{size}.jsonl", name, *range(1, 7)) for name in others]
+            words = ["verify", "A.receipts", *files, "--head", "A.head"]
+            words += [word for name in others for word in ("--extension", f"{name}.extension")]
+            lines, _ = self.told(0, *words, *KEYS)
+            self.assertEqual(lines, [said.format(size)] if size else [])
+            later = json.loads(self.run_tool(0, *words, *KEYS, "--json"))["later"]
+            self.assertEqual(later and later["size"], size)
+        line = Path("C.receipts").read_bytes().splitlines(keepends=True)[0]
+        other, signed = grown(self.key, [100] * 18, (18,), day="2026-11-29")
+        Path("others.jsonl").write_bytes(line.replace(b'"size":18', b'"size":19') + lines_of(other, signed[18])[0])
+        lines, _ = self.told(1, "verify", "others.jsonl", "--head", "A.head", *KEYS)
+        self.assertFalse([line for line in lines if "later head" in line])
+        lines, _ = self.told(0, "verify", "A.receipts", "--head", "A.head", "--extension", "C.extension", *KEYS)
+        self.assertEqual(lines, [said.format(18)])
+
+    def test_extensions_from_two_heads_to_one(self):
+        """Both are beginnings of it, so the longer one begins with the shorter one."""
+        seal, signed = grown(self.key, [100] * 18, (6, 9, 18), sealing.new_salts(DAY))
+        for size, head in signed.items():
+            Path(f"{size}.head").write_bytes(heads.line(head))
+            Path(f"{size}.extension").write_bytes(heads.line(seal.extension(head, signed[18])))
+        files, ends = ["6.head", "9.head", "18.head"], ["--extension", "6.extension", "--extension", "9.extension"]
+        self.assertEqual(self.told(0, "heads", *files, *ends, *KEYS)[1], "right: 3 heads of 1 day")
+        self.assertEqual(self.told(4, "heads", *files, *ends[:2], *KEYS)[1], "undecided: 3 heads of 1 day")
+        Path("six.jsonl").write_bytes(b"".join(lines_of(seal, signed[6])))
+        self.told(0, "verify", "six.jsonl", "--head", "9.head", *ends, *KEYS)
+        self.told(4, "verify", "six.jsonl", "--head", "9.head", *ends[:2], *KEYS)
+
+    def test_any_extensions(self):
+        """Heads are connected exactly if the extensions prove it: of two beginnings of one journal, one begins with the other."""
+        chance = random.Random("extensions")
+        seal, signed = grown(self.key, [100] * 8, range(1, 9))
+        every = list(itertools.combinations(range(1, 9), 2))
+        for _ in range(60):
+            chosen = chance.sample(every, chance.randrange(12))
+            paths = [Path(f"{old}-{new}.json") for old, new in chosen]
+            for path, (old, new) in zip(paths, chosen):
+                path.write_bytes(heads.line(seal.extension(signed[old], signed[new])))
+            links, proved = receipts.Links(paths, self.key.public_key(), []), closed(chosen)
+            for old, new in every:
+                self.assertEqual(links.leads(signed[old], signed[new]), (old, new) in proved, (chosen, old, new))
+
+    def test_an_extension_that_proves_nothing(self):
+        """Anyone can make one of two right heads: the operator isn't at fault, and the rest is as it is without it."""
+        extension, _ = heads.parsed(Path("C.extension").read_bytes(), heads.extension_read)
+        Path("no.extension").write_bytes(heads.line(extension._replace(path=extension.path[::-1])))
+        said = "no.extension: it proves nothing: its path doesn't lead from the earlier head to the later one"
+        lines, last = self.told(4, "verify", "A.receipts", "--head", "C.head", "--extension", "no.extension", *KEYS)
+        self.assertEqual((lines[0], len(lines)), (said, 7))
+        self.assertEqual(last, "undecided: 6 receipts undecided; 1 extension undecided; the head of 2026-11-28 with 18 entries")
+        lines, last = self.told(4, "heads", "A.head", "--extension", "no.extension", *KEYS)
+        self.assertEqual((lines[0], last), (said, "undecided: 2 heads of 1 day"))
+        # Its heads are the operator's all the same.
+        lines, _ = self.told(1, "heads", "C2.head", "--extension", "no.extension", *KEYS)
+        self.assertIn(f"C2.head: {TREES} 18 entries: two journals, or one journal twice; the other one is in no.extension", lines)
+        self.run_tool(0, "keys", "other.pem")
+        lines, last = self.told(1, "heads", "A.head", "--extension", "no.extension", "--key", "other.pem.pub")
+        self.assertEqual(last, "wrong: 0 heads of 0 days")
+        self.assertIn("no.extension: the head of 2026-11-28 with 6 entries isn't signed by this key", lines[0])
+
+    def test_two_keys(self):
+        """On the day on which a new key comes: two heads under two published keys are compared, and each is shown with its key."""
+        self.run_tool(0, "keys", "new.pem")
+        new = signing.private(Path("new.pem").read_bytes())
+        for day, status in ((DAY, 1), ("2026-11-29", 0)):
+            _, signed = grown(new, [101] * 6, (6,), day=day)
+            Path("new.head").write_bytes(heads.line(signed[6]))
+            lines, _ = self.told(status, "heads", "A.head", "new.head", *KEYS, "--key", "new.pem.pub")
+            self.assertEqual(any(TREES in line for line in lines), status == 1)
+            self.assertIn("A.head: the head of 2026-11-28 with 6 entries, signed by key.pem.pub", lines)
+            self.assertIn(f"new.head: the head of {day} with 6 entries, signed by new.pem.pub", lines)
+        made = json.loads(self.run_tool(1, "heads", "A.head", "new.head", *KEYS, "--json"))
+        self.assertEqual(made["keys"], ["key.pem.pub", None])
+        lines, _ = self.told(1, "heads", "A.head", "new.head", *KEYS)
+        self.assertIn("new.head: it isn't signed by this key: it isn't the operator's, or it was changed", lines)
+
+    def test_the_names_of_days(self):
+        """One day under two names is seen by their lines."""
+        _, signed = grown(self.key, [101] * 6, (6,), day="2026.11.28")
+        Path("other.head").write_bytes(heads.line(signed[6]))
+        days = ["2026-11-28: 2 heads, the last with 9 entries", "2026.11.28: 1 head, the last with 6 entries"]
+        words = ["heads", "A.head", "other.head", "B.head", "--extension", "B.extension", *KEYS]
+        self.assertEqual(self.told(0, *words), (days, "right: 3 heads of 2 days"))
+
+    def test_counts(self):
+        """Of several receipts of an entry one counts, and files that aren't right are no receipts."""
+        path = self.lines("thrice.jsonl", "A", 1, 1, 1)
+        Path("mine.csv").write_text(f"{ENTRY.format(1, 100)}\n")
+        for more in ([], ["--sent", "mine.csv", "--participant", "TOWN"]):
+            _, last = self.told(0, "verify", path, "--head", "A.head", *more, *KEYS)
+            self.assertEqual(last, "right: 1 receipt of the head of 2026-11-28 with 6 entries; 2 more of the same entries")
+        Path("odd.head").write_bytes(Path("A.head").read_bytes().replace(b":", b": "))
+        Path("odd.jsonl").write_bytes(b"{}\n")
+        _, last = self.told(3, "verify", path, "odd.jsonl", "--head", "odd.head", *KEYS)
+        words = "unread: 1 receipt right; 1 file encoding; 1 file unread; 2 more of the same entries; the head of 2026-11-28 with 6 entries"
+        self.assertEqual(last, words)
+
+    def test_refusals_are_printed(self):
+        seal = sealing.Seal(DAY, 24, sealing.new_salts(DAY), self.key)
+        for number, reply in enumerate((heads.DONE, "refused,Closed", "refused,NameTaken"), 1):
+            seal.append(sealing.Entry(ENTRY.format(number, 100), reply, "TOWN"))
+        head = seal.head()
+        Path("own.head").write_bytes(heads.line(head))
+        Path("own.jsonl").write_bytes(b"".join([*reversed(lines_of(seal, head)), lines_of(seal, head)[1]]))
+        lines, last = self.told(0, "verify", "own.jsonl", "--head", "own.head", *KEYS)
+        said = [f"entry 2: {ENTRY.format(2, 100)}, refused,Closed", f"entry 3: {ENTRY.format(3, 100)}, refused,NameTaken"]
+        self.assertEqual(lines, said)
+        self.assertEqual(last, "right: 3 receipts of the head of 2026-11-28 with 3 entries, 2 of them refused; 1 more of the same entries")
+
+    def test_a_reply_for_a_period_that_the_day_lacks(self):
+        for record, reply, status in (
+            ("submit,TOWN,K,hour,buy,1,24:1,,", heads.DONE, 0),
+            ("submit,TOWN,K,hour,buy,1,25:1,,", heads.DONE, 1),
+            ("amend,TOWN,K,,,1,1:1;100:1,,", heads.DONE, 1),
+            ("submit,TOWN,K,block,sell,1,23:1;25:1,,", "refused,PeriodOutOfDay", 0),
+            ("cancel,TOWN,K,,,,,,", heads.DONE, 0),
+        ):
+            seal = sealing.Seal(DAY, 24, sealing.new_salts(DAY), self.key)
+            seal.append(sealing.Entry(record, reply, "TOWN"))
+            head = seal.head()
+            Path("own.head").write_bytes(heads.line(head))
+            Path("own.jsonl").write_bytes(lines_of(seal, head)[0])
+            with self.subTest(record):
+                lines, _ = self.told(status, "verify", "own.jsonl", "--head", "own.head", *KEYS)
+                self.assertEqual("which no book gives" in "".join(lines), status == 1)
+
+
+def closed(pairs):
+    """The pairs of heads of which the later one is proved to begin with the earlier one, by all pairs that follow from the given ones."""
+    proved = set(pairs)
+    while True:
+        more = {(one, other) for (one, end), (other, last) in itertools.product(proved, repeat=2) if end == last and one < other}
+        more |= {(one, last) for (one, end), (other, last) in itertools.product(proved, repeat=2) if end == other}
+        if more <= proved:
+            return proved
+        proved |= more
+
+
+if __name__ == "__main__":
+    unittest.main()

@@ -1,0 +1,225 @@
+"""The audit of a journal under the head that an operator signed, with earlier heads and with receipts."""
+
+import json
+import os
+import unittest
+from pathlib import Path
+from unittest import mock
+
+from signed import DAY, NEEDS_CRYPTOGRAPHY, Audited, lines_of, replies_of, sealed_of
+from support import AUCTION, SUNNY, tool
+
+from lib import book, command, heads, journal
+
+try:
+    from lib import receipts, sealing, signing, under_head
+except ImportError:  # without python3-cryptography
+    pass
+
+
+@NEEDS_CRYPTOGRAPHY
+class Audit(Audited):
+    def test_the_audit_of_a_signed_day(self):
+        self.seal()
+        self.assertIn("as signed: the head of 2026-11-28", self.audit(0))
+        self.assertRegex(self.audit(0, "day.csv", "--receipts", "sealed/receipts", "--best"), r"as signed: .*; \d+ receipts of its entries\n")
+        self.assertIn("as signed", self.audit(0, "day.csv", "--replies", results="replies.txt"))
+
+    def test_the_audit_finds_each_changed_entry(self):
+        """An entry that is left out, repeated, moved or changed after the head was signed."""
+        self.seal()
+        first, *lines = AUCTION.read_bytes().splitlines(keepends=True)
+        for at in range(0, len(lines) - 2, 7):
+            for changed in (
+                lines[:at] + lines[at + 1 :],
+                [*lines[: at + 1], *lines[at:]],
+                [*lines[:at], lines[at + 1], lines[at], *lines[at + 2 :]],
+                [*lines[:at], lines[at].replace(b",hour,", b",block,", 1).replace(b"cancel,", b"cancel,X", 1), *lines[at + 1 :]],
+            ):
+                if changed == lines:
+                    continue
+                Path("other.csv").write_bytes(b"".join([first, *changed]))
+                with self.subTest(at=at, changed=changed[at : at + 2]):
+                    out = self.audit(1, "other.csv", "--receipts", "sealed/receipts")
+                    self.assertIn("not as signed", out)
+                    self.assertRegex(out, r"receipts/\w+\.jsonl line \d+: the operator signed entry")
+
+    def test_the_audit_of_changed_receipts(self):
+        self.seal()
+        path = Path("sealed/receipts/STAD.jsonl")
+        right = path.read_bytes()
+        path.write_bytes(right.replace(b'"reply":"done"', b'"reply":"refused,Closed"', 1))
+        out = self.audit(3, "day.csv", "--receipts", "sealed/receipts")
+        self.assertIn("not compared: 1 receipt or head\nsealed/receipts/STAD.jsonl line 1: not the operator's: it isn't entry", out)
+        self.assertNotIn("not as signed", out)
+        self.assertIn("as signed: the head of 2026-11-28 with 94 entries; 93 receipts of its entries\nas the rules say", out)
+        record = json.loads(self.audit(3, "day.csv", "--receipts", "sealed/receipts", "--json"))
+        message = "not compared: 1 receipt or head: not the operator's, or of another day"
+        self.assertEqual((record["verdict"], record["message"]), ("unread", message))
+        self.assertEqual([fault["kind"] for fault in record["faults"]], ["foreign"])
+        path.write_bytes(b"{}\n" + right)
+        self.audit(3, "day.csv", "--receipts", "sealed/receipts")
+        # A receipt of the same key for another journal of the day.
+        other = sealed_of(SUNNY.read_bytes(), key=signing.private(Path("key.pem").read_bytes()))
+        path.write_bytes(b"".join(lines_of(other)[:1]))
+        out = self.audit(1, "day.csv", "--receipts", path)
+        self.assertIn("the operator signed entry 1 as", out)
+        self.assertIn("not as signed: 2 differences", out)
+
+    def test_the_audit_of_earlier_heads(self):
+        lines = AUCTION.read_bytes().splitlines(keepends=True)
+        Path("a.csv").write_bytes(b"".join(lines[:5]))
+        Path("a.txt").write_bytes(replies_of(b"".join(lines[:5])))
+        self.seal("a", "a.csv", "a.txt")
+        self.run_tool(0, "extend", "a", "day.csv", "replies.txt", "--key", "key.pem", "-o", "sealed")
+        self.assertIn("begins with 1 earlier head", self.audit(0, "day.csv", "--earlier", "a/head.json"))
+        self.seal("b", "a.csv", "a.txt")  # other salts, so another tree
+        self.assertIn("b/head.json", self.audit(1, "day.csv", "--earlier", "a/head.json", "--earlier", "b/head.json"))
+
+    def test_sent_commands_with_receipts(self):
+        """A command without an entry, with a receipt and without one."""
+        first, *lines = AUCTION.read_bytes().splitlines(keepends=True)
+        own = [line for line in lines if line.split(b",")[1] == b"STAD"]
+        Path("mine.csv").write_bytes(b"".join(own))
+        self.seal()
+        Path("day.csv").rename("whole.csv")
+        Path("day.csv").write_bytes(b"".join([first, *(line for line in lines if line not in own[:2])]))
+        receipt_of_first = Path("sealed/receipts/STAD.jsonl").read_bytes().splitlines(keepends=True)[0]
+        Path("kept.jsonl").write_bytes(receipt_of_first)
+        words = ["--sent", "mine.csv", "--participant", "STAD", "--receipts", "kept.jsonl"]
+        out = self.audit(1, "day.csv", *words)
+        proved = [line for line in out.splitlines() if "the operator's fault, proved" in line]
+        unproved = [line for line in out.splitlines() if "no receipt proves" in line]
+        self.assertEqual((len(proved), len(unproved)), (1, 1), out)
+        self.assertIn(own[0].decode().strip(), proved[0])
+        self.assertIn(own[1].decode().strip(), unproved[0])
+        self.assertIn("as sent", self.audit(0, "whole.csv", *words))
+
+    def test_receipts_without_an_end(self):
+        """Nothing is waited for, and what isn't a receipt ends the audit before the next line is read."""
+        self.seal()
+        os.mkfifo("sealed/receipts/A.jsonl")
+        self.audit(3, "day.csv", "--receipts", "sealed/receipts")
+        Path("sealed/receipts/A.jsonl").unlink()
+        Path("sealed/receipts/A.jsonl").write_bytes(b"x\n" * heads.MOST_ENTRIES)
+        with mock.patch.object(heads, "parsed", wraps=heads.parsed) as parsed, self.assertRaisesRegex(command.Stop, r"A\.jsonl line 1: "):
+            under_head.of_folder("sealed/receipts", receipts.key_read("key.pem.pub"))
+        self.assertEqual(parsed.call_count, 1)
+
+    def test_many_commands_that_the_journal_lacks(self):
+        """Each with as many receipts of the same command: the time doesn't grow with the product."""
+        count = 5_000
+        seal = sealed_of(b"day,24,,,,,,,\n" + b"cancel,A,B,,,,,,\n" * count)
+        finding = receipts.Finding("f", 1, receipts.RIGHT, "", seal.receipt(1, seal.head()))
+        read = journal.read_journal(b"day,24,,,,,,,\n" + b"cancel,A,B,,,,,,\n" * count)
+        signed = under_head.UnderHead(None, seal.head(), seal.salts, read, book.run(read)[1], [finding] * count)
+        with mock.patch.object(signed, "receipt_fault", side_effect=AssertionError):
+            proofs = {signed.proof(one) for one in read.commands}
+        self.assertEqual(proofs, {"; no receipt proves that the operator had it"})
+
+    def test_the_audit_of_other_heads(self):
+        """A journal that is longer than its head's, or of another length of a day; earlier heads of another key and another day."""
+        key = signing.private(Path("key.pem").read_bytes())
+        self.seal()
+        head, _ = heads.parsed(Path("sealed/head.json").read_bytes(), heads.head_read)
+        salts, _ = heads.parsed(Path("sealed/salts.json").read_bytes(), heads.salts_read)
+        seal = sealed_of(AUCTION.read_bytes(), key=key, salts=salts)
+        shorter = signing.signed(key, head._replace(size=head.size - 1, root=seal.tree.root(head.size - 1)))
+        for other, said in (
+            (shorter, "the journal has 1 entry after the 93 that the operator signed"),
+            (signing.signed(key, head._replace(periods=25)), "the journal's day has 24 periods, and the head's 25"),
+        ):
+            Path("sealed/head.json").write_bytes(heads.line(other))
+            self.assertIn(said, self.audit(1))
+        Path("sealed/head.json").write_bytes(heads.line(head))
+        for earlier, said in (
+            (signing.signed(signing.made(), shorter), "it isn't signed by this key"),
+            (signing.signed(key, shorter._replace(day="2026-11-29")), "it is of 2026-11-29"),
+        ):
+            Path("earlier.json").write_bytes(heads.line(earlier))
+            out = self.audit(3, "day.csv", "--earlier", "earlier.json")
+            self.assertIn(said, out)
+            self.assertIn("\nas signed: the head of 2026-11-28 with 94 entries\n", out)
+
+    def test_the_audit_of_receipts_of_other_days_and_forged_ones(self):
+        """Neither is the operator's fault."""
+        key = signing.private(Path("key.pem").read_bytes())
+        lines = AUCTION.read_bytes().splitlines(keepends=True)
+        place = next(at for at, line in enumerate(lines) if line.startswith(b"submit,STAD"))
+        Path("day.csv").write_bytes(b"".join(lines[:place] + lines[place + 1 :]))
+        Path("replies.txt").write_bytes(replies_of(Path("day.csv").read_bytes()))
+        Path("mine.csv").write_bytes(b"".join(line for line in lines if line.split(b",")[1] == b"STAD"))
+        self.seal()
+        words = ["--sent", "mine.csv", "--participant", "STAD", "--receipts", "receipt.jsonl"]
+        other = sealed_of(AUCTION.read_bytes(), day="2026-11-27", key=key)
+        self.receipt_of(other, place)
+        said = "not compared: 1 receipt or head\nreceipt.jsonl line 1: it is of 2026-11-27, and the journal's head of 2026-11-28\n"
+        self.assertIn(said, self.audit(3, "day.csv", "--receipts", "receipt.jsonl", "--replies", results="replies.txt"))
+        self.assertIn(said, self.audit(1, "day.csv", *words))
+        self.receipt_of(sealed_of(AUCTION.read_bytes()), place)  # by another key
+        out = self.audit(1, "day.csv", *words)
+        self.assertIn("receipt.jsonl line 1: not the operator's: its head isn't signed by this key", out)
+        self.assertIn("no receipt proves that the operator had it", out)
+        self.assertNotIn("the operator's fault", out)
+        self.assertNotIn("not as signed", out)
+        # Another key, and another day.
+        self.receipt_of(sealed_of(AUCTION.read_bytes(), day="2026-11-27"), place)
+        self.assertIn("receipt.jsonl line 1: not the operator's: its head isn't signed by this key", self.audit(1, "day.csv", *words))
+        self.receipt_of(sealed_of(AUCTION.read_bytes(), key=key), place)
+        self.assertIn("the operator's fault, proved", self.audit(1, "day.csv", *words))
+        # The reply is signed too.
+        seal = sealing.Seal(DAY, 24, sealing.new_salts(DAY), key)
+        entries = list(sealed_of(Path("day.csv").read_bytes()).entries)
+        for entry in [entries[0]._replace(reply="refused,Closed"), *entries[1:]]:
+            seal.append(entry)
+        self.receipt_of(seal)
+        self.assertIn("the operator signed entry 1 as", self.audit(1, "day.csv", "--receipts", "receipt.jsonl"))
+        Path("folder").mkdir()
+        Path("folder/STAD.json").write_bytes(b"")
+        self.audit(3, "day.csv", "--receipts", "folder")
+
+    def test_a_head_of_another_key_day_or_writing(self):
+        self.seal()
+        self.run_tool(0, "keys", "other.pem")
+        signed = ["--salts", "sealed/salts.json", "--head", "sealed/head.json"]
+        said = "sealed/head.json isn't signed by this key: it isn't the operator's, or it was changed"
+        ran = tool("audit", "day.csv", "results.txt", *signed, "--key", "other.pem.pub")
+        self.assertEqual(ran, (1, f"wrong: {said}\n".encode(), ""))
+        status, out, err = tool("audit", "day.csv", "results.txt", *signed, "--key", "other.pem.pub", "--json")
+        made = json.loads(out)
+        self.assertEqual((status, made["verdict"], [fault["words"] for fault in made["faults"]], err), (1, "wrong", [said], ""))
+        self.audit(0, "day.csv", "--day", DAY)
+        self.assertEqual(self.audit(3, "day.csv", "--day", "2026-11-29"), "")
+        head = Path("sealed/head.json")
+        head.write_text(json.dumps(json.loads(head.read_text()), indent=1))
+        self.assertIn("isn't in its written form", self.audit(6))
+        Path("sealed/salts.json").write_bytes(heads.line(sealing.new_salts("2026-11-29")))
+        self.audit(3)
+
+    def test_files_whose_names_begin_with_a_dot(self):
+        """They are read, or named."""
+        self.seal()
+        path = Path("sealed/receipts/.STAD.jsonl")
+        path.write_bytes(b"".join(lines_of(sealed_of(AUCTION.read_bytes(), key=signing.private(Path("key.pem").read_bytes())))[:1]))
+        self.assertIn(f"{path} line 1: ", self.audit(1, "day.csv", "--receipts", "sealed/receipts"))
+        path.rename("sealed/receipts/.STAD")
+        self.assertEqual(self.audit(3, "day.csv", "--receipts", "sealed/receipts"), "")
+
+    def test_replies_under_another_head(self):
+        """The verdict on the replies doesn't depend on the head."""
+        self.seal()
+        Path("other.csv").write_bytes(Path("day.csv").read_bytes().replace(b",30000,1:3600,", b",30000,1:3601,"))
+        out = self.audit(1, "other.csv", "--replies", results="replies.txt")
+        self.assertIn("not as signed: 1 difference", out)
+        self.assertIn("as the rules say: 94 replies", out)
+
+    def test_command_lines_of_the_audit(self):
+        for words in (["--head", "h"], ["--day", "d"], ["--salts", "s", "--key", "k"], ["--receipts", "r"], ["--earlier", "e"]):
+            self.assertEqual(tool("audit", "day.csv", "results.txt", *words)[0], 2)
+        self.assertEqual(tool("audit", "--days", ".", "--head", "h", "--salts", "s", "--key", "k")[0], 2)
+        for words in (["--head", "-", "--salts", "-", "--key", "k"], ["--head", "h", "--salts", "s", "--key", "k", "--earlier", "-", "--receipts", "-"]):
+            self.assertEqual(tool("audit", "day.csv", "results.txt", *words)[0], 2)
+
+
+if __name__ == "__main__":
+    unittest.main()
