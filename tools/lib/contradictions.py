@@ -10,8 +10,8 @@ def unsigned(head):
 
 
 class Signed:
-    """The heads of an operator, and its receipts' entries. Two heads of a day contradict each other if they have one size and different roots,
-    or different numbers of periods, and two entries if they have one number and different leaves."""
+    """The heads of an operator, and its receipts' entries. Two heads of a day contradict each other if they have one size and different
+    roots, or different numbers of periods, and two entries if they have one number and different leaves."""
 
     def __init__(self):
         self.places = {}  # of each head, the first place that has it
@@ -69,4 +69,5 @@ def roots_differ(head):
 def entries_differ(receipt, other):
     """Words about two receipts with one number."""
     one, two = (f"{each.record}, {each.reply}" for each in (receipt, other))
-    return f"the operator signed entry {receipt.number} of {receipt.head.day} as {one}; and {'with another salt' if one == two else f'as {two}'}"
+    differs = "with another salt" if one == two else f"as {two}"
+    return f"the operator signed entry {receipt.number} of {receipt.head.day} as {one}; and {differs}"

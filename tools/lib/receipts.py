@@ -68,8 +68,8 @@ def head_of(path, data, key, odd, day=None):
 
 
 class Links:
-    """What is given of an operator: the extensions, which show whose journals begin with which, and all that it signed. `findings` gets those
-    on the extensions."""
+    """What is given of an operator: all that it signed, and the extensions, which show that a head's journal begins with another's. `findings`
+    gets those on the extensions."""
 
     def __init__(self, paths, key, findings):
         self.key, self.signed = key, Signed()
@@ -136,8 +136,8 @@ class Links:
 
 
 def longest(later):
-    """Of each head, the longest of the earlier ones with which its journal begins. Of two that it begins with, the longer one begins with the
-    shorter one, so that this one need not be kept."""
+    """Of each head, the longest of the earlier ones with which its journal begins. Of two that it begins with, the longer one begins with
+    the shorter one, so that this one need not be kept."""
     earlier = defaultdict(set)
     for one, others in later.items():
         for other in others - {one}:
@@ -155,8 +155,8 @@ def by_size(head):
 
 
 def judge(receipt, head, key, links, place=Place("the receipt")):
-    """The verdict on a receipt, compared with a head that was published if one is given, and the words for it. The links get what the operator
-    signed."""
+    """The verdict on a receipt, compared with a head that was published if one is given, and the words for it. The links get what the
+    operator signed."""
     entry = f"entry {receipt.number} of {receipt.head}"
     if not signing.is_signed(key, receipt.head):
         return WRONG, f"its head {NOT_SIGNED}"
@@ -237,7 +237,7 @@ def counted(findings):
 
 
 def summary(findings, unlike, head):
-    """The last line about receipts, and about the differences from the commands that were sent. Of several receipts of an entry one counts."""
+    """The last line about receipts, and about the differences from the commands that were sent. Several receipts of an entry count once."""
     found, refused = verdict([*findings, *unlike]), len(refusals(findings))
     count, more = counted(findings)
     repeats = [f"{more} more of the same entries"] if more else []

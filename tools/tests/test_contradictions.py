@@ -8,9 +8,8 @@ from pathlib import Path
 from unittest import mock
 
 from signed import DAY, NEEDS_CRYPTOGRAPHY, InFolder, lines_of
-from support import AUCTION
 
-from lib import command, heads
+from lib import heads
 
 try:
     from lib import receipts, sealing, signing
@@ -74,7 +73,8 @@ class Contradictions(InFolder):
             (["heads", "A.head", "A2.head"], "A2.head", "A.head", 6),
             (["heads", "C2.head", "--extension", "C.extension"], "C2.head", "C.extension", 18),
             (["heads", "A.head", *ends], "F.extension", "C.extension", 18),
-            (["heads", "A2.head", "C2.head", "--extension", "C.extension", "--extension", "C2.extension"], "C2.extension", "C.extension", 18),
+            (["heads", "A2.head", "C2.head", "--extension", "C.extension"], "C2.head", "C.extension", 18),
+            (["heads", "A2.head", "--extension", "C.extension", "--extension", "C2.extension"], "C2.extension", "C.extension", 6),
             (["verify", "cf.jsonl", "--head", "A.head", *ends], "F.extension", "C.extension", 18),
             (["verify", "cf.jsonl", "--head", "A.head"], "cf.jsonl line 19", "cf.jsonl line 1", 18),
             (["verify", "A.receipts", "--head", "C2.head", "--extension", "C.extension"], "C2.head", "C.extension", 18),
@@ -123,8 +123,8 @@ class Contradictions(InFolder):
         path = self.lines("ab.jsonl", "A", 1)
         self.lines("ab.jsonl", "B2", 1)
         lines, last = self.told(1, "verify", path, "--head", "C.head", *KEYS)
-        said = f"the operator signed entry 1 of 2026-11-28 as {other}; and as {first}, in ab.jsonl line 1: two journals, or one journal twice"
-        self.assertEqual(lines[2:], [f"ab.jsonl line 2: {said}"])
+        said = f"the operator signed entry 1 of 2026-11-28 as {other}; and as {first}, in ab.jsonl line 1"
+        self.assertEqual(lines[2:], [f"ab.jsonl line 2: {said}: two journals, or one journal twice"])
         self.assertEqual(last, "wrong: 2 receipts undecided; 1 contradiction; the head of 2026-11-28 with 18 entries")
         # Receipts of equal entries that were given after the fork are no contradiction; those of a journal that was sealed twice are.
         path = self.lines("same.jsonl", "A", 2)
