@@ -7,45 +7,15 @@ import multiprocessing
 import os
 import re
 from fractions import Fraction
-from pathlib import Path
 from typing import NamedTuple
 
-import jinja2
 from markupsafe import Markup, escape
 
-from . import aside, book, clock, decisions, limits, pictures, published, spans, tables, text, trades
+from . import aside, book, clock, decisions, limits, pictures, published, spans, style, tables, text, trades
 from .journal import command_line
 from .progress import Bar
 
-# The pictures' colours and the page's own, by light and dark.
-COLOURS = {
-    "light": {
-        **pictures.COLOURS,
-        "paper": "#ffffff",
-        "page": "#f6f5f2",
-        "warn": "#8a1c00",
-        "alarm": "#fdeae4",
-    },
-    "dark": {
-        "ink": "#e6e4df",
-        "soft": "#a09d96",
-        "grid": "#3b3d40",
-        "paper": "#1e2022",
-        "page": "#151617",
-        "band": "#3d392c",
-        "buy": "#9cc3e0",
-        "sell": "#3f7cab",
-        "accepted": "#5b9bcb",
-        "rejected": "#232527",
-        "paradox": "#8a6d2f",
-        "warn": "#ffb4a0",
-        "alarm": "#4a1a10",
-    },
-}
 MARKS = {decisions.ACCEPTED: "accepted", decisions.REJECTED: "rejected", decisions.PARADOX: "paradox"}
-TEMPLATES = jinja2.Environment(
-    loader=jinja2.FileSystemLoader(Path(__file__).parent / "templates"), autoescape=True, undefined=jinja2.StrictUndefined
-)
 MOST_SHOWN = 4  # curves that stand open
 FEW_CURVES = 8  # that are drawn in one process
 NUMBER = "n"  # the class of cells that stand to the right
@@ -82,11 +52,6 @@ def heads(*words):
     """The heads of a table; those that end with a unit or begin with `#` stand over numbers."""
     units = (", MW", ", MWh", ", EUR", "EUR/MWh")
     return [Head(word.lstrip("#"), NUMBER if word[0] == "#" or word.endswith(units) else "") for word in words]
-
-
-def style():
-    variables = {mode: " ".join(f"--{name}: {colour};" for name, colour in of.items()) for mode, of in COLOURS.items()}
-    return Markup(TEMPLATES.get_template("page.css").render({mode: Markup(words) for mode, words in variables.items()}))
 
 
 def with_hover(drawn, hover):
@@ -397,10 +362,10 @@ def page(day, title, curves, date=None, who=None, with_limits=True):
     needed = limits.of_rejected(day, who, with_limits)  # before the curves, whose processes are copies of this one
     with curves_of(day, curves) as drawn_curves:
         parts = list(own_sections(day, who, needed, drawn_curves) if who else sections(day, found, needed, drawn_curves))
-    return TEMPLATES.get_template("page.html").render(
+    return style.TEMPLATES.get_template("page.html").render(
         title=title,
-        style=style(),
-        script=Markup(TEMPLATES.get_template("page.js").render()),
+        style=style.style(),
+        script=Markup(style.TEMPLATES.get_template("page.js").render()),
         date=f"{date:%A}, {date.day} {date:%B} {date.year}" if date else None,
         periods=day.problem.periods,
         hourly=len(day.problem.rows) - len(found),

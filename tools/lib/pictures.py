@@ -13,21 +13,9 @@ from matplotlib.collections import LineCollection, PolyCollection
 from matplotlib.patches import Patch, Polygon, Rectangle
 from matplotlib.ticker import AutoLocator
 
-from . import clock, decisions, rules, selection, spans, text, trades
+from . import clock, colours, decisions, rules, selection, spans, text, trades
 
-# No two are equal, so that each can be found in the text of a picture.
-COLOURS = {
-    "ink": "#1b1c1d",
-    "soft": "#6d7073",
-    "grid": "#d9dbdd",
-    "paper": "#fefefe",
-    "band": "#ebe6d6",
-    "buy": "#a9cbe6",
-    "sell": "#2f6690",
-    "accepted": "#2f6691",
-    "rejected": "#fdfdfd",
-    "paradox": "#f3d9a4",
-}
+COLOURS = colours.PICTURES
 
 STYLE = {
     "font.family": "DejaVu Sans",
