@@ -35,9 +35,10 @@ class Seal:
         entry = self.entries[number - 1]
         return self.salts.salt(number, entry.record, entry.reply)
 
-    def head(self):
-        """A head of all entries."""
-        return signing.signed(self.key, Head(self.day, self.periods, len(self.entries), self.tree.root()))
+    def head(self, size=None):
+        """A head of the first `size` entries, or of all."""
+        size = len(self.entries) if size is None else size
+        return signing.signed(self.key, Head(self.day, self.periods, size, self.tree.root(size)))
 
     def receipt(self, number, head):
         entry = self.entries[number - 1]

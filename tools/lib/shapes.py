@@ -38,9 +38,9 @@ def as_date(date):
         raise Wrong(f"{text.safe(repr(date))}: it should be a datetime.date, or a text such as 2026-11-25") from None
 
 
-def begins(date, periods):
-    """When each period of a delivery day begins, and when the last one ends, in Central European Time."""
-    zone, utc = zoneinfo.ZoneInfo(ZONE), datetime.timezone.utc
+def begins(date, periods, zone=ZONE):
+    """When each period of a delivery day begins, and when the last one ends, in a time zone, such as Central European Time."""
+    zone, utc = zoneinfo.ZoneInfo(zone), datetime.timezone.utc
     try:
         days = date, date + datetime.timedelta(1)
         first, behind = (datetime.datetime.combine(day, datetime.time(), zone).astimezone(utc) for day in days)
