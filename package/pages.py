@@ -14,6 +14,7 @@ from .clone import TOP, environment
 COMMANDS = {
     "dam": ("replay", "clear", "day"),
     **{f"dam-{tool}": () for tool in TOOLS},
+    "dam-office": ("init", "serve", "status", "close", "publish", "revoke", "renew", "demo"),
     "dam-receipts": ("keys", "seal", "extend", "verify", "heads"),
     "dam-whatif": ("limit", "change", "scenarios"),
 }

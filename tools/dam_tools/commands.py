@@ -26,6 +26,10 @@ def lint():
     run("lint")
 
 
+def office():
+    run("office")
+
+
 def plot():
     run("plot")
 

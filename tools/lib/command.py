@@ -23,6 +23,7 @@ MOST_BYTES, PART = 64 << 20, 1 << 20  # of a file that a tool reads, and of thos
 SEE_AUDIT = place.as_here("see tools/audit")
 # Debian's packages; tests/packages lists them all.
 PACKAGES = {
+    "aiohttp": "python3-aiohttp",
     "cryptography": "python3-cryptography",
     "distributed": "python3-distributed",
     "jinja2": "python3-jinja2",

@@ -4,7 +4,7 @@ import re
 from pathlib import Path
 
 # The tools that are installed as commands.
-TOOLS = ("audit", "compare", "lint", "plot", "receipts", "report", "table", "whatif")
+TOOLS = ("audit", "compare", "lint", "office", "plot", "receipts", "report", "table", "whatif")
 # The folder of the tools: tools/ in a clone, and the folder of dam_tools if they are installed.
 FOLDER = Path(__file__).resolve().parents[1]
 IS_INSTALLED = FOLDER.name == "dam_tools"

@@ -1,0 +1,220 @@
+"""A client of an auction office (tools/office): `Office` for programs that wait, `AsyncOffice` for asyncio. It numbers commands, and sends
+one again if no answer comes: the office enters it once.
+
+    office = dam_tools.office.Office("https://auction.example", token)
+    receipts = office.enter("2026-11-29", "submit,GAS,UNIT-8,hour,sell,6000,8:500,,")
+"""
+
+from __future__ import annotations
+
+import asyncio
+import json
+import ssl
+import time
+import urllib.error
+import urllib.request
+from typing import Any, NamedTuple
+
+RETRIES = 8
+FIRST_PAUSE, LONGEST_PAUSE = 0.2, 5.0  # seconds before a request is sent again
+AGAIN = (429, 502, 503, 504)  # statuses after which the same request may do
+
+
+class OfficeFault(Exception):
+    """An answer that isn't a success: the fault's name, such as NumberUsed, Closed or Token, and the status; None if no answer came."""
+
+    def __init__(self, fault: str, words: str, status: int | None = None, more: dict | None = None) -> None:
+        super().__init__(words)
+        self.fault, self.status, self.more = fault, status, more or {}
+
+
+class Asked(NamedTuple):
+    """A request."""
+
+    method: str
+    path: str
+    body: bytes | None = None
+    kind: str = "text/csv"
+
+
+def fault_of(status: int, data: bytes) -> OfficeFault:
+    try:
+        found = json.loads(data)
+        return OfficeFault(found.pop("fault"), found.pop("words"), status, found)
+    except (ValueError, KeyError, TypeError, AttributeError):
+        return OfficeFault("Unknown", f"the answer has the status {status}", status)
+
+
+def pauses():
+    """How long to wait before each try after the first."""
+    pause = FIRST_PAUSE
+    for _ in range(RETRIES):
+        yield pause
+        pause = min(2 * pause, LONGEST_PAUSE)
+
+
+def body_of(commands: tuple) -> tuple[bytes, str]:
+    """The body of commands: records of a journal, or dictionaries as the office's OpenAPI file describes them."""
+    if all(isinstance(one, str) for one in commands):
+        return "".join(f"{one}\n" for one in commands).encode(), "text/csv"
+    if all(isinstance(one, dict) for one in commands):
+        return json.dumps(commands).encode(), "application/json"
+    raise ValueError("commands are all records or all dictionaries")
+
+
+def receipts_of(data: bytes) -> list[dict]:
+    return [json.loads(line) for line in data.splitlines()]
+
+
+class Calls:
+    """What both clients share: the requests of each call."""
+
+    def __init__(self, url: str, token: str, timeout: float = 60, context: ssl.SSLContext | None = None) -> None:
+        self.url, self.token, self.timeout, self.context = url.rstrip("/"), token, timeout, context
+        self.who = token.partition(".")[0]
+        self.numbers: dict[str, int] = {}  # the next number of each day
+
+    def own(self, day: str, what: str) -> str:
+        return f"/days/{day}/{what}/{self.who}"
+
+    def headers(self, asked: Asked) -> dict[str, str]:
+        made = {"Authorization": f"Bearer {self.token}"}
+        return {**made, "Content-Type": asked.kind} if asked.body is not None else made
+
+
+class Office(Calls):
+    """A client whose calls wait for the answer."""
+
+    def once(self, asked: Asked) -> bytes:
+        made = urllib.request.Request(self.url + asked.path, asked.body, self.headers(asked), method=asked.method)
+        try:
+            with urllib.request.urlopen(made, timeout=self.timeout, context=self.context) as answer:
+                return answer.read()
+        except urllib.error.HTTPError as fault:
+            raise fault_of(fault.code, fault.read()) from None
+        except (OSError, urllib.error.URLError) as fault:
+            raise OfficeFault("Unreached", f"no answer came: {fault}") from None
+
+    def ask(self, asked: Asked) -> bytes:
+        """The answer to a request, which is sent again if none comes, or the office can't answer yet."""
+        for pause in pauses():
+            try:
+                return self.once(asked)
+            except OfficeFault as fault:
+                if fault.status not in (None, *AGAIN):
+                    raise
+            time.sleep(pause)
+        return self.once(asked)
+
+    def get(self, path: str) -> Any:
+        return json.loads(self.ask(Asked("GET", path)))
+
+    def days(self) -> list[dict]:
+        """The days of the office, with their states."""
+        return self.get("/days")["days"]
+
+    def next(self, day: str) -> int:
+        """The number of the next command."""
+        return self.get(f"{self.own(day, 'commands')}?since=99999")["next"]
+
+    def enter(self, day: str, *commands: str | dict) -> list[dict]:
+        """Enters commands, and returns the receipt of each once it is on the office's disk. Its `reply` is the book's."""
+        body, kind = body_of(commands)
+        first = self.numbers.get(day) or self.next(day)
+        made = receipts_of(self.ask(Asked("PUT", f"{self.own(day, 'commands')}/{first}", body, kind)))
+        self.numbers[day] = first + len(made)
+        return made
+
+    def commands(self, day: str) -> list[dict]:
+        """Each command so far: its number, its entry in the journal, its record and the reply."""
+        return self.get(self.own(day, "commands"))["commands"]
+
+    def orders(self, day: str) -> list[dict]:
+        """The orders in the book."""
+        return self.get(self.own(day, "orders"))["orders"]
+
+    def receipts(self, day: str) -> bytes:
+        """The receipts of all commands under the newest head, for `dam-receipts verify`."""
+        return self.ask(Asked("GET", self.own(day, "receipts")))
+
+    def head(self, day: str, since: int | None = None) -> bytes:
+        """The newest signed head, or the proof that it goes on from the head of so many entries."""
+        return self.ask(Asked("GET", f"/days/{day}/head" + ("" if since is None else f"?since={since}")))
+
+    def table(self, day: str, data: bytes) -> list[str]:
+        """The records that a table of orders or commands (CSV or Excel) makes; `enter` enters them."""
+        asked = Asked("POST", self.own(day, "tables"), data, "application/octet-stream")
+        return json.loads(self.ask(asked))["records"]
+
+    def prices(self, day: str) -> list[tuple[int, int, int]]:
+        """After the close, each period's number, price in cents per MWh and volume in tenths of a MW."""
+        lines = self.ask(Asked("GET", f"/days/{day}/prices")).decode().splitlines()
+        return [tuple(map(int, line.split(",")[1:])) for line in lines if line.startswith("period,")]
+
+    def statement(self, day: str) -> list[dict]:
+        """After the close, what became of each command, and why."""
+        return self.get(self.own(day, "statement"))["rows"]
+
+    def text(self, day: str, name: str) -> bytes:
+        """`results`, `journal` or `replies`, if the operator has published the journal."""
+        return self.ask(Asked("GET", f"/days/{day}/{name}"))
+
+
+class AsyncOffice(Calls):
+    """The same for asyncio, with aiohttp (Debian's python3-aiohttp). Use it as `async with AsyncOffice(url, token) as office:`."""
+
+    async def __aenter__(self) -> AsyncOffice:
+        import aiohttp
+
+        self.faults = (aiohttp.ClientError, asyncio.TimeoutError, OSError)
+        self.session = aiohttp.ClientSession(timeout=aiohttp.ClientTimeout(self.timeout))
+        return self
+
+    async def __aexit__(self, *_: object) -> None:
+        await self.session.close()
+
+    async def once(self, asked: Asked) -> bytes:
+        how = {"data": asked.body, "headers": self.headers(asked), "ssl": self.context}
+        try:
+            async with self.session.request(asked.method, self.url + asked.path, **how) as answer:
+                data = await answer.read()
+        except self.faults as fault:
+            raise OfficeFault("Unreached", f"no answer came: {fault}") from None
+        if answer.status >= 300:
+            raise fault_of(answer.status, data)
+        return data
+
+    async def ask(self, asked: Asked) -> bytes:
+        for pause in pauses():
+            try:
+                return await self.once(asked)
+            except OfficeFault as fault:
+                if fault.status not in (None, *AGAIN):
+                    raise
+            await asyncio.sleep(pause)
+        return await self.once(asked)
+
+    async def get(self, path: str) -> Any:
+        return json.loads(await self.ask(Asked("GET", path)))
+
+    async def next(self, day: str) -> int:
+        return (await self.get(f"{self.own(day, 'commands')}?since=99999"))["next"]
+
+    async def enter(self, day: str, *commands: str | dict) -> list[dict]:
+        body, kind = body_of(commands)
+        first = self.numbers.get(day) or await self.next(day)
+        made = receipts_of(await self.ask(Asked("PUT", f"{self.own(day, 'commands')}/{first}", body, kind)))
+        self.numbers[day] = first + len(made)
+        return made
+
+    async def commands(self, day: str) -> list[dict]:
+        return (await self.get(self.own(day, "commands")))["commands"]
+
+    async def orders(self, day: str) -> list[dict]:
+        return (await self.get(self.own(day, "orders")))["orders"]
+
+    async def receipts(self, day: str) -> bytes:
+        return await self.ask(Asked("GET", self.own(day, "receipts")))
+
+    async def statement(self, day: str) -> list[dict]:
+        return (await self.get(self.own(day, "statement")))["rows"]

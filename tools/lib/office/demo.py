@@ -1,0 +1,63 @@
+"""A demo: a day of made-up participants at a loopback address, in a folder that goes away."""
+
+import asyncio
+import contextlib
+import datetime
+import tempfile
+import webbrowser
+
+from .. import command, heads
+from . import folder, observed, setup, tokens
+from .serve import Office, serve
+
+DAY_AFTER = datetime.timedelta(days=1)
+TOWN = ((8, 800), (9, 700), (19, 900), (20, 850))
+WIND = ((8, 450), (9, 300), (19, 200), (20, 250))
+# The orders that are there already, of the trader's guide. GAS has none: its orders are yours to enter.
+ORDERS = [
+    *(f"submit,TOWN,LOAD-{period},hour,buy,15000,{period}:{volume},," for period, volume in TOWN),
+    *(f"submit,WIND,PARK-{period},hour,sell,1200,{period}:{volume},," for period, volume in WIND),
+    *(f"submit,OIL,PEAKER-{period},hour,sell,11000,{period}:1000,," for period, _ in TOWN),
+]
+PARTICIPANTS = ("GAS", "TOWN", "WIND", "OIL")
+
+
+def terms(seconds):
+    now = datetime.datetime.now(datetime.timezone.utc)
+    return folder.Terms(
+        (now + DAY_AFTER).date().isoformat(),
+        24,
+        now + datetime.timedelta(seconds=seconds),
+        "UTC",
+        setup.shares_of(dict.fromkeys(PARTICIPANTS)),
+    )
+
+
+async def enter_orders(gate):
+    """Enters the orders that are there already, as their participants would."""
+    await gate.is_ready.wait()
+    for who in PARTICIPANTS:
+        commands = [found for found in map(heads.command_of, ORDERS) if found.who == who]
+        if commands:
+            await gate.submit(who, 1, commands)
+
+
+async def run(args, programs):
+    with tempfile.TemporaryDirectory(prefix="dam-office-") as room:
+        office = folder.Folder(f"{room}/office")
+        setup.make_office(office)
+        register = tokens.Register(office.file(folder.PARTICIPANTS))
+        made = {who: register.renew(who) for who in PARTICIPANTS}
+        day = terms(args.seconds)
+        setup.make_day(office, day)
+        served = Office(office, programs, observed.Log())
+
+        async def started(port):
+            await enter_orders(served.gates[day.day])
+            page = f"http://{args.host}:{port}/"
+            command.say([f"the page: {page}", f"the day {day.day} closes in {args.seconds} s; Ctrl-C ends the demo"])
+            if not args.no_browser:
+                with contextlib.suppress(webbrowser.Error):
+                    await asyncio.to_thread(webbrowser.open, page)
+
+        await serve(served, args.host, args.port, demo=made, started=started)

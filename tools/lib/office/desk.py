@@ -1,0 +1,122 @@
+"""The desk of a day: the child process that owns the journal. It answers each record once it is on the disk, with the line of `dam
+replay`."""
+
+import asyncio
+import re
+
+import async_timeout
+
+LOCKED_SECONDS, LOCKED_STEP = 5, 0.05  # how long a desk that is still ending may hold the file
+END_SECONDS = 10  # that a desk may take to end
+ANSWER_SECONDS = 60  # and to answer a batch
+REPLY = re.compile(r"([1-9][0-9]*),(.*)")
+MOST_FAULT = 1_000  # bytes of a fault line
+LOCKED = b"another process has it"
+# The desk is given the day, which it may have already, and an empty line. It first prints what it has, and then this to the empty line.
+OPENED = b"fault,2,NotOneRecord\n"
+MOST_REPLIES = 1 << 20  # bytes that a desk prints until then: 10,000 replies have fewer
+
+
+class Ended(Exception):
+    """The desk ended, or what it said is no answer. What is on the disk is known only at the next opening."""
+
+
+class Locked(Ended):
+    """Another desk has the file."""
+
+
+async def shown(program, path):
+    """The records of the journal in a desk's file, the day first; none if it has none yet."""
+    process = await asyncio.create_subprocess_exec(
+        program, "--journal", path, stdout=asyncio.subprocess.PIPE, stderr=asyncio.subprocess.PIPE
+    )
+    out, err = await process.communicate()
+    if process.returncode:
+        raise Ended(f"the desk can't show its journal: status {process.returncode}, {said(err)}")
+    return out.decode("ascii").splitlines()
+
+
+def said(err):
+    return err[:MOST_FAULT].decode(errors="replace").strip() or "no fault line"
+
+
+class Desk:
+    """A running desk. `enter` gives it records; only one call runs at a time."""
+
+    def __init__(self, process, size):
+        self.process, self.size = process, size
+
+    @classmethod
+    async def opened(cls, program, path, periods):
+        """Starts a desk on its file, which may be missing. Returns it, with the records and the replies of its journal."""
+        loop = asyncio.get_running_loop()
+        until = loop.time() + LOCKED_SECONDS
+        while True:
+            try:
+                return await cls.opened_once(program, path, periods)
+            except Locked:
+                if loop.time() > until:
+                    raise
+                await asyncio.sleep(LOCKED_STEP)
+
+    @classmethod
+    async def opened_once(cls, program, path, periods):
+        # in a session of its own, so that Ctrl-C at a terminal reaches the office alone, which ends the desk
+        pipes = {name: asyncio.subprocess.PIPE for name in ("stdin", "stdout", "stderr")}
+        process = await asyncio.create_subprocess_exec(program, path, start_new_session=True, limit=MOST_REPLIES, **pipes)
+        desk = cls(process, 0)
+        try:
+            day = f"day,{periods}"
+            process.stdin.write(f"{day},,,,,,,\n\n".encode())
+            lines = await desk.opening()
+            if set(lines[:1] + lines[-1:]) != {day}:
+                raise Ended(f"the desk's file isn't of a day with {periods} periods, or isn't a journal")
+            replies = [desk.reply_of(line) for line in lines[1:-1]]
+            records = (await shown(program, path))[1:]
+        except BaseException:
+            await desk.close()
+            raise
+        return desk, records, replies
+
+    async def opening(self):
+        """The lines that the desk prints until it is open."""
+        try:
+            async with async_timeout.timeout(ANSWER_SECONDS):
+                data = await self.process.stdout.readuntil(OPENED)
+        except (asyncio.IncompleteReadError, asyncio.LimitOverrunError):
+            raise await self.why() from None
+        return data.removesuffix(OPENED).decode("ascii").splitlines()
+
+    async def why(self):
+        err = await self.process.stderr.read(MOST_FAULT)
+        status = await self.process.wait()
+        kind = Locked if LOCKED in err else Ended
+        return kind(f"the desk ended with status {status}: {said(err)}")
+
+    def reply_of(self, line):
+        """The reply to the next entry, from its line."""
+        found = REPLY.fullmatch(line)
+        if not found or int(found[1]) != self.size + 1:
+            raise Ended(f"the desk printed {line[:80]!r} in place of the reply to entry {self.size + 1}")
+        self.size += 1
+        return found[2]
+
+    async def enter(self, records):
+        """Enters records, and yields the reply to each, which comes once it is on the disk."""
+        self.process.stdin.write("".join(f"{record}\n" for record in records).encode())
+        async with async_timeout.timeout(ANSWER_SECONDS):
+            for _ in records:
+                data = await self.process.stdout.readline()
+                if not data.endswith(b"\n"):
+                    raise await self.why()
+                yield self.reply_of(data[:-1].decode("ascii"))
+
+    async def close(self):
+        """Ends the desk: it enters what it was given, and ends at the end of its input."""
+        if self.process.returncode is None:
+            self.process.stdin.close()
+            try:
+                await asyncio.wait_for(self.process.communicate(), END_SECONDS)
+            except (asyncio.TimeoutError, ValueError):
+                self.process.kill()
+                await self.process.wait()

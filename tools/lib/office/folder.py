@@ -1,0 +1,135 @@
+"""The folder of an office: its key, its participants, and a folder for each day. A file is whole or not there. Only the owner reads any."""
+
+import contextlib
+import datetime
+import fcntl
+import json
+import os
+from pathlib import Path
+from typing import NamedTuple
+
+from .. import command, heads, replacing, rules, text
+
+KEY, PUBLIC, PARTICIPANTS, LOCK, DAYS = "operator.pem", "operator.pem.pub", "participants.json", "lock", "days"
+TERMS, SALTS, DESK = "terms.json", "salts.json", "desk"  # of a day; the last one is the desk's file
+HEAD, JOURNAL, REPLIES, RESULTS, STATEMENT = "head.json", "journal.csv", "replies.txt", "results.txt", "statement.json"
+CLOSE_NOW, OPEN_JOURNAL = "close-now", "publish-journal"  # the operator's requests
+MOST_COMMANDS = rules.MOST_RECORDS - 2  # of all participants: the day and the close are records too
+PRIVATE = 0o077  # the bits of a mode that no file of an office has
+
+
+class Terms(NamedTuple):
+    """The terms of a day, which never change."""
+
+    day: str
+    periods: int
+    closes: datetime.datetime  # in UTC
+    zone: str
+    shares: dict  # how many commands each participant may enter
+
+    def value(self):
+        return {**self._asdict(), "closes": self.closes.isoformat()}
+
+
+def terms_read(data):
+    value = json.loads(data)
+    return Terms(**{**value, "closes": datetime.datetime.fromisoformat(value["closes"])})
+
+
+def put(path, data):
+    """Writes a file that is whole, and on the disk, or not there."""
+    replacing.write(path, data)
+    sync(Path(path).parent)
+
+
+def sync(folder):
+    number = os.open(folder, os.O_RDONLY | os.O_DIRECTORY)
+    try:
+        os.fsync(number)
+    finally:
+        os.close(number)
+
+
+def as_json(value):
+    return json.dumps(value, indent=1).encode() + b"\n"
+
+
+class DayFolder:
+    """The files of a day."""
+
+    def __init__(self, path):
+        self.path = Path(path)
+
+    def file(self, name):
+        return self.path / name
+
+    def has(self, name):
+        return self.file(name).exists()
+
+    def read(self, name):
+        return self.file(name).read_bytes()
+
+    def terms(self):
+        return terms_read(self.read(TERMS))
+
+    def salts(self):
+        return heads.parsed(self.read(SALTS), heads.salts_read)[0]
+
+
+class Folder:
+    """The files of an office."""
+
+    def __init__(self, path):
+        self.path = Path(path)
+
+    def file(self, name):
+        return self.path / name
+
+    def need(self):
+        """Ends the tool if this isn't the folder of an office, or others may read its secrets."""
+        if not self.file(PARTICIPANTS).is_file():
+            raise command.Stop(f"{command.shown(self.path)} isn't the folder of an office: dam-office init makes one")
+        for name in (KEY, PARTICIPANTS):
+            if self.file(name).stat().st_mode & PRIVATE:
+                raise command.Stop(f"{command.shown(self.file(name))} can be read by others: chmod 600")
+
+    def key(self):
+        from .. import receipts, signing
+
+        return receipts.key_read(self.file(KEY), signing.private)
+
+    def days(self):
+        """The folder of each day, by its name."""
+        with contextlib.suppress(FileNotFoundError):
+            names = sorted(entry.name for entry in os.scandir(self.file(DAYS)) if heads.DAY.fullmatch(entry.name) and entry.is_dir())
+            return {name: DayFolder(self.file(DAYS) / name) for name in names if not name.startswith(".")}
+        return {}
+
+    def day(self, name):
+        """The folder of a day; the only one if none is named."""
+        days = self.days()
+        if name is None and len(days) == 1:
+            return next(iter(days.items()))
+        if name not in days:
+            known = ", ".join(days) or "none"
+            raise command.Stop(f"there is no day {text.safe(name)}: there is {known}" if name else f"name a day: there is {known}")
+        return name, days[name]
+
+    @contextlib.contextmanager
+    def held(self):
+        """Holds the office: one process at a time serves it. A process that ends lets go of it."""
+        number = os.open(self.file(LOCK), os.O_RDWR | os.O_CREAT | os.O_CLOEXEC, 0o600)
+        try:
+            fcntl.flock(number, fcntl.LOCK_EX | fcntl.LOCK_NB)
+            yield
+        except BlockingIOError:
+            raise command.Stop(f"another process serves {command.shown(self.path)}") from None
+        finally:
+            os.close(number)
+
+    def is_served(self):
+        try:
+            with self.held():
+                return False
+        except command.Stop:
+            return True

@@ -1,0 +1,275 @@
+"""The one writer of a day: it gives the desk the commands that wait, batch by batch, and closes the day once."""
+
+import asyncio
+import contextlib
+import dataclasses
+import time
+
+from . import clearing, folder
+from .desk import Desk, Ended
+from ..journal import Close, command_line
+from .ledger import Contradiction, Ledger
+
+MOST_BATCH = 1_000  # records that the desk gets at once
+TICK = 0.1  # seconds between two looks at the clock
+FIRST_PAUSE, LONGEST_PAUSE = 0.1, 2.0  # seconds before a desk is started again
+STOPPED = "the day is stopped: ask the operator"
+MOST_ENDS = 5  # of the desk at one batch, without an entry of it
+
+
+class Refused(Exception):
+    """A request that enters nothing: the fault's name, the words for it, and further members of the answer."""
+
+    def __init__(self, fault, words, **more):
+        super().__init__(words)
+        self.fault, self.more = fault, more
+
+
+class Clock:
+    """The time, which never goes back: a clock that is set back stands still until it gets there again."""
+
+    def __init__(self, now=time.time):
+        self.read, self.latest = now, now()
+
+    def now(self):
+        self.latest = max(self.latest, self.read())
+        return self.latest
+
+
+@dataclasses.dataclass(eq=False)
+class Waiting:
+    """Commands of one request. `first` is the participant's number of the first one. The close has no participant."""
+
+    who: str
+    first: int
+    commands: list
+    done: asyncio.Future
+
+
+class Gate:
+    """A day that takes commands. `run` is its only task that writes."""
+
+    def __init__(self, files, key, programs, clock, log, counts):
+        self.files, self.terms = files, files.terms()
+        self.ledger = Ledger(self.terms, files.salts(), key)
+        self.programs, self.clock, self.log, self.counts = programs, clock, log, counts
+        self.waiting, self.wake = [], asyncio.Event()
+        self.entering = []  # the batch at the desk
+        self.answering = set()  # the tasks that answer batches
+        self.desk, self.fault = None, None  # the fault that stops the day
+        self.is_ready, self.is_closing = asyncio.Event(), False
+        self.published = clearing.Published(files)
+
+    @property
+    def state(self):
+        if self.published.has_results:
+            return "published"
+        if self.ledger.is_closed or not self.is_open():
+            return "closed"
+        return "open"
+
+    def is_open(self):
+        """Whether a command that arrives now is in time."""
+        return not self.is_closing and not self.ledger.is_closed and self.clock.now() < self.terms.closes.timestamp()
+
+    def log_event(self, event, **details):
+        self.log.write(event, day=self.terms.day, **details)
+
+    # --- requests
+
+    def submit(self, who, first, commands):
+        """The future numbers of the entries of commands. It is called once the whole request is here, and its time counts."""
+        if (held := self.held(who, first, commands)) is not None:
+            return held
+        if self.fault:
+            raise Refused("Unavailable", STOPPED)
+        if not self.is_open():
+            raise Refused("Closed", "the day is closed, and this command isn't in its journal")
+        if first + len(commands) - 1 > self.ledger.share(who):
+            raise Refused("ShareUsed", f"you may enter {self.ledger.share(who)} commands on this day", next=self.ledger.count(who) + 1)
+        return self.wait(Waiting(who, first, commands, asyncio.get_running_loop().create_future()))
+
+    def wait(self, waiting):
+        self.waiting.append(waiting)
+        self.wake.set()
+        return waiting.done
+
+    def held(self, who, first, commands):
+        """The finished future of commands that are all in the journal already; None if some aren't."""
+        if first + len(commands) - 1 > self.ledger.count(who):
+            return None
+        done = asyncio.get_running_loop().create_future()
+        self.settle(Waiting(who, first, commands, done))
+        return done
+
+    def conflict(self, who, first, commands):
+        """The fault of a request of which a number is used for another command, or comes too early; None if it has none."""
+        count = self.ledger.count(who)
+        for number, command in enumerate(commands[: max(0, count - first + 1)], first):
+            entry, found, _ = self.ledger.entry(who, number)
+            if found != command_line(command):
+                words = f"your command {number} is entry {entry}, and another command"
+                return Refused("NumberUsed", words, number=number, next=count + 1)
+        if first > count + 1:
+            return Refused("NumberAhead", f"your next command has the number {count + 1}", next=count + 1)
+        return None
+
+    # --- the writer
+
+    def batch(self):
+        """Takes the next batch from those that wait: pairs of a command and its request. A request whose numbers the batch has already
+        waits until the batch is entered, and the close until all others are."""
+        found, later, taken = [], [], {}
+        queue, self.waiting = self.waiting, []
+        for place, one in enumerate(queue):
+            if one.who is None:
+                if not found and not later and place == len(queue) - 1 and not self.ledger.is_closed:
+                    found.append((one.commands[0], one))
+                elif not self.ledger.is_closed:
+                    later.append(one)
+                continue
+            last = taken.get(one.who, self.ledger.count(one.who))
+            if len(found) >= MOST_BATCH or one.who in taken and one.first != last + 1:
+                later.append(one)
+                continue
+            if one.who not in taken and (fault := self.conflict(one.who, one.first, one.commands)):
+                fail(one.done, fault)
+                continue
+            new = one.commands[last - one.first + 1 :]
+            if not new:
+                self.settle(one)
+                continue
+            found += [(command, one) for command in new]
+            taken[one.who] = last + len(new)
+        self.waiting = later + self.waiting
+        return found
+
+    def settle(self, one):
+        """Answers a request whose commands are all entered."""
+        if fault := self.conflict(one.who, one.first, one.commands):
+            fail(one.done, fault)
+        elif not one.done.done():
+            one.done.set_result(self.ledger.own[one.who][one.first - 1 : one.first - 1 + len(one.commands)])
+
+    async def commit(self, batch):
+        """Enters a batch. Its requests are answered once all of it is on the disk."""
+        begin, records = self.ledger.size, [command_line(command) for command, _ in batch]
+        entries = zip((command for command, _ in batch), records)
+        async for reply in self.desk.enter(records):
+            self.ledger.enter(*next(entries), reply)
+            self.counts.add("entries_total", '{reply="%s"}' % reply.partition(",")[0])
+        self.counts.add("batches_total")
+        answering = asyncio.create_task(self.answer(begin, self.ledger.size, list(dict.fromkeys(one for _, one in batch))))
+        self.answering.add(answering)
+        answering.add_done_callback(self.answering.discard)
+
+    async def answer(self, begin, end, entered):
+        """Answers the requests of a batch, with the heads of their receipts signed."""
+        await self.ledger.sign_ahead(begin, end)
+        for one in entered:
+            if one.who is None:
+                one.done.cancel()
+            else:
+                self.settle(one)
+
+    async def run(self):
+        """Keeps the day until it is published. It ends earlier only if the journal contradicts the ledger or its head."""
+        closer = asyncio.create_task(self.close_in_time())
+        try:
+            if self.published.is_whole:
+                await asyncio.to_thread(clearing.load, self.files, self.ledger)
+            else:
+                await self.keep()
+                await self.leave_desk()
+                await clearing.publish(self)
+            self.is_ready.set()
+        except Contradiction as fault:
+            self.stop(str(fault))
+        except Exception as fault:
+            self.stop(f"a defect of the office: {type(fault).__name__}: {ascii(str(fault))[:200]}")
+        finally:
+            closer.cancel()
+            await self.leave_desk()
+
+    def stop(self, fault):
+        """Stops the day, and no other: it takes no command, and gives no receipt, until the operator has looked."""
+        self.is_ready.clear()
+        self.fault = fault
+        self.log_event("stopped", fault=fault)
+        for one in [*self.waiting, *(one for _, one in self.entering)]:
+            fail(one.done, Refused("Unavailable", STOPPED))
+
+    async def keep(self):
+        """Opens the desk, and again whenever it ends, and enters all that comes, until the close is entered."""
+        pause, ends = FIRST_PAUSE, 0
+        while not self.ledger.is_closed:
+            size = self.ledger.size
+            try:
+                await self.open()
+                while not self.ledger.is_closed:
+                    if not self.waiting:
+                        self.wake.clear()
+                        await self.wake.wait()
+                    self.entering = self.batch()
+                    if self.entering:
+                        await self.commit(self.entering)
+                        pause, ends = FIRST_PAUSE, 0
+                    self.entering = []
+            except (Ended, OSError, asyncio.TimeoutError) as fault:
+                self.is_ready.clear()
+                await self.leave_desk()
+                self.counts.add("desk_ends_total")
+                self.log_event("desk ended", fault=str(fault) or type(fault).__name__, entries=self.ledger.size)
+                ends = ends + 1 if self.ledger.size == size else 0
+                self.put_back(ends)
+                await asyncio.sleep(pause)
+                pause = min(2 * pause, LONGEST_PAUSE)
+        for one in self.waiting:
+            fail(one.done, Refused("Closed", "the day is closed, and this command isn't in its journal"))
+
+    def put_back(self, ends):
+        """The requests at which the desk ended wait again: at its next opening the desk shows which commands it entered. If it ends each
+        time, they are answered that nobody knows yet."""
+        again, self.entering = list(dict.fromkeys(one for _, one in self.entering)), []
+        if ends >= MOST_ENDS:
+            for one in (one for one in again if one.who is not None):
+                fail(one.done, Refused("Unavailable", "the desk isn't running: send the same command again later"))
+            again = [one for one in again if one.who is None]
+        self.waiting = again + self.waiting
+
+    async def open(self):
+        began = time.monotonic()
+        path = str(self.files.file(folder.DESK))
+        self.desk, records, replies = await Desk.opened(self.programs.desk, path, self.terms.periods)
+        self.ledger.take(records, replies)
+        self.is_ready.set()
+        self.log_event("desk opened", entries=self.ledger.size, seconds=round(time.monotonic() - began, 3))
+
+    async def leave_desk(self):
+        desk, self.desk = self.desk, None
+        if desk:
+            with contextlib.suppress(OSError):
+                await desk.close()
+
+    # --- the close
+
+    async def close_in_time(self):
+        """Closes the day at its time, or when the operator asks for it: after all commands that came before."""
+        await self.is_ready.wait()
+        while not self.ledger.is_closed:
+            if self.clock.now() >= self.terms.closes.timestamp() or self.files.has(folder.CLOSE_NOW):
+                self.close()
+                return
+            await asyncio.sleep(TICK)
+
+    def close(self):
+        if not self.is_closing:
+            self.is_closing = True
+            self.log_event("closing", entries=self.ledger.size)
+            self.wait(Waiting(None, 0, [Close()], asyncio.get_running_loop().create_future()))
+
+
+def fail(done, fault):
+    if not done.done():
+        done.set_exception(fault)
+        done.exception()  # nobody may be waiting for it any more

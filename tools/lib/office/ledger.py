@@ -1,0 +1,103 @@
+"""The entries of a day in memory: what the desk has shown or answered, and nothing else. All of it follows from the journal."""
+
+import asyncio
+import collections
+
+from .. import book, heads, journal, sealing, signing
+
+
+class Contradiction(Exception):
+    """The desk's journal doesn't begin with the entries that it has answered."""
+
+
+class Ledger:
+    def __init__(self, terms, salts, key):
+        self.seal = sealing.Seal(terms.day, terms.periods, salts, key)
+        self.shares = terms.shares
+        self.own = collections.defaultdict(list)  # the numbers of each participant's entries
+        self.book = book.Book(terms.periods)  # as the replies say it is
+        self.heads = {}  # that were signed, by their size
+
+    @property
+    def size(self):
+        return len(self.seal.entries)
+
+    @property
+    def is_closed(self):
+        return self.book.closed
+
+    def enter(self, command, record, reply):
+        """Adds an entry that is on the disk: the command, its record, and the desk's reply."""
+        if reply not in heads.REPLIES:
+            raise Contradiction(f"the desk gave entry {self.size + 1} a reply that no book has")
+        who = getattr(command, "who", None)
+        self.seal.append(sealing.Entry(record, reply, who))
+        if who is not None:
+            self.own[who].append(self.size)
+        if reply == heads.DONE:
+            self.book.change(command)
+
+    def take(self, records, replies):
+        """Takes the journal that a desk shows at its opening: it begins with the entries that are here."""
+        held = [(entry.record, entry.reply) for entry in self.seal.entries]
+        if list(zip(records, replies, strict=True))[: len(held)] != held:
+            raise Contradiction(f"the desk's journal doesn't begin with the {len(held)} entries that it has answered")
+        text = "".join(f"{record}\n" for record in [f"day,{self.seal.periods},,,,,,,", *records])
+        try:
+            commands = journal.read_journal(text.encode("ascii")).commands
+        except (journal.Fault, UnicodeEncodeError) as fault:
+            raise Contradiction(f"the desk shows no journal: {fault}") from None
+        if list(map(journal.command_line, commands)) != records:
+            raise Contradiction("the desk shows records that aren't in their written form")
+        for entry in list(zip(commands, records, replies))[len(held) :]:
+            self.enter(*entry)
+
+    def count(self, who):
+        """How many commands of a participant are entered."""
+        return len(self.own[who]) if who in self.own else 0
+
+    def share(self, who):
+        return self.shares.get(who, 0)
+
+    def entry(self, who, number):
+        """A participant's command by its own number, from 1: its entry in the journal, its record and the reply."""
+        entry = self.own[who][number - 1]
+        found = self.seal.entries[entry - 1]
+        return entry, found.record, found.reply
+
+    def entries(self, who):
+        """All of them, each with its own number first."""
+        return [(number, *self.entry(who, number)) for number in range(1, self.count(who) + 1)]
+
+    def orders(self, who):
+        """A participant's orders in the book, in its order, each with its name."""
+        return [(name, order) for (owner, name), order in self.book.rows.items() if owner == who]
+
+    def sign(self, heads_found):
+        """Signs heads. It touches nothing else here, and so may run in a thread of its own."""
+        return [signing.signed(self.seal.key, head) for head in heads_found]
+
+    async def sign_ahead(self, begin, end):
+        """Signs the heads of the entries after `begin` up to `end`, while the next ones are entered."""
+        seal = self.seal
+        unsigned = [heads.Head(seal.day, seal.periods, size, seal.tree.root(size)) for size in range(begin + 1, end + 1)]
+        self.heads.update(zip(range(begin + 1, end + 1), await asyncio.to_thread(self.sign, unsigned)))
+
+    def head(self, size=None):
+        """The signed head of the first entries, or of all."""
+        size = self.size if size is None else size
+        if size not in self.heads:
+            self.heads[size] = self.seal.head(size)
+        return self.heads[size]
+
+    def receipt(self, entry):
+        """The receipt of an entry: under the head of the entries up to this one, so that it is the same at any time."""
+        return self.seal.receipt(entry, self.head(entry))
+
+    def journal_text(self):
+        lines = [f"day,{self.seal.periods},,,,,,,", *(entry.record for entry in self.seal.entries)]
+        return "".join(f"{line}\n" for line in lines).encode()
+
+    def replies_text(self):
+        lines = [f"day,{self.seal.periods}", *(f"{number},{entry.reply}" for number, entry in enumerate(self.seal.entries, 1))]
+        return "".join(f"{line}\n" for line in lines).encode()

@@ -1,0 +1,46 @@
+"""The log, one JSON object a line on standard error, and the counts for Prometheus. Neither ever has a token, a record or a name that a
+stranger chose."""
+
+import json
+import sys
+import time
+
+BOUNDS = (0.005, 0.01, 0.025, 0.05, 0.1, 0.25, 0.5, 1, 2.5, 5)  # seconds, of the buckets of a histogram
+
+
+class Log:
+    def __init__(self, stream=None):
+        self.stream = stream or sys.stderr
+
+    def write(self, event, **details):
+        """Logs an event. A log that can't be written is lost, but nothing else."""
+        made = {"time": time.strftime("%Y-%m-%dT%H:%M:%SZ", time.gmtime()), "event": event, **details}
+        try:
+            print(json.dumps(made), file=self.stream, flush=True)
+        except (OSError, ValueError):
+            pass
+
+
+class Counts:
+    """Counters, by a name and one label, and the histogram of the time from a command's arrival to its acknowledgement."""
+
+    def __init__(self):
+        self.counters = {}
+        self.buckets, self.sum, self.count = [0] * len(BOUNDS), 0.0, 0
+
+    def add(self, name, label="", by=1):
+        self.counters[name, label] = self.counters.get((name, label), 0) + by
+
+    def took(self, seconds):
+        self.sum, self.count = self.sum + seconds, self.count + 1
+        for at, bound in enumerate(BOUNDS):
+            self.buckets[at] += seconds <= bound
+
+    def text(self, gauges):
+        """The counts in the text format of Prometheus; `gauges` are pairs of a name with its labels, and a value."""
+        lines = [f"dam_office_{name}{label} {value}" for (name, label), value in sorted(self.counters.items())]
+        lines += [f"dam_office_{name} {value}" for name, value in gauges]
+        buckets = [*zip(map(str, BOUNDS), self.buckets), ("+Inf", self.count)]
+        lines += [f'dam_office_acknowledged_seconds_bucket{{le="{bound}"}} {count}' for bound, count in buckets]
+        lines += [f"dam_office_acknowledged_seconds_sum {self.sum:.6f}", f"dam_office_acknowledged_seconds_count {self.count}"]
+        return "".join(f"{line}\n" for line in lines)

@@ -1,0 +1,91 @@
+"""The operator's commands on a folder. A request to an office that runs is a file, which it sees at its next look; so a request survives a
+crash, and an office that doesn't run needs no other way."""
+
+import asyncio
+import datetime
+import time
+
+from .. import command, text
+from . import folder, tokens
+from .desk import Ended, shown
+
+CLOSE_SECONDS, STEP = 60, 0.05  # to wait for the results of a close
+
+
+def state_of(files, desk):
+    """A day in a record, by its files."""
+    terms = files.terms()
+    has = files.has
+    left = (terms.closes - datetime.datetime.now(datetime.timezone.utc)).total_seconds()
+    try:
+        records = asyncio.run(shown(desk, str(files.file(folder.DESK))))[1:] if has(folder.DESK) else []
+    except (Ended, OSError) as fault:
+        raise command.Stop(f"the journal of {terms.day} can't be read: {fault}") from None
+    is_closed = bool(records) and records[-1].startswith("close,")
+    state = "published" if has(folder.RESULTS) else "closed" if is_closed else "open" if left > 0 else "late"
+    counts = dict.fromkeys(terms.shares, 0)
+    for record in records:
+        who = record.split(",")[1]
+        counts.update({who: counts.get(who, 0) + 1} if who else {})
+    return {
+        "day": terms.day,
+        "state": state,
+        "periods": terms.periods,
+        "closes": terms.closes.isoformat(),
+        "zone": terms.zone,
+        "entries": len(records),
+        "commands": {who: {"entered": count, "share": terms.shares.get(who, 0)} for who, count in counts.items()},
+        "journal_published": has(folder.RESULTS) and has(folder.OPEN_JOURNAL),
+    }
+
+
+def status(office, desk):
+    """The days of an office, and whether it is served."""
+    digests = tokens.Register(office.file(folder.PARTICIPANTS))
+    digests.read()
+    revoked = [who for who, digest in digests.digests.items() if digest is None]
+    days = [state_of(files, desk) for files in office.days().values()]
+    return {"served": office.is_served(), "participants": len(digests.digests), "revoked": revoked, "days": days}
+
+
+def status_lines(found):
+    yield f"{'served' if found['served'] else 'not served'}, {text.counted(found['participants'], 'participant')}"
+    if found["revoked"]:
+        yield f"revoked: {', '.join(found['revoked'])}"
+    for day in found["days"]:
+        yield f"{day['day']}: {day['state']}, {text.counted(day['entries'], 'entry', 'entries')}, closes {day['closes']}"
+
+
+def request(files, name):
+    """Leaves a request of the operator, which stays."""
+    if not files.has(name):
+        folder.put(files.file(name), b"")
+
+
+def close(office, day, files):
+    """Closes a day now. If the office runs, waits for the results."""
+    request(files, folder.CLOSE_NOW)
+    if not office.is_served() and not files.has(folder.RESULTS):
+        return f"{day} will be closed once the office is served"
+    until = time.monotonic() + CLOSE_SECONDS
+    while not files.has(folder.RESULTS):
+        if time.monotonic() > until:
+            raise command.Stop(f"{day} has no results after {CLOSE_SECONDS} s: see the office's log", command.UNDECIDED)
+        time.sleep(STEP)
+    return f"{day} is closed, and its results are published"
+
+
+def publish(office, day, files):
+    """Publishes the journal and the replies of a day that has results."""
+    if not files.has(folder.RESULTS):
+        raise command.Stop(f"{day} has no results yet, and its journal isn't published before them")
+    request(files, folder.OPEN_JOURNAL)
+    return f"the journal and the replies of {day} are published"
+
+
+def change_token(office, who, call):
+    """Revokes or renews a participant's token. An office that runs heeds it from the next request on."""
+    register = tokens.Register(office.file(folder.PARTICIPANTS))
+    if who not in register.names():
+        raise command.Stop(f"there is no participant {who}")
+    return call(register, who)

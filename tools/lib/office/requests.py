@@ -1,0 +1,107 @@
+"""The commands in the body of a request: records of a journal, or JSON. And the records that a table of orders or commands makes."""
+
+import json
+
+from .. import command_table, journal, lint, order_table, rules, text
+
+RECORDS, JSON = "text/csv", "application/json"
+FIELDS = {  # of a command in JSON, by its kind: those that it must have, and those that it may have
+    "submit": ({"order", "kind", "side", "price", "volumes"}, {"parent", "group"}),
+    "amend": ({"order", "price", "volumes"}, set()),
+    "cancel": ({"order"}, set()),
+}
+MOST_COMMANDS = rules.MOST_RECORDS - 2
+DAY = b"day,%d,,,,,,,\n" % rules.GREATEST_PERIOD  # before records; the desk's book knows the day's periods
+
+
+class Wrong(Exception):
+    """The body has no commands of this participant: the fault in words, by its place."""
+
+
+def commands_of(body, kind, who):
+    """The commands of a body."""
+    if kind == JSON:
+        body = json_records(body, who)
+    elif kind != RECORDS:
+        raise Wrong(f"the type of the content should be {RECORDS} or {JSON}")
+    try:
+        commands = journal.read_journal(DAY + body).commands
+    except journal.Fault:
+        raise Wrong("no records of a journal:" + lint.in_few_words(body, rules.GREATEST_PERIOD)) from None
+    if not commands:
+        raise Wrong("there is no command")
+    for place, command in enumerate(commands, 1):
+        if isinstance(command, journal.Close):
+            raise Wrong(f"command {place} is a close, which only the office enters")
+        if command.who != who:
+            raise Wrong(f"command {place} isn't yours: its participant should be {who}")
+    return commands
+
+
+def json_records(body, who):
+    """The records of a command in JSON, or of a list of commands."""
+    try:
+        value = json.loads(body)
+    except (ValueError, RecursionError):
+        raise Wrong("it isn't JSON") from None
+    commands = value if isinstance(value, list) else [value]
+    if len(commands) > MOST_COMMANDS:
+        raise Wrong(f"there are more than {MOST_COMMANDS:,} commands")
+    return "".join(f"{json_record(found, who, place)}\n" for place, found in enumerate(commands, 1)).encode()
+
+
+def json_record(value, who, place):
+    """The record of a command in JSON. Whether its fields are right is seen when the record is read."""
+    kind = value.get("what") if isinstance(value, dict) else None
+    if not isinstance(kind, str) or kind not in FIELDS:
+        raise Wrong(f"command {place} should be an object whose member what is submit, amend or cancel")
+    needed, further = FIELDS[kind]
+    given = set(value) - {"what"}
+    if not needed <= given <= needed | further:
+        raise Wrong(f"command {place}: {kind} has the members {', '.join(['what', *sorted(needed | further)])}")
+    words = {name: word(value[name], place, name) for name in given - {"price", "volumes"}}
+    price = number(value["price"], place, "price") if "price" in given else ""
+    volumes = volumes_of(value["volumes"], place) if "volumes" in given else ""
+    of = words.get
+    return ",".join([kind, who, of("order"), of("kind", ""), of("side", ""), price, volumes, of("parent", ""), of("group", "")])
+
+
+def word(value, place, name):
+    if not isinstance(value, str) or not value.isascii() or not all(mark.isalnum() or mark == "-" for mark in value):
+        raise Wrong(f"command {place}: {name} should be a text of letters, digits and -")
+    return value
+
+
+def number(value, place, name):
+    if type(value) is not int or abs(value) > rules.GREATEST_PRICE:
+        raise Wrong(f"command {place}: {name} should be an integer, prices in cents per MWh, volumes in tenths of a MW")
+    return str(value)
+
+
+def volumes_of(value, place):
+    """Pairs of a period and a volume."""
+    if not isinstance(value, list) or not 0 < len(value) <= rules.GREATEST_PERIOD:
+        raise Wrong(f"command {place}: volumes should be a list of 1 to {rules.GREATEST_PERIOD} pairs [period, volume]")
+    if not all(isinstance(pair, list) and len(pair) == 2 for pair in value):
+        raise Wrong(f"command {place}: volumes should be a list of pairs [period, volume]")
+    return ";".join(":".join(number(part, place, "a volume") for part in pair) for pair in value)
+
+
+def table_records(data, who, periods):
+    """The records of a table of orders or of commands of this participant, and notes on how it was read. Nothing is entered."""
+    try:
+        cells = order_table.cells_of(data)
+        if command_table.is_command_table(cells):
+            placed, notes = command_table.read_commands(cells, periods)
+            commands = [command for _, command in placed]
+        else:
+            orders = order_table.read_tables([("", cells)], periods)
+            commands, notes = [submit for _, submit in orders.submits], orders.notes
+    except order_table.Wrong as fault:
+        raise Wrong(str(fault)) from None
+    others = sum(command.who != who for command in commands)
+    if others:
+        raise Wrong(f"the table has {text.counted(others, 'command')} of other participants than {who}")
+    if not commands:
+        raise Wrong("the table has no command")
+    return list(map(journal.command_line, commands)), notes

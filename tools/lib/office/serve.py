@@ -1,0 +1,131 @@
+"""Serving an office: its days, each with its gate, and the listener."""
+
+import asyncio
+import contextlib
+import ipaddress
+import logging
+import os
+import resource
+import shutil
+import signal
+import ssl
+from typing import NamedTuple
+
+from aiohttp import web
+
+from .. import command, engine
+from . import folder, guards, observed, tokens
+from .gate import Clock, Gate
+from .web import Web
+
+LOOK_SECONDS = 1  # between two looks for days that were added
+STOP_SECONDS = 3  # that open requests get at the end
+KEEP_SECONDS = 10  # that a connection stays open without a request
+DESK_BUILT = engine.TOP / "crates" / "dam_desk" / "out" / "dam_desk"
+
+
+class Programs(NamedTuple):
+    dam: str
+    desk: str
+
+
+def programs(dam=None, desk=None):
+    """The programs that an office runs: those that are named, or else the package's, the clone's or the system's."""
+    found = engine.built()
+    dam = dam or os.environ.get("DAM") or (found.path if found else None)
+    if dam is None:
+        raise command.Stop("the program dam is missing: build it, or name it with --dam", command.FAILED)
+    here = DESK_BUILT if os.access(DESK_BUILT, os.X_OK) else None
+    desk = desk or os.environ.get("DAM_DESK") or engine.packaged("bin", "dam-desk") or here or shutil.which("dam-desk")
+    if desk is None:
+        raise command.Stop("the program dam-desk is missing: build it, or name it with --desk", command.FAILED)
+    return Programs(*(os.path.abspath(path) if os.sep in str(path) else path for path in (dam, desk)))
+
+
+class Office:
+    """The days of an office that are served."""
+
+    def __init__(self, files, found, log=None):
+        self.files, self.programs = files, found
+        self.log, self.counts, self.clock = log or observed.Log(), observed.Counts(), Clock()
+        self.key, self.public_key = files.key(), files.file(folder.PUBLIC).read_text(encoding="ascii")
+        self.register = tokens.Register(files.file(folder.PARTICIPANTS))
+        self.register.read()
+        self.gates, self.tasks = {}, []
+
+    def look(self):
+        """Takes up the days that aren't yet; those that are open come first."""
+        new = [(files.has(folder.STATEMENT), name, files) for name, files in self.files.days().items() if name not in self.gates]
+        for _, name, files in sorted(new, key=lambda one: one[:2]):
+            self.gates[name] = Gate(files, self.key, self.programs, self.clock, self.log, self.counts)
+            self.tasks.append(asyncio.create_task(self.gates[name].run()))
+
+    async def run(self):
+        while True:
+            self.look()
+            await asyncio.sleep(LOOK_SECONDS)
+
+    async def stop(self):
+        for task in self.tasks:
+            task.cancel()
+        await asyncio.gather(*self.tasks, return_exceptions=True)
+
+
+def is_loopback(host):
+    try:
+        return ipaddress.ip_address(host).is_loopback
+    except ValueError:
+        return host == "localhost"
+
+
+def context_of(tls):
+    """The context of TLS, from a certificate and its key."""
+    context = ssl.create_default_context(ssl.Purpose.CLIENT_AUTH)
+    context.minimum_version = ssl.TLSVersion.TLSv1_2
+    try:
+        context.load_cert_chain(*tls, password=lambda: "")
+    except (OSError, ssl.SSLError) as fault:
+        raise command.Stop(f"--tls: the certificate or its key can't be used: {fault.strerror or fault}") from None
+    return context
+
+
+def more_files():
+    """Lets this process open as many files as it may: a connection is one."""
+    soft, hard = resource.getrlimit(resource.RLIMIT_NOFILE)
+    wanted = guards.MOST_CONNECTIONS + 500
+    most = wanted if hard == resource.RLIM_INFINITY else min(hard, wanted)
+    if soft < most:
+        resource.setrlimit(resource.RLIMIT_NOFILE, (most, hard))
+
+
+async def serve(office, host, port, tls=None, behind_proxy=False, demo=None, started=None):
+    """Serves until it is stopped. `started` gets the port once it listens."""
+    logging.getLogger("aiohttp").addHandler(logging.NullHandler())
+    logging.getLogger("aiohttp").propagate = False
+    application = Web(office, tls is not None, behind_proxy, demo).application()
+    runner = guards.Runner(application, office.counts, keepalive_timeout=KEEP_SECONDS)
+    days = asyncio.create_task(office.run())
+    stopped = asyncio.Event()
+    for number in (signal.SIGTERM, signal.SIGINT):
+        asyncio.get_running_loop().add_signal_handler(number, stopped.set)
+    try:
+        await runner.setup()
+        site = web.TCPSite(runner, host, port, ssl_context=tls, shutdown_timeout=STOP_SECONDS)
+        try:
+            await site.start()
+        except OSError as fault:
+            raise command.Stop(f"can't listen at {host} port {port}: {fault.strerror}") from None
+        port = runner.addresses[0][1]
+        office.log.write("serving", host=host, port=port, tls=tls is not None)
+        if started:
+            await started(port)
+        waits = asyncio.create_task(stopped.wait())
+        await asyncio.wait({waits, days}, return_when=asyncio.FIRST_COMPLETED)
+        waits.cancel()
+    finally:
+        days.cancel()
+        with contextlib.suppress(asyncio.CancelledError):
+            await days
+        await runner.cleanup()
+        await office.stop()
+        office.log.write("stopped")

@@ -1,0 +1,136 @@
+"""Making the folder of an office, its participants and its days."""
+
+import csv
+import datetime
+import os
+import re
+import shutil
+import tempfile
+import zoneinfo
+
+from .. import command, heads, replacing, rules, sealing, shapes, signing, text
+from . import folder, tokens
+
+CLOCK = re.compile(r"([01][0-9]|2[0-3]):[0-5][0-9]")
+DAY_BEFORE = datetime.timedelta(days=1)
+
+
+def day_of(words):
+    """The date of a word of the command line."""
+    try:
+        return shapes.date_of(words)
+    except shapes.Wrong as fault:
+        raise command.Stop(f"--day {fault}", command.COMMAND_LINE) from None
+
+
+def zone_of(words):
+    command.need_zone(shapes.ZONE)
+    try:
+        return zoneinfo.ZoneInfo(words)
+    except (zoneinfo.ZoneInfoNotFoundError, ValueError):
+        raise command.Stop(f"--zone {text.quoted(words)} isn't a time zone, such as {shapes.ZONE}", command.COMMAND_LINE) from None
+
+
+def close_of(words, date, zone):
+    """The time of a close: on the day before delivery, or with a date of its own."""
+    try:
+        if CLOCK.fullmatch(words):
+            words = f"{date - DAY_BEFORE}T{words}"
+        local = datetime.datetime.strptime(words, "%Y-%m-%dT%H:%M")
+    except (ValueError, OverflowError):
+        raise command.Stop(
+            f"--close {text.quoted(words)} should be a time such as 12:00, or 2026-11-28T12:00", command.COMMAND_LINE
+        ) from None
+    found = local.replace(tzinfo=zone).astimezone(datetime.timezone.utc)
+    if found.astimezone(zone).replace(tzinfo=None) != local:
+        raise command.Stop(f"--close {words}: there is no such time in {zone.key}, whose clocks change", command.COMMAND_LINE)
+    return found
+
+
+def terms_of(args, shares, now=None):
+    """The terms of a day, by the words of the command line."""
+    date, zone = day_of(args.day), zone_of(args.zone)
+    if args.periods not in rules.DAYS:
+        raise command.Stop(f"--periods should be one of {', '.join(map(str, sorted(rules.DAYS)))}", command.COMMAND_LINE)
+    try:
+        shapes.begins(date, args.periods, args.zone)
+    except shapes.Wrong as fault:
+        raise command.Stop(f"--periods: {fault}", command.COMMAND_LINE) from None
+    closes = close_of(args.close, date, zone)
+    if closes <= (now or datetime.datetime.now(datetime.timezone.utc)):
+        raise command.Stop(f"--close: {closes.astimezone(zone):%Y-%m-%d %H:%M} {zone.key} is past", command.COMMAND_LINE)
+    return folder.Terms(args.day, args.periods, closes, args.zone, shares)
+
+
+def participants_read(path):
+    """The participants of a table with the column participant, and how many commands each may enter, if a column commands says it."""
+    try:
+        rows = list(csv.DictReader(command.read_bytes(path).decode("ascii").splitlines(), strict=True))
+    except (UnicodeDecodeError, csv.Error) as fault:
+        raise command.Stop(f"{command.shown(path)} isn't a table in ASCII: {fault}") from None
+    found = {}
+    for line, row in enumerate(rows, 2):
+        who = (row.get("participant") or "").strip()
+        if text.participant(who.encode()) is None or who in found:
+            words = "comes twice" if who in found else f"should be {text.A_PARTICIPANT}"
+            raise command.Stop(f"{command.shown(path)} line {line}: the participant {text.quoted(who)} {words}")
+        share = (row.get("commands") or "").strip()
+        if share and not (share.isdigit() and 0 < len(share) < 6):
+            raise command.Stop(f"{command.shown(path)} line {line}: commands {text.quoted(share)} should be a number")
+        found[who] = int(share) if share else None
+    if not 0 < len(found) <= folder.MOST_COMMANDS:
+        raise command.Stop(f"{command.shown(path)} has no participant: its first line should be participant")
+    return found
+
+
+def shares_of(given):
+    """How many commands each participant may enter: all of them together no more than a journal has, so that nobody takes another's."""
+    free = folder.MOST_COMMANDS - sum(share for share in given.values() if share is not None)
+    open_ones = sum(share is None for share in given.values())
+    if free < open_ones:
+        raise command.Stop(f"the participants may enter more than {folder.MOST_COMMANDS:,} commands, which a journal doesn't have")
+    return {who: free // open_ones if share is None else share for who, share in given.items()}
+
+
+def make_office(office):
+    """Makes the folder with its key, without participants."""
+    os.makedirs(office.path, mode=0o700, exist_ok=True)
+    if not office.file(folder.KEY).exists():
+        if any(os.scandir(office.path)):
+            raise command.Stop(f"{command.shown(office.path)} isn't empty, and isn't the folder of an office")
+        key = signing.made()
+        replacing.write(office.file(folder.PUBLIC), signing.public_text(key))
+        folder.put(office.file(folder.KEY), signing.private_text(key))
+    if not office.file(folder.PARTICIPANTS).exists():
+        folder.put(office.file(folder.PARTICIPANTS), folder.as_json({}))
+    os.makedirs(office.file(folder.DAYS), exist_ok=True)
+
+
+def make_day(office, terms):
+    """Makes the folder of a day, whole or not at all."""
+    days = office.file(folder.DAYS)
+    if (days / terms.day).exists():
+        raise command.Stop(f"there is a day {terms.day} already")
+    made = tempfile.mkdtemp(prefix=".new-", dir=days)
+    try:
+        files = folder.DayFolder(made)
+        folder.put(files.file(folder.SALTS), heads.line(sealing.new_salts(terms.day)))
+        folder.put(files.file(folder.TERMS), folder.as_json(terms.value()))
+        os.rename(made, days / terms.day)
+        folder.sync(days)
+    finally:
+        shutil.rmtree(made, ignore_errors=True)
+
+
+def init(office, args):
+    """Makes the office if there is none, its new participants and the day. Returns the terms, and the tokens of the new participants."""
+    register = tokens.Register(office.file(folder.PARTICIPANTS))
+    is_new = not office.file(folder.PARTICIPANTS).exists()
+    if args.participants is None and (is_new or not register.names()):
+        raise command.Stop("a new office needs --participants", command.COMMAND_LINE)
+    given = participants_read(args.participants) if args.participants else dict.fromkeys(register.names())
+    terms = terms_of(args, shares_of(given))
+    make_office(office)
+    made = {who: register.renew(who) for who in given if who not in register.names()}
+    make_day(office, terms)
+    return terms, made

@@ -1,0 +1,351 @@
+"""The routes of the office. A request is looked at in this order: the token, the rate, the size, the content. An answer has fixed words and
+the participant's own data, nothing of another's."""
+
+import asyncio
+import json
+import time
+from pathlib import Path
+
+import async_timeout
+from aiohttp import web
+
+from markupsafe import Markup
+
+from .. import book, clock, heads, style
+from . import folder, requests
+from .gate import STOPPED, Refused
+from .guards import Buckets
+
+MOST_BODY = 1 << 20  # bytes
+BODY_SECONDS = 15  # for a body to come
+ANSWER_SECONDS = 30  # for the entries of commands
+COMMANDS_A_SECOND, MOST_COMMANDS = 200, 2_000  # of a participant
+READS_A_SECOND, MOST_READS = 50, 200  # of a participant
+GUESSES_A_SECOND, MOST_GUESSES = 1, 20  # wrong tokens of an address
+RECEIPTS_AT_ONCE = 8  # that are signed before others get a turn
+JSONL = "application/jsonl"
+HEADERS = {
+    "Content-Security-Policy": "default-src 'none'; script-src 'self'; style-src 'self'; connect-src 'self'; img-src 'self'; "
+    "base-uri 'none'; form-action 'none'; frame-ancestors 'none'",
+    "X-Content-Type-Options": "nosniff",
+    "X-Frame-Options": "DENY",
+    "Referrer-Policy": "no-referrer",
+    "Cross-Origin-Opener-Policy": "same-origin",
+    "Cross-Origin-Resource-Policy": "same-origin",
+    "Cache-Control": "no-store",
+    "Server": "dam-office",
+}
+SECURE = {"Strict-Transport-Security": "max-age=31536000"}  # over TLS
+STATUSES = {
+    "Malformed": 400,
+    "Token": 401,
+    "ShareUsed": 403,
+    "NotFound": 404,
+    "NumberUsed": 409,
+    "NumberAhead": 409,
+    "Closed": 410,
+    "TooLarge": 413,
+    "TooFast": 429,
+    "Unavailable": 503,
+}
+DAY = r"/days/{day:[0-9A-Za-z._-]{1,32}}"
+OWN = r"/{who:[A-Z]{1,8}}"
+NUMBER = r"/{number:[1-9][0-9]{0,4}}"
+PARTS = {"/": ("office.html", "text/html"), "/office.css": ("office.css", "text/css"), "/office.js": ("office.js", "text/javascript")}
+OPENAPI = Path(__file__).with_name("openapi.json")
+
+
+def fault(name, words, seconds=None, **more):
+    headers = {} if seconds is None else {"Retry-After": str(max(1, round(seconds)))}
+    if name == "Token":
+        headers["WWW-Authenticate"] = "Bearer"
+    return web.json_response({"fault": name, "words": words, **more}, status=STATUSES[name], headers=headers)
+
+
+def jsonl(values):
+    return web.Response(body=b"".join(map(heads.line, values)), content_type=JSONL)
+
+
+class Web:
+    """The application of an office; `office` has its days, by name, and its participants."""
+
+    def __init__(self, office, is_secure=False, behind_proxy=False, demo=None):
+        self.office, self.counts, self.log = office, office.counts, office.log
+        self.headers = {**HEADERS, **(SECURE if is_secure else {})}
+        self.behind_proxy = behind_proxy
+        self.commands = Buckets(COMMANDS_A_SECOND, MOST_COMMANDS, time.monotonic)
+        self.reads = Buckets(READS_A_SECOND, MOST_READS, time.monotonic)
+        self.guesses = Buckets(GUESSES_A_SECOND, MOST_GUESSES, time.monotonic)
+        self.files = {path: (self.page(name), kind) for path, (name, kind) in PARTS.items()}
+        self.files["/openapi.json"] = OPENAPI.read_text(encoding="utf-8"), "application/json"
+        self.files["/key"] = office.public_key, "application/x-pem-file"
+        self.demo = demo
+
+    def page(self, name):
+        reasons = Markup(json.dumps(book.REASONS))
+        return style.style(name) if name.endswith(".css") else style.TEMPLATES.get_template(name).render(reasons=reasons)
+
+    def application(self):
+        app = web.Application(middlewares=[self.around], client_max_size=MOST_BODY)
+        app.on_response_prepare.append(self.prepare)
+        get, put, post = app.router.add_get, app.router.add_put, app.router.add_post
+        put(f"{DAY}/commands{OWN}{NUMBER}", self.put)  # first, since routes are tried in turn
+        get(f"{DAY}/commands{OWN}{NUMBER}", self.receipt)
+        for path in self.files:
+            get(path, self.file)
+        get("/favicon.ico", self.no_icon)
+        get("/healthz", self.health)
+        get("/metrics", self.metrics)
+        get("/days", self.days)
+        get(DAY, self.day)
+        get(f"{DAY}/head", self.head)
+        get(f"{DAY}/prices", self.prices)
+        for name in ("results", "journal", "replies"):
+            get(f"{DAY}/{name}", self.published)
+        get(f"{DAY}/commands{OWN}", self.own_commands)
+        get(f"{DAY}/orders{OWN}", self.own_orders)
+        get(f"{DAY}/receipts{OWN}", self.own_receipts)
+        get(f"{DAY}/statement{OWN}", self.statement)
+        post(f"{DAY}/tables{OWN}", self.table)
+        if self.demo:
+            get("/demo", self.demo_tokens)
+            post(f"{DAY}/close", self.demo_close)
+        return app
+
+    async def prepare(self, request, response):
+        response.headers.update(self.headers)
+
+    @web.middleware
+    async def around(self, request, handler):
+        """Answers each request: a fault as JSON, with fixed words."""
+        request.protocol.begin()
+        try:
+            response = await handler(request)
+        except Refused as refused:
+            response = fault(refused.fault, str(refused), **refused.more)
+        except requests.Wrong as wrong:
+            response = fault("Malformed", str(wrong))
+        except web.HTTPRequestEntityTooLarge:
+            response = fault("TooLarge", f"a request has at most {MOST_BODY:,} bytes")
+            response.force_close()
+        except web.HTTPMethodNotAllowed as other:
+            response = web.json_response({"fault": "Method", "words": "this method isn't for this path"}, status=other.status)
+            response.headers["Allow"] = other.headers["Allow"]
+        except web.HTTPException as other:
+            response = web.json_response({"fault": "NotFound", "words": "there is nothing here"}, status=other.status)
+        except (asyncio.CancelledError, ConnectionError):
+            raise
+        except Exception as wrong:
+            self.log.write("defect", kind=type(wrong).__name__, route=route_of(request))
+            response = web.json_response({"fault": "Defect", "words": "the office failed at this request"}, status=500)
+        self.counts.add("requests_total", '{method="%s",status="%d"}' % (method_of(request), response.status))
+        return response
+
+    # --- who asks
+
+    def gate(self, request):
+        gate = self.office.gates.get(request.match_info["day"])
+        if gate is None:
+            raise Refused("NotFound", "there is no such day")
+        return gate
+
+    def participant(self, request):
+        """The participant whose token the request has, and whose name its path has; all others are refused alike."""
+        who = request.match_info["who"]
+        scheme, _, token = request.headers.get("Authorization", "").partition(" ")
+        known = self.office.register.knows(who, token)
+        if not known or scheme.lower() != "bearer":
+            self.counts.add("wrong_tokens_total")
+            if not self.behind_proxy and (seconds := self.guesses.take(request.remote)):
+                raise Refused("TooFast", "too many wrong tokens", seconds=seconds)
+            raise Refused("Token", "the token isn't of this participant")
+        return who
+
+    def asked(self, request, buckets=None, count=1):
+        """The day and the participant of a request of its own data."""
+        who = self.participant(request)
+        if seconds := (buckets or self.reads).take(who, count):
+            raise Refused("TooFast", "too many requests", seconds=seconds)
+        gate = self.gate(request)
+        if gate.fault:
+            raise Refused("Unavailable", STOPPED)
+        if not gate.is_ready.is_set() and not gate.ledger.size:
+            raise Refused("Unavailable", "the day isn't open yet", seconds=1)
+        return gate, who
+
+    async def body(self, request):
+        try:
+            async with async_timeout.timeout(BODY_SECONDS):
+                return await request.read()
+        except asyncio.TimeoutError:
+            raise Refused("Malformed", f"the request didn't come whole within {BODY_SECONDS} s") from None
+
+    # --- commands
+
+    async def put(self, request):
+        gate, who = self.asked(request, self.commands)
+        body = await self.body(request)
+        began = time.monotonic()
+        commands = requests.commands_of(body, request.content_type, who)
+        self.commands.take(who, len(commands) - 1)
+        entries = await self.entered(gate, who, int(request.match_info["number"]), commands)
+        answer = await self.receipts(gate, entries)
+        self.counts.took(time.monotonic() - began)
+        return answer
+
+    async def entered(self, gate, who, first, commands):
+        """The numbers of the entries of commands, once they are on the disk."""
+        done = gate.submit(who, first, commands)
+        try:
+            async with async_timeout.timeout(ANSWER_SECONDS):
+                return await asyncio.shield(done)
+        except asyncio.TimeoutError:
+            raise Refused("Unavailable", "the desk hasn't answered yet: send the same command again", seconds=1) from None
+
+    async def receipts(self, gate, entries, head=None):
+        made = []
+        for place, entry in enumerate(entries, 1):
+            made.append(gate.ledger.seal.receipt(entry, head) if head else gate.ledger.receipt(entry))
+            if place % RECEIPTS_AT_ONCE == 0:
+                await asyncio.sleep(0)
+        return jsonl(made)
+
+    async def receipt(self, request):
+        gate, who = self.asked(request)
+        number, count = int(request.match_info["number"]), gate.ledger.count(who)
+        if number > count:
+            raise Refused("NotFound", "there is no such command", next=count + 1)
+        return await self.receipts(gate, [gate.ledger.entry(who, number)[0]])
+
+    async def own_receipts(self, request):
+        """All receipts of a participant, under the newest head."""
+        gate, who = self.asked(request, count=20)
+        return await self.receipts(gate, list(gate.ledger.own.get(who, ())), gate.ledger.head())
+
+    async def own_commands(self, request):
+        gate, who = self.asked(request)
+        since = query_number(request, "since")
+        names = ("number", "entry", "record", "reply")
+        found = [dict(zip(names, one)) for one in gate.ledger.entries(who)[since:]]
+        return web.json_response({"next": gate.ledger.count(who) + 1, "share": gate.ledger.share(who), "commands": found})
+
+    async def own_orders(self, request):
+        gate, who = self.asked(request)
+        return web.json_response({"orders": [{"order": name, **order._asdict()} for name, order in gate.ledger.orders(who)]})
+
+    async def table(self, request):
+        """The records that a table makes. They aren't entered: the participant sees them first."""
+        gate, who = self.asked(request, count=10)
+        records, notes = await asyncio.to_thread(requests.table_records, await self.body(request), who, gate.terms.periods)
+        return web.json_response({"records": records, "notes": notes})
+
+    async def statement(self, request):
+        gate, who = self.asked(request, count=5)
+        found = gate.published.statement(who)
+        if found is None:
+            raise Refused("NotFound", "the statement isn't published yet")
+        return web.json_response(found)
+
+    # --- what all may see
+
+    async def file(self, request):
+        text, kind = self.files[request.path]
+        return web.Response(text=text, content_type=kind)
+
+    async def no_icon(self, request):
+        return web.Response(status=204)
+
+    def shown(self, gate):
+        terms, now = gate.terms, gate.clock.now()
+        closes = terms.closes.timestamp()
+        state = gate.state
+        return {
+            "day": terms.day,
+            "periods": terms.periods,
+            "closes": terms.closes.isoformat(),
+            "zone": terms.zone,
+            "seconds_left": round(max(0, closes - now), 3) if state == "open" else 0,
+            "state": state,
+            "entries": gate.ledger.size,
+            "has_statement": gate.published.is_whole,
+            "has_journal": gate.published.has_journal,
+        }
+
+    async def days(self, request):
+        return web.json_response({"days": [self.shown(gate) for gate in self.office.gates.values()], "demo": bool(self.demo)})
+
+    async def day(self, request):
+        gate = self.gate(request)
+        periods = gate.terms.periods
+        return web.json_response({**self.shown(gate), "begins": [clock.begins(periods, number) for number in range(1, periods + 1)]})
+
+    async def head(self, request):
+        """The newest head; with `since` the proof that it goes on from the head of so many entries."""
+        ledger = self.gate(request).ledger
+        if "since" not in request.query:
+            return jsonl([ledger.head()])
+        since = query_number(request, "since")
+        if since > ledger.size:
+            raise Refused("NotFound", "there is no such head yet")
+        return jsonl([ledger.seal.extension(ledger.head(since), ledger.head())])
+
+    async def prices(self, request):
+        """The results without the orders: the day, the welfare, and each period's price and volume."""
+        gate = self.gate(request)
+        if not gate.published.has_results:
+            raise Refused("NotFound", "the results aren't published yet")
+        lines = gate.files.read(folder.RESULTS).decode("ascii").splitlines(keepends=True)
+        return web.Response(text="".join(lines[: 2 + gate.terms.periods]), content_type="text/plain")
+
+    async def published(self, request):
+        """The texts that have the orders of all: only if the operator publishes the journal."""
+        gate, name = self.gate(request), request.path.rpartition("/")[2]
+        if not gate.published.has_journal:
+            raise Refused("NotFound", "the operator hasn't published the journal")
+        files = {"results": folder.RESULTS, "journal": folder.JOURNAL, "replies": folder.REPLIES}
+        return web.Response(body=gate.files.read(files[name]), content_type="text/plain")
+
+    async def health(self, request):
+        is_right = all(gate.is_ready.is_set() for gate in self.office.gates.values())
+        return web.json_response({"status": "ok" if is_right else "unavailable"}, status=200 if is_right else 503)
+
+    async def metrics(self, request):
+        gauges = []
+        for name, gate in self.office.gates.items():
+            label = f'{{day="{name}"}}'
+            gauges += [(f"entries{label}", gate.ledger.size), (f"waiting{label}", len(gate.waiting))]
+            gauges += [(f"ready{label}", int(gate.is_ready.is_set())), (f"open{label}", int(gate.is_open()))]
+        return web.Response(text=self.counts.text(gauges), content_type="text/plain")
+
+    # --- the demo
+
+    async def demo_tokens(self, request):
+        """The made-up participants of a demo, with their tokens: they guard nothing."""
+        return web.json_response({"participants": self.demo})
+
+    async def demo_close(self, request):
+        gate = self.gate(request)
+        self.participant_of_demo(request)
+        gate.close()
+        return web.json_response(self.shown(gate))
+
+    def participant_of_demo(self, request):
+        token = request.headers.get("Authorization", "").partition(" ")[2]
+        if not self.office.register.knows(token.partition(".")[0], token):
+            raise Refused("Token", "the token isn't of a participant")
+
+
+def query_number(request, name):
+    word = request.query.get(name, "0")
+    if not (word.isascii() and word.isdigit() and len(word) <= 5):
+        raise Refused("Malformed", f"{name} should be a number")
+    return int(word)
+
+
+def route_of(request):
+    resource = request.match_info.route.resource
+    return resource.canonical if resource else "none"
+
+
+def method_of(request):
+    return request.method if request.method in ("GET", "HEAD", "PUT", "POST") else "other"

@@ -1,0 +1,563 @@
+"""The office with a desk in memory: no crash loses or doubles a command, numbers, the close and the clock; tokens, limits, requests."""
+
+import argparse
+import asyncio
+import contextlib
+import datetime
+import io
+import json
+import os
+import random
+import stat
+import tempfile
+import unittest
+from pathlib import Path
+from unittest import mock
+
+from support import AUCTION, FIRST, tool
+
+from lib import book, command, heads, journal, merkle, rules, tables
+
+try:
+    import aiohttp
+    import jinja2
+    from cryptography.exceptions import InvalidSignature
+
+    from lib import sealing, signing
+    from lib.office import clearing, folder, gate, guards, observed, operate, requests, setup, tokens
+    from lib.office import serve as serving
+    from lib.office.desk import Desk, Ended
+    from lib.office.ledger import Contradiction, Ledger
+except ImportError:  # without python3-aiohttp and the like
+    aiohttp = None
+
+DAY = "2026-11-29"
+NAMES = ("A", "GAS", "LONGNAME")
+LENGTHS = sorted(rules.DAYS)
+SECONDS = 60  # that a test may take at most
+PAST, FUTURE = (datetime.datetime.fromtimestamp(seconds, datetime.timezone.utc) for seconds in (1_000, 4_000_000_000))
+
+
+class Disk:
+    """What a desk has on the disk, and at which of its next calls it ends."""
+
+    def __init__(self):
+        self.records, self.ends, self.openings = [], [], 0
+
+
+class DeskInMemory:
+    """A desk as the gate sees it, on a disk that outlives it. Of a batch at which it ends, a beginning is on the disk, and a shorter one is
+    answered."""
+
+    def __init__(self, disk, periods):
+        self.disk, self.book = disk, book.Book(periods)
+        self.replies = [self.reply(record) for record in disk.records]
+        disk.openings += 1
+
+    def reply(self, record):
+        return sealing.reply_of(self.book.apply(heads.command_of(record)))
+
+    async def enter(self, records):
+        await asyncio.sleep(0)
+        kept, answered = self.disk.ends.pop(0) if self.disk.ends else (None, None)
+        replies = []
+        for record in records[:kept]:
+            self.disk.records.append(record)
+            replies.append(self.reply(record))
+        for reply in replies[:answered]:
+            yield reply
+        if kept is not None:
+            raise Ended("as planned")
+
+    async def close(self):
+        await asyncio.sleep(0)
+
+
+def opener(disk):
+    async def opened(program, path, periods):
+        desk = DeskInMemory(disk, periods)
+        return desk, list(disk.records), desk.replies
+
+    return mock.patch.object(Desk, "opened", opened)
+
+
+async def published(given):
+    """In place of the programs after a close."""
+    given.files.file(folder.RESULTS).write_bytes(b"")
+
+
+class Office(unittest.IsolatedAsyncioTestCase):
+    def setUp(self):
+        if aiohttp is None:
+            self.skipTest("python3-aiohttp, python3-jinja2 or python3-cryptography is missing")
+        room = tempfile.TemporaryDirectory()
+        self.addCleanup(room.cleanup)
+        self.office = folder.Folder(Path(room.name, "office"))
+        for name in ("FIRST_PAUSE", "LONGEST_PAUSE", "TICK"):
+            patch = mock.patch.object(gate, name, 0.001)
+            patch.start()
+            self.addCleanup(patch.stop)
+        patch = mock.patch.object(clearing, "publish", published)
+        patch.start()
+        self.addCleanup(patch.stop)
+
+    def make(self, periods=24, closes=None, names=NAMES, share=1_000):
+        setup.make_office(self.office)
+        setup.make_day(self.office, folder.Terms(DAY, periods, closes or FUTURE, "UTC", dict.fromkeys(names, share)))
+        self.key = self.office.key()
+
+    def gate(self, clock=None, log=None):
+        programs = serving.Programs("dam", "dam-desk")
+        files = folder.DayFolder(self.office.file(folder.DAYS) / DAY)
+        return gate.Gate(files, self.key, programs, clock or gate.Clock(), log or observed.Log(io.StringIO()), observed.Counts())
+
+    @contextlib.asynccontextmanager
+    async def running(self, given):
+        task = asyncio.create_task(given.run())
+        try:
+            await given.is_ready.wait()
+            yield given
+        finally:
+            task.cancel()
+            with contextlib.suppress(asyncio.CancelledError):
+                await task
+
+    def verify(self, given, receipt):
+        """A receipt is right under its own head, and that head is of the journal."""
+        self.assertTrue(signing.is_signed(self.key.public_key(), receipt.head))
+        self.assertEqual(merkle.root_of_inclusion(receipt.leaf(), receipt.number - 1, receipt.head.size, receipt.path), receipt.head.root)
+        self.assertEqual(given.ledger.seal.tree.root(receipt.head.size), receipt.head.root)
+
+
+def commands(*records):
+    return [heads.command_of(record) for record in records]
+
+
+def random_record(rng, who, number, periods):
+    volumes = ";".join(
+        f"{period}:{rng.randint(1, 99_999)}" for period in sorted(rng.sample(range(1, min(periods + 3, 101)), rng.choice([1, 1, 2, 5])))
+    )
+    name = rng.choice([f"O-{number}", f"O-{rng.randint(1, number)}", "ABCDEFGHIJKL"])
+    kind = rng.choice(["hour", "block", "amend", "cancel"])
+    if kind == "amend":
+        return f"amend,{who},{name},,,{rng.randint(-50_000, 400_000)},{volumes},,"
+    if kind == "cancel":
+        return f"cancel,{who},{name},,,,,,"
+    side, price = rng.choice(["buy", "sell"]), rng.randint(-50_000, 400_000)
+    links = "," if kind == "hour" else f"{rng.choice(['', name])},{rng.choice(['', 'G'])}"
+    return f"submit,{who},{name},{kind},{side},{price},{volumes.partition(';')[0] if kind == 'hour' else volumes},{links}"
+
+
+class Crashes(Office):
+    async def client(self, rng, who, count, periods, held, acknowledged):
+        """Sends commands, some in one request, and sends each again until it is acknowledged; sometimes again after that."""
+        records = [random_record(rng, who, number, periods) for number in range(1, count + 1)]
+        first = 1
+        while first <= count:
+            many = records[first - 1 : first - 1 + rng.choice([1, 1, 1, 3, 7])]
+            try:
+                given = held[0]
+                entries = await asyncio.wait_for(asyncio.shield(given.submit(who, first, commands(*many))), 5)
+            except (gate.Refused, asyncio.CancelledError, asyncio.TimeoutError) as fault:
+                self.assertNotIn(getattr(fault, "fault", None), ("NumberUsed", "NumberAhead", "Malformed"))
+                self.assertIsNone(given.fault)
+                await asyncio.sleep(0.001)
+                continue
+            self.assertEqual(len(entries), len(many))
+            for number, (record, entry) in enumerate(zip(many, entries), first):
+                self.assertEqual(acknowledged.setdefault((who, number), (record, entry)), (record, entry))
+                receipt = given.ledger.receipt(entry)
+                self.assertEqual((receipt.record, receipt.number), (record, entry))
+                self.verify(given, receipt)
+            first = max(1, first - 2) if rng.random() < 0.2 else first + len(many)
+        return records
+
+    async def run_with_crashes(self, seed, periods):
+        rng, disk, acknowledged = random.Random(f"office {seed}"), Disk(), {}
+        held = [self.gate()]
+        with opener(disk):
+            tasks = [asyncio.create_task(held[0].run())]
+            clients = [
+                asyncio.create_task(self.client(random.Random(f"{seed} {who}"), who, 40, periods, held, acknowledged)) for who in NAMES
+            ]
+            for _ in range(12):
+                await asyncio.sleep(rng.uniform(0, 0.01))
+                if rng.random() < 0.5:  # the desk ends: at most what is kept is answered
+                    kept = rng.randint(0, 5)
+                    disk.ends.append((kept, rng.randint(0, kept)))
+                else:  # the office ends, in the middle of anything
+                    tasks[-1].cancel()
+                    await asyncio.gather(tasks[-1], return_exceptions=True)
+                    for one in [*held[0].waiting, *(one for _, one in held[0].entering)]:
+                        one.done.cancel()
+                    held[0] = self.gate()
+                    tasks.append(asyncio.create_task(held[0].run()))
+            sent = dict(zip(NAMES, await asyncio.wait_for(asyncio.gather(*clients), SECONDS)))
+            tasks[-1].cancel()
+            await asyncio.gather(*tasks, return_exceptions=True)
+        return disk, held[0], sent, acknowledged
+
+    async def test_no_crash_loses_or_doubles_a_command(self):
+        for seed, periods in enumerate(LENGTHS):
+            with self.subTest(periods=periods):
+                self.setUp()
+                self.make(periods)
+                disk, last, sent, acknowledged = await self.run_with_crashes(seed, periods)
+                for who, records in sent.items():
+                    self.assertEqual([record for record in disk.records if record.split(",")[1] == who], records)
+                for (who, number), (record, entry) in acknowledged.items():
+                    self.assertEqual((disk.records[entry - 1], last.ledger.entry(who, number)[0]), (record, entry))
+                read = journal.read_journal(b"".join(f"{line}\n".encode() for line in [f"day,{periods},,,,,,,", *disk.records]))
+                self.assertEqual([entry.reply for entry in last.ledger.seal.entries], [sealing.reply_of(why) for why in book.run(read)[1]])
+                self.assertGreater(disk.openings, 4)
+
+    async def test_a_receipt_is_the_same_after_a_crash(self):
+        self.make()
+        disk = Disk()
+        with opener(disk):
+            async with self.running(self.gate()) as given:
+                entries = await given.submit("GAS", 1, commands("submit,GAS,A,hour,buy,1,1:1,,", "cancel,GAS,B,,,,,,"))
+                before = [heads.line(given.ledger.receipt(entry)) for entry in entries]
+                await given.submit("A", 1, commands("cancel,A,B,,,,,,"))
+                self.assertEqual([heads.line(given.ledger.receipt(entry)) for entry in entries], before)
+            async with self.running(self.gate()) as given:
+                again = await given.submit("GAS", 1, commands("submit,GAS,A,hour,buy,1,1:1,,", "cancel,GAS,B,,,,,,"))
+                self.assertEqual([heads.line(given.ledger.receipt(entry)) for entry in again], before)
+        self.assertEqual(len(disk.records), 3)
+
+    async def test_a_desk_that_contradicts_the_ledger_stops_the_day(self):
+        self.make()
+        disk = Disk()
+        with opener(disk):
+            async with self.running(self.gate()) as given:
+                await given.submit("GAS", 1, commands("cancel,GAS,A,,,,,,", "cancel,GAS,B,,,,,,"))
+                disk.records.pop()
+                disk.ends.append((0, 0))
+                with self.assertRaises(gate.Refused) as caught:
+                    await given.submit("GAS", 3, commands("cancel,GAS,C,,,,,,"))
+                self.assertEqual(caught.exception.fault, "Unavailable")
+                self.assertIn("doesn't begin with the 2 entries", given.fault)
+                self.assertFalse(given.is_ready.is_set())
+                with self.assertRaises(gate.Refused):
+                    given.submit("GAS", 3, commands("cancel,GAS,C,,,,,,"))
+
+    async def test_a_batch_at_which_the_desk_always_ends_is_answered(self):
+        self.make()
+        disk = Disk()
+        disk.ends = [(0, 0)] * gate.MOST_ENDS
+        with opener(disk):
+            async with self.running(self.gate()) as given:
+                with self.assertRaises(gate.Refused) as caught:
+                    await given.submit("GAS", 1, commands("cancel,GAS,A,,,,,,"))
+                self.assertEqual(caught.exception.fault, "Unavailable")
+                await given.submit("GAS", 1, commands("cancel,GAS,A,,,,,,"))
+        self.assertEqual(disk.records, ["cancel,GAS,A,,,,,,"])
+
+
+class Numbers(Office):
+    async def refused(self, given, who, first, *records):
+        with self.assertRaises(gate.Refused) as caught:
+            await given.submit(who, first, commands(*records))
+        return caught.exception.fault, caught.exception.more
+
+    async def test_each_number_is_used_once(self):
+        self.make(share=5)
+        first, second, third = (f"cancel,GAS,{name},,,,,," for name in "ABC")
+        disk = Disk()
+        with opener(disk):
+            async with self.running(self.gate()) as given:
+                self.assertEqual(await self.refused(given, "GAS", 2, first), ("NumberAhead", {"next": 1}))
+                self.assertEqual(await given.submit("GAS", 1, commands(first, second)), [1, 2])
+                self.assertEqual(await given.submit("GAS", 1, commands(first, second)), [1, 2])
+                self.assertEqual(await given.submit("GAS", 2, commands(second, third)), [2, 3])
+                self.assertEqual(await self.refused(given, "GAS", 2, first), ("NumberUsed", {"number": 2, "next": 4}))
+                self.assertEqual(await self.refused(given, "GAS", 3, second, first), ("NumberUsed", {"number": 3, "next": 4}))
+                self.assertEqual(await self.refused(given, "GAS", 4, first, first, first), ("ShareUsed", {"next": 4}))
+                self.assertEqual((await self.refused(given, "OTHER", 1, "cancel,OTHER,A,,,,,,"))[0], "ShareUsed")
+                self.assertEqual(await given.submit("A", 1, commands("cancel,A,A,,,,,,")), [4])
+        self.assertEqual(disk.records, [first, second, third, "cancel,A,A,,,,,,"])
+
+    async def test_requests_that_wait_together(self):
+        """The same request twice, another one under its number, and the numbers after it in any order, all before the first is entered."""
+        self.make()
+        first, second, third = (f"cancel,GAS,{name},,,,,," for name in "ABC")
+        with opener(Disk()):
+            async with self.running(self.gate()) as given:
+                waiting = [
+                    given.submit("GAS", number, commands(record))
+                    for number, record in ((1, first), (1, first), (1, second), (2, second), (3, third))
+                ]
+                found = await asyncio.gather(*waiting, return_exceptions=True)
+        self.assertEqual([one if isinstance(one, list) else one.fault for one in found], [[1], [1], "NumberUsed", [2], [3]])
+
+
+class Closing(Office):
+    def clock(self, now):
+        self.now = now
+        return gate.Clock(lambda: self.now)
+
+    async def test_the_close_comes_once_after_all_that_came_in_time(self):
+        self.make(closes=datetime.datetime.fromtimestamp(5_000, datetime.timezone.utc))
+        disk, clock = Disk(), self.clock(4_999)
+        with opener(disk):
+            given = self.gate(clock)
+            task = asyncio.create_task(given.run())
+            await given.is_ready.wait()
+            waiting = [given.submit(who, 1, commands(f"cancel,{who},A,,,,,,")) for who in NAMES]
+            self.now = 5_000
+            with self.assertRaises(gate.Refused) as caught:
+                given.submit("GAS", 2, commands("cancel,GAS,B,,,,,,"))
+            self.assertEqual(caught.exception.fault, "Closed")
+            self.now = 4_000  # set back: it doesn't open again
+            with self.assertRaises(gate.Refused):
+                given.submit("GAS", 2, commands("cancel,GAS,B,,,,,,"))
+            self.assertEqual(await asyncio.gather(*waiting), [[1], [2], [3]])
+            await task
+            self.assertEqual(given.state, "published")
+            self.assertEqual(await given.submit("GAS", 1, commands("cancel,GAS,A,,,,,,")), [2])  # sent again, after the close
+        self.assertEqual(disk.records, [*(f"cancel,{who},A,,,,,," for who in NAMES), "close,,,,,,,,"])
+        with opener(disk):  # and not after a start with a clock that is set back either
+            given = self.gate(self.clock(4_000))
+            await given.run()
+            with self.assertRaises(gate.Refused) as caught:
+                given.submit("GAS", 2, commands("cancel,GAS,B,,,,,,"))
+            self.assertEqual(caught.exception.fault, "Closed")
+        self.assertEqual(disk.records.count("close,,,,,,,,"), 1)
+
+    async def test_a_start_after_the_time_closes_before_it_enters_anything(self):
+        self.make(closes=PAST)
+        disk = Disk()
+        disk.ends = [(0, 0), (1, 0)]  # the desk ends before the close, and after it is on the disk
+        with opener(disk):
+            given = self.gate()
+            with self.assertRaises(gate.Refused):
+                given.submit("GAS", 1, commands("cancel,GAS,A,,,,,,"))
+            await given.run()
+        self.assertEqual((disk.records, given.state), (["close,,,,,,,,"], "published"))
+
+    async def test_the_operator_closes_early(self):
+        self.make()
+        disk = Disk()
+        with opener(disk):
+            given = self.gate()
+            task = asyncio.create_task(given.run())
+            await given.is_ready.wait()
+            await given.submit("GAS", 1, commands("cancel,GAS,A,,,,,,"))
+            operate.request(given.files, folder.CLOSE_NOW)
+            await task
+        self.assertEqual(disk.records, ["cancel,GAS,A,,,,,,", "close,,,,,,,,"])
+
+
+class Requests(unittest.TestCase):
+    def setUp(self):
+        if aiohttp is None:
+            self.skipTest("python3-aiohttp is missing")
+
+    def test_json_and_records_are_the_same(self):
+        """On each command of the examples."""
+        for path in (AUCTION, AUCTION.with_name("quarter-hours.csv"), AUCTION.with_name("first-day.csv")):
+            for given in journal.read_journal(path.read_bytes()).commands:
+                match given:
+                    case journal.Submit(who, name, order):
+                        links = {"parent": order.parent, "group": order.group} if order.kind == "block" else {}
+                        value = {"what": "submit", "order": name, "kind": order.kind, "side": order.side, "price": order.price, **links}
+                        value["volumes"] = order.volumes
+                    case journal.Amend(who, name, price, volumes):
+                        value = {"what": "amend", "order": name, "price": price, "volumes": volumes}
+                    case journal.Cancel(who, name):
+                        value = {"what": "cancel", "order": name}
+                    case _:
+                        continue
+                line = journal.command_line(given)
+                self.assertEqual(requests.commands_of(json.dumps(value).encode(), requests.JSON, who), [given])
+                self.assertEqual(requests.commands_of(line.encode(), requests.RECORDS, who), [given])
+                self.assertEqual(requests.commands_of(f"{line}\r\n{line}\n".encode(), requests.RECORDS, who), [given, given])
+
+    def test_other_bodies_are_faults_with_their_place(self):
+        right = {"what": "submit", "order": "A", "kind": "hour", "side": "buy", "price": 1, "volumes": [[1, 1]]}
+        for body, kind, words in (
+            (b"", requests.RECORDS, "no command"),
+            (b"x", "text/html", "type of the content"),
+            (b"close,,,,,,,,", requests.RECORDS, "command 1 is a close"),
+            (b"cancel,GAS,A,,,,,,\ncancel,OIL,A,,,,,,", requests.RECORDS, "command 2 isn't yours"),
+            (b"cancel,GAS,a,,,,,,", requests.RECORDS, "line 1, order"),
+            (b"day,24,,,,,,,", requests.RECORDS, "no records of a journal"),
+            (b"\xff", requests.RECORDS, "no records of a journal"),
+            (b"[", requests.JSON, "isn't JSON"),
+            (b"[" * 100_000, requests.JSON, "isn't JSON"),
+            (b"1", requests.JSON, "command 1"),
+            (json.dumps([right, {**right, "price": 1.5}]).encode(), requests.JSON, "command 2: price"),
+            (json.dumps({**right, "price": True}).encode(), requests.JSON, "command 1: price"),
+            (json.dumps({**right, "order": "A,OIL"}).encode(), requests.JSON, "command 1: order"),
+            (json.dumps({**right, "order": "A\nclose"}).encode(), requests.JSON, "command 1: order"),
+            (json.dumps({**right, "volumes": {}}).encode(), requests.JSON, "command 1: volumes"),
+            (json.dumps({**right, "volumes": [[1]]}).encode(), requests.JSON, "command 1: volumes"),
+            (json.dumps({**right, "participant": "OIL"}).encode(), requests.JSON, "has the members"),
+            (json.dumps({**right, "what": "close"}).encode(), requests.JSON, "submit, amend or cancel"),
+            (json.dumps({**right, "what": []}).encode(), requests.JSON, "submit, amend or cancel"),
+        ):
+            with self.subTest(body=body[:80]):
+                with self.assertRaisesRegex(requests.Wrong, words):
+                    requests.commands_of(body, kind, "GAS")
+
+    def test_tables(self):
+        table = b"participant,order,kind,side,price_eur_mwh,periods,volume_mw\nGAS,A,hour,buy,12.50,8,30\n"
+        self.assertEqual(requests.table_records(table, "GAS", 24), (["submit,GAS,A,hour,buy,1250,8:300,,"], []))
+        changes = b"what,participant,order,price_eur_mwh,periods,volume_mw\namend,GAS,A,12.50,8-9,30\ncancel,GAS,B,,,\n"
+        self.assertEqual(requests.table_records(changes, "GAS", 24)[0], ["amend,GAS,A,,,1250,8:300;9:300,,", "cancel,GAS,B,,,,,,"])
+        for data, words in (
+            (table.replace(b"GAS", b"OIL"), "1 command of other"),
+            (table.replace(b",8,", b",25,"), "PeriodOutOfDay"),
+            (b"", "empty"),
+        ):
+            with self.assertRaisesRegex(requests.Wrong, words):
+                requests.table_records(data, "GAS", 24)
+
+    def test_reasons_dont_name_the_orders_of_others(self):
+        why = "would gain 8.00 EUR at the prices, but with it GAS,LONG would lose 1,200.00 EUR together with its accepted descendants"
+        why += " and OIL,A would lose 3 EUR"
+        self.assertEqual(clearing.own_words(why, "OIL").count("another participant's block would lose"), 1)
+        self.assertNotIn("GAS", clearing.own_words(why, "OIL"))
+        self.assertIn("OIL,A would lose 3 EUR", clearing.own_words(why, "OIL"))
+        same = "would gain nothing at the prices, but GAS,LONG offers the same and stands earlier in the book"
+        self.assertNotIn("GAS", clearing.own_words(same, "OIL"))
+        self.assertEqual(clearing.own_words(same, "GAS"), same)
+
+
+class Tokens(Office):
+    def test_tokens_are_random_hashed_and_one_participants(self):
+        self.make()
+        register = tokens.Register(self.office.file(folder.PARTICIPANTS))
+        made = {who: register.renew(who) for who in NAMES}
+        text = self.office.file(folder.PARTICIPANTS).read_text()
+        for who, token in made.items():
+            self.assertGreaterEqual(len(token.partition(".")[2]), 43)
+            self.assertNotIn(token.partition(".")[2], text)
+            self.assertEqual([other for other in NAMES if register.knows(other, token)], [who])
+        for wrong in ("", "GAS.", made["GAS"][:-1], made["GAS"] + "x", tokens.NOBODY, "\udc80"):
+            self.assertFalse(register.knows("GAS", wrong))
+        self.assertFalse(register.knows("NOBODY", made["GAS"]))
+        served = tokens.Register(self.office.file(folder.PARTICIPANTS))
+        self.assertTrue(served.knows("GAS", made["GAS"]))
+        register.revoke("GAS")
+        self.assertFalse(served.knows("GAS", made["GAS"]))
+        self.assertTrue(served.knows("A", made["A"]))
+        new = register.renew("GAS")
+        self.assertTrue(served.knows("GAS", new) and not served.knows("GAS", made["GAS"]))
+
+    def test_files_are_the_owners_alone(self):
+        before = os.umask(0o077)
+        self.addCleanup(os.umask, before)
+        self.make()
+        for path in [self.office.path, *self.office.path.rglob("*")]:
+            self.assertEqual(stat.S_IMODE(path.stat().st_mode) & 0o077, 0, path)
+        self.office.file(folder.KEY).chmod(0o644)
+        with self.assertRaisesRegex(command.Stop, "can be read by others"):
+            self.office.need()
+
+    def test_guesses_are_slowed_down_and_others_are_not(self):
+        now = [0.0]
+        buckets = guards.Buckets(1, 3, lambda: now[0])
+        self.assertEqual([buckets.take("a") > 0 for _ in range(5)], [False, False, False, True, True])
+        self.assertEqual(buckets.take("b"), 0)
+        now[0] = 1.0
+        self.assertEqual([buckets.take("a") > 0 for _ in range(2)], [False, True])
+        self.assertEqual(buckets.take("c", 1_000), 0)
+        self.assertGreater(buckets.take("c"), 900)
+        with mock.patch.object(guards, "MOST_BUCKETS", 5):
+            for number in range(100):
+                now[0] += 10_000
+                buckets.take(number)
+        self.assertLessEqual(len(buckets.held), 6)
+
+
+class Setup(Office):
+    def args(self, **words):
+        return argparse.Namespace(**{"day": DAY, "periods": 24, "close": "12:00", "zone": "Europe/Berlin", "participants": None, **words})
+
+    def terms(self, **words):
+        return setup.terms_of(self.args(**words), {}, datetime.datetime(2026, 1, 1, tzinfo=datetime.timezone.utc))
+
+    def test_the_close_is_on_the_day_before_in_its_zone(self):
+        self.assertEqual(self.terms().closes.isoformat(), "2026-11-28T11:00:00+00:00")
+        self.assertEqual(self.terms(day="2026-07-02").closes.isoformat(), "2026-07-01T10:00:00+00:00")
+        self.assertEqual(self.terms(close="2026-11-27T09:30", zone="UTC").closes.isoformat(), "2026-11-27T09:30:00+00:00")
+        for periods, day in ((23, "2026-03-29"), (92, "2026-03-29"), (25, "2026-10-25"), (100, "2026-10-25"), (96, DAY)):
+            self.assertEqual(self.terms(periods=periods, day=day).periods, periods)
+
+    def test_what_cant_be_is_refused(self):
+        for words in (
+            {"day": "tomorrow"},
+            {"day": "2026-02-30"},
+            {"periods": 25},
+            {"periods": 7},
+            {"periods": 24, "day": "2026-03-29"},
+            {"close": "24:00"},
+            {"close": "noon"},
+            {"close": "2026-03-29T02:30", "day": "2026-03-30"},  # the clocks change
+            {"close": "2025-11-27T09:30"},
+            {"zone": "Atlantis"},
+            {"zone": "../../etc/passwd"},
+        ):
+            with self.subTest(**words), self.assertRaises(command.Stop) as caught:
+                self.terms(**words)
+            self.assertEqual(caught.exception.status, command.COMMAND_LINE)
+
+    def participants(self, text):
+        path = self.office.path.parent / "p.csv"
+        path.write_text(text)
+        return setup.participants_read(path)
+
+    def test_shares_never_exceed_the_journal(self):
+        self.assertEqual(self.participants("participant\nA\nGAS\n"), {"A": None, "GAS": None})
+        found = self.participants("participant,commands\nA,100\nGAS,\nOIL,\n")
+        self.assertEqual(setup.shares_of(found), {"A": 100, "GAS": 4_949, "OIL": 4_949})
+        self.assertLessEqual(sum(setup.shares_of(dict.fromkeys(map(str, range(7)))).values()), folder.MOST_COMMANDS)
+        with self.assertRaises(command.Stop):
+            setup.shares_of({"A": 9_999, "B": None})
+        for text in (
+            "",
+            "name\nA\n",
+            "participant\na\n",
+            "participant\nA\nA\n",
+            "participant\nABCDEFGHI\n",
+            "participant,commands\nA,-1\n",
+            "participant\nÄ\n",
+        ):
+            with self.subTest(text=text), self.assertRaises(command.Stop):
+                self.participants(text)
+
+    def test_a_day_is_added_with_its_new_participants_alone(self):
+        later = "2099-11-28", "2099-11-29"
+        self.participants("participant\nA\nGAS\n")
+        path = str(self.office.path.parent / "p.csv")
+        _, made = setup.init(self.office, self.args(day=later[0], participants=path))
+        self.assertEqual(list(made), ["A", "GAS"])
+        self.participants("participant\nA\nOIL\n")
+        terms, made = setup.init(self.office, self.args(day=later[1], participants=path))
+        self.assertEqual((list(made), list(terms.shares)), (["OIL"], ["A", "OIL"]))
+        self.assertEqual(list(self.office.days()), list(later))
+        with self.assertRaisesRegex(command.Stop, "already"):
+            setup.init(self.office, self.args(day=later[1]))
+        self.assertEqual([path.name for path in self.office.file(folder.DAYS).iterdir() if path.name.startswith(".")], [])
+
+    def test_the_command_line(self):
+        room = self.office.path.parent
+        (room / "p.csv").write_text("participant\nGAS\n")
+        words = ["--day", "2099-11-28", "--close", "12:00", "--participants", room / "p.csv"]
+        status, out, err = tool("office", "init", self.office.path, *words, "--json")
+        self.assertEqual((status, err), (0, ""))
+        made = json.loads(out)
+        self.assertEqual((made["command"], list(made["tokens"]), made["closes"]), ("init", ["GAS"], "2099-11-27T11:00:00+00:00"))
+        self.assertEqual(tool("office", "init", self.office.path, *words)[0], command.NO_INPUT)
+        self.assertEqual(tool("office", "serve", self.office.path, "--host", "0.0.0.0")[0], command.COMMAND_LINE)
+        self.assertEqual(tool("office", "serve", room)[0], command.NO_INPUT)
+        self.assertEqual(tool("office", "revoke", self.office.path, "OIL")[0], command.NO_INPUT)
+        status, out, _ = tool("office", "renew", self.office.path, "GAS")
+        self.assertTrue(tokens.Register(self.office.file(folder.PARTICIPANTS)).knows("GAS", out.decode().strip()))
+        self.assertEqual(tool("office", "publish", self.office.path)[0], command.NO_INPUT)
+        self.assertEqual(tool("office", "status", self.office.path, "--desk", "true")[0], 0)
+
+
+if __name__ == "__main__":
+    unittest.main()
