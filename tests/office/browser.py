@@ -1,0 +1,115 @@
+"""A headless Chromium, by its DevTools protocol."""
+
+import asyncio
+import base64
+import contextlib
+import itertools
+import json
+import shutil
+import subprocess
+import tempfile
+from pathlib import Path
+
+import aiohttp
+
+NAMES = ("chromium", "chromium-browser", "google-chrome")
+START_SECONDS, WAIT_SECONDS, STEP = 30, 20, 0.05
+
+
+def found():
+    return next((path for path in map(shutil.which, NAMES) if path), None)
+
+
+class Page:
+    """A tab. Faults of its scripts, and what its policy refuses, are gathered in `faults`."""
+
+    def __init__(self, socket):
+        self.socket, self.numbers, self.answers, self.faults = socket, itertools.count(1), {}, []
+        self.reader = asyncio.create_task(self.read())
+
+    async def read(self):
+        async for message in self.socket:
+            value = json.loads(message.data)
+            if "id" in value:
+                self.answers.pop(value["id"]).set_result(value)
+            elif value["method"] == "Runtime.exceptionThrown":
+                self.faults.append(value["params"]["exceptionDetails"].get("exception", {}).get("description", "an exception"))
+            elif value["method"] == "Log.entryAdded" and value["params"]["entry"]["level"] == "error":
+                self.faults.append(value["params"]["entry"]["text"])
+
+    async def call(self, method, **params):
+        number = next(self.numbers)
+        self.answers[number] = asyncio.get_running_loop().create_future()
+        await self.socket.send_json({"id": number, "method": method, "params": params})
+        answer = await asyncio.wait_for(self.answers[number], WAIT_SECONDS)
+        if "error" in answer:
+            raise RuntimeError(f"{method}: {answer['error']}")
+        return answer["result"]
+
+    async def run(self, script):
+        """The value of an expression in the page."""
+        found = await self.call("Runtime.evaluate", expression=script, awaitPromise=True, returnByValue=True)
+        if "exceptionDetails" in found:
+            raise RuntimeError(f"{script}: {found['exceptionDetails']}")
+        return found["result"].get("value")
+
+    async def until(self, script):
+        """Waits until an expression is true."""
+        with contextlib.suppress(asyncio.TimeoutError):
+            async with asyncio.timeout(WAIT_SECONDS):
+                while not await self.run(f"Boolean({script})"):
+                    await asyncio.sleep(STEP)
+                return
+        raise AssertionError(
+            f"it never is so: {script}; the page says: {await self.run('document.getElementById(`message`)?.textContent')}"
+        )
+
+    async def look(self, width, scheme):
+        await self.call("Emulation.setDeviceMetricsOverride", width=width, height=900, deviceScaleFactor=1, mobile=width < 500)
+        await self.call("Emulation.setEmulatedMedia", features=[{"name": "prefers-color-scheme", "value": scheme}])
+
+    async def picture(self, path):
+        found = await self.call("Page.captureScreenshot", captureBeyondViewport=True)
+        Path(path).write_bytes(base64.b64decode(found["data"]))
+
+    async def type(self, text):
+        await self.call("Input.insertText", text=text)
+
+    async def key(self, name, code):
+        for kind in ("keyDown", "keyUp"):
+            text = {"text": "\r"} if name == "Enter" and kind == "keyDown" else {}
+            await self.call("Input.dispatchKeyEvent", type=kind, key=name, code=name, windowsVirtualKeyCode=code, **text)
+
+
+@contextlib.asynccontextmanager
+async def opened(url):
+    """A tab with a page."""
+    with tempfile.TemporaryDirectory(ignore_cleanup_errors=True) as room:
+        words = [
+            found(),
+            "--headless=new",
+            "--no-sandbox",
+            "--disable-gpu",
+            "--disable-dev-shm-usage",
+            "--no-first-run",
+            "--hide-scrollbars",
+        ]
+        words += ["--remote-debugging-port=0", "--disable-background-networking", f"--user-data-dir={room}", "about:blank"]
+        process = subprocess.Popen(words, stdout=subprocess.DEVNULL, stderr=subprocess.DEVNULL)
+        try:
+            async with asyncio.timeout(START_SECONDS):
+                while not (port := Path(room, "DevToolsActivePort")).exists() or len(port.read_text().split()) < 2:
+                    await asyncio.sleep(STEP)
+            async with aiohttp.ClientSession() as session:
+                async with session.get(f"http://127.0.0.1:{port.read_text().split()[0]}/json") as answer:
+                    tab = next(one for one in await answer.json(content_type=None) if one["type"] == "page")
+                async with session.ws_connect(tab["webSocketDebuggerUrl"], max_msg_size=0) as socket:
+                    page = Page(socket)
+                    for domain in ("Page", "Runtime", "Log", "DOM"):
+                        await page.call(f"{domain}.enable")
+                    await page.call("Page.navigate", url=url)
+                    await page.until("location.href !== 'about:blank' && document.readyState === 'complete'")
+                    yield page
+        finally:
+            process.terminate()
+            process.wait()

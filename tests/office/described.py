@@ -1,0 +1,150 @@
+"""The routes of an office, compared with its OpenAPI file: each is described, and each answer has the described status, type and shape,
+also to random requests."""
+
+import json
+import random
+import re
+
+from served import TOP
+
+from lib import heads, rules
+
+API = json.loads((TOP / "tools" / "lib" / "office" / "openapi.json").read_text())
+RANDOM = 60  # requests of a day
+TYPES = {"string": str, "integer": int, "number": (int, float), "boolean": bool, "array": list, "object": dict}
+
+
+def wrong(value, schema, at="answer"):
+    """How a value breaks a schema; None if it doesn't."""
+    if "$ref" in schema:
+        return wrong(value, API["components"]["schemas"][schema["$ref"].rpartition("/")[2]], at)
+    if "oneOf" in schema:
+        return None if sum(wrong(value, one, at) is None for one in schema["oneOf"]) == 1 else f"{at} is none of several"
+    kind = schema.get("type")
+    if kind and (not isinstance(value, TYPES[kind]) or kind != "boolean" and isinstance(value, bool)):
+        return f"{at} should be a {kind}"
+    if "enum" in schema and value not in schema["enum"]:
+        return f"{at} is {value!r}"
+    if "pattern" in schema and not re.search(schema["pattern"], value):
+        return f"{at} is {value!r}"
+    if kind == "array":
+        found = (wrong(one, schema.get("items", {}), f"{at}[{number}]") for number, one in enumerate(value))
+        return next((fault for fault in found if fault), None)
+    if kind == "object":
+        if missing := [name for name in schema.get("required", ()) if name not in value]:
+            return f"{at} has no {missing[0]}"
+        properties = schema.get("properties", {})
+        if schema.get("additionalProperties") is False and (more := set(value) - set(properties)):
+            return f"{at} has {sorted(more)[0]}"
+        found = (wrong(one, properties.get(name, {}), f"{at}.{name}") for name, one in value.items())
+        return next((fault for fault in found if fault), None)
+    return None
+
+
+def asked(office, counts, method, template, values, headers=None, body=None, query=""):
+    """Sends a request, and compares the answer with its description. Returns the status and the body."""
+    status, got, data = office.get(template.format(**values) + query, headers, method, body)
+    described = API["paths"][template][method.lower()]["responses"].get(str(status))
+    about = f"{method} {template} {values} {query} {(body or b'')[:200]!r}: {status} {data[:200]!r}"
+    if described is None:
+        counts.check(f"{about}: the status isn't described", False)
+        return status, data
+    kinds = described.get("content", {})
+    kind = got.get("Content-Type", "").partition(";")[0]
+    fault = None if kind in kinds or not kinds else f"the type is {kind}"
+    if kind == "application/json" and kind in kinds:
+        fault = fault or wrong(json.loads(data), kinds[kind]["schema"])
+    counts.check(f"{about}: {fault}", fault is None)
+    return status, data
+
+
+def check_all_are_described(counts):
+    """The routes of the application and of the file are the same."""
+    from unittest import mock
+
+    from lib.office.web import Web
+
+    office = mock.Mock(public_key="")
+    served = {(route.method, route.resource.canonical) for route in Web(office).application().router.routes() if route.method != "HEAD"}
+    plain = lambda path: re.sub(r"\{(\w+):[^/]*\}(?=/|$)", r"{\1}", path)
+    described = {(method.upper(), path) for path, methods in API["paths"].items() for method in methods}
+    counts.check(f"described and served: {served ^ described}", {(method, plain(path)) for method, path in served} == described)
+
+
+def random_command(rng, periods):
+    """A command in JSON, mostly right."""
+    name = rng.choice(["A", "B", "ABCDEFGHIJKL", "A-1"])
+    volumes = [[period, rng.choice([1, 99_999, 7])] for period in sorted(rng.sample(range(1, periods + 1), rng.choice([1, 1, periods])))]
+    kind = rng.choice(["hour", "block"])
+    made = {
+        "what": "submit",
+        "order": name,
+        "kind": kind,
+        "side": rng.choice(["buy", "sell"]),
+        "price": rng.choice([-50_000, 0, 400_000]),
+        "volumes": volumes,
+    }
+    if kind == "hour":
+        made["volumes"] = volumes[:1]
+    elif rng.random() < 0.5:
+        made.update(parent=rng.choice(["", "A"]), group=rng.choice(["", "G"]))
+    made = rng.choice([made, made, {"what": "amend", "order": name, "price": 1, "volumes": volumes}, {"what": "cancel", "order": name}])
+    if rng.random() < 0.25:
+        key = rng.choice(sorted(made))
+        made[key] = rng.choice([None, [], {}, "", "a", 10**9, -1, 1.5, [[0, 1]], [[1, 0]], [[101, 1]], [[2, 1], [1, 1]], "é"])
+    return made
+
+
+def check(office, counts, periods):
+    rng = random.Random(f"described {periods}")
+    if periods == min(rules.DAYS):
+        check_all_are_described(counts)
+    who = office.who[-1]
+    values = {"day": office.day, "who": who, "number": 1}
+    token = {"Authorization": f"Bearer {office.tokens[who]}"}
+    typed = {**token, "Content-Type": "application/json"}
+    entered, records = 0, []
+    for _ in range(RANDOM):
+        commands = [random_command(rng, periods) for _ in range(rng.choice([1, 1, 1, 3]))]
+        number = entered + rng.choice([1, 1, 1, 1, 2, 0])
+        number = max(1, number)
+        body = json.dumps(commands if len(commands) > 1 or rng.random() < 0.5 else commands[0]).encode()
+        status, data = asked(office, counts, "PUT", "/days/{day}/commands/{who}/{number}", {**values, "number": number}, typed, body)
+        if status == 200:
+            found = [heads.parsed(line, heads.receipt_read) for line in data.splitlines(keepends=True)]
+            counts.check("receipts are in their written form", all(is_written for _, is_written in found) and len(found) == len(commands))
+            again = asked(office, counts, "PUT", "/days/{day}/commands/{who}/{number}", {**values, "number": number}, typed, body)
+            counts.check("the same request again gets the same receipts", again == (200, data))
+            records = records[: number - 1] + [receipt.record for receipt, _ in found]
+            entered = max(entered, number - 1 + len(found))
+        elif status == 409:
+            counts.check("a conflict says the next number", json.loads(data)["next"] == entered + 1)
+    counts.check("commands were entered", entered > 5 and office.journal() == records)
+    for template, methods in API["paths"].items():
+        for method in methods:
+            if method == "get":
+                for header in (token, {}):
+                    asked(office, counts, "GET", template, values, header)
+                    asked(office, counts, "GET", template, {**values, "day": "nothing", "who": office.who[0], "number": 99_999}, header)
+    for query in ("?since=0", "?since=1", "?since=99999", "?since=x", "?since=-1", "?since="):
+        asked(office, counts, "GET", "/days/{day}/head", values, query=query)
+        asked(office, counts, "GET", "/days/{day}/commands/{who}", values, token, query=query)
+    table = f"participant,order,kind,side,price_eur_mwh,periods,volume_mw\n{who},T,block,sell,12.5,1-{periods},3\n"
+    for data in (table, table.replace(who, "OTHER"), "", "x\n", "PK\x03\x04"):
+        asked(office, counts, "POST", "/days/{day}/tables/{who}", values, token, data.encode())
+    office.close_day()
+    office.tool("publish", office.folder)
+    for template in API["paths"]:
+        if template.startswith("/days/") and "get" in API["paths"][template]:
+            status, _ = asked(office, counts, "GET", template, values, token)
+            counts.check(f"{template} after the close", status == 200 or template.endswith("statement/{who}"))
+    answer = asked(
+        office,
+        counts,
+        "PUT",
+        "/days/{day}/commands/{who}/{number}",
+        {**values, "number": entered + 1},
+        typed,
+        b'{"what":"cancel","order":"A"}',
+    )
+    counts.check("a command after the close is refused", answer[0] == 410)

@@ -1,0 +1,241 @@
+"""Requests of strangers: half, slow, too long, with odd paths, headers and tokens. Each is sent as bytes."""
+
+import contextlib
+import json
+import socket
+import ssl
+import subprocess
+import time
+from pathlib import Path
+
+SECONDS = 40  # that an answer, or the end of a connection, may take
+
+
+def said(office, data, wait=True, context=None):
+    """Sends bytes, and returns all that comes until the connection ends."""
+    with contextlib.closing(socket.create_connection(("127.0.0.1", office.port), timeout=SECONDS)) as plain:
+        connection = context.wrap_socket(plain, server_hostname="localhost") if context else plain
+        with contextlib.suppress(ConnectionError, BrokenPipeError):
+            connection.sendall(data)
+        if not wait:
+            connection.shutdown(socket.SHUT_WR)
+        found = b""
+        with contextlib.suppress(ConnectionError):
+            while part := connection.recv(65_536):
+                found += part
+        return found
+
+
+def request(method, path, headers=(), body=b""):
+    lines = [f"{method} {path} HTTP/1.1", "Host: x", "Connection: close", *headers]
+    lines += [f"Content-Length: {len(body)}"] if body else []
+    return "".join(f"{line}\r\n" for line in lines).encode("latin-1") + b"\r\n" + body
+
+
+def status(answer):
+    return int(answer[9:12]) if answer.startswith((b"HTTP/1.1 ", b"HTTP/1.0 ")) else None
+
+
+def check_tokens(office, counts):
+    who, other = office.who[:2]
+    right = office.tokens[who]
+    path = f"/days/{office.day}/commands/{who}"
+    for words, header in (
+        ("no token", None),
+        ("an empty one", "Bearer "),
+        ("another scheme", f"Basic {right}"),
+        ("a shorter one", f"Bearer {right[:-1]}"),
+        ("a longer one", f"Bearer {right}A"),
+        ("another's", f"Bearer {office.tokens[other]}"),
+        ("two", f"Bearer {right} {right}"),
+        ("odd bytes", "Bearer \xff\x01"),
+    ):
+        answer = said(office, request("GET", path, [f"Authorization: {header}"] if header is not None else []))
+        counts.check(f"{words} is refused", status(answer) in (400, 401) and right.encode() not in answer)
+    for name in ("orders", "commands", "receipts", "statement"):
+        answer = said(office, request("GET", f"/days/{office.day}/{name}/{other}", [f"Authorization: Bearer {right}"]))
+        counts.check(f"{name} of another are refused", status(answer) == 401)
+    body = f"cancel,{other},A,,,,,,".encode()
+    headers = [f"Authorization: Bearer {right}", "Content-Type: text/csv"]
+    counts.check("a command of another is refused", status(said(office, request("PUT", f"{path}/1", headers, body))) == 400)
+    answer = said(office, request("PUT", f"/days/{office.day}/commands/{other}/1", headers, body))
+    counts.check("and so is one under its name", status(answer) == 401)
+    counts.check(
+        "a right token is taken after many wrong ones", all(status(said(office, request("GET", path, headers))) == 200 for _ in range(3))
+    )
+    many = [status(said(office, request("GET", path, ["Authorization: Bearer x"]))) for _ in range(60)]
+    counts.check("many wrong ones are slowed down", set(many) == {401, 429})
+    counts.check("and the right one isn't", status(said(office, request("GET", path, headers))) == 200)
+
+
+def check_paths(office, counts):
+    secret = (office.folder / "operator.pem").read_bytes().splitlines()[1]
+    for path in (
+        "/../operator.pem",
+        "/days/../operator.pem",
+        "/days/..%2foperator.pem/head",
+        "/%2e%2e/operator.pem",
+        "//operator.pem",
+        f"/days/{office.day}/../../operator.pem",
+        f"/days/{office.day}/salts.json",
+        f"/days/{office.day}/desk",
+        f"/days/{office.day}/terms.json",
+        "/days/%00/head",
+        "/days/./head",
+        "/office.css/../operator.pem",
+        "/days/2099-11-29%0d%0aX-Evil:%201/head",
+        "/participants.json",
+        "/<script>alert(1)</script>",
+        "http://evil.example/days",
+        "/demo",
+        f"/days/{office.day}/close",
+        "*",
+    ):
+        answer = said(office, request("GET", path))
+        is_right = status(answer) in (400, 403, 404, 405) or path.startswith("http") and status(answer) == 200
+        head = answer.partition(b"\r\n\r\n")[0]
+        counts.check(f"GET {path}", is_right and secret not in answer and b"script>" not in answer and b"\nx-evil" not in head.lower())
+    for method in ("DELETE", "POST", "TRACE", "CONNECT", "PATCH", "FOO", "get"):
+        counts.check(f"{method} /days", status(said(office, request(method, "/days"))) in (400, 404, 405, 501))
+
+
+def check_messages(office, counts):
+    """What is no request, or would be two."""
+    who = office.who[0]
+    path = f"/days/{office.day}/commands/{who}/1"
+    token = f"Authorization: Bearer {office.tokens[who]}"
+    body = f"cancel,{who},A,,,,,,".encode()
+    both = ["Transfer-Encoding: chunked", token, "Content-Type: text/csv"]
+    for words, data in (
+        ("garbage", b"\x16\x03\x01garbage\r\n\r\n"),
+        ("a script", b"<script>alert(1)</script>\r\n\r\n"),
+        ("no version", b"GET /days\r\n\r\n"),
+        ("a header without a colon", b"GET /days HTTP/1.1\r\nevil<script>\r\n\r\n"),
+        ("a header of 100 kB", request("GET", "/days", [f"X: {'a' * 100_000}"])),
+        ("10,000 headers", request("GET", "/days", [f"X-{number}: {'a' * 100}" for number in range(10_000)])),
+        ("a length that is none", request("PUT", path, [token, "Content-Length: -1"])),
+        ("a length and chunks", request("PUT", path, both, body)),
+        ("a chunk that is none", request("PUT", path, both) + b"zz\r\n"),
+    ):
+        answer = said(office, data, wait=False)
+        counts.check(f"{words} is refused", status(answer) in (400, 404, 413, 431, None) and b"<script>" not in answer)
+    chunks = b"".join(b"1000\r\n" + b"a" * 4096 + b"\r\n" for _ in range(400)) + b"0\r\n\r\n"
+    counts.check("a body without end is cut", status(said(office, request("PUT", path, both) + chunks)) == 413)
+    counts.check("a body of 2 MB is refused", status(said(office, request("PUT", path, [token], b"a" * (2 << 20)))) == 413)
+    counts.check("without a token it isn't read", status(said(office, request("PUT", path, [], b"a" * (2 << 20)))) == 401)
+    counts.check("nothing was entered", office.client(who).next(office.day) == 1)
+
+
+def check_slow(office, counts):
+    """Half a head and half a body: the connection ends, and others are served in the meantime."""
+    who = office.who[0]
+    token = f"Authorization: Bearer {office.tokens[who]}"
+    halves = [b"GET /days HTT", request("PUT", f"/days/{office.day}/commands/{who}/1", [token, "Content-Length: 100"])[:-2] + b"\r\ncancel"]
+    with contextlib.ExitStack() as stack:
+        slow = [
+            stack.enter_context(contextlib.closing(socket.create_connection(("127.0.0.1", office.port), timeout=SECONDS)))
+            for _ in range(200)
+        ]
+        began = time.monotonic()
+        for number, one in enumerate(slow):
+            one.sendall(halves[number % 2])
+        counts.check("others are served next to 200 slow ones", office.get("/days")[0] == 200 and time.monotonic() - began < 5)
+        answers = []
+        for one in slow:
+            with contextlib.suppress(ConnectionError):
+                answers.append(one.recv(65_536))
+        counts.check("slow ones end", time.monotonic() - began < SECONDS and all(status(one) in (400, None) for one in answers))
+    counts.check("half a body enters nothing", office.client(who).next(office.day) == 1)
+
+
+def check_many(office, counts, most):
+    """More connections than the office takes: it ends those that are too many, and serves others once they go."""
+    with contextlib.ExitStack() as stack:
+        with contextlib.suppress(OSError):
+            for _ in range(most):
+                stack.enter_context(contextlib.closing(socket.create_connection(("127.0.0.1", office.port), timeout=SECONDS)))
+        time.sleep(0.5)
+    until = time.monotonic() + 20
+    while not office.is_ready() and time.monotonic() < until:
+        time.sleep(0.1)
+    counts.check(f"it serves after {most} connections", office.get("/days")[0] == 200)
+    counts.check("it refused some", b"connections_refused_total" in office.get("/metrics")[2])
+
+
+def check_headers(office, counts):
+    for path, code in (
+        ("/", 200),
+        ("/office.js", 200),
+        ("/days", 200),
+        ("/nothing", 404),
+        (f"/days/{office.day}/orders/{office.who[0]}", 401),
+    ):
+        found, headers, _ = office.get(path)
+        policy = headers.get("Content-Security-Policy", "")
+        is_right = "default-src 'none'" in policy and "unsafe" not in policy and headers.get("X-Content-Type-Options") == "nosniff"
+        counts.check(
+            f"headers of {path}", found == code and is_right and "Set-Cookie" not in headers and headers.get("Server") == "dam-office"
+        )
+
+
+def check_secrets(office, counts):
+    """Nothing secret in the log, the answers to faults, or the list of processes."""
+    listed = subprocess.run(["ps", "axww", "-o", "args="], capture_output=True, text=True).stdout
+    log = office.log.read_text()
+    secrets = [token.partition(".")[2] for token in office.tokens.values()]
+    secrets.append(json.loads((office.files / "salts.json").read_bytes())["secret"])
+    counts.check("no secret is in the log or a list of processes", not any(secret in listed or secret in log for secret in secrets))
+    counts.check("each line of the log is JSON", all(json.loads(line)["event"] for line in log.splitlines()))
+    private = [path for path in [office.folder, *office.folder.rglob("*")] if path.stat().st_mode & 0o077]
+    counts.check(f"no file is for others: {private}", not private)
+
+
+def certificate(room):
+    """A certificate and its key, made by openssl."""
+    cert, key = Path(room, "cert.pem"), Path(room, "key.pem")
+    words = [
+        "openssl",
+        "req",
+        "-x509",
+        "-newkey",
+        "ec",
+        "-pkeyopt",
+        "ec_paramgen_curve:prime256v1",
+        "-nodes",
+        "-days",
+        "2",
+        "-subj",
+        "/CN=localhost",
+    ]
+    words += ["-addext", "subjectAltName=DNS:localhost,IP:127.0.0.1"]
+    subprocess.run([*words, "-out", cert, "-keyout", key], check=True, capture_output=True)
+    return cert, key
+
+
+def check_tls(office, cert, counts):
+    """By openssl s_client, and by the client of dam_tools, which trusts this certificate alone."""
+    words = [
+        "openssl",
+        "s_client",
+        "-connect",
+        f"127.0.0.1:{office.port}",
+        "-servername",
+        "localhost",
+        "-CAfile",
+        cert,
+        "-verify_return_error",
+        "-quiet",
+    ]
+    ran = subprocess.run(words, input=request("GET", "/days"), capture_output=True, timeout=SECONDS)
+    counts.check("openssl s_client gets the days", status(ran.stdout) == 200 and b"max-age" in ran.stdout)
+    for version in ("-tls1", "-tls1_1"):
+        ran = subprocess.run([*words, version, "-cipher", "DEFAULT@SECLEVEL=0"], input=b"", capture_output=True, timeout=SECONDS)
+        counts.check(f"{version} is refused", ran.returncode != 0)
+    context = ssl.create_default_context(cafile=cert)
+    client = office.client(office.who[0])
+    client.url, client.context = f"https://localhost:{office.port}", context
+    counts.check(
+        "the client enters a command over TLS",
+        client.enter(office.day, f"cancel,{office.who[0]},A,,,,,,")[0]["reply"] == "refused,UnknownOrder",
+    )
+    counts.check("plain HTTP gets nothing", status(said(office, request("GET", "/days"))) != 200)

@@ -1,0 +1,193 @@
+"""The parts of the test of an office."""
+
+import asyncio
+import contextlib
+import os
+import subprocess
+import sys
+import tempfile
+import time
+from pathlib import Path
+
+import browser
+import hostile
+import loads
+from served import TOP, OfficeFault, served
+
+from lib import heads, rules, signing
+
+KILLS, ALL_KILLS = 3, 30
+CONNECTIONS = 50  # of a load, each of a participant
+SECONDS = 12  # that a load may take in the check
+
+
+def key_of(office):
+    return signing.public((office.folder / "operator.pem.pub").read_bytes())
+
+
+def tool(name, *words):
+    return subprocess.run([sys.executable, "-I", "-B", TOP / "tools" / name, *map(str, words)], capture_output=True, text=True)
+
+
+def refused(call, fault):
+    """Whether a call is refused with a fault of this name."""
+    try:
+        call()
+    except OfficeFault as found:
+        return found.fault == fault
+    return False
+
+
+def strangers(args, counts):
+    with served(args.dam, args.desk) as office:
+        office.start()
+        hostile.check_headers(office, counts)
+        hostile.check_messages(office, counts)
+        hostile.check_slow(office, counts)
+        hostile.check_paths(office, counts)
+        hostile.check_many(office, counts, 10_000 if args.all else 1_300)
+        hostile.check_tokens(office, counts)
+        who = office.who[0]
+        client = office.client(who)
+        client.enter(office.day, f"cancel,{who},A,,,,,,")
+        office.tool("revoke", office.folder, who)
+        counts.check("a revoked token is refused at once", refused(lambda: client.orders(office.day), "Token"))
+        hostile.check_secrets(office, counts)
+
+
+def tls(args, counts):
+    with tempfile.TemporaryDirectory() as room:
+        cert, key = hostile.certificate(room)
+        with served(args.dam, args.desk, words=["--tls", cert, key]) as office:
+            with contextlib.suppress(RuntimeError):
+                office.is_ready = lambda: office.process.poll() is None and b'"serving"' in office.log.read_bytes()
+                office.start()
+            hostile.check_tls(office, cert, counts)
+
+
+def disk(args, counts):
+    """A disk that is full: commands wait or are refused, and are entered once there is room."""
+    with tempfile.TemporaryDirectory() as room:
+        full, limited = Path(room, "full"), Path(room, "desk")
+        # a desk that can't write beyond 16 blocks of 512 bytes, as long as the file `full` is there
+        limited.write_text(f'#!/bin/sh\ntrap "" XFSZ\n[ ! -e {full} ] || ulimit -f 16\nexec {args.desk} "$@"\n')
+        limited.chmod(0o755)
+        full.touch()
+        with served(args.dam, limited) as office:
+            office.start()
+            who = office.who[0]
+            record = f"submit,{who},%s,block,buy,1,{';'.join(f'{period}:1' for period in range(1, 25))},,"
+            entered, path = 0, f"/days/{office.day}/commands/{who}/"
+            while (answer := office.get(f"{path}{entered + 1}", office.bearer(who), "PUT", record % f"B-{entered}"))[0] == 200:
+                entered += 1
+            counts.check(f"a full disk is answered by 503, after {entered} commands", answer[0] == 503 and 10 < entered < 200)
+            counts.check("and the ends of the desk are counted", b"dam_office_desk_ends_total" in office.get("/metrics")[2])
+            full.unlink()
+            receipt = office.client(who).enter(office.day, record % f"B-{entered}")[0]
+            counts.check("with room the same command is entered once", receipt["number"] == entered + 1 == len(office.journal()))
+            for part in (("desk",), ("office",)):
+                office.kill(*part)
+                if "office" in part:
+                    office.start()
+                counts.check(
+                    "and it stays", [one["entry"] for one in office.client(who).commands(office.day)] == list(range(1, entered + 2))
+                )
+
+
+def kills(args, counts):
+    """SIGKILL of the office, its desk and both, in the middle of a load, after which clients send again."""
+    count, rounds = (ALL_KILLS, 5) if args.all else (KILLS, 1)
+    for number in range(rounds):
+        with served(args.dam, args.desk, count=20) as office:
+            office.start()
+            load, starts = asyncio.run(loads.with_kills(office, count // rounds, 60, f"kills {number}"))
+            records = office.journal()
+            replies = loads.replies_of(args.dam, records)
+            wrong = list(loads.faults(load, records, replies, key_of(office)))
+            counts.check(f"no acknowledged command is lost, changed or doubled: {wrong[:3]}", not wrong)
+            counts.check("each command is acknowledged", len(load.acknowledged) == len(records) == 20 * 60)
+            office.close_day()
+            counts.check("a day with kills is closed", office.journal()[-1] == "close,,,,,,,,")
+            receipts, head = office.folder / "r.jsonl", office.folder / "h.json"
+            client = office.client(office.who[0])
+            receipts.write_bytes(client.receipts(office.day))
+            head.write_bytes(client.head(office.day))
+            ran = tool("receipts", "verify", receipts, "--head", head, "--key", office.folder / "operator.pem.pub")
+            counts.check(f"the receipts are right: {ran.stdout[-200:]}", ran.returncode == 0)
+            print(f"{count // rounds} kills, {len(records) - 1} commands: ready again after {max(starts):.2f} s at most")
+
+
+def whole_day(args, counts):
+    """A day of 9,999 commands, or as many as there is time for, from 50 connections; then a crash, the close, and what is published."""
+    with served(args.dam, args.desk, count=CONNECTIONS) as office:
+        office.start()
+        load = loads.Load(office)
+        took = asyncio.run(load.run((rules.MOST_RECORDS - 2) // CONNECTIONS, 600 if args.all else SECONDS))
+        print(f"{CONNECTIONS} connections: {load.summary(took)}")
+        records = office.journal()
+        replies = loads.replies_of(args.dam, records)
+        wrong = list(loads.faults(load, records, replies, key_of(office)))
+        counts.check(f"no reply is lost, wrong or twice: {wrong[:3]}", not wrong and len(load.acknowledged) == len(records))
+        office.kill("office", "desk")
+        again = office.start()
+        print(f"a start with {len(records)} entries: {again:.2f} s")
+        published = office.close_day()
+        print(f"from the close to the results: {published:.2f} s")
+        check_published(args, counts, office)
+        counts.check(
+            "another's share isn't touched", office.client(office.who[0]).next(office.day) <= (rules.MOST_RECORDS - 2) // CONNECTIONS + 1
+        )
+
+
+def check_published(args, counts, office):
+    """The published texts are the program's own, the audit accepts them with the head, and each participant has its statement."""
+    who = office.who[0]
+    client = office.client(who)
+    counts.check("the journal isn't published by itself", refused(lambda: client.text(office.day, "journal"), "NotFound"))
+    office.tool("publish", office.folder)
+    journal, results, replies = (client.text(office.day, name) for name in ("journal", "results", "replies"))
+    cleared = subprocess.run([args.dam, "clear"], input=journal, capture_output=True, check=True).stdout
+    counts.check("the results are dam clear's", results == cleared)
+    counts.check(
+        "the replies are dam replay's",
+        replies == subprocess.run([args.dam, "replay"], input=journal, capture_output=True, check=True).stdout,
+    )
+    folder = office.files
+    words = ["--head", folder / "head.json", "--salts", folder / "salts.json", "--key", office.folder / "operator.pem.pub"]
+    for texts in (["results.txt"], ["replies.txt", "--replies"]):
+        name, *more = texts
+        ran = tool("audit", folder / "journal.csv", folder / name, *more, *words)
+        counts.check(f"the audit accepts {name}: {ran.stdout[-300:]}{ran.stderr[-300:]}", ran.returncode == 0)
+    while refused(lambda: client.statement(office.day), "NotFound"):
+        time.sleep(0.1)
+    rows = client.statement(office.day)
+    counts.check(
+        "a statement has each command of the participant",
+        len(rows) == client.next(office.day) - 1 and {row["participant"] for row in rows} <= {who},
+    )
+    first = heads.extension_read(heads.json.loads(client.head(office.day, 1)))
+    counts.check("the last head goes on from the first", first.is_right() and first.new.size == len(office.journal()))
+
+
+def routes(args, counts):
+    """Each route as the description has it, and random requests by it."""
+    import described
+
+    for periods in sorted(rules.DAYS):
+        with served(
+            args.dam,
+            args.desk,
+            periods=periods,
+            day={23: "2099-03-29", 92: "2099-03-29", 25: "2099-10-25", 100: "2099-10-25"}.get(periods, "2099-11-29"),
+        ) as office:
+            office.start()
+            described.check(office, counts, periods)
+
+
+def page(args, counts):
+    if browser.found() is None:
+        counts.leave_out("the page: chromium is missing")
+        return
+    import scene_of_page
+
+    scene_of_page.check(args, counts)

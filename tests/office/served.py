@@ -1,0 +1,146 @@
+"""An office that is served by the built programs, in a folder of a test."""
+
+import contextlib
+import http.client
+import json
+import os
+import signal
+import socket
+import subprocess
+import sys
+import tempfile
+import time
+from pathlib import Path
+
+TOP = Path(__file__).resolve().parents[2]
+sys.path[:0] = [str(TOP / "tools"), str(TOP / "tests")]
+
+from dam_tools.office import AsyncOffice, Office, OfficeFault
+
+DAY, CLOSE = "2099-11-29", "2099-11-28T12:00"
+START_SECONDS, STEP = 30, 0.01
+TOOL = [sys.executable, "-I", "-B", str(TOP / "tools" / "office")]
+
+
+def free_port():
+    with contextlib.closing(socket.socket()) as found:
+        found.bind(("127.0.0.1", 0))
+        return found.getsockname()[1]
+
+
+def names(count):
+    """Names of participants, from short to long ones."""
+    return [f"{'P' * (1 + number % 6)}{chr(65 + number // 26)}{chr(65 + number % 26)}" for number in range(count)]
+
+
+class Served:
+    """The office: its folder, its tokens, and the process that serves it, which a test may end."""
+
+    def __init__(self, dam, desk, count=3, periods=24, words=(), day=DAY):
+        self.room = tempfile.TemporaryDirectory(ignore_cleanup_errors=True)
+        self.folder, self.port, self.words, self.day = Path(self.room.name, "office"), free_port(), list(words), day
+        self.environment = {**os.environ, "DAM": str(dam), "DAM_DESK": str(desk)}
+        self.who = names(count)
+        table = Path(self.room.name, "p.csv")
+        table.write_text("".join(f"{name}\n" for name in ["participant", *self.who]))
+        made = self.tool("init", self.folder, "--day", day, "--periods", periods, "--close", CLOSE, "--participants", table, "--json")
+        self.tokens = json.loads(made.stdout)["tokens"]
+        self.process, self.log = None, Path(self.room.name, "log")
+
+    def tool(self, *words):
+        return subprocess.run([*TOOL, *map(str, words)], env=self.environment, capture_output=True, check=True)
+
+    @property
+    def url(self):
+        return f"http://127.0.0.1:{self.port}"
+
+    @property
+    def files(self):
+        return self.folder / "days" / self.day
+
+    def start(self):
+        """Serves the office, and returns the seconds until the day takes commands."""
+        began = time.monotonic()
+        with self.log.open("ab") as log:
+            words = [*TOOL, "serve", self.folder, "--port", str(self.port), *self.words]
+            self.process = subprocess.Popen(words, env=self.environment, stdout=subprocess.DEVNULL, stderr=log)
+        while not self.is_ready():
+            if self.process.poll() is not None or time.monotonic() - began > START_SECONDS:
+                raise RuntimeError(f"the office doesn't start: {self.log.read_text()[-2_000:]}")
+            time.sleep(STEP)
+        return time.monotonic() - began
+
+    def is_ready(self):
+        try:
+            return self.get("/healthz")[0] == 200
+        except OSError:
+            return False
+
+    def get(self, path, headers=None, method="GET", body=None):
+        """The status, the headers and the body of an answer, without any client's help."""
+        connection = http.client.HTTPConnection("127.0.0.1", self.port, timeout=30)
+        try:
+            connection.request(method, path, body=body, headers=headers or {})
+            answer = connection.getresponse()
+            return answer.status, dict(answer.getheaders()), answer.read()
+        except http.client.HTTPException as fault:
+            raise OSError(str(fault)) from None
+        finally:
+            connection.close()
+
+    def bearer(self, who):
+        return {"Authorization": f"Bearer {self.tokens[who]}", "Content-Type": "text/csv"}
+
+    def client(self, who):
+        return Office(self.url, self.tokens[who])
+
+    def asynchronous(self, who):
+        return AsyncOffice(self.url, self.tokens[who])
+
+    def desks(self):
+        """The processes of desks of this office: those that it started."""
+        found = subprocess.run(["ps", "-o", "pid=,args=", "--ppid", str(self.process.pid)], capture_output=True, text=True).stdout
+        return [int(line.split()[0]) for line in found.splitlines() if str(self.files / "desk") in line]
+
+    def kill(self, *parts):
+        """Kills the office, its desk or both."""
+        victims = self.desks() if "desk" in parts else []
+        victims += [self.process.pid] if "office" in parts else []
+        for victim in victims:
+            with contextlib.suppress(ProcessLookupError):
+                os.kill(victim, signal.SIGKILL)
+        if "office" in parts:
+            self.process.wait()
+
+    def stop(self):
+        if self.process and self.process.poll() is None:
+            self.process.terminate()
+            self.process.wait(30)
+
+    def journal(self):
+        """The records in the desk's file, without the day."""
+        shown = subprocess.run([self.environment["DAM_DESK"], "--journal", self.files / "desk"], capture_output=True, check=True)
+        return shown.stdout.decode().splitlines()[1:]
+
+    def close_day(self):
+        """Closes the day, and returns the seconds until the results are published."""
+        began = time.monotonic()
+        (self.files / "close-now").touch()
+        while self.get(f"/days/{self.day}/prices")[0] != 200:
+            if time.monotonic() - began > START_SECONDS:
+                raise RuntimeError(f"there are no results: {self.log.read_text()[-2_000:]}")
+            time.sleep(STEP)
+        return time.monotonic() - began
+
+
+@contextlib.contextmanager
+def served(*words, **how):
+    office = Served(*words, **how)
+    try:
+        yield office
+    finally:
+        office.stop()
+        office.room.cleanup()
+
+
+__all__ = ["DAY", "OfficeFault", "Served", "served"]
