@@ -1,0 +1,193 @@
+"""Every crash of recorded runs: the files that a crash may leave at each moment are opened, and so are the files that another crash leaves
+while they are opened.
+
+Whether a file is right is decided by the reader of images.py, for each file, and compared with the program's opening, for each file or a
+sample: its output, its status, and the file afterwards."""
+
+import random
+from typing import NamedTuple
+
+import images
+import journals
+from images import HEAD, Moment, is_at_rest, marked_in
+
+SHOWN = 5
+OTHER_FILES = 60  # files of a second crash, for each file that is opened
+TAIL = 60  # bytes of a file that are shown
+# Lines that a crash left in a file, which don't count.
+LEFT = b"+cancel,A,NEVER,,,,,,\n\n+cancel,A,NEVER,,,,,,\n"
+
+
+class Case(NamedTuple):
+    """A file that a crash may leave, the moment of the crash, and how many records it may hold."""
+
+    image: bytes
+    moment: Moment
+    allowed: frozenset
+
+
+class Crashes:
+    """The crashes of one run of a desk on an input."""
+
+    def __init__(self, desk, about, given, seed):
+        self.desk, self.about, self.given, self.journal = desk, about, given, given.journal
+        self.rng = random.Random(seed)
+        self.wrong = []
+        self.files = self.opened = self.second = self.killed = 0
+
+    def record(self):
+        """Runs the desk on the whole input."""
+        folder = self.desk.folder()
+        ran = self.desk.run(folder / "day.desk", self.given.batches)
+        answers = [line for line in ran.stdout.splitlines(keepends=True) if not line.startswith(b"fault,")]
+        entered = [line for line in answers if not line.startswith(b"day,")]
+        if ran.status or ran.stderr or answers[:1] + entered != self.journal.answers:
+            self.wrong.append(f"{self.about}: the run itself: status {ran.status}, {ran.stderr[:80]!r}")
+        return ran
+
+    def allowed(self, moment):
+        return frozenset(count for count in self.given.borders if moment.safe <= count <= max(moment.given, moment.safe))
+
+    def cases(self, ran):
+        """The files that a crash may leave at each moment of the run."""
+        for moment in images.moments(ran.events, given_by=self.given.given_by):
+            allowed = self.allowed(moment)
+            for image in sorted(images.images(moment, self.rng)):
+                yield Case(image, moment, allowed)
+
+    def count(self, image):
+        """How many records of the journal the file holds; None if it holds others, or isn't a journal."""
+        marked = marked_in(image)
+        if marked is None:
+            return None
+        count = marked.count(b"\n")
+        return count if count <= len(self.journal) and marked == self.journal.marked(count) else None
+
+    def fault(self, case, why):
+        held = self.count(case.image)
+        self.wrong.append(f"{self.about}: {why}: {held} records for {sorted(case.allowed)}, the end {case.image[-TAIL:]!r}")
+
+    def look(self, case):
+        """Compares a file with the records that it may hold."""
+        self.files += 1
+        if self.count(case.image) not in case.allowed:
+            self.fault(case, "a file that a crash leaves")
+
+    def look_opened(self, case, ran, crash_again=True):
+        """Compares the opening of a file with the reader's, and crashes it."""
+        count = self.count(case.image)
+        self.opened += 1
+        if count is None:
+            return
+        if (ran.status, ran.stderr) != (0, b"") or ran.stdout != self.journal.printed(count):
+            self.fault(case, f"opened with status {ran.status}, {ran.stderr[:80]!r}, {ran.stdout[-TAIL:]!r}")
+        elif not is_at_rest(ran.file) or self.count(ran.file) != count:
+            self.fault(case, f"left as {ran.file[-TAIL:]!r} by the opening")
+        elif crash_again:
+            self.second_crash(case, ran, Moment(case.image, (), 0, 0), frozenset([count]))
+
+    def second_crash(self, case, ran, first, allowed):
+        """Looks at the files that another crash leaves while the file is opened. The acknowledged records are also those that the opening
+        printed."""
+        others = [(other, image) for other in images.moments(ran.events, first.base, first.changes, first.safe)
+                  for image in sorted(images.images(other, self.rng, few=True))]
+        for other, image in others if len(others) <= OTHER_FILES else self.rng.sample(others, OTHER_FILES):
+            self.second += 1
+            count = self.count(image)
+            if count not in allowed or count < other.safe:
+                self.fault(case, f"a second crash left {image[-TAIL:]!r}, with {count} records and {other.safe} acknowledged")
+                return
+
+    def look_killed(self, ran):
+        """Looks at the run as if the process was killed at each moment, and the system went on: the next opening sees all writes, and a
+        crash may still take those that weren't synced."""
+        found = [moment for moment in images.moments(ran.events, given_by=self.given.given_by) if moment.changes]
+        opened = self.desk.open_each([moment.seen for moment in found])
+        for moment, ran_again in zip(found, opened):
+            self.killed += 1
+            case = Case(moment.seen, moment, self.allowed(moment))
+            self.second_crash(case, ran_again, moment, case.allowed)
+
+    def look_journal(self, cases):
+        """Compares the journals that are printed for files with the reader's, and the files afterwards."""
+        for case, ran in zip(cases, self.desk.open_each([case.image for case in cases], ["--journal"])):
+            count = self.count(case.image)
+            if count is not None and (ran.status, ran.stdout, ran.stderr, ran.file) != (0, self.journal.text(count), b"", case.image):
+                self.fault(case, f"--journal with status {ran.status}, {ran.stderr[:80]!r}, {ran.stdout[-TAIL:]!r}")
+
+    def look_repaired(self):
+        """Opens files with lines after the mark that doesn't count, or after another byte in its place; and opens again all files that a
+        crash leaves meanwhile."""
+        borders = sorted(self.given.borders)
+        cases = []
+        for count in [*borders[:2], *borders[-2:]]:
+            for gap in (b"-", b"\n", b"?", b"-+", b"\0"):
+                image = HEAD + self.journal.marked(count) + gap + LEFT
+                cases.append(Case(image, Moment(image, (), 0, count), frozenset([count])))
+        left = []
+        for case, ran in zip(cases, self.desk.open_each([case.image for case in cases])):
+            self.look_opened(case, ran)
+            for moment in images.moments(ran.events, case.image):
+                left += [Case(image, moment, case.allowed) for image in sorted(images.images(moment, self.rng, few=True))]
+        for case, ran in zip(left, self.desk.open_each([case.image for case in left])):
+            self.look(case)
+            self.look_opened(case, ran, crash_again=False)
+
+    def go_on(self, cases):
+        """Opens files with the rest of the input, which has to end as the run did."""
+        for case in cases:
+            count = self.count(case.image)
+            if count is None:
+                continue
+            file = self.desk.folder() / "day.desk"
+            file.write_bytes(case.image)
+            rest = journals.cut_into(self.rng, self.journal.records[count:], 9)
+            ran = self.desk.run(file, rest)
+            if (ran.status, ran.stdout, ran.stderr) != (0, self.journal.printed(len(self.journal)), b""):
+                self.fault(case, f"the rest of the input: status {ran.status}, {ran.stderr[:80]!r}, {ran.stdout[-TAIL:]!r}")
+            elif marked_in(file.read_bytes()) != self.journal.marked(len(self.journal)):
+                self.fault(case, "the rest of the input isn't in the file as given")
+
+    def run(self, sample=None):
+        """Opens a sample of the files by the program, or all, and looks at each of them. Returns the faults."""
+        ran = self.record()
+        cases = list(self.cases(ran))
+        for case in cases:
+            self.look(case)
+        chosen = cases if sample is None or sample >= len(cases) else self.rng.sample(cases, sample)
+        for case, opened in zip(chosen, self.desk.open_each([case.image for case in chosen])):
+            self.look_opened(case, opened)
+        self.look_killed(ran)
+        self.look_journal(chosen[: len(chosen) // 4] if sample else chosen)
+        self.go_on(self.rng.sample(cases, min(len(cases), 20)))
+        return self.wrong
+
+    def run_whole(self, sample=None):
+        self.run(sample)
+        self.look_repaired()
+        return self.wrong
+
+
+def inputs(dam, whole):
+    """Yields the inputs whose runs are recorded."""
+    yield "a random day", journals.batched(dam, "random", journals.drawn, 60)
+    yield "the longest names", journals.batched(dam, "long", journals.long_names, 60)
+    yield "faults between records", journals.batched(dam, "faulty", journals.drawn, 60, faulty=0.3)
+    if whole:
+        yield "the shortest names", journals.batched(dam, "short", journals.short_names, 60)
+        for seed in range(4):
+            yield f"random day {seed}", journals.batched(dam, seed, journals.drawn, 60)
+
+
+def run(counts, desk, dam, whole):
+    files = opened = second = killed = 0
+    for about, given in inputs(dam, whole):
+        crashes = Crashes(desk, about, given, about)
+        wrong = crashes.run_whole(None if whole else 2_000)
+        counts.passed += crashes.opened - min(crashes.opened, len(wrong))
+        counts.failed += len(wrong)
+        print("\n".join(f"differs: {line}" for line in wrong[:SHOWN]), end="\n" if wrong else "", flush=True)
+        files, opened, second, killed = files + crashes.files, opened + crashes.opened, second + crashes.second, killed + crashes.killed
+    counts.check(f"{files} files of crashes are at least 100,000", files >= (100_000 if whole else 20_000))
+    print(f"crashes: {files:,} files that a crash may leave, {opened:,} of them opened by the program, {second:,} files of a second crash, "
+          f"{killed:,} kills", flush=True)

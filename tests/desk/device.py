@@ -1,0 +1,158 @@
+"""Runs of a desk under the library of device.c: its output, and each call that reached its file."""
+
+import fcntl
+import os
+import struct
+import subprocess
+import sys
+import tempfile
+import threading
+from concurrent.futures import ThreadPoolExecutor
+from pathlib import Path
+from typing import NamedTuple
+
+sys.path.insert(0, str(Path(__file__).resolve().parents[1]))
+
+SECONDS = 120
+EVENT, RESULT, LENGTH = struct.Struct("=ccHiQII"), struct.Struct("=iIIII"), struct.Struct("=I")
+PACKET = 4_096  # bytes that a read gets at once, if they were written at once
+ROOM = 1 << 20  # of a pipe
+EVERY = 2**62  # above the number of any call
+CHUNK = 500  # images that one process opens
+OPEN, LOCK, STAT, READ, WRITE, SYNC, CUT, ADVICE, INPUT, OUTPUT = "PLQRWSTAIO"
+DESK, EXTRA, FOLDER, STREAM = "FXDN"
+
+
+class Event(NamedTuple):
+    """A call: its kind and its target by their letters, its answer or its error number below 0, its place in the file, how many bytes it
+    asked for, and the bytes that moved."""
+
+    kind: str
+    target: str
+    answer: int
+    at: int
+    asked: int
+    bytes: bytes
+
+    @property
+    def is_change(self):
+        """Whether it changes the bytes of the file, or what a crash leaves of them."""
+        return self.target == DESK and self.kind in (WRITE, SYNC, CUT)
+
+
+class Refusal(NamedTuple):
+    """The calls of a kind, by their numbers from 1, that fail with this error number. If that is 0, they move at most some bytes."""
+
+    kind: str
+    first: int
+    last: int
+    error: int = 0
+    most: int = 0
+
+
+class Ran(NamedTuple):
+    status: int
+    stdout: bytes
+    stderr: bytes
+    events: list
+    file: bytes = None  # afterwards, if it was asked for
+
+
+def events_of(log):
+    found, at = [], 0
+    while at < len(log):
+        kind, target, _, answer, place, asked, length = EVENT.unpack_from(log, at)
+        at += EVENT.size + length
+        found.append(Event(kind.decode(), target.decode().strip("\0"), answer, place, asked, log[at - length : at]))
+    return found
+
+
+def packets(batches):
+    """The batches, each in parts that a pipe takes as one packet."""
+    return [batch[at : at + PACKET] for batch in batches for at in range(0, len(batch), PACKET)]
+
+
+class Desk:
+    """A desk: the words of its command line before the file's, and a folder for its files."""
+
+    def __init__(self, words, room, surroundings=None, jobs=None):
+        self.words, self.room = [str(it) for it in words], Path(room)
+        self.library = self.room / "device.so"
+        self.surroundings = dict(surroundings or {})
+        self.jobs = jobs or min(4, os.cpu_count() or 1)
+
+    def folder(self):
+        """A new folder for a file."""
+        return Path(tempfile.mkdtemp(dir=self.room))
+
+    def environment(self, file, **more):
+        return {"LD_PRELOAD": str(self.library), "DESK_FILE": str(file), **self.surroundings, **more}
+
+    def run(self, file, batches=(), refusal=None, words=(), more=None, stdout=subprocess.PIPE):
+        """Runs the desk with the file. Each batch comes in by one read, if it isn't longer than a packet."""
+        log = Path(f"{file}.{threading.get_ident()}.log")
+        log.write_bytes(b"")
+        surroundings = self.environment(file, DESK_LOG=str(log), **(more or {}))
+        if refusal:
+            surroundings["DESK_REFUSE"] = " ".join(map(str, refusal))
+        ours, theirs = feed(packets(batches))
+        try:
+            ran = subprocess.run([*self.words, *words, str(file)], stdin=ours, stdout=stdout, stderr=subprocess.PIPE, env=surroundings,
+                                 timeout=SECONDS)
+        finally:
+            os.close(ours)
+            theirs.join()
+        events = events_of(log.read_bytes())
+        log.unlink()
+        return Ran(ran.returncode, ran.stdout or b"", ran.stderr, events)
+
+    def open_each(self, images, words=(), more=None):
+        """Runs the desk on a file of each of these bytes, with no input. The runs are in the order of the images."""
+        parts = [images[at : at + CHUNK] for at in range(0, len(images), CHUNK)]
+        with ThreadPoolExecutor(self.jobs) as pool:
+            for found in pool.map(lambda part: self.serve(part, words, more), parts):
+                yield from found
+
+    def serve(self, images, words, more):
+        folder = self.folder()
+        file, given, results = folder / "day.desk", folder / "images", folder / "results"
+        given.write_bytes(b"".join(LENGTH.pack(len(image)) + image for image in images))
+        surroundings = self.environment(file, DESK_SERVE=f"{given} {results}", **(more or {}))
+        ran = subprocess.run([*self.words, *words, str(file)], stdin=subprocess.DEVNULL, stdout=subprocess.PIPE, stderr=subprocess.PIPE,
+                             env=surroundings, timeout=SECONDS)
+        if ran.returncode or ran.stdout or ran.stderr:
+            raise RuntimeError(f"the files weren't opened: {ran}")
+        text, at, found = results.read_bytes(), 0, []
+        for path in folder.iterdir():
+            path.unlink()
+        folder.rmdir()
+        while at < len(text):
+            status, *lengths = RESULT.unpack_from(text, at)
+            at += RESULT.size
+            parts = []
+            for length in lengths:
+                parts.append(text[at : at + length])
+                at += length
+            found.append(Ran(status, parts[0], parts[1], events_of(parts[2]), parts[3]))
+        if len(found) != len(images):
+            raise RuntimeError(f"{len(found)} of {len(images)} files were opened")
+        return found
+
+
+def feed(parts):
+    """A pipe that gives each of these parts to one read, and the thread that fills it."""
+    ours, theirs = os.pipe2(os.O_DIRECT | os.O_CLOEXEC)
+    fcntl.fcntl(theirs, fcntl.F_SETPIPE_SZ, ROOM)
+
+    def fill():
+        try:
+            for part in parts:
+                os.write(theirs, part)
+        except BrokenPipeError:
+            pass
+        finally:
+            os.close(theirs)
+
+    thread = threading.Thread(target=fill)
+    thread.start()
+    return ours, thread

@@ -1,0 +1,296 @@
+"""Files that aren't a desk's, full journals, hostile lines, and lines that are cut: a named fault, and nothing is changed."""
+
+import os
+import random
+import resource
+import socket
+import subprocess
+import time
+
+import images
+import journals
+import kills
+import streams
+from device import SECONDS
+from images import HEAD, MOST, is_at_rest, marked_in
+from journals import CLOSE, rules
+from shared.printed import Printed
+
+DAY = b"day,24,,,,,,,\n"
+NO_JOURNAL, TOO_LONG = b"file: the file isn't a desk's journal\n", b"file: the file has more than %d bytes\n" % MOST
+NO_FILE, FULL = b"file: it isn't a regular file with one name\n", b"file: the journal is full\n"
+DATABASE, NOT_WRITTEN = b"file: a database's files have its name\n", b"file: its lines aren't as a desk writes them\n"
+NO_LINES = b"file: its lines aren't a journal: "
+NOBODY = 65_534
+MEMORY = 256 << 20  # bytes of addresses, for the longest inputs
+USAGE = b"command line\nUsage: dam-desk "
+
+
+def error(number):
+    return f"file: {os.strerror(number)} (os error {number})\n".encode()
+
+
+def lines(*records):
+    """A file of a desk with these lines."""
+    return HEAD + b"".join(b"+" + record for record in records) + b"-"
+
+
+def refused_files():
+    """Yields files that no desk wrote: each with its name, its bytes, and the fault of its opening or the beginning of that."""
+    rng = random.Random("garbage")
+    close = CLOSE
+    for about, bytes_ in [
+        ("two bytes", b"xy"), ("a line end", b"\n\n"), ("random bytes", rng.randbytes(5_000)), ("zero bytes", bytes(4_096)),
+        ("a journal for replay", DAY + close), ("a program", b"\x7fELF" + bytes(60)), ("a database", b"SQLite format 3\0" + bytes(4_080)),
+        ("another version", b"+dam-desk 2\n+" + DAY + b"-"), ("a longer version", b"+dam-desk 10\n-"), ("no mark", HEAD[1:] + b"+" + DAY),
+        ("no line end", HEAD[:-1]), ("a return", b"+dam-desk 1\r\n-"), ("another mark", b"-dam-desk 1\n+" + DAY),
+        ("a byte order mark", b"\xef\xbb\xbf" + HEAD),
+        ("half a head", HEAD[:6]), ("a new file and more", b"-dam-desk 1\n--"),
+    ]:  # fmt: skip
+        yield about, bytes_, NO_JOURNAL
+    yield "a byte too many", lines(DAY).ljust(MOST + 1), TOO_LONG
+    yield "no room for a mark", HEAD + b"+".ljust(MOST - len(HEAD) - 1, b"A") + b"\n", FULL
+    for about, records, why in [
+        ("no day", [close], b"the first record is not a day"), ("a word", [b"x\n"], b"the first record is not a day"),
+        ("a broken command", [DAY, close, b"cancel,A,a,,,,,,\n"], b"field 3 of record 3 is bad"),
+        ("fields that are missing", [DAY, b"close\n"], b"record 2 does not have nine fields"),
+        ("a byte", [DAY, b"cancel,\xe9,,,,,,,\n"], b"byte"), ("a second day", [DAY, DAY], b"field 1 of record 2 is bad"),
+        ("too many records", [DAY, *[close] * rules.MOST_RECORDS], b""),
+    ]:  # fmt: skip
+        yield about, lines(*records), NO_LINES + why
+    for about, records in [
+        ("quotes", [DAY, b'"close",,,,,,,,\n']), ("a return in a line", [DAY[:-1] + b"\r\n"]), ("an empty line", [DAY, b"\n", close]),
+    ]:  # fmt: skip
+        yield about, lines(*records), NOT_WRITTEN
+
+
+def run(counts, desk, dam, whole):
+    begun = time.monotonic()
+    before = counts.passed + counts.failed
+    files = Files(counts, desk, dam)
+    for about, bytes_, fault in refused_files():
+        files.refused(about, bytes_, fault)
+    files.kinds()
+    files.privileges()
+    files.words()
+    files.other_day()
+    files.longest_file()
+    files.cut_lines()
+    files.closed_pipe()
+    files.full()
+    files.hostile_lines(whole)
+    print(f"files: {counts.passed + counts.failed - before} checks; {time.monotonic() - begun:.1f} s", flush=True)
+
+
+class Files:
+    def __init__(self, counts, desk, dam):
+        self.counts, self.desk, self.dam = counts, desk, dam
+
+    def given(self, words, text=CLOSE, **how):
+        ran = subprocess.run([*self.desk.words, *map(str, words)], input=text, stdout=subprocess.PIPE, stderr=subprocess.PIPE,
+                             timeout=SECONDS, **how)
+        return Printed(ran.returncode, ran.stdout, ran.stderr)
+
+    def check(self, about, got, status, stdout, stderr, is_beginning=False):
+        is_line = got.stderr.startswith(stderr) and got.stderr.count(b"\n") == 1 if is_beginning else got.stderr == stderr
+        self.counts.check(f"{about}: {got!r:.300}", (got.status, got.stdout) == (status, stdout) and is_line)
+
+    def refused(self, about, bytes_, fault):
+        """Opens a file that has to be refused, and prints its journal; it has to stay as it is."""
+        file = self.desk.folder() / "day.desk"
+        file.write_bytes(bytes_)
+        before = file.stat().st_mtime_ns
+        got = self.given([file])
+        self.check(f"a file with {about}", got, 1, b"", fault, is_beginning=True)
+        shown = self.given(["--journal", file])
+        self.check(f"--journal of a file with {about}", shown, 1, b"", fault, is_beginning=True)
+        after = file.read_bytes(), file.stat().st_mtime_ns
+        self.counts.check(f"a file with {about} stays as it is", after == (bytes_, before))
+        left = {path.name for path in file.parent.iterdir()}
+        self.counts.check(f"a file with {about}: {left} are in its folder", left <= {"day.desk", "day.desk-wal"})
+
+    def kinds(self):
+        """Names that aren't regular files, or have other names."""
+        for make, status, fault, may_print in [
+            (lambda path: path.mkdir(), 1, NO_FILE, False),
+            (lambda path: os.mkfifo(path), 1, NO_FILE, False),
+            (lambda path: path.symlink_to("nowhere"), 1, NO_FILE, None),
+            (lambda path: path.symlink_to("/dev/null"), 1, NO_FILE, False),
+            (lambda path: path.symlink_to("/dev/zero"), 1, NO_FILE, False),
+            (lambda path: path.symlink_to(path.name), 4, error(40), False),
+            (lambda path: socket.socket(socket.AF_UNIX).bind(str(path)), 1, NO_FILE, None),
+            (lambda path: (path.parent / "other").write_bytes(b"") or path.hardlink_to(path.parent / "other"), 1, NO_FILE, True),
+            (lambda path: (path.parent / "day.desk-journal").write_bytes(b"x"), 1, DATABASE, True),
+            (lambda path: (path.parent / "day.desk-wal").mkdir(), 1, NO_FILE, True),
+            (lambda path: (path.parent / "day.desk-wal").symlink_to("other"), 1, NO_FILE, True),
+        ]:  # fmt: skip
+            folder = self.desk.folder()
+            path = folder / "day.desk"
+            make(path)
+            mode = oct(path.lstat().st_mode) if os.path.lexists(path) else "no file"
+            about = f"{sorted(it.name for it in folder.iterdir())}, {mode}"
+            before = listing(folder)
+            self.check(about, self.given([path]), status, b"", fault)
+            kept = {name: facts for name, facts in listing(folder).items() if name != "day.desk-wal" and name in before}
+            self.counts.check(f"{about} stays as it is", kept == {name: facts for name, facts in before.items() if name != "day.desk-wal"})
+            if may_print is False:
+                self.check(f"--journal of {about}", self.given(["--journal", path]), status, b"", fault)
+        self.check("a device", self.given(["/dev/null"]), 1, b"", NO_FILE)
+        folder = self.desk.folder()
+        self.check("a missing folder", self.given([folder / "none" / "day.desk"]), 4, b"", error(2))
+        self.check("a file as a folder", self.given([desk_file(folder) / "day.desk"]), 4, b"", error(20))
+        self.check("a missing file's journal", self.given(["--journal", folder / "none.desk"]), 4, b"", error(2))
+        self.check("a name that is too long", self.given([folder / ("A" * 256)]), 4, b"", error(36))
+        self.counts.check("no file was made", {it.name for it in folder.iterdir()} == {"plain"})
+        self.link()
+
+    def link(self):
+        """A link to a file is followed; so two desks have one file."""
+        folder = self.desk.folder()
+        link, file = folder / "link", folder / "day.desk"
+        file.write_bytes(b"")
+        link.symlink_to("day.desk")
+        self.check("a link", self.given([link], DAY + CLOSE), 0, b"day,24\n1,done\n", b"")
+        self.counts.check("a link's file", file.read_bytes() == lines(DAY, CLOSE) and link.is_symlink())
+        self.check("a link's journal", self.given(["--journal", link]), 0, DAY + CLOSE, b"")
+        with subprocess.Popen([*self.desk.words, str(link)], stdin=subprocess.PIPE, stdout=subprocess.PIPE) as first:
+            first.stdout.readline()
+            self.check("a second desk by the file's name", self.given([file]), 4, b"", streams.IN_USE)
+            first.stdin.close()
+
+    def privileges(self):
+        """A file or a folder that may be read only, or not at all."""
+        folder = self.desk.folder()
+        for path in (self.desk.room, folder):
+            path.chmod(0o755)
+        own = {"user": NOBODY, "group": NOBODY, "extra_groups": []} if os.geteuid() == 0 else {}
+        file = desk_file(folder, lines(DAY))
+        for mode, fault, shown in [(0o444, error(13), DAY), (0o000, error(13), None)]:
+            file.chmod(mode)
+            self.check(f"a file of mode {mode:o}", self.given([file], **own), 4, b"", fault)
+            status = (0, shown, b"") if shown else (4, b"", fault)
+            self.check(f"--journal of a file of mode {mode:o}", self.given(["--journal", file], **own), *status)
+        file.chmod(0o666)
+        folder.chmod(0o555)
+        self.check("a folder that may only be read", self.given([file], **own), 4, b"", error(13))
+        self.check("a new file in such a folder", self.given([folder / "new"], **own), 4, b"", error(13))
+        self.check("--journal in such a folder", self.given(["--journal", file], **own), 0, DAY, b"")
+        self.counts.check("nothing was made", [it.name for it in folder.iterdir()] == ["plain"] and file.read_bytes() == lines(DAY))
+
+    def words(self):
+        """Command lines that aren't the desk's."""
+        for words in [[], ["a", "b"], ["--journal"], ["--journal", "a", "b"], ["--other"], ["--help", "a"], ["--journal"] * 3]:
+            folder = self.desk.folder()
+            got = self.given(words, cwd=folder)
+            self.counts.check(f"the words {words}: {got!r:.200}", (got.status, got.stdout) == (2, b"") and got.stderr.startswith(USAGE))
+            self.counts.check(f"the words {words} make no file", not list(folder.iterdir()))
+        self.counts.check("no file's name is empty", self.given([""]).status in (2, 4))
+        got = self.given(["--help"])
+        self.counts.check(f"the help: {got!r:.100}", got.status == 0 and got.stdout.startswith(b"Usage: dam-desk ") and not got.stderr)
+
+    def other_day(self):
+        """Another day's record enters nothing."""
+        for periods in rules.DAYS:
+            for other in rules.DAYS:
+                file = self.desk.folder() / "day.desk"
+                own, their = (b"day,%d,,,,,,,\n" % it for it in (periods, other))
+                self.given([file], own)
+                before = file.read_bytes(), file.stat().st_mtime_ns
+                answer = b"day,%d\n" % periods
+                right = answer + (answer if own == their else b"fault,1,OtherDay\n")
+                self.check(f"a day of {other} after {periods}", self.given([file], their), 0, right, b"")
+                self.counts.check("nothing was changed", before == (file.read_bytes(), file.stat().st_mtime_ns))
+
+    def longest_file(self):
+        """A file of the greatest length, most of which doesn't count."""
+        file = desk_file(self.desk.folder(), lines(DAY).ljust(MOST))
+        self.check("a file of the greatest length", self.given([file]), 0, b"day,24\n1,done\n", b"")
+        self.counts.check("a file of the greatest length holds both lines", marked_in(file.read_bytes()) == b"+" + DAY + b"+" + CLOSE)
+        file.write_bytes((lines(DAY) + b"\n" * 9).ljust(MOST, b"+"))
+        self.check("a file with line ends after its mark", self.given([file]), 0, b"day,24\n1,done\n", b"")
+        self.counts.check("a file with line ends after its mark is at rest", is_at_rest(file.read_bytes()))
+
+    def cut_lines(self):
+        """An input that ends anywhere: the last line isn't entered, even if it is a record."""
+        text = DAY + b"submit,A,S1,hour,sell,3000,1:10,,\r\n" + b"cancel,A,S1,,,,,,\n"
+        for length in range(len(text) + 1):
+            file = self.desk.folder() / "day.desk"
+            reader = streams.read(text[:length])
+            self.check(f"an input of {length} bytes", self.given([file], text[:length]), 0, b"".join(reader.printed(self.dam)), b"")
+            marked = b"".join(b"+" + record for record in reader.records)
+            self.counts.check(f"the file after {length} bytes", marked_in(file.read_bytes()) == marked)
+
+    def closed_pipe(self):
+        """Nobody reads the answers."""
+        file = self.desk.folder() / "day.desk"
+        ours, theirs = os.pipe()
+        os.close(ours)
+        ran = subprocess.run([*self.desk.words, str(file)], input=DAY + CLOSE, stdout=theirs, stderr=subprocess.PIPE, restore_signals=False)
+        os.close(theirs)
+        self.check("answers that nobody reads", Printed(ran.returncode, b"", ran.stderr), 4, b"", b"device: write after 0 bytes\n")
+        self.check("opened again", self.given([file], b""), 0, b"day,24\n1,done\n", b"")
+        for stream in ("<&-", ">&-", "2>&-", "<&- >&- 2>&-"):
+            file = self.desk.folder() / "day.desk"
+            words = ["sh", "-c", f'exec "$0" "$@" {stream}', *self.desk.words, str(file)]
+            subprocess.run(words, input=DAY + CLOSE, stdout=subprocess.PIPE, stderr=subprocess.PIPE)
+            marked = marked_in(file.read_bytes())
+            self.counts.check(f"a closed stream {stream}: {marked}", marked in (b"", b"+" + DAY + b"+" + CLOSE))
+
+    def full(self):
+        """A journal at its limit takes a close, and then nothing."""
+        rng = random.Random("full")
+        most = rules.MOST_RECORDS - 2
+        for about, records in [("orders", kills.load(rng, most)), ("closes", [DAY] + [CLOSE] * most),
+                               ("long names", journals.long_names(rng, most))]:  # fmt: skip
+            self.full_of(about, journals.Journal([*records, CLOSE], self.dam))
+
+    def full_of(self, about, journal):
+        file, count = self.desk.folder() / "day.desk", len(journal) - 1
+        full = b"fault,%d,JournalFull\n"
+        extra = [b"cancel,A,B,,,,,,\n", b"cancel,A\n", journal.records[0]]
+        got = self.given([file], b"".join([*journal.records[:count], *extra, CLOSE, *extra, CLOSE]))
+        day = journal.answers[0]
+        fields = b"fault,%d,FieldCount\n"
+        more = [full % (count + 1), fields % (count + 2), day, journal.answers[count],
+                full % (count + 5), fields % (count + 6), day, full % (count + 8)]  # fmt: skip
+        self.check(f"a full journal of {about}", got, 0, journal.printed(count) + b"".join(more), b"")
+        before = file.read_bytes(), file.stat().st_mtime_ns
+        self.counts.check(f"the file of {about}", before[0] == HEAD + journal.marked(len(journal)) + b"-")
+        got = self.given([file], CLOSE + extra[0])
+        self.check(f"a full journal of {about} is opened", got, 0, journal.printed(len(journal)) + full % 1 + full % 2, b"")
+        self.counts.check(f"a full journal of {about} stays as it is", before == (file.read_bytes(), file.stat().st_mtime_ns))
+        shown = self.given(["--journal", file])
+        self.check(f"the journal of {about}", shown, 0, journal.text(len(journal)), b"")
+        self.counts.check(f"the journal of {about} is replayed", self.dam.replay(shown.stdout).stdout == journal.printed(len(journal)))
+
+    def hostile_lines(self, whole):
+        """16 MB of lines that aren't records, in little memory."""
+        length = 16_000_000
+        rows = [("one line that never ends", b"A" * length, lambda number: b"CutShort"),
+                ("lines that are too long", (b"A" * 65_537 + b"\n") * (length // 65_538), lambda number: b"TooLong"),
+                ("the longest lines", (b"," * 65_536 + b"\n") * (length // 65_537), lambda number: b"FieldCount"),
+                ("quotes", (b'"' * 65_536 + b"\n") * (length // 65_537), lambda number: b"FieldCount"),
+                ("zero bytes", (bytes(65_000) + b"\n") * (length // 65_001), lambda number: b"FieldCount"),
+                ("bytes over 127", (b"cancel,A,\xff\n" * 65_536)[: 11 << 16], lambda number: b"NotAscii,9"),
+                ("empty lines", b"\n" * (length if whole else 1 << 20), lambda number: b"NotOneRecord")]  # fmt: skip
+        for about, text, word in rows:
+            file = desk_file(self.desk.folder(), lines(DAY))
+            begun = time.monotonic()
+            got = self.given([file], text, preexec_fn=lambda: resource.setrlimit(resource.RLIMIT_AS, (MEMORY, MEMORY)))
+            count = max(1, text.count(b"\n"))
+            right = b"day,24\n" + b"".join(b"fault,%d,%b\n" % (number, word(number)) for number in range(1, count + 1))
+            is_right = (got.status, got.stdout, got.stderr) == (0, right, b"") and file.read_bytes() == lines(DAY)
+            about = f"{about}: status {got.status}, {got.stderr[:80]!r}, {got.stdout[:60]!r}, {time.monotonic() - begun:.1f} s"
+            self.counts.check(about, is_right)
+
+
+def desk_file(folder, bytes_=b"x"):
+    path = folder / "plain"
+    path.write_bytes(bytes_)
+    return path
+
+
+def listing(folder):
+    """The names in a folder, each with its kind, length and time."""
+    facts = {path.name: path.lstat() for path in folder.iterdir()}
+    return {name: (it.st_mode, it.st_size, it.st_mtime_ns) for name, it in facts.items()}

@@ -1,0 +1,169 @@
+"""The files that a crash may leave, by the writes and syncs of a desk; and a reader of such files, by their definition.
+
+Between two syncs, each write may be lost, kept or torn: a crash leaves any bytes in its range, and any length between the old and the new
+one. Bytes outside the range don't change."""
+
+import itertools
+import re
+from typing import NamedTuple
+
+from device import CUT, INPUT, OUTPUT, SYNC, WRITE
+
+HEAD = b"+dam-desk 1\n"
+AFTER_FIRST = HEAD[1:] + b"-"
+MOST = 16_777_216  # bytes of a file
+LINES = re.compile(rb"(?:\+[^\n]*\n)*")
+# Lines that nobody has given, with a mark each, as garbage of a torn write.
+GARBAGE = b"\n+cancel,A,NEVER,,,,,,\n" * 400
+ANSWER = re.compile(rb"(?:day|(\d+)),")
+
+
+def marked_in(file):
+    """The lines that a file stands for, each with its mark; None if it isn't a journal."""
+    if len(file) > MOST:
+        return None
+    if file.startswith(HEAD):
+        lines = LINES.match(file, len(HEAD))[0]
+        return lines if len(HEAD) + len(lines) < MOST else None
+    return b"" if is_unmade(file) else None
+
+
+def is_unmade(file):
+    """Whether a crash can have left this before the file was made whole."""
+    return len(file) < 2 or file.startswith(b"-") and len(file) <= len(HEAD) + 1 or file[1:] == AFTER_FIRST
+
+
+def is_at_rest(file):
+    """Whether the file is as a desk leaves it: its lines, and then the mark of a line that doesn't count."""
+    marked = marked_in(file)
+    rest = file[len(HEAD) + len(marked or b"") :]
+    return marked is not None and file.startswith(HEAD) and rest.startswith(b"-") and b"\n" not in rest
+
+
+class Change(NamedTuple):
+    """A write that wasn't synced yet, or a change of the length if it has no bytes."""
+
+    at: int
+    bytes: bytes
+
+
+class Moment(NamedTuple):
+    """A time between two changes of the disk: the file at the last sync, the changes since, and how many records were acknowledged and
+    given until the moment ends and begins."""
+
+    base: bytes
+    changes: tuple
+    safe: int
+    given: int
+
+    @property
+    def seen(self):
+        """The file, as a process sees it."""
+        file = self.base
+        for change in self.changes:
+            file = kept(file, change)
+        return file
+
+
+def zeros(count):
+    return bytes(max(0, count))
+
+
+def kept(file, change):
+    front = file[: change.at] + zeros(change.at - len(file))
+    return front + change.bytes + file[change.at + len(change.bytes) :] if change.bytes else front
+
+
+def joined(changes, change):
+    """The changes with one more. Writes that follow one another are one: a crash leaves any bytes in the range of both."""
+    if changes and changes[-1].bytes and changes[-1].at + len(changes[-1].bytes) == change.at:
+        return [*changes[:-1], Change(changes[-1].at, changes[-1].bytes + change.bytes)]
+    return [*changes, change]
+
+
+def acknowledged(text, before):
+    """How many records the answers acknowledge: the day, and each entry up to the last one's number."""
+    for line in text.splitlines():
+        found = ANSWER.match(line)
+        if found:
+            before = max(before, 1 + int(found[1] or 0))
+    return before
+
+
+def moments(events, base=b"", changes=(), safe=0, given_by=lambda lines: 0):
+    """The moments of a run. `given_by` says how many records are given by this many lines of input."""
+    lines, given, begun = 0, given_by(0), given_by(0)
+    for event in events:
+        if event.kind == INPUT and event.bytes:
+            lines += event.bytes.count(b"\n")
+            given = given_by(lines)
+        elif event.kind == OUTPUT and event.bytes:
+            safe = acknowledged(event.bytes, safe)
+        elif event.is_change and (event.kind == WRITE or event.answer >= 0):
+            yield Moment(base, tuple(changes), safe, begun)
+            begun = given
+            if event.kind == SYNC:
+                base, changes = Moment(base, tuple(changes), safe, given).seen, ()
+            elif event.kind == CUT:
+                changes = [*changes, Change(event.at, b"")]
+            elif event.bytes:
+                changes = joined(changes, Change(event.at, event.bytes))
+    yield Moment(base, tuple(changes), safe, begun)
+
+
+def torn(file, change, rng, few=False):
+    """The files after a change that wasn't synced. Few: only some of them."""
+    at, new = change
+    yield file
+    yield kept(file, change)
+    if not new:
+        for length in range(min(at, len(file)), max(at, len(file))):
+            yield file[:length] + zeros(length - len(file))
+        return
+    count = len(new)
+    front, under, tail = file[:at], file[at : at + count], file[at + count :]
+    if count == 1:
+        for byte in range(256):
+            yield front + bytes([byte]) + tail
+        return
+    full = under + zeros(count - len(under))
+    noise, places = rng.randbytes(count), range(1, count)
+    garbage = GARBAGE[rng.randrange(24) :][:count].ljust(count, b"+")
+    if few:
+        places = rng.sample(places, min(4, len(places)))
+    for place in places:
+        first, last = new[:place], new[place:]
+        yield front + first + under[place:] + tail
+        yield front + full[:place] + last + tail
+        yield front + first + zeros(count - place) + tail
+        yield front + first + noise[place:] + tail
+        yield front + noise[:place] + last + tail
+        yield front + first + garbage[: count - place] + tail
+        yield front + garbage[:place] + last + tail
+        if at + place >= len(file):
+            yield front + noise[:place]
+            yield front + first
+        for byte in (0, 10, 43, 45, rng.randrange(256)):
+            yield front + first + bytes([byte]) + last[1:] + tail
+    for _ in range(2 if few else 40):
+        yield front + b"".join(rng.choice([new, full, noise])[cell : cell + 16] for cell in range(0, count, 16)) + tail
+
+
+def images(moment, rng, few=False):
+    """The files that a crash may leave at a moment, each once."""
+    if not moment.changes:
+        return {moment.base}
+    found = set()
+    for which in range(len(moment.changes)):
+        rest = [at for at in range(len(moment.changes)) if at != which]
+        ways = itertools.product([True, False], repeat=len(rest)) if len(rest) < 4 else [[True] * len(rest), [False] * len(rest)]
+        for way in ways:
+            is_kept = dict(zip(rest, way))
+            files = [moment.base]
+            for at, change in enumerate(moment.changes):
+                if at == which:
+                    files = [image for file in files for image in torn(file, change, rng, few or any(way))]
+                elif is_kept[at]:
+                    files = [kept(file, change) for file in files]
+            found.update(files)
+    return found

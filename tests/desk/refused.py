@@ -1,0 +1,242 @@
+"""Each call of a desk refused in turn: of its file, of its standard streams, and for memory.
+
+After each run, the file has to open as after a crash, also if another crash comes first: with every acknowledged record, and whole batches
+of the given ones. A failed write or sync is never retried."""
+
+import errno
+import os
+import re
+import resource
+import signal
+import struct
+import subprocess
+from concurrent.futures import ThreadPoolExecutor
+
+import crashes
+import images
+import journals
+from device import ADVICE, CUT, EVERY, INPUT, LOCK, OPEN, OUTPUT, READ, SECONDS, STAT, SYNC, WRITE, Refusal
+from images import Moment
+
+MODE = "M"
+# The errors of each kind of call.
+ERRORS = {
+    OPEN: "ENOSPC EACCES EROFS EMFILE EIO", LOCK: "EAGAIN EACCES ENOLCK EIO EINTR", STAT: "EIO EACCES", ADVICE: "EIO",
+    MODE: "EIO EROFS", READ: "EIO EINTR", WRITE: "ENOSPC EIO EROFS EDQUOT EINTR", SYNC: "ENOSPC EIO EROFS EDQUOT EINTR",
+    CUT: "ENOSPC EIO EROFS", INPUT: "EIO EINTR EAGAIN", OUTPUT: "EIO ENOSPC EPIPE EINTR EAGAIN",
+}  # fmt: skip
+# The line on standard error after a refused call of this kind. The errors of some others are those of the system.
+LINES = {READ: "file: the file can't be read: {}", WRITE: "file: the file can't be written: {}", INPUT: "device: read",
+         OUTPUT: r"device: write after \d+ bytes"}  # fmt: skip
+SYSTEM = "file: {}"
+IN_USE, MEMORY = b"file: another process has it\n", b"memory\n"
+SHORT = [0, 1, 7]  # bytes that a write moves at most
+MACHINE = 4  # the status
+# After it a crash may leave each of its bytes torn, before the file is made whole again.
+GARBAGE = b"\n+cancel,A,NEVER,,,,,,\n\nx\n"
+
+
+def line_of(kind, error, stderr):
+    """Whether this is the line of the fault."""
+    if kind == LOCK and error in (errno.EAGAIN, errno.EACCES):
+        return stderr == IN_USE
+    own = rf"{re.escape(os.strerror(error))} \(os error {error}\)"
+    ways = [LINES[kind]] if kind in LINES else [SYSTEM]
+    ways += ["file: the file can't be synced: {}"] if kind == SYNC else [LINES[READ]] if kind == STAT else []
+    return any(re.fullmatch(way.format(own) + "\n", stderr.decode()) for way in ways)
+
+
+def are_retried(events):
+    """Whether a write or a sync of the file follows a failed one."""
+    changes = [event for event in events if event.is_change]
+    failed = [at for at, event in enumerate(changes) if event.answer < 0 and event.answer != -errno.EINTR]
+    return bool(failed) and failed[0] + 1 < len(changes)
+
+
+class Refusals(crashes.Crashes):
+    """Runs of a desk on an input with calls refused: with a new file, or with one that a crash left."""
+
+    def __init__(self, desk, about, given, start=None):
+        super().__init__(desk, about, given, about)
+        self.start, self.runs = start, 0
+        self.held = 0 if start is None else self.count(start)
+
+    def file(self):
+        file = self.desk.folder() / "day.desk"
+        if self.start is not None:
+            file.write_bytes(self.start)
+        return file
+
+    def is_front(self, text, is_whole):
+        """Whether this was printed for whole batches, or for a beginning of them."""
+        fronts = [self.journal.printed(count) for count in {0, self.held} | self.given.borders]
+        return text in fronts if is_whole else self.journal.printed(len(self.journal)).startswith(text)
+
+    def given_by(self, lines):
+        return max(self.held, self.given.given_by(lines))
+
+    def look_after(self, about, ran, file):
+        """Looks at the files that a crash may leave, and opens the file again."""
+        if are_retried(ran.events):
+            self.wrong.append(f"{about}: a failed write or sync was followed by another one")
+        for moment in images.moments(ran.events, self.start or b"", safe=self.held, given_by=self.given_by):
+            allowed = [count for count in {self.held} | self.given.borders if moment.safe <= count <= max(moment.given, moment.safe)]
+            for image in images.images(moment, self.rng, few=True):
+                self.files += 1
+                if self.count(image) not in allowed:
+                    self.wrong.append(f"{about}: a crash leaves {self.count(image)} records for {allowed}")
+                    return
+        again = self.desk.run(file)
+        if not file.exists() or (again.status, again.stderr) != (0, b""):
+            self.wrong.append(f"{about}: opened again with status {again.status}, {again.stderr[:80]!r}")
+            return
+        count = self.count(file.read_bytes())
+        safe = images.acknowledged(ran.stdout, self.held)
+        if count is None or count < safe or again.stdout != self.journal.printed(count):
+            self.wrong.append(f"{about}: opened again with {count} records, and {safe} were acknowledged")
+
+    def run_one(self, refusal, check=None):
+        """Runs the desk with a call refused."""
+        file = self.file()
+        ran = self.desk.run(file, self.given.batches, refusal)
+        name = errno.errorcode.get(refusal.error) or f"{refusal.most} bytes"
+        about = f"{self.about}: call {refusal.first} of {refusal.kind} with {name}"
+        if not (check or self.is_fault)(refusal, ran):
+            self.wrong.append(f"{about}: status {ran.status}, {ran.stderr[:80]!r}, {ran.stdout[-60:]!r}")
+        self.look_after(about, ran, file)
+        self.runs += 1
+
+    def is_fault(self, refusal, ran):
+        """Whether the run ended with the fault of the refused call, or as if there was none, if a signal interrupted the call."""
+        if refusal.error == errno.EINTR and ran.status == 0:
+            return self.is_whole(refusal, ran)
+        is_line = line_of(refusal.kind, refusal.error, ran.stderr)
+        return ran.status == MACHINE and is_line and self.is_front(ran.stdout, True)
+
+    def is_whole(self, _, ran):
+        return (ran.status, ran.stderr, ran.stdout) == (0, b"", self.journal.printed(len(self.journal)))
+
+    def is_short(self, refusal, ran):
+        """Whether the run wasn't disturbed by a short write. A write of nothing is a fault."""
+        if refusal.most:
+            return self.is_whole(refusal, ran)
+        lines = [b"file: the file can't be written: write zero\n"] if refusal.kind == WRITE else [b"device: write after 0 bytes\n"]
+        return ran.status == MACHINE and ran.stderr in lines and self.is_front(ran.stdout, True)
+
+    def rows(self, made):
+        for kind, errors in ERRORS.items():
+            for name in errors.split():
+                for number in range(1, made.get(kind, 0) + 1):
+                    yield Refusal(kind, number, number, getattr(errno, name)), None
+        for kind in (WRITE, OUTPUT):
+            for most in SHORT:
+                for number in range(1, made.get(kind, 0) + 1):
+                    yield Refusal(kind, number, number, 0, most), self.is_short
+            for most in SHORT[1:]:
+                yield Refusal(kind, 1, EVERY, 0, most), self.is_short
+
+    def run(self):
+        """Refuses each call in turn, and returns the faults."""
+        ran = self.desk.run(self.file(), self.given.batches)
+        made = {}
+        for event in ran.events:
+            made[event.kind] = made.get(event.kind, 0) + 1
+        if not self.is_whole(None, ran) or not {OPEN, WRITE, SYNC, LOCK, INPUT, OUTPUT} <= set(made):
+            self.wrong.append(f"{self.about}: no call refused: status {ran.status}, {ran.stderr[:80]!r}, calls {made}")
+            return self.wrong
+        with ThreadPoolExecutor(self.desk.jobs) as pool:
+            list(pool.map(lambda row: self.run_one(*row), self.rows(made)))
+        return self.wrong
+
+
+class Growths(Refusals):
+    """The same with calls for memory refused, by the library of tests/hostile."""
+
+    def run_memory(self, numbers):
+        first, last = numbers
+        file = self.file()
+        calls = file.with_suffix(".calls")
+        calls.write_bytes(bytes(16))
+        more = {"LD_PRELOAD": f"{self.desk.library}:{self.desk.room}/refuse.so", "HOSTILE": f"memory {first} {last} 0 0",
+                "HOSTILE_CALLS": str(calls)}  # fmt: skip
+        ran = self.desk.run(file, self.given.batches, more=more)
+        about = f"{self.about}: growth {first}" + (" and all later ones" if last != first else "")
+        if not (self.is_whole(None, ran) or (ran.status, ran.stderr) == (MACHINE, MEMORY) and self.is_front(ran.stdout, True)):
+            self.wrong.append(f"{about}: status {ran.status}, {ran.stderr[:60]!r}, {ran.stdout[-60:]!r}")
+        self.look_after(about, ran, file)
+        self.runs += 1
+        return struct.unpack("@2L", calls.read_bytes())[0]
+
+    def run(self):
+        made = self.run_memory((EVERY, EVERY))
+        if made < 10:
+            self.wrong.append(f"{self.about}: {made} growths are counted")
+        rows = [(first, last) for first in range(1, made + 1) for last in (first, EVERY)]
+        with ThreadPoolExecutor(self.desk.jobs) as pool:
+            list(pool.map(self.run_memory, rows))
+        return self.wrong
+
+
+def limited(desk, given, bytes_):
+    """A run whose file may not grow beyond this length, and the file."""
+    def limit():
+        signal.signal(signal.SIGXFSZ, signal.SIG_IGN)
+        resource.setrlimit(resource.RLIMIT_FSIZE, (bytes_, bytes_))
+
+    file = desk.folder() / "day.desk"
+    ran = subprocess.run([*desk.words, str(file)], input=b"".join(given.batches), stdout=subprocess.PIPE, stderr=subprocess.PIPE,
+                         preexec_fn=limit, timeout=SECONDS)
+    return ran, file
+
+
+def real(counts, desk, given):
+    """Refusals by the system itself: a file that may not grow, and a device that is full."""
+    for bytes_ in (0, 1, 5, 13, 20, 200):
+        ran, file = limited(desk, given, bytes_)
+        line = f"file: the file can't be written: {os.strerror(errno.EFBIG)} (os error {errno.EFBIG})\n"
+        counts.check(f"a file of at most {bytes_} bytes: {ran}", (ran.returncode, ran.stdout, ran.stderr.decode()) == (MACHINE, b"", line))
+        again = desk.run(file, given.batches)
+        counts.check(f"a file of at most {bytes_} bytes, opened again", again.stdout.endswith(given.journal.printed(len(given.journal))))
+    file = desk.folder() / "day.desk"
+    with open("/dev/full", "wb") as full:
+        ran = desk.run(file, given.batches, stdout=full)
+    counts.check(f"a full device: {ran.stderr!r}", (ran.status, ran.stderr) == (MACHINE, b"device: write after 0 bytes\n"))
+    again = desk.run(file)
+    count = again.stdout.count(b"\n")
+    counts.check("a full device: the first batch is in the file", count in given.borders and count > 0)
+
+
+def inputs(dam, whole):
+    """Yields each input, with the file that it begins with, or None."""
+    given = journals.batched(dam, "refused", journals.drawn, 9, most=4)
+    yield "a new file", given, None
+    held = sorted(given.borders)[1]
+    rest = journals.Input(given.journal, given.batches, [True] * len(given.journal))
+    broken = images.HEAD + given.journal.marked(held) + GARBAGE
+    yield "a file after a crash", rest_of(rest, held), broken
+    if whole:
+        yield "the longest names", journals.batched(dam, "refused long", journals.long_names, 12, most=5), None
+
+
+def rest_of(given, held):
+    """The input after the first records."""
+    journal, lines = given.journal, given.journal.records[held:]
+    half = len(lines) // 2
+    found = journals.Input(journal, [b"".join(lines[:half]), b"".join(lines[half:])], [True] * len(lines))
+    found.given = [held + count for count in found.given]
+    found.borders = {held, held + half, len(journal)}
+    return found
+
+
+def run(counts, desk, dam, whole):
+    runs = files = 0
+    for about, given, start in inputs(dam, whole):
+        for kind in (Refusals, Growths):
+            row = kind(desk, about, given, start)
+            wrong = row.run()
+            counts.passed += row.runs - min(row.runs, len(wrong))
+            counts.failed += len(wrong)
+            print("\n".join(f"differs: {line}" for line in wrong[: crashes.SHOWN]), end="\n" if wrong else "", flush=True)
+            runs, files = runs + row.runs, files + row.files
+    real(counts, desk, next(iter(inputs(dam, False)))[1])
+    print(f"refusals: {runs:,} runs with a call refused, {files:,} files that a crash may leave after them", flush=True)

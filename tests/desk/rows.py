@@ -1,0 +1,45 @@
+"""rows.py ROOM [--all] [PART..]: runs the parts of the tests of a desk, on ROOM/dam-desk."""
+
+import os
+import resource
+import sys
+import time
+from pathlib import Path
+
+sys.dont_write_bytecode = True
+
+import crashes
+import files
+import kills
+import refused
+import stand_ins
+import streams
+from device import Desk
+from journals import Dam
+from shared.counts import Counts
+
+PARTS = {"stand_ins": stand_ins, "crashes": crashes, "kills": kills, "refused": refused, "files": files, "streams": streams}
+
+
+def processor_time():
+    both = (resource.getrusage(who) for who in (resource.RUSAGE_SELF, resource.RUSAGE_CHILDREN))
+    return sum(used.ru_utime + used.ru_stime for used in both)
+
+
+def main():
+    room, *words = sys.argv[1:]
+    whole = "--all" in words
+    chosen = [word for word in words if word != "--all"]
+    if not set(chosen) <= set(PARTS):
+        sys.exit(f"the parts are {', '.join(PARTS)}")
+    counts, dam = Counts(), Dam(os.environ["DAM"])
+    desk = Desk([Path(room) / "dam-desk"], room)
+    for name in chosen or PARTS:
+        begun = time.monotonic(), processor_time()
+        PARTS[name].run(counts, desk, dam, whole)
+        print(f"{name}: {time.monotonic() - begun[0]:.0f} s, {processor_time() - begun[1]:.0f} s of a processor", flush=True)
+    return counts.end()
+
+
+if __name__ == "__main__":
+    sys.exit(main())

@@ -1,0 +1,286 @@
+"""Random inputs of a desk: its output is `dam replay`'s for the entered records, with a fault line for each line that is none.
+
+The faults are found by the reader of tools/lib, record by record. Each input is cut into batches in two ways, and one of the runs ends and
+begins again in its middle."""
+
+import os
+import random
+import signal
+import subprocess
+import time
+from concurrent.futures import ThreadPoolExecutor
+
+import device
+import images
+import journals
+from device import INPUT, SYNC
+from journals import CLOSE, rules
+
+import hostile  # of tests/fuzz
+from lib import journal as format_of
+
+IN_USE = b"file: another process has it\n"
+LONGEST = 65_536  # bytes of a line
+FEW, MANY = 300, 1_000
+MUTATIONS = [hostile.cut, hostile.cut_front, hostile.insert, hostile.drop, hostile.change, hostile.number,
+             hostile.on_fields(hostile.quoted), hostile.on_fields(hostile.oddly_quoted)]  # fmt: skip
+
+
+class Faulty(Exception):
+    """The words of a fault line after the line's number."""
+
+
+class Reader:
+    """Reads lines as a desk does: `records` are those that are entered, in their written form."""
+
+    def __init__(self):
+        self.day, self.records, self.line = None, [], 0
+        self.answers = []  # for each line a fault line, or the number of the record that answers
+
+    @property
+    def entries(self):
+        return max(0, len(self.records) - 1)
+
+    def read(self, line):
+        """Reads a line without its end."""
+        self.line += 1
+        try:
+            self.answers.append(self.enter(line))
+        except Faulty as fault:
+            self.answers.append(f"fault,{self.line},{fault}\n".encode())
+
+    def enter(self, line):
+        if len(line) > LONGEST:
+            raise Faulty("TooLong")
+        if not line.isascii():
+            raise Faulty(f"NotAscii,{next(at for at, byte in enumerate(line) if byte > 127)}")
+        line += b"\n"  # which a quote that isn't closed takes in
+        if self.day is None:
+            return self.enter_day(line)
+        if self.periods(line):
+            if self.periods(line) != self.day:
+                raise Faulty("OtherDay")
+            return 0
+        commands = self.parsed(f"day,{rules.GREATEST_PERIOD},,,,,,,\n".encode() + line).commands
+        if len(commands) != 1:
+            raise Faulty("NotOneRecord")
+        (command,) = commands
+        most = rules.MOST_RECORDS - 1 if command == format_of.Close() else rules.MOST_RECORDS - 2
+        if self.entries >= most:
+            raise Faulty("JournalFull")
+        self.records.append(f"{format_of.command_line(command)}\n".encode())
+        return self.entries
+
+    def enter_day(self, line):
+        day = self.parsed(line)
+        if day.commands:
+            raise Faulty("NotOneRecord")
+        self.day = day.periods
+        self.records.append(f"day,{self.day},,,,,,,\n".encode())
+        return 0
+
+    @staticmethod
+    def periods(line):
+        """The periods of the day's record, if the line is one."""
+        try:
+            found = format_of.read_journal(line)
+        except format_of.Fault:
+            return None
+        return None if found.commands else found.periods
+
+    @staticmethod
+    def parsed(text):
+        try:
+            return format_of.read_journal(text)
+        except format_of.Fault as fault:
+            words = str(fault).split()
+            raise Faulty(f"{words[1]},{words[-1]}" if words[1] == "BadField" else words[1]) from None
+
+    def end(self, rest):
+        """The input ends in a line."""
+        if rest:
+            self.line += 1
+            self.answers.append(f"fault,{self.line},CutShort\n".encode())
+
+    def printed(self, dam):
+        """The right output, by lines."""
+        replies = dam.replay(b"".join(self.records)).stdout.splitlines(keepends=True) if self.records else []
+        return [answer if isinstance(answer, bytes) else replies[answer] for answer in self.answers]
+
+
+def read(text):
+    reader = Reader()
+    *lines, rest = text.split(b"\n")
+    for line in lines:
+        reader.read(line)
+    reader.end(rest)
+    return reader
+
+
+def written_otherwise(rng, record):
+    """The record with fields in quotes, or another line end: it means the same."""
+    fields = record[:-1].split(b",")
+    if rng.random() < 0.5:
+        fields = [hostile.quoted(rng, field) if rng.random() < 0.4 else field for field in fields]
+    return b",".join(fields) + rng.choice([b"\n", b"\r\n", b"\r\n"])
+
+
+def stream(rng):
+    """The bytes of an input."""
+    draw = rng.choice([journals.drawn, journals.drawn, journals.drawn, journals.short_names, journals.long_names])
+    lines = []
+    rate = rng.choice([0, 0, 0.05, 0.3])
+    for record in draw(rng, rng.choice([0, 1, 3, 10, 30, 80])):
+        if rng.random() < rate:
+            lines.append(rng.choice(MUTATIONS)(rng, record) + rng.choice([b"", b"\n"]))
+        if rng.random() < rate:
+            day, long = b"day,%d,,,,,,,\n" % rng.choice(list(rules.DAYS)), b"A" * rng.choice([9, 70_000]) + b"\n"
+            lines.append(rng.choice([*journals.FAULTY, day, CLOSE, long]))
+        lines.append(written_otherwise(rng, record) if rng.random() < rate else record)
+    if rng.random() < 0.1:
+        lines.append(rng.choice([CLOSE[:-1], CLOSE[:-9], b"x"]))
+    return b"".join(lines)
+
+
+def cuts(rng, text):
+    """The text in parts, which come in one by one: by lines, or anywhere."""
+    if rng.random() < 0.4:
+        return journals.cut_into(rng, text.splitlines(keepends=True), rng.choice([1, 9, 60])) if b"\r" not in text else [text]
+    parts, most = [], rng.choice([1 if len(text) < 2_000 else 7, 40, 400, device.PACKET])
+    while text:
+        count = rng.randint(1, most)
+        parts.append(text[:count])
+        text = text[count:]
+    return parts
+
+
+class Streams:
+    def __init__(self, desk, dam):
+        self.desk, self.dam = desk, dam
+        self.lines = self.entries = self.faults = 0
+
+    def wrong(self, seed):
+        """The faults of one random input."""
+        rng = random.Random(f"stream {seed}")
+        text = stream(rng)
+        reader = read(text)
+        expected = reader.printed(self.dam)
+        self.lines, self.entries = self.lines + len(expected), self.entries + reader.entries
+        self.faults += sum(line.startswith(b"fault,") for line in expected)
+        yield from self.whole(rng, text, reader, expected)
+        yield from self.halves(rng, text, reader, expected)
+
+    def whole(self, rng, text, reader, expected):
+        file = self.desk.folder() / "day.desk"
+        ran = self.desk.run(file, cuts(rng, text))
+        if (ran.status, ran.stdout, ran.stderr) != (0, b"".join(expected), b""):
+            yield f"status {ran.status}, {ran.stderr[:80]!r}, {first_difference(ran.stdout, expected)}"
+        yield from self.kept(file, reader)
+        yield from syncs(ran.events)
+
+    def kept(self, file, reader):
+        """The differences of the file and its journal from the entered records."""
+        marked = b"".join(b"+" + record for record in reader.records)
+        bytes_ = file.read_bytes()
+        if images.marked_in(bytes_) != marked or not images.is_at_rest(bytes_):
+            yield f"the file has {images.marked_in(bytes_)!r:.300} for {marked!r:.300}"
+        printed = subprocess.run([*self.desk.words, "--journal", str(file)], stdout=subprocess.PIPE, stderr=subprocess.PIPE)
+        if (printed.returncode, printed.stdout, printed.stderr) != (0, b"".join(reader.records), b""):
+            yield f"--journal: status {printed.returncode}, {printed.stderr[:80]!r}, {printed.stdout[-80:]!r}"
+
+    def halves(self, rng, text, reader, expected):
+        """The same input in two runs, which both number their lines from 1."""
+        lines = text.split(b"\n")
+        half = rng.randrange(len(lines))
+        front = b"".join(line + b"\n" for line in lines[:half])
+        first = read(front)
+        file = self.desk.folder() / "day.desk"
+        begun = self.desk.run(file, cuts(rng, front))
+        ended = self.desk.run(file, cuts(rng, text[len(front) :]))
+        held = [] if not first.records else self.dam.replay(b"".join(first.records)).stdout.splitlines(keepends=True)
+        rest = [renumbered(line, half) for line in expected[half:]]
+        if (begun.status, begun.stdout) != (0, b"".join(expected[:half])) or (ended.status, ended.stdout) != (0, b"".join([*held, *rest])):
+            yield f"in two runs: statuses {begun.status} and {ended.status}, {first_difference(ended.stdout, [*held, *rest])}"
+        yield from self.kept(file, reader)
+
+
+def renumbered(line, before):
+    if not line.startswith(b"fault,"):
+        return line
+    _, number, rest = line.split(b",", 2)
+    return b"fault,%d,%b" % (int(number) - before, rest)
+
+
+def first_difference(stdout, expected):
+    lines = stdout.splitlines(keepends=True)
+    for at, (line, right) in enumerate(zip(lines, expected)):
+        if line != right:
+            return f"line {at + 1} is {line!r} for {right!r}"
+    return f"{len(lines)} lines for {len(expected)}"
+
+
+def syncs(events):
+    """Each read makes one batch at most, each batch two syncs at most, and a batch that enters nothing none."""
+    counts, is_open = [], False
+    for event in events:
+        if event.kind == INPUT:
+            counts.append([0, 0])
+            is_open = True
+        elif is_open and event.is_change:
+            counts[-1][event.kind == SYNC] += 1
+    wrong = [count for count in counts if count not in ([0, 0], [2, 2])]
+    if wrong:
+        yield f"a batch with {wrong[0][0]} writes and {wrong[0][1]} syncs"
+
+
+def together(counts, desk, dam):
+    """A second desk, and the journal while a desk runs."""
+    given = journals.batched(dam, "together", journals.drawn, 40)
+    file = desk.folder() / "day.desk"
+    process = subprocess.Popen([*desk.words, str(file)], stdin=subprocess.PIPE, stdout=subprocess.PIPE)
+    done = 0
+    for batch in given.batches:
+        process.stdin.write(batch)
+        process.stdin.flush()
+        for _ in range(batch.count(b"\n")):
+            line = process.stdout.readline()
+            counts.check(f"together: answer {done}: {line!r}", line == given.journal.answers[done])
+            done += 1
+        before = file.read_bytes(), file.stat().st_mtime_ns
+        other = subprocess.run([*desk.words, str(file)], input=CLOSE, stdout=subprocess.PIPE, stderr=subprocess.PIPE)
+        counts.check(f"together: a second desk: {other}", (other.returncode, other.stdout, other.stderr) == (4, b"", IN_USE))
+        shown = subprocess.run([*desk.words, "--journal", str(file)], stdout=subprocess.PIPE, stderr=subprocess.PIPE)
+        right = given.journal.text(done)
+        counts.check(f"together: the journal of {done} records: {shown}", (shown.returncode, shown.stdout, shown.stderr) == (0, right, b""))
+        counts.check("together: nothing was changed", before == (file.read_bytes(), file.stat().st_mtime_ns))
+    process.send_signal(signal.SIGSTOP)  # a desk that stands still has its file too
+    other = subprocess.run([*desk.words, str(file)], input=CLOSE, stdout=subprocess.PIPE, stderr=subprocess.PIPE)
+    counts.check(f"together: a desk that stands still: {other}", (other.returncode, other.stdout, other.stderr) == (4, b"", IN_USE))
+    process.send_signal(signal.SIGCONT)
+    process.stdin.close()
+    counts.check("together: the first desk ends with 0", process.wait() == 0 and process.stdout.read() == b"")
+    process.stdout.close()
+    many_at_once(counts, desk, given)
+
+
+def many_at_once(counts, desk, given):
+    """Of several desks that are started at once on a new file, one has it, and the others say so."""
+    file = desk.folder() / "day.desk"
+    pipes = {"stdin": subprocess.PIPE, "stdout": subprocess.PIPE, "stderr": subprocess.PIPE}
+    started = [subprocess.Popen([*desk.words, str(file)], **pipes) for _ in range(8)]
+    time.sleep(0.1)
+    printed = [process.communicate(b"".join(given.batches)) for process in started]
+    ends = sorted((process.returncode, *texts) for process, texts in zip(started, printed))
+    right = [(0, given.journal.printed(len(given.journal)), b""), *[(4, b"", IN_USE)] * 7]
+    counts.check(f"eight desks at once: statuses {[it[0] for it in ends]}", ends == right)
+
+
+def run(counts, desk, dam, whole):
+    begun, streams = time.monotonic(), Streams(desk, dam)
+    count = MANY if whole else FEW
+    with ThreadPoolExecutor(desk.jobs) as pool:
+        for seed, found in enumerate(pool.map(lambda seed: list(streams.wrong(seed)), range(count))):
+            counts.check(f"stream {seed}: {'; '.join(found)}", not found)
+    together(counts, desk, dam)
+    print(f"streams: {count} of {streams.lines:,} lines, {streams.entries:,} entries and {streams.faults:,} fault lines; "
+          f"{time.monotonic() - begun:.1f} s", flush=True)
