@@ -4,7 +4,7 @@ tools/table --rows commands prints them."""
 from . import journal, order_table, sheets, text
 from .order_table import WHAT
 
-# The columns that each command needs.
+# The columns that each command has. In the others its rows have no cell: it wouldn't do what they say.
 CANCEL = ("participant", "order")
 AMEND = (*CANCEL, "price_eur_mwh", "periods", "volume_mw")
 NEEDED = {"cancel": CANCEL, "amend": AMEND, "close": ()}
@@ -15,10 +15,10 @@ class Columns:
     orders are needed as far as its commands have them."""
 
     def __init__(self, found, needed):
-        self.header = header_of(found)
+        self.places = {name: at for at, name in reversed(list(enumerate(header_of(found))))}  # the first of each name
         self.table = order_table.table_of("", found, self.needed([cells for _, cells in found.rows[1:]]), (*needed, WHAT))
         for name in needed:
-            if name not in self.header:
+            if name not in self.places:
                 raise order_table.Wrong(f"line 1: there is no column {name}")
 
     def needed(self, rows):
@@ -27,9 +27,13 @@ class Columns:
         every = [NEEDED.get(self.cell(cells, WHAT).lower(), order_table.NEEDED) for cells in filled]
         return {name for names in every for name in names} if every else order_table.NEEDED
 
+    def given(self, cells, name):
+        """A cell as the table has it."""
+        at = self.places.get(name, len(cells))
+        return cells[at] if at < len(cells) else ""
+
     def cell(self, cells, name):
-        at = self.header.index(name) if name in self.header else len(cells)
-        return sheets.unescaped(cells[at].strip()) if at < len(cells) else ""
+        return sheets.unescaped(self.given(cells, name).strip())
 
     def is_empty(self, cells):
         """Whether a row adds no command to a day: it has none, or the close, before which the commands are put."""
@@ -37,8 +41,9 @@ class Columns:
 
     def read(self, cells, periods):
         """The command that a row adds to a day, None if it adds none; and the faults of the row."""
-        row = order_table.Row(cells, self.table, periods)
-        return None if self.is_empty(cells) else read_command(row, self.cell(cells, WHAT).lower()), row.wrong
+        row, what = order_table.Row(cells, self.table, periods), self.cell(cells, WHAT).lower()
+        refuse_others(row, what)
+        return None if self.is_empty(cells) else read_command(row, what), row.wrong
 
 
 def header_of(found):
@@ -49,6 +54,14 @@ def header_of(found):
 def is_command_table(found):
     """Whether a table, given by its cells, has the column `what`."""
     return WHAT in header_of(found)
+
+
+def refuse_others(row, what):
+    """Adds to a row's faults its cells that the command doesn't have."""
+    for name in order_table.ORDER if what in NEEDED else []:
+        if name not in NEEDED[what] and (cell := row.cell(name)):
+            article = "an" if what == "amend" else "a"
+            row.wrong.append(f"column {name}: {text.quoted(cell)} should be left out: {article} {what} has no {name}")
 
 
 def read_command(row, what):

@@ -19,7 +19,7 @@ import support
 from support import AUCTION, AUCTION_RESULTS, FIRST, QUARTERS, QUARTERS_RESULTS, journal_of, printed, tool
 
 import compare
-from lib import book, changes, cleared, command, engine, journal, limits, rules, tables, text
+from lib import book, changes, cleared, command, engine, journal, limits, order_table, rules, scenarios, tables, text
 from test_many import ends
 
 FAKE = Path(__file__).with_name("fake_dam.py")
@@ -381,6 +381,21 @@ class Tools(unittest.TestCase):
         cancelled = self.whatif("change", self.journal, "-", data=b"cancel,GEN,UNIT,,,,,,\n")
         self.assertEqual(self.whatif("change", self.journal, "-", data=b"what,participant,order\ncancel,GEN,UNIT\n"), cancelled)
         self.assertEqual((amended[0], cancelled[0]), (0, 0))
+
+    def test_a_cell_that_a_command_does_not_have(self):
+        """An amend can't change a side or a group, and a cancel is of the whole order: such a cell would be ignored."""
+        full = dict(zip(order_table.ORDER, "GEN,UNIT,block,sell,60,1,2,P,G".split(",")))
+        held = changes.before_close(journal.read_journal(journal_of(*SMALL)))
+        amend = {"participant", "order", "price_eur_mwh", "periods", "volume_mw"}
+        for what, has in (("an Amend", amend), ("a cancel", {"participant", "order"}), ("a close", set())):
+            for name in full.keys() - has:
+                heads, cells = [",".join(part) for part in (full, (cell if each in {*has, name} else "" for each, cell in full.items()))]
+                data = f"what,{heads}\n{what.split()[1]},{cells}\n"
+                said = f"line 2, column {name}: '{full[name]}' should be left out: {what.lower()} has no {name}$"
+                with self.assertRaisesRegex(engine.Fault, f"^{said}"):
+                    changes.read_changes(data.encode(), 24)
+                with self.assertRaisesRegex(engine.Fault, f"^a: {said}"):
+                    scenarios.read_table("a", f"scenario,{data[:-1].replace(chr(10), chr(10) + 'S,')}".encode(), held)
 
     def test_bad_words_and_bad_comparisons(self):
         for word in ("abc", text.cents(rules.GREATEST_PRICE + 1), "1e3", "0.001"):
