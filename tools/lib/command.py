@@ -128,6 +128,12 @@ class Parser(argparse.ArgumentParser):
         words = "the results of that journal; omit them for the output of `dam day`"
         self.add_argument("results", metavar="RESULTS", nargs="?", help=words)
 
+    def _get_value(self, action, word):
+        """The value of a word. An empty one, as of a variable of the shell that isn't set, is never taken for a word that is left out."""
+        if not word and action.nargs != argparse.PARSER:  # the words of a command are read by its own parser
+            raise argparse.ArgumentError(action, "it is empty")
+        return super()._get_value(action, word)
+
     def error(self, message):
         super().error(on_lines(message))
 

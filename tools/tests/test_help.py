@@ -48,6 +48,28 @@ class Help(unittest.TestCase):
                     # The lint finds the commands that the examples' books refuse.
                     self.assertEqual(ran.returncode, command.DIFFERS if name == "lint" else 0, f"{line}\n{ran.stderr}")
 
+    def test_an_empty_word_is_no_word_that_is_left_out(self):
+        """Such as a variable of a shell that isn't set: it would be taken for the default, or for the working folder."""
+        for name, words, argument in (
+            ("audit", ["a", "--sent", ""], "--sent"),
+            ("audit", ["--days="], "--days"),
+            ("compare", ["a", "b", "c", "d", "-o", ""], "-o/--out"),
+            ("lint", [""], "JOURNAL"),
+            ("package", ["--out", ""], "--out"),
+            ("plot", ["a", "--period="], "--period"),
+            ("reading-list", ["--top="], "--top"),
+            ("receipts", ["verify", "--key", ""], "--key"),
+            ("report", ["a", "--title", ""], "--title"),
+            ("table", ["a", "--date="], "--date"),
+            ("table", ["a", "-o", ""], "-o/--out"),
+            ("whatif", ["change", "a", "b", "--participant", ""], "--participant"),
+            ("whatif", ["limit", "a", "--program="], "--program"),
+        ):
+            with self.subTest(words, name=name):
+                status, out, err = tool(name, *words)
+                said = f"error: argument {argument}: it is empty"
+                self.assertEqual((status, out, err.splitlines()[-1].split(": ", 1)[1]), (command.COMMAND_LINE, b"", said))
+
     def test_defaults_are_said_to_be(self):
         for name, packages in {**TOOLS, "audit": []}.items():
             text = re.sub(r"\s+", " ", tool(*COMMANDS.get(name, [name]), "--help")[1].decode().partition("options:")[2].partition("statuses:")[0])
