@@ -2,8 +2,8 @@
 """Reads random Excel workbooks as the tools do. Each case is a table of cells, written in one of the many ways that Excel allows. The
 reader must return exactly these cells. Half of the workbooks are then broken in one place: there the reader must report a fault.
 
-With --large it also reads workbooks of at most 5 MB that are made to take memory and time. Each read must end within 10 seconds of a
-processor, and take at most 64 MiB more memory. Otherwise it reads only a few of these.
+With --large it also reads workbooks and texts of at most 5 MB that are made to take memory and time. Each read must end within 10 seconds
+of a processor, and take at most 64 MiB more memory. Otherwise it reads only a few of these.
 
 Each case depends only on the seed and its number. The last line is 'N passed, M failed'."""
 
@@ -376,7 +376,7 @@ def trouble(rng):
     return None if [row for row in found if row[1]] == drawn.expected() else f"it has {found} instead of {drawn.expected()}"
 
 
-# Workbooks that take memory or time. The first row has the columns of a table of orders.
+# Workbooks and texts that take memory or time. The first row has the columns of a table of orders.
 HEADS = "".join(f"<c t='inlineStr'><is><t>{name}</t></is></c>" for name in order_table.ORDER).encode()
 ROOT = f'<worksheet xmlns="{MAIN[0]}">'.encode()
 OPEN, CLOSE = ROOT + b"<sheetData><row>" + HEADS + b"</row>", b"</sheetData></worksheet>"
@@ -432,7 +432,7 @@ def of_sheets(sheets):
     return archive({**{name: content.encode() for name, content in texts.items()}, **cells})
 
 
-SHARED = "xl/sharedStrings.xml"
+SHARED, TEXT = "xl/sharedStrings.xml", ";".join(order_table.ORDER).encode() + b"\n"
 # The few, and all: each with the words of its fault, None for a table that is read, and "" for either.
 FEW = {
     "a row far away": ("the number '5000000'", lambda: of_sheet(OPEN, order(1, ' r="5000000"'), CLOSE)),
@@ -449,6 +449,8 @@ FEW = {
     "long namespaces": ("the name of an element has more than", lambda: of_sheet(ROOT, long_names(b"<a xmlns='%s'/>"), CLOSE)),
     "first rows": (None, lambda: of_sheets([[b"<row>", b"<c t='str'><v>%s</v></c>" % (b"x" * 32_000) * 124, b"</row>"]] * 23)),
     "parts": ("more than 10,000 parts", lambda: archive({str(number): b"" for number in range(12_000)})),
+    "a text of empty lines": ("at most 1,048,576 lines", lambda: TEXT + b"\n" * 4_900_000),
+    "a text of short cells": ("more than 300,000 cells", lambda: TEXT + (b"ab;" * 16_000 + b"\n") * 100),
 }
 LARGE = {
     "1 GB of spaces": ("MiB in its parts", lambda: of_sheet(OPEN, (b" " * 2**20 for _ in range(2**10)), CLOSE)),
@@ -473,6 +475,11 @@ LARGE = {
         [[b"<row>", *(b"<c t='s'><v>%d</v></c>" % (2**14 * sheet + at) for at in range(2**14)), b"</row>"] for sheet in range(40)])),
     "used strings": ("characters in its cells", lambda: of_sheet(
         OPEN, (b"<row><c t='s'><v>%d</v></c></row>" % row for row in range(9_999)), CLOSE, **{SHARED: strings(10_000, 500)})),
+    "formatted cells": ("", lambda: of_sheet(OPEN, (
+        b"<row>%s</row>" % b"".join(b"<c s='3'><v>%d.%d</v></c>" % (row, at) for at in range(30)) for row in range(9_990)), CLOSE)),
+    "a text of empty cells": ("a row has at most 16384 cells", lambda: TEXT + (b";" * 10**6 + b"\n") * 3 + b";" * 10**6 + b"a"),
+    "a text of wide characters": ("line 2", lambda: TEXT + (b"\xf0\x9f\x98\x80" * 30_000 + b";\n") * 41),
+    "a text of spaces": ("line 2", lambda: TEXT + (b"A;K;block;buy;1;7:00%sx;5\n" % (b" " * 30_000)) * 130),
     "one string often": ("characters before this cell", lambda: of_sheet(
         OPEN, (b"<row>" + b"<c t='s'><v>0</v></c>" * 9 + b"</row>" for _ in range(9_999)), CLOSE, **{SHARED: strings(1, 32_000)})),
 }  # fmt: skip

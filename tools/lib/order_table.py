@@ -39,14 +39,6 @@ class Wrong(Exception):
     """A fault of a cell, or of a table."""
 
 
-def trimmed(cells):
-    """The cells of a row without the empty ones at its end, which spreadsheets leave."""
-    count = len(cells)
-    while count and not cells[count - 1].strip():
-        count -= 1
-    return cells[:count]
-
-
 def columns_of(header, needed, further):
     """Where each column stands, and notes on those that aren't used; if not, all that is wrong with the columns, a line each. Those that
     are needed have to be there; the further ones are used, and read by others."""
@@ -54,7 +46,7 @@ def columns_of(header, needed, further):
     missing = [name for name in ORDER if name not in names]
     places, wrong, notes = {}, [], []
     for at, (name, cell) in enumerate(zip(names, header), 1):
-        if name in places or name in further and name in names[: at - 1]:
+        if name in places or name in further and names.index(name) < at - 1:
             wrong.append(f"line 1, column {at}: the column {text.quoted(name)} appears twice")
         elif name in ORDER + RESULT:
             places[name] = at - 1
@@ -108,7 +100,7 @@ def parts(cell):
 def read_periods(cell, periods):
     """Periods and runs of periods of the day by increasing number, such as `8`, `8-20` or `1;3;5-7`, or clock times, such as
     `07:00-08:00`. A dash may be of any kind, with spaces around it."""
-    cell = spans.DASH.sub("-", cell)
+    cell = spans.dashed(cell)
     if not parts(cell):
         raise Wrong("it should name a period, such as 8, or several, such as 8-20 or 1;3;5-7, or times, such as 07:00-20:00")
     if ":" in cell:
@@ -324,7 +316,7 @@ def cells_of(data, most=MOST_ROWS):
         rows, decimal_comma = sheets.rows_of(data, NEEDED, read, most)
     except sheets.Wrong as fault:
         raise Wrong(str(fault)) from None
-    rows = [(number, trimmed(cells)) for number, cells in rows if any(cell.strip() for cell in cells)]
+    rows = [(number, cells) for number, cells in ((number, sheets.trimmed(cells)) for number, cells in rows) if cells]
     if not rows:
         raise Wrong(f"the table is empty: its first line should name the columns {', '.join(ORDER)}")
     if most is not None and len(rows) > most + 1:

@@ -9,6 +9,8 @@ from . import shapes, workbooks
 
 XLSX = b"PK\x03\x04"  # the first bytes of a workbook
 PART, LONGEST_ROW = 1 << 20, 1 << 20  # bytes that are decoded at once, and characters of a row of a text
+MOST_LINES = workbooks.LAST_ROW  # of a text
+MANY = 10  # how many times the cells and characters of a workbook a text may have if its rows aren't limited
 PREFERRED = "orders"  # the sheet that is read if there are several
 # The marks by which a program takes a cell for a formula, also the wide ones. In some languages a comma, a semicolon or a tab in a cell
 # begins another one.
@@ -69,42 +71,79 @@ def first_other(data, encoding):
 
 
 class Lines:
-    """The lines of a text, of which no row has too many characters."""
+    """The lines of a text. Each is a row: a cell that goes on in the next line could hide rows in a column that isn't used."""
 
-    def __init__(self, file):
-        self.file, self.length = file, 0
+    def __init__(self, file, delimiter):
+        self.file, self.delimiter = file, delimiter
+        self.number, self.line = 0, ""  # the line that is being read, or nothing between rows
 
     def __iter__(self):
         return self
 
     def __next__(self):
-        line = self.file.readline(LONGEST_ROW + 1)
-        self.length += len(line)
-        if self.length > LONGEST_ROW:
+        if self.line:
+            column = len(next(csv.reader([self.line], delimiter=self.delimiter)))
+            words = "a quote begins a cell that doesn't end on its line: write it on one line, or remove the quote"
+            raise Wrong(f"line {self.number}, column {column}: {words}")
+        self.number += 1
+        if self.number > MOST_LINES:
+            raise Wrong(f"line {self.number}: a table has at most {MOST_LINES:,} lines")
+        self.line = self.file.readline(LONGEST_ROW + 1)
+        if len(self.line) > LONGEST_ROW:
             raise csv.Error(f"a row has more than {LONGEST_ROW:,} characters")
-        if not line:
+        if not self.line:
             raise StopIteration
-        return line
+        return self.line
+
+
+class Count:
+    """The cells and the characters of a table, which are limited as the ones of a workbook."""
+
+    def __init__(self, times):
+        self.most_cells, self.most_characters = times * workbooks.MOST_CELLS, times * workbooks.MOST_CHARACTERS
+        self.cells = self.characters = 0
+
+    def add(self, line, cells):
+        if len(cells) > workbooks.LAST_COLUMN:
+            raise Wrong(f"line {line}: a row has at most {workbooks.LAST_COLUMN} cells")
+        for column, cell in enumerate(cells, 1):
+            if len(cell) > workbooks.LONGEST_CELL:
+                raise Wrong(f"line {line}, column {column}: it has more than {workbooks.LONGEST_CELL:,} characters")
+        self.cells += len(cells)
+        self.characters += sum(map(len, cells))
+        for count, most, things in (
+            (self.cells, self.most_cells, "cells"),
+            (self.characters, self.most_characters, "characters"),
+        ):
+            if count > most:
+                raise Wrong(f"line {line}: the table has more than {most:,} {things} up to this line: delete those that it doesn't need")
+
+
+def trimmed(cells):
+    """The cells of a row without the empty ones at its end, which spreadsheets leave."""
+    count = len(cells)
+    while count and not cells[count - 1].strip():
+        count -= 1
+    return cells[:count]
 
 
 def text_rows(data, notes=None, most=None):
-    """The rows of a text that aren't empty, in bounded memory: if they have more than `most` after the first, only one more."""
+    """The rows of a text that aren't empty, in bounded memory and time: if they have more than `most` after the first, only one more."""
     encoding = encoding_of(data, [] if notes is None else notes)
     file = io.TextIOWrapper(io.BytesIO(data), encoding, "replace" if encoding == "utf-16" else "strict", newline="")
     delimiter = max(",;\t", key=file.readline(LONGEST_ROW).count)
     file.seek(0)
-    lines = Lines(file)
-    reader = csv.reader(lines, delimiter=delimiter, strict=True)
-    rows, line = [], 1
+    lines, rows, count = Lines(file, delimiter), [], Count(MANY if most is None else 1)
     try:
-        for cells in reader:
-            if any(cell.strip() for cell in cells):
-                rows.append((line, cells))
+        for cells in csv.reader(lines, delimiter=delimiter, strict=True):
+            if cells := trimmed(cells):
+                count.add(lines.number, cells)
+                rows.append((lines.number, cells))
+            lines.line = ""
             if most is not None and len(rows) > most + 1:
                 break
-            line, lines.length = reader.line_num + 1, 0
     except csv.Error as fault:
-        raise Wrong(f"line {line}: the table can't be read: {fault}") from None
+        raise Wrong(f"line {lines.number}: the table can't be read: {fault}") from None
     return rows, delimiter != ","
 
 

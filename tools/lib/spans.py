@@ -3,7 +3,12 @@
 import re
 
 RUN = re.compile(r"([1-9][0-9]{0,3})(?:-([1-9][0-9]{0,3}))?")
-DASH = re.compile(r"\s*[-\u2010-\u2015\u2212]\s*")  # of people and word processors
+DASH = re.compile(r"[-\u2010-\u2015\u2212]")  # of people and word processors
+
+
+def dashed(words):
+    """Words in which each dash is `-`, without spaces around it."""
+    return "-".join(part.strip() for part in DASH.split(words))
 
 
 def read(words, greatest, separators=";"):

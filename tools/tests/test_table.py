@@ -248,8 +248,8 @@ class Orders(unittest.TestCase):
         self.assertIn("line 3: the table can't be read", self.wrong(BLOCK, HOUR + ',"x"y'))
 
     def test_a_line_is_one_of_the_file(self):
-        line = self.wrong("", HOUR + ',"\n\n",', HOUR.replace("hour", "hourly"))
-        self.assertIn("line 6, column kind: ", line)
+        line = self.wrong("", "", HOUR + ',"",', HOUR.replace("hour", "hourly"))
+        self.assertIn("line 5, column kind: ", line)
 
     def test_only_the_first_errors_are_told(self):
         lines = self.wrong(*["x"] * 100).split("\n")

@@ -2,6 +2,7 @@
 
 import csv
 import tempfile
+import time
 import tracemalloc
 import unittest
 from pathlib import Path
@@ -13,6 +14,7 @@ import workbooks as made
 from lib import changes, command, engine, order_table, scenarios, sheets
 from lib.book import Book
 
+UP = "up to this line: delete those that it doesn't need"
 LIMITED = "the sheet has more than 300,000 cells before this one: delete those that the table doesn't need"
 
 
@@ -105,13 +107,40 @@ class Faults(unittest.TestCase):
             (b"a\n" * 200_000, 1, [(1, ["a"]), (2, ["a"]), (3, ["a"])]),
             ("a\n".encode("utf-16") + "\n".encode("utf-16-le") * 200_000, 1, [(1, ["a"])]),
             (b"a\n" + b"," * 4_000_000, 1, "line 2: the table can't be read: a row has more than 1,048,576 characters"),
-            (b'a\n"' + b'b\n","' * 600_000 + b'"', 1, "line 2: the table can't be read: a row has more than 1,048,576 characters"),
+            (b"a\n" + (b"b," * 16_000 + b"\n") * 20, None, [(1, ["a"]), *((2 + at, ["b"] * 16_000) for at in range(20))]),
+            (b"a\n" + (b"b," * 16_000 + b"\n") * 20, 99, f"line 20: the table has more than 300,000 cells {UP}"),
+            (b"a\n" + (b"," * 20_000 + b"\n") * 16, 99, [(1, ["a"])]),
+            (b"a\n" + (b"b" * 30_000 + b"\n") * 199, 199, f"line 141: the table has more than 4,194,304 characters {UP}"),
+            (b"a\n" + b"b," * 16_385, 1, "line 2: a row has at most 16384 cells"),
+            (b"a\nb," + b"c" * 32_768, 1, "line 2, column 2: it has more than 32,767 characters"),
         ):
             tracemalloc.start()
             try:
                 found = sheets.rows_of(data, most=most)[0]
             except sheets.Wrong as fault:
                 found = str(fault)
+    def test_a_text_has_no_more_lines_than_a_sheet(self):
+        with self.assertRaisesRegex(sheets.Wrong, "^line 1048577: a table has at most 1,048,576 lines$"):
+            sheets.rows_of(b"\n" * (2**20 + 1))
+
+    def test_a_cell_of_a_text_that_does_not_end_on_its_line(self):
+        """Two quotes in a column that isn't used could hide the rows between them."""
+        head, said = ",".join(order_table.ORDER), "a quote begins a cell that doesn't end on its line: write it on one line, or remove the quote"
+        one, other = ("A,K1,block,buy,1,8,5,,", "A,K2,block,buy,1,8,5,,")
+        for text, place in (
+            (f'{head},note\n{one},"see\n{other},"\n', "line 2, column 10"),
+            (f'{head},note\n{one},see\n\n{other},"\r\n', "line 4, column 10"),
+            (f'note,{head}\n"x\r{one}\r",{other}\r', "line 2, column 1"),
+            (f'{head},"note\n{one},x"\n{other},x\n', "line 1, column 10"),
+            (f'{head},note\nB,"K,block,buy,1,8,5,,,\n{one}"\n', "line 2, column 2"),  # of another participant
+            (f'{head}\n{one.replace(",", ";")};"\n{other}'.replace(",", ";"), "line 2, column 10"),
+        ):
+            for code in ("utf-8", "utf-8-sig", "utf-16"):
+                with self.subTest(text, code=code), self.assertRaisesRegex(order_table.Wrong, f"^{place}: {said}$"):
+                    order_table.read_tables([("", text.encode(code))], 24, "A")
+        quoted = f'"{head}",note\n'.replace(",", '","').replace('","note', ',"note, of one ""line"""') + f'{one},"a, b"\n'
+        self.assertEqual(len(order_table.read_tables([("", quoted.encode())], 24).submits), 1)
+
             most_memory = tracemalloc.get_traced_memory()[1]
             tracemalloc.stop()
             self.assertEqual(found, wanted)
@@ -162,7 +191,7 @@ class Long(unittest.TestCase):
         for column, cell, said in (
             ("periods", "7:00" + " " * 30_000 + "x", "should be two clock times"),
             ("periods", "1-100;" * 5_000, "has 5,000 parts: a day has at most 100 periods"),
-            ("periods", "07:00-08:00 " * 5_000, "has 5,000 parts: a day has at most 100 periods"),
+            ("periods", "07:00-08:00 " * 2_500, "has 2,500 parts: a day has at most 100 periods"),
             ("volume_mw", "5;" * 15_000, "there are 15000 volumes for 1 period: give one, or one for each"),
         ):
             cells = dict(zip(order_table.ORDER, "A,K1,block,buy,1,8,5,,".split(",")), **{column: cell})
@@ -176,3 +205,15 @@ class Long(unittest.TestCase):
 
 if __name__ == "__main__":
     unittest.main()
+            began = time.process_time()
+            self.assertLess(time.process_time() - began, 1)
+
+    def test_many_columns(self):
+        """A column is found at once, however many there are before it."""
+        heads = ",".join([*(f"c{number}" for number in range(16_000)), "scenario", "what", "participant", "order"])
+        data = f"{heads}\n".encode() + b"x\n" * 1_000
+        began = time.process_time()
+        for read in (changes.read_changes, lambda data, _: scenarios.read_table("a table", data, Book(24))):
+            with self.assertRaises(engine.Fault):
+                read(data, 24)
+        self.assertLess(time.process_time() - began, 5)
