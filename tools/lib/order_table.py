@@ -6,12 +6,12 @@ import re
 from fractions import Fraction
 from typing import NamedTuple
 
-from . import book, clock, fields, journal, kinds, rules, sheets, spans, text
+from . import book, clock, fields, journal, kinds, rules, sheets, spans, text, workbooks
 from .tables import ORDER, REPLY, RESULT
 
 # The columns that a row may leave empty, or a table out.
 OPTIONAL = ["parent", "group"]
-NAMES = ["participant", "order", *OPTIONAL]  # the columns of names
+NAMES = ["participant", "order", *OPTIONAL]  # the columns of names of orders
 NEEDED = [name for name in ORDER if name not in OPTIONAL]
 # The column of a table of commands that says the command of a row, which a table of orders can't say.
 WHAT = "what"
@@ -48,6 +48,8 @@ def columns_of(header, needed, further):
     for at, (name, cell) in enumerate(zip(names, header), 1):
         if name in places or name in further and names.index(name) < at - 1:
             wrong.append(f"line 1, column {at}: the column {text.quoted(name)} appears twice")
+        elif isinstance(cell, workbooks.Uncomputed):
+            wrong.append(f"line 1, column {at}: {unlike(cell)}")
         elif name in ORDER + RESULT:
             places[name] = at - 1
         elif name in further or WHAT in further and name in REPLY:
@@ -62,6 +64,19 @@ def columns_of(header, needed, further):
     if wrong:
         raise Wrong("\n".join([*wrong, *(f"line 1: {note}" for note in notes)] if lacking else wrong))
     return places, notes
+
+
+def unlike(cell):
+    """The words on a cell of a workbook that isn't what Excel shows."""
+    is_formula = isinstance(cell, workbooks.Uncomputed)
+    remedy = "open the workbook in Excel, and save it" if is_formula else "make the cell one of text"
+    return f"{text.quoted(cell)} is {cell.kind}: {remedy}"
+
+
+def refuse_unlike(cell, is_name):
+    """Refuses a cell of a workbook that isn't what Excel shows: a formula without its value, or in a column of names also a date."""
+    if isinstance(cell, workbooks.Uncomputed) or is_name and isinstance(cell, workbooks.Unlike):
+        raise Wrong(unlike(cell))
 
 
 def scaled(cell, factor, least, greatest, unit, decimal_comma):
@@ -205,9 +220,13 @@ class Row:
         self.wrong = table.strays(cells)
         self.raised = {}  # these names, by their text
 
-    def cell(self, name):
+    def given(self, name):
+        """A cell as the table has it."""
         at = self.table.places.get(name)
-        return sheets.unescaped(self.cells[at].strip()) if at is not None and at < len(self.cells) else ""
+        return self.cells[at] if at is not None and at < len(self.cells) else ""
+
+    def cell(self, name):
+        return sheets.unescaped(self.given(name).strip())
 
     def read(self, name, reader):
         """The value that a reader makes of a cell; None if it is wrong."""
@@ -215,6 +234,7 @@ class Row:
         if self.raises and name in NAMES and cell != cell.upper() == self.meant(name):
             self.raised[cell] = cell = cell.upper()
         try:
+            refuse_unlike(self.given(name), name in NAMES)
             return reader(cell)
         except Wrong as fault:
             self.wrong.append(f"column {name}: {fault}")

@@ -92,6 +92,11 @@ def read_table(name, data, held):
     for scenario, rows in itertools.groupby(lines, lambda each: each[1]):
         rows = list(rows)
         first = rows[0][0]
+        try:
+            for line, _, cells in rows:
+                order_table.refuse_unlike(columns.given(cells, SCENARIO), True)
+        except order_table.Wrong as fault:
+            raise Fault(f"{name}: line {line}, column {SCENARIO}: {fault}") from None
         if not scenario:
             raise Fault(f"{name}: line {first}, column {SCENARIO}: it should name the scenario")
         if scenario in seen:

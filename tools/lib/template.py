@@ -3,6 +3,7 @@
 import io
 
 from . import rules, text
+from .order_table import NAMES
 from .tables import ORDER
 
 ORDERS, EXAMPLES = "orders", "examples"  # the sheets
@@ -57,7 +58,7 @@ def fill(sheet, rows):
         head.font, head.comment = Font(bold=True), Comment(WORDS[name], "dam")
         column = sheet.column_dimensions[get_column_letter(place)]
         column.width = WIDTH
-        if name in ("periods", "order"):
+        if name == "periods" or name in NAMES:
             column.number_format = "@"
     sheet.freeze_panes = "A2"
 

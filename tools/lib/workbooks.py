@@ -52,12 +52,43 @@ DATE = re.compile(r"([0-9]{4}-[0-9]{2}-[0-9]{2})(?:T[0-9:.]*Z?)?")
 CLOCK = re.compile(r"T?([0-9]{2}:[0-9]{2})(?::[0-9.]*)?Z?")
 # The numbers of Excel's own formats of dates and times, and what in another format isn't one: texts, and a condition or colour.
 DATE_FORMATS = {*range(14, 23), *range(27, 37), *range(45, 48), *range(50, 59)}
+# Those of formats that show a number as it is, and of a format for texts.
+PLAIN_FORMATS, PLAIN_CODES = {0, 1, 49}, {"general", "0", "@"}
 NO_DATE = re.compile(r'"[^"]*"|\\.|_.|\*.|\[(?!(?:h+|m+|s+)\])[^\]\[]*\]', re.IGNORECASE)
 TRUTHS = {"1": "TRUE", "true": "TRUE", "0": "FALSE", "false": "FALSE"}
 
 
 class Wrong(Exception):
     """A file that isn't a workbook, or a sheet that can't be read whole."""
+
+
+class Unlike(str):
+    """The text of a cell that Excel shows in another way than it is read."""
+
+    __slots__ = ()
+    kind = ""
+
+
+class Date(Unlike):
+    __slots__ = ()
+    kind = "a date or a time"
+
+
+class Formatted(Unlike):
+    __slots__ = ()
+    kind = "a number with a format"
+
+
+class Truth(Unlike):
+    __slots__ = ()
+    kind = "a truth value"
+
+
+class Uncomputed(Unlike):
+    """The formula of a cell that was saved without its value."""
+
+    __slots__ = ()
+    kind = "a formula that was saved without its value"
 
 
 def broken(words):
@@ -295,12 +326,12 @@ class Book(Part):
     """The sheets of a workbook, and the parts that they share."""
 
     ROOT = "workbook"
-    KNOWN = {"": {ROOT}, ROOT: {"workbookPr", "sheets"}, "sheets": {"sheet"}}
+    KNOWN = {"": {ROOT}, ROOT: {"workbookPr", "sheets", "calcPr"}, "sheets": {"sheet"}}
     STRICT = {"sheets"}
 
     def __init__(self, package):
         super().__init__()
-        self.package, self.from_1904, self.sheets = package, False, []
+        self.package, self.from_1904, self.is_computed, self.sheets = package, False, True, []
         if not package.has("_rels/.rels"):
             raise broken("it isn't an Excel workbook (.xlsx), but another archive")
         part = self.relations_of("").only(WORKBOOK)
@@ -311,7 +342,7 @@ class Book(Part):
         styles = Styles()
         if part := self.relations.only(STYLES):
             package.read(part, styles)
-        self.are_dates = styles.are_dates()
+        self.formats = styles.of_cells()
 
     def relations_of(self, owner):
         relations = Relations(owner)
@@ -320,6 +351,11 @@ class Book(Part):
 
     def open_workbookPr(self, attributes):
         self.from_1904 = TRUTHS.get(attributes.get("date1904")) == "TRUE"
+
+    def open_calcPr(self, attributes):
+        """A program that doesn't compute formulas stores any values, and lets Excel compute them once it opens the workbook."""
+        is_due = TRUTHS.get(attributes.get("fullCalcOnLoad")) == "TRUE" or TRUTHS.get(attributes.get("calcCompleted")) == "FALSE"
+        self.is_computed = self.is_computed and not is_due
 
     def open_sheet(self, attributes):
         if len(self.sheets) == MOST_SHEETS:
@@ -375,21 +411,22 @@ class Book(Part):
 
 
 class Styles(Part):
-    """For each format of cells whether it shows a date or a time."""
+    """For each format of cells how it shows a number: as a `Date`, `Formatted`, or as it is (`str`)."""
 
     ROOT = "styleSheet"
     KNOWN = {"": {ROOT}, ROOT: {"numFmts", "cellXfs"}, "numFmts": {"numFmt"}, "cellXfs": {"xf"}}
 
     def __init__(self):
         super().__init__()
-        self.dates, self.formats, self.own = {str(number) for number in DATE_FORMATS}, [], 0
+        self.shown = {str(number): kind for numbers, kind in ((DATE_FORMATS, Date), (PLAIN_FORMATS, str)) for number in numbers}
+        self.formats, self.own = [], 0
 
     def open_numFmt(self, attributes):
         number, code = attributes.get("numFmtId", ""), attributes.get("formatCode", "")
         if len(code) > LONGEST_NAME:
             raise broken(f"a format has more than {LONGEST_NAME:,} characters")
-        shown = NO_DATE.sub("", code).split(";")[0]
-        (self.dates.add if re.search("[dmyhs]", shown, re.IGNORECASE) else self.dates.discard)(number[:10])
+        is_date = re.search("[dmyhs]", NO_DATE.sub("", code).split(";")[0], re.IGNORECASE)
+        self.shown[number[:10]] = str if code.strip().lower() in PLAIN_CODES else Date if is_date else Formatted
         self.own += 1
         if self.own > MOST_OWN_FORMATS:
             raise too_many(MOST_OWN_FORMATS, "number formats")
@@ -399,8 +436,8 @@ class Styles(Part):
         if len(self.formats) > MOST_FORMATS:
             raise too_many(MOST_FORMATS, "formats of cells")
 
-    def are_dates(self):
-        return [number in self.dates for number in self.formats]
+    def of_cells(self):
+        return [self.shown.get(number, Formatted) for number in self.formats]
 
 
 class Strings(Part):
@@ -456,7 +493,7 @@ class Sheet(Part):
         super().__init__()
         self.place, self.part, self.book = f"sheet {text.quoted(name)}", part, book
         self.last = None if most is None else most + 1  # how many rows it may have
-        self.rows, self.needed, self.is_date = [], set(), {}
+        self.rows, self.needed, self.formats = [], set(), {}
         self.row = self.column = self.count_of_cells = self.characters = 0
         self.cells = None  # of a row; None outside
         self.has_data = False
@@ -567,8 +604,8 @@ class Sheet(Part):
         """The content of a cell, as it would stand in a text; of a shared string its number. A formula that was saved without its value
         stands for itself, so that it isn't taken for an empty cell."""
         value, kind = self.value, self.kind
-        if self.formula is not None and (value is None or value == "" and kind != "str"):
-            return f"={self.formula}"
+        if self.formula is not None and (value is None or value == "" and kind != "str" or not self.book.is_computed):
+            return Uncomputed(f"={self.formula}")
         if not value:
             return ""
         if kind == "n":
@@ -582,24 +619,25 @@ class Sheet(Part):
         if kind == "e":
             return value
         if kind == "b" and value in TRUTHS:
-            return TRUTHS[value]
+            return Truth(TRUTHS[value])
         if kind == "d" and (found := DATE.fullmatch(value) or CLOCK.fullmatch(value)):
-            return found[1]
+            return Date(found[1])
         raise self.wrong(f"{text.quoted(value)} isn't of its type, {text.quoted(kind)}")
 
     def number(self, value):
         """A number with the digits that Excel shows, or the date that it stands for."""
         if not NUMBER.fullmatch(value) or not math.isfinite(float(value)):
             raise self.wrong(f"{text.quoted(value)} isn't a number")
-        if self.style not in self.is_date:
-            self.is_date[self.style] = self.has_date()
-        if self.is_date[self.style]:
-            return self.date(float(value))
-        return str(int(value)) if WHOLE.fullmatch(value) else f"{float(value):.15g}"
+        if self.style not in self.formats:
+            self.formats[self.style] = self.format()
+        made = self.formats[self.style]
+        if made is Date:
+            return Date(self.date(float(value)))
+        return made(int(value) if WHOLE.fullmatch(value) else f"{float(value):.15g}")
 
-    def has_date(self):
-        """Whether the cell's format shows a date or a time."""
-        style, formats = self.style, self.book.are_dates or [False]
+    def format(self):
+        """How the cell's format shows numbers."""
+        style, formats = self.style, self.book.formats or [str]
         if not WHOLE.fullmatch(style) or not 0 <= int(style) < len(formats):
             raise self.wrong(f"it has no format {text.quoted(style)}")
         return formats[int(style)]

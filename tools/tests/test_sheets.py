@@ -358,7 +358,7 @@ class Tolerance(unittest.TestCase):
             words = {"C2:C5000": ("list", '"hour,block"', None), "D2:D5000": ("list", '"buy,sell"', None)}
             wanted = {**words, "E2:E5000": ("decimal", *limits)}
             self.assertEqual({str(check.sqref): (check.type, check.formula1, check.formula2) for check in checks}, wanted)
-            self.assertEqual([sheet.column_dimensions[column].number_format for column in "BF"], ["@", "@"])
+            self.assertEqual([column for column in "ABCDEFGHI" if sheet.column_dimensions[column].number_format == "@"], list("ABFHI"))
             status, out, err = tool("table", "--journal", "--open", path)
             self.assertEqual((status, out), (0, b"day,24,,,,,,,\n"))
             self.assertEqual(err.splitlines()[0], f"table: {path}: of 2 sheets, 'orders' was read")

@@ -85,11 +85,6 @@ class Faults(unittest.TestCase):
         close = close.replace(b"$A$3:$B$3", b"K1:L9")
         self.assertEqual(self.orders(made.of_sheet(made.OPEN, *rows, close)), [("K1", "G1"), ("K2", "")])
 
-    def test_a_formula_without_its_value_isnt_an_empty_cell(self):
-        group = b'<c r="I2"><f>"G"&amp;1</f></c></row>'
-        said = "line 2, column group: '=\"G\"&1' should be 1 to 12 of A to Z, 0 to 9 and -"
-        self.assertEqual(self.fault(book(order(2, "K1").replace(b"</row>", group))), said)
-
     def test_a_table_has_no_more_rows_than_a_journal(self):
         said = f"a table has at most {order_table.MOST_ROWS:,} rows after its first"
         rows = [order(at, "K1") for at in range(2, order_table.MOST_ROWS + 3)]
@@ -119,6 +114,11 @@ class Faults(unittest.TestCase):
                 found = sheets.rows_of(data, most=most)[0]
             except sheets.Wrong as fault:
                 found = str(fault)
+            most_memory = tracemalloc.get_traced_memory()[1]
+            tracemalloc.stop()
+            self.assertEqual(found, wanted)
+            self.assertLess(most_memory, 24 * 2**20)
+
     def test_a_text_has_no_more_lines_than_a_sheet(self):
         with self.assertRaisesRegex(sheets.Wrong, "^line 1048577: a table has at most 1,048,576 lines$"):
             sheets.rows_of(b"\n" * (2**20 + 1))
@@ -140,11 +140,6 @@ class Faults(unittest.TestCase):
                     order_table.read_tables([("", text.encode(code))], 24, "A")
         quoted = f'"{head}",note\n'.replace(",", '","').replace('","note', ',"note, of one ""line"""') + f'{one},"a, b"\n'
         self.assertEqual(len(order_table.read_tables([("", quoted.encode())], 24).submits), 1)
-
-            most_memory = tracemalloc.get_traced_memory()[1]
-            tracemalloc.stop()
-            self.assertEqual(found, wanted)
-            self.assertLess(most_memory, 24 * 2**20)
 
     def test_every_table_is_read_by_the_same_code(self):
         data, said = book(order(3, "K1"), order(2, "K2")), "sheet 'orders', row 2: it stands after row 3"
@@ -184,6 +179,86 @@ class Faults(unittest.TestCase):
             self.assertEqual(self.orders(data), [("K1", "")])
 
 
+class Unlike(unittest.TestCase):
+    """Cells that Excel shows, or computes, in another way than they are stored."""
+
+    HEADS = made.OPEN.replace(b"</row>", b"<c t='str'><v>note</v></c></row>")
+    COLUMNS = dict(zip("ABCDEFGHIJ", [*order_table.ORDER, "note"]))
+
+    def read(self, parts=(), **cells):
+        """The order of a workbook, of which some cells are given by their column, and the first line of its faults."""
+        plain = {letter: f"<c t='str'><v>{words}</v></c>" for letter, words in zip(self.COLUMNS, "A,K,block,buy,1,8,5,,,x".split(","))}
+        data = made.of_sheet(self.HEADS, f"<row>{''.join({**plain, **cells}.values())}</row>".encode(), made.CLOSE, **dict(parts))
+        try:
+            return order_table.read_tables([("", data)], 24).submits[0][1], None
+        except order_table.Wrong as fault:
+            return None, str(fault).splitlines()[0]
+
+    def computed(self, attributes):
+        """The list of sheets, with what it says of formulas."""
+        sheets = '<sheets><sheet name="orders" r:id="r1"/></sheets>'
+        return {"xl/workbook.xml": f'<workbook xmlns="{made.MAIN[0]}" xmlns:r="{made.OFFICE[0]}">{sheets}<calcPr {attributes}/></workbook>'.encode()}
+
+    def test_a_formula_without_its_value(self):
+        """It is no empty cell. A program that doesn't compute formulas may store any values, and says so of the whole workbook."""
+        for letter, name in self.COLUMNS.items():
+            said = f"line 2, column {name}: '=A1' is a formula that was saved without its value: open the workbook in Excel, and save it"
+            for cell, attributes in (
+                ("<c><f>A1</f></c>", ""),
+                ("<c><f>A1</f><v/></c>", 'calcId="1"'),
+                ("<c><f>A1</f><v>0</v></c>", 'fullCalcOnLoad="1"'),
+                ("<c t='str'><f>A1</f><v></v></c>", 'fullCalcOnLoad="true"'),
+                ("<c t='s'><f>A1</f><v>0</v></c>", 'calcCompleted="0"'),
+            ):
+                found, fault = self.read(self.computed(attributes), **{letter: cell})
+                self.assertEqual((fault, found is None), (said, True) if name != "note" else (None, False), cell)
+        for attributes in ("", 'calcCompleted="1"', 'fullCalcOnLoad="0"'):
+            found, _ = self.read(self.computed(attributes), I="<c t='str'><f>A1</f><v>G</v></c>", H="<c t='str'><f>A1</f><v></v></c>")
+            self.assertEqual((found.order.group, found.order.parent), ("G", ""))
+
+    def test_a_heading_without_its_value(self):
+        heads = made.OPEN.replace(b"<is><t>group</t></is>", b"<f>A1</f>").replace(b"<c t='inlineStr'><f>", b"<c><f>")
+        with self.assertRaisesRegex(order_table.Wrong, "^line 1, column 9: '=A1' is a formula that was saved without its value"):
+            order_table.read_tables([("", made.of_sheet(heads, order(2, "K1"), made.CLOSE))], 24)
+
+    def test_names_that_excel_shows_in_another_way(self):
+        """A name such as 8-20 becomes a date, 007 may be a 7 with a format, and TRUE is another word in another language."""
+        texts = {letter: name for letter, name in self.COLUMNS.items() if name in order_table.NAMES}
+        codes = ("General", "0", " @", "000", "0.00", "d.m")
+        codes = "".join(f'<numFmt numFmtId="{164 + at}" formatCode="{code}"/>' for at, code in enumerate(codes))
+        numbers = [0, 1, 49, 164, 165, 166, 2, 10, 167, 168, 14, 20, 169]
+        formats = "".join(f'<xf numFmtId="{number}"/>' for number in numbers)
+        formats = f'<styleSheet xmlns="{made.MAIN[0]}"><numFmts>{codes}</numFmts><cellXfs>{formats}</cellXfs></styleSheet>'
+        styles = {"xl/styles.xml": formats.encode()}
+        for letter, name in texts.items():
+            for style, number in enumerate(numbers):
+                found, fault = self.read(styles, **{letter: f'<c s="{style}"><v>7</v></c>'})
+                if number in numbers[:6] and name != "participant" and name != "parent":
+                    self.assertIn("7", (found.name, found.order.group), number)
+                elif number not in numbers[:6]:
+                    shown, kind = ("1900-01-07", "a date or a time") if number in numbers[-3:] else ("7", "a number with a format")
+                    self.assertEqual(fault, f"line 2, column {name}: '{shown}' is {kind}: make the cell one of text", number)
+            for cell, shown, kind in (
+                ("<c t='b'><v>1</v></c>", "TRUE", "a truth value"),
+                ("<c t='d'><v>2026-08-20T06:00:00</v></c>", "2026-08-20", "a date or a time"),
+            ):
+                _, fault = self.read(styles, **{letter: cell})
+                self.assertEqual(fault, f"line 2, column {name}: '{shown}' is {kind}: make the cell one of text")
+        found, _ = self.read(styles, E='<c s="7"><v>7</v></c>', F='<c s="8"><v>7</v></c>')  # a number is what it is
+        self.assertEqual((found.order.price, found.order.volumes), (700, ((7, 50),)))
+
+    def test_names_of_scenarios(self):
+        """Two times of a day, or two numbers, may be shown alike."""
+        for cell, said in (
+            ('<c s="1"><v>46254.25</v></c>', "'2026-08-20' is a date or a time: make the cell one of text"),
+            ('<c s="3"><v>4</v></c>', "'4' is a number with a format: make the cell one of text"),
+            ("<c><f>A1</f></c>", "'=A1' is a formula that was saved without its value"),
+        ):
+            data = made.of_sheet(made.OPEN.replace(b">group<", b">scenario<"), b"<row r='2'>" + b"<c/>" * 8 + cell.encode() + b"</row>", made.CLOSE)
+            with self.assertRaisesRegex(engine.Fault, f"^a table: line 2, column scenario: {said}"):
+                scenarios.read_table("a table", data, Book(24))
+
+
 class Long(unittest.TestCase):
     """Cells that are long take no time."""
 
@@ -195,17 +270,9 @@ class Long(unittest.TestCase):
             ("volume_mw", "5;" * 15_000, "there are 15000 volumes for 1 period: give one, or one for each"),
         ):
             cells = dict(zip(order_table.ORDER, "A,K1,block,buy,1,8,5,,".split(",")), **{column: cell})
+            began = time.process_time()
             with self.assertRaisesRegex(order_table.Wrong, said):
                 order_table.read_tables([("", f"{','.join(cells)}\n{','.join(cells.values())}\n".encode())], 24)
-
-    def test_periods_with_spaces_are_no_more_parts(self):
-        quarters = ";".join(f"{at // 4:02}:{at % 4 * 15:02} - {(at + 1) // 4:02}:{(at + 1) % 4 * 15:02}" for at in range(96))
-        self.assertEqual(order_table.read_periods(quarters, 96), list(range(1, 97)))
-
-
-if __name__ == "__main__":
-    unittest.main()
-            began = time.process_time()
             self.assertLess(time.process_time() - began, 1)
 
     def test_many_columns(self):
@@ -217,3 +284,11 @@ if __name__ == "__main__":
             with self.assertRaises(engine.Fault):
                 read(data, 24)
         self.assertLess(time.process_time() - began, 5)
+
+    def test_periods_with_spaces_are_no_more_parts(self):
+        quarters = ";".join(f"{at // 4:02}:{at % 4 * 15:02} - {(at + 1) // 4:02}:{(at + 1) % 4 * 15:02}" for at in range(96))
+        self.assertEqual(order_table.read_periods(quarters, 96), list(range(1, 97)))
+
+
+if __name__ == "__main__":
+    unittest.main()
