@@ -14,7 +14,7 @@ from .progress import Bar
 
 TOOL = Path(__file__).resolve().parents[1] / "audit"
 JOURNAL, RESULTS = ".csv", ".txt"
-COLUMNS = ["journal", "results"]  # of a manifest
+NAME, COLUMNS = "day", ["journal", "results"]  # the columns of a manifest: the day's name, and those that it needs
 MOST_SHOWN = command.LONGEST_PATH + 200  # characters of the first fault, which may begin with a file's name
 # Of the statuses of the days, the first that one of them has is the status of all.
 WORST = [command.DIFFERS, command.FAILED, command.NO_INPUT, command.UNDECIDED, command.ENCODING]
@@ -66,27 +66,36 @@ def pair_of(name, journal, published):
 def listed_pairs(path):
     """The pairs of a manifest: a table with the columns `journal` and `results`, whose files are sought from its own folder."""
     try:
-        rows = [cells for _, cells in sheets.text_rows(command.read_bytes(path))[0]]
+        rows = sheets.text_rows(command.read_bytes(path))[0]
     except sheets.Wrong as fault:
         raise command.Stop(f"{command.shown(path)} isn't a table of days: {fault}") from None
-    heads = [cell.strip().lower() for cell in rows[0]] if rows else []
+    heads = [cell.strip().lower() for cell in rows[0][1]] if rows else []
     if not set(COLUMNS) <= set(heads):
         raise command.Stop(f"{command.shown(path)} isn't a table of days: its first line should name the columns {', '.join(COLUMNS)}")
-    if not any(cell.strip() for row in rows[1:] for cell in row):
+    for name in (NAME, *COLUMNS):
+        if heads.count(name) > 1:
+            raise command.Stop(f"{command.shown(path)} isn't a table of days: its first line names the column {name} twice")
+    if not rows[1:]:
         raise command.Stop(f"{command.shown(path)} has no days: it has no row below its header")
-    for row in rows[1:]:
-        cells = dict(zip(heads, (cell.strip() for cell in row)))
-        if any(cells.values()):
-            yield listed_pair(path.parent, cells)
+    for line, row in rows[1:]:
+        yield listed_pair(path.parent, dict(zip(heads, (cell.strip() for cell in row))), extra_cells(line, row, heads))
 
 
-def listed_pair(folder, cells):
+def extra_cells(line, row, heads):
+    """Why a row of a manifest can't be read, if it has cells in no named column. A name with a comma that isn't quoted is two cells."""
+    if len(row) > len(heads):
+        return f"line {line} of the table has {len(row)} cells, but the header has {len(heads)}"
+    unnamed = [f"line {line}, column {at}" for at, (head, cell) in enumerate(zip(heads, row), 1) if cell.strip() and not head]
+    return f"{unnamed[0]} of the table: its cell is in a column without a name" if unnamed else None
+
+
+def listed_pair(folder, cells, extra):
     """The pair of a row of a manifest."""
     journal, published = (folder / cells.get(name, "") for name in COLUMNS)
     has_results = bool(cells.get("results"))
     missing = None if has_results else f"its row names no results, and {command.shown(journal)} has no line 'results'"
-    unread = unread_row(cells) or command.unread_file(journal) or (command.unread_file(published) if has_results else None)
-    return Pair(cells.get("day") or journal.stem, journal, published if has_results else None, unread, missing)
+    unread = extra or unread_row(cells) or command.unread_file(journal) or (command.unread_file(published) if has_results else None)
+    return Pair(cells.get(NAME) or journal.stem, journal, published if has_results else None, unread, missing)
 
 
 def unread_row(cells):

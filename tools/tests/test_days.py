@@ -119,6 +119,25 @@ class Days(unittest.TestCase):
         said = f"audit: {self.folder / 'list'} isn't a table of days: its first line should name the columns journal, results\n"
         self.assertEqual(self.audit(place=self.folder / "list"), (command.NO_INPUT, "", said))
 
+    def test_cells_of_a_manifest_in_no_column(self):
+        """A name with a comma that isn't quoted is two cells, and the files are others."""
+        self.write(a=(DATA, TEXT))
+        right = "right,a.csv,a.txt,\n"
+        (self.folder / "list").write_text(f"day,journal,results\nmore,a,b.csv,a.txt\n{right},,,note\n")
+        status, out, _ = self.audit(place=self.folder / "list")
+        more, other, last = out.splitlines()[1:4]
+        self.assertEqual((status, other.split()[1]), (command.NO_INPUT, verdict.RIGHT))
+        for line, number in ((more, 2), (last, 4)):
+            self.assertTrue(line.endswith(f"  line {number} of the table has 4 cells, but the header has 3"), line)
+        (self.folder / "list").write_text(f"day,journal,results, ,note\nb,a.csv,a.txt,x\n{right}")
+        other, last = self.audit(place=self.folder / "list")[1].splitlines()[1:3]
+        self.assertTrue(other.endswith("  line 2, column 4 of the table: its cell is in a column without a name"), other)
+        self.assertEqual(last.split()[1], verdict.RIGHT)
+        for name in ("day", "journal", "results"):
+            (self.folder / "list").write_text(f"day,journal,results,{name.upper()}\n{right}")
+            said = f"audit: {self.folder / 'list'} isn't a table of days: its first line names the column {name} twice\n"
+            self.assertEqual(self.audit(place=self.folder / "list"), (command.NO_INPUT, "", said))
+
     def test_rows_of_a_manifest_that_name_no_files(self):
         self.write(a=(DATA, TEXT))
         (self.folder / "list").write_bytes(b"day,journal,results\nnul,a\0.csv,a.txt\nempty,,a.txt\nright,a.csv,a.txt\nalone,a.csv,\nfolder,.,\n")
