@@ -39,6 +39,7 @@ from .checks import (
     AuditFault,
     BlockLimit,
     Change,
+    Changes,
     Finding,
     LimitCase,
     Lint,
@@ -60,6 +61,7 @@ __all__ = [
     "AuditFault",
     "BlockLimit",
     "Change",
+    "Changes",
     "Day",
     "Fault",
     "Finding",
@@ -69,6 +71,7 @@ __all__ = [
     "OtherOrder",
     "Reply",
     "TABLES",
+    "TableJournal",
     "TimedOut",
     "__version__",
     "audit",
@@ -91,11 +94,21 @@ Program = str | os.PathLike[str]
 Date = datetime.date | str
 
 
-def journal_of_orders(*sources: Source, periods: int = 24, close: bool = True) -> Journal:
-    """The journal of tables of orders, as tools/table --journal makes it. Each is a file (CSV or an Excel workbook) or bytes."""
+class TableJournal(Journal):
+    """The journal of tables of orders. Its `notes` say how they were read, such as the sheet of a workbook, or a column that isn't used."""
+
+    notes: list[str]
+
+
+def journal_of_orders(*sources: Source, periods: int = 24, close: bool = True) -> TableJournal:
+    """The journal of tables of orders, as tools/table --journal makes it of names in capitals. Each is a file (CSV or an Excel workbook) or
+    bytes."""
     with as_faults():
         named = [("" if is_text(source) else command.shown(source), bytes_of(source)) for source in sources]
-        return order_table.journal_of(order_table.read_tables(named, periods), periods, close)
+        orders = order_table.read_tables(named, periods)
+        made = TableJournal(*order_table.journal_of(orders, periods, close))
+        made.notes = orders.notes
+        return made
 
 
 def read_results(source: JournalSource, results: Source) -> Day:

@@ -112,6 +112,14 @@ class Change:
     outcome_after: str | None
 
 
+@dataclass(frozen=True)
+class Changes:
+    """The numbers that differ between two days; and notes on the further commands, such as a column of their table that isn't used."""
+
+    changes: list[Change]
+    notes: list[str]
+
+
 def lint(source: JournalSource, command: str = "clear") -> Lint:
     """Every fault of a journal as a text for `dam clear`, `dam replay` or `dam day`, and each command that the book would refuse."""
     if command not in ("clear", "replay", "day"):
@@ -193,10 +201,10 @@ def whatif_limit(source: JournalSource, participant: str, order: str, program: s
 
 def whatif_change(
     source: JournalSource, commands: Source, participant: str | None = None, program: str | os.PathLike[str] | None = None
-) -> list[Change]:
+) -> Changes:
     """The differences if further commands come before the close of a journal: records as in a journal, or a table, as tools/whatif change
     takes them. With a participant only its orders, with its gain and net amount."""
     held = changes.before_close(as_journal(source))
-    further, _ = changes.read_changes(bytes_of(commands), held.periods)
+    further, notes = changes.read_changes(bytes_of(commands), held.periods)
     after = changes.entered(held, further)
-    return [Change(**row) for row in shapes.records(whatif.compared([held, after], participant, program))]
+    return Changes([Change(**row) for row in shapes.records(whatif.compared([held, after], participant, program))], notes)

@@ -73,6 +73,10 @@ class Module(unittest.TestCase):
         heads = b"participant,order,kind,side,price_eur_mwh,periods,volume_mw\n"
         made = dam_tools.journal_of_orders(heads + b"A,H,hour,buy,1,8,5\n", heads + b"B,H,hour,sell,1,07:00-08:00,5\n", close=False)
         self.assertEqual([(command.who, command.order.volumes) for command in made.commands], [("A", ((8, 50),)), ("B", ((8, 50),))])
+        self.assertEqual(made.notes, [])
+        made = dam_tools.journal_of_orders(heads[:-1] + b",note\nA,H,hour,buy,1,8,5,\xfc\n")
+        self.assertEqual(made.notes, ["line 2: the table isn't in UTF-8, and was read as Windows-1252", "the column 'note' isn't used"])
+        self.assertEqual(dam_tools.records(made, "commands")[0]["order"], "H")
         with self.assertRaisesRegex(dam_tools.Fault, "^/nowhere/a.xlsx can't be read"):
             dam_tools.journal_of_orders("/nowhere/a.xlsx")
 
@@ -182,8 +186,12 @@ class Module(unittest.TestCase):
         self.assertEqual([(case.case, case.accepted, any(case.traded)) for case in found.cases],
                          [("as it was", False, False), ("at the worst limit", True, True), ("one cent past it", False, False)])
         self.assertEqual(found.others, [dam_tools.OtherOrder("CITY", "TOWN", 0.0, 2.0)])
-        rows = dam_tools.whatif_change(journal, b"amend,GEN,UNIT,,,4000,1:20,,", "GEN", program=self.program)
-        self.assertIn(dam_tools.Change("executed", "MWh", "GEN", "UNIT", None, 0.0, 2.0, 2.0, "rejected", "accepted"), rows)
+        found = dam_tools.whatif_change(journal, b"amend,GEN,UNIT,,,4000,1:20,,", "GEN", program=self.program)
+        self.assertIn(dam_tools.Change("executed", "MWh", "GEN", "UNIT", None, 0.0, 2.0, 2.0, "rejected", "accepted"), found.changes)
+        self.assertEqual(found.notes, [])
+        table = b"what,participant,order,price_eur_mwh,periods,volume_mw,Note\namend,GEN,UNIT,40,1,2,x\n"
+        again = dam_tools.whatif_change(journal, table, "GEN", program=self.program)
+        self.assertEqual(again, dam_tools.Changes(found.changes, ["the column 'Note' isn't used"]))
         for call, said in (
             (lambda: dam_tools.whatif_limit(journal, "GEN", "X"), "^GEN has no order X in the book: its blocks are UNIT$"),
             (lambda: dam_tools.whatif_limit(journal, "CITY", "TOWN"), "^TOWN of CITY isn't a block$"),
