@@ -24,6 +24,21 @@ class Scenario(NamedTuple):
     rows: object  # the source of the orders of its book, by participant and name
 
 
+class Listed(NamedTuple):
+    """A scenario of a table. Of its book only the commands are kept, each with where it stands."""
+
+    name: str
+    held: object  # the book of the day
+    commands: list
+
+    def rows(self):
+        return changes.entered(self.held, self.commands).rows
+
+    @property
+    def text(self):
+        return book_text(self.rows(), self.held.periods)
+
+
 class Sampler:
     """Random scenarios of a book, each by its number. The orders of all but one participant get another limit and other volumes: to the
     limit a normally distributed number of cents is added, and the volumes, all of a block alike, are multiplied by a factor with the mean
@@ -103,25 +118,26 @@ def read_table(name, data, held):
             words = f"line {first}: there is a scenario {text.quoted(scenario)} in line {seen[scenario]}"
             raise Fault(f"{name}: {words}: the lines of a scenario stand together, and no two have one name")
         seen[scenario] = first
-        after = entered(name, columns, rows, held).rows
-        found.append(Scenario(scenario, book_text(after, held.periods), lambda after=after: after))
+        found.append(Listed(scenario, held, commands_of(name, columns, rows, held)))
     if not found:
         raise Fault(f"{name}: it has no scenarios")
     return found, columns.table.notes
 
 
-def entered(name, columns, rows, held):
-    """The book with the commands of the lines of a scenario."""
+def commands_of(name, columns, rows, held):
+    """The commands of the lines of a scenario, which the book takes."""
+    found = []
     for line, _, cells in rows:
         command, faults = columns.read(cells, held.periods)
         if faults:
             wrong = "\n".join(f"line {line}, {words}" for words in faults)
             raise Fault(f"{name}: {changes.in_few_lines(wrong)}")
-        try:
-            held = changes.entered(held, [(f"line {line}", command)] if command else [])
-        except Fault as fault:
-            raise Fault(f"{name}: {fault}") from None
-    return held
+        found += [(f"line {line}", command)] if command else []
+    try:
+        changes.entered(held, found)
+    except Fault as fault:
+        raise Fault(f"{name}: {fault}") from None
+    return found
 
 
 def welfare(scenario, before, after, _):

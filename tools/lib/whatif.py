@@ -302,7 +302,7 @@ def check_scenarios(args):
 def need_asked(args, books):
     """Ends the tool if no book has an order that is asked for."""
     is_asked = asked_of(args)
-    if not any(map(is_asked, itertools.chain(*books))):
+    if not any(map(is_asked, itertools.chain.from_iterable(books))):
         name = f" {args.order}" if args.order else ""
         raise command.Stop(f"{args.participant} has no order{name} in the book or in a scenario")
 
@@ -347,17 +347,17 @@ def run_scenarios(args):
     if args.sample is None:
         data = command.read_bytes(args.scenarios)
         given, notes = scenarios.read_table(command.shown(args.scenarios), data, held)
+        for note in [] if args.quiet else notes:
+            command.tell("whatif", f"{command.shown(args.scenarios)}: {note}")
         count = len(given)
         if args.participant:
-            need_asked(args, [held.rows, *(scenario.rows() for scenario in given)])
+            need_asked(args, itertools.chain([held.rows], (scenario.rows() for scenario in given)))
     else:
         sds = [3 if args.price_sd is None else args.price_sd, 0.1 if args.volume_sd is None else args.volume_sd]
         sampler = scenarios.Sampler(held, args.participant, args.seed or "1", sds[0] * 100, sds[1])
-        given, notes, count = sampler.scenarios(args.sample), [], args.sample
+        given, count = sampler.scenarios(args.sample), args.sample
     over = scenarios.Distribution(held, keys_asked(args, held)) if args.sample and not args.rows else None
     rows = list(scenario_rows(args, held, given, count, over))
-    for note in [] if args.quiet else notes:
-        command.tell("whatif", note)
     if over is None:
         output.write("whatif", args, "scenarios", rows, held.periods)
     else:

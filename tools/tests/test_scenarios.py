@@ -8,6 +8,7 @@ import statistics
 import subprocess
 import sys
 import tempfile
+import tracemalloc
 import unittest
 from pathlib import Path
 
@@ -49,6 +50,17 @@ class Tables(unittest.TestCase):
         found, _ = scenarios.read_table("a.csv", (HEADS + "A,WIND,M-1,hour,sell,10.00,1,2,,\n").encode(), HELD)
         held, _ = book.run(journal.read_journal(found[0].text))
         self.assertEqual(held.rows, found[0].rows())
+
+    def test_many_scenarios_take_little_memory(self):
+        """Of each scenario only its commands are kept, not its book."""
+        held = changes.before_close(journal.read_journal(AUCTION.read_bytes()))
+        table = HEADS + "".join(f"S{number},,,,,,,,,\n" for number in range(1_000))
+        tracemalloc.start()
+        found, _ = scenarios.read_table("a.csv", table.encode(), held)
+        most = tracemalloc.get_traced_memory()[1]
+        tracemalloc.stop()
+        self.assertEqual((len(found), found[999].text), (1_000, cleared.book_text(held.rows, 24)))
+        self.assertLess(most, 3 * 2**20)
 
     def test_bad_tables(self):
         for table, said in (
@@ -170,6 +182,13 @@ class Tool(unittest.TestCase):
         found = rows(tool("whatif", "scenarios", "--rows", "prices", *words)[1])
         self.assertEqual((len(found), found[0]["price_eur_mwh"], found[24]["change_eur_mwh"]), (72, "50.00", "-20.00"))
         self.assertEqual(tool("whatif", "scenarios", *words, "--jobs", "1")[1], out)
+
+    def test_notes_come_before_a_fault(self):
+        self.table.write_text(self.table.read_text().replace("group", "group,note"))
+        note = f"whatif: {self.table}: the column 'note' isn't used\n"
+        found = tool("whatif", "scenarios", "--program", "/bin/true", self.journal, self.table)
+        self.assertEqual(found, (3, b"", f"{note}whatif: the day as it was: /bin/true printed no results of this journal\n"))
+        self.assertNotIn("note", tool("whatif", "scenarios", "--quiet", "--program", "/bin/true", self.journal, self.table)[2])
 
     @unittest.skipUnless(engine.BUILT.exists() and command.has("numpy"), "the program isn't built, or numpy is missing")
     def test_a_sample(self):
