@@ -1,7 +1,9 @@
 """Requests of strangers: half, slow, too long, with odd paths, headers and tokens. Each is sent as bytes."""
 
 import contextlib
+import gzip
 import json
+import re
 import socket
 import ssl
 import subprocess
@@ -34,6 +36,11 @@ def request(method, path, headers=(), body=b""):
 
 def status(answer):
     return int(answer[9:12]) if answer.startswith((b"HTTP/1.1 ", b"HTTP/1.0 ")) else None
+
+
+def peak(office):
+    """The greatest memory of the office so far, in KiB."""
+    return int(re.search(r"VmHWM:\s+(\d+) kB", Path(f"/proc/{office.process.pid}/status").read_text())[1])
 
 
 def check_tokens(office, counts):
@@ -119,6 +126,15 @@ def check_messages(office, counts):
     ):
         answer = said(office, data, wait=False)
         counts.check(f"{words} is refused", status(answer) in (400, 404, 413, 431, None) and b"<script>" not in answer)
+    bomb = gzip.compress(bytes(300 << 20))
+    other = office.who[1]  # whose rate this uses up
+    headers = [f"Authorization: Bearer {office.tokens[other]}", "Content-Encoding: gzip", "Content-Type: text/csv"]
+    data = request("PUT", f"/days/{office.day}/commands/{other}/1", headers, bomb)
+    before = peak(office)
+    counts.check("a body that is a bomb is refused", status(said(office, data)) == 400)
+    counts.check("a body that is a bomb takes no memory", peak(office) - before < 50 << 10)
+    many = said(office, b"GET /days HTTP/1.1\r\nHost: x\r\n\r\n" * 200_000)
+    counts.check("requests without end aren't answered, and take no memory", len(many) < 10 << 20 and peak(office) - before < 100 << 10)
     chunks = b"".join(b"1000\r\n" + b"a" * 4096 + b"\r\n" for _ in range(400)) + b"0\r\n\r\n"
     counts.check("a body without end is cut", status(said(office, request("PUT", path, both) + chunks)) == 413)
     counts.check("a body of 2 MB is refused", status(said(office, request("PUT", path, [token], b"a" * (2 << 20)))) == 413)

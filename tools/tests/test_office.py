@@ -400,6 +400,11 @@ class Requests(unittest.TestCase):
                 with self.assertRaisesRegex(requests.Wrong, words):
                     requests.commands_of(body, kind, "GAS")
 
+    def test_a_long_body_is_a_fault_with_its_place(self):
+        body = b"cancel,GAS,A,,,,,,\n" * 2_000 + b"cancel,GAS,a,,,,,,\n"
+        with self.assertRaisesRegex(requests.Wrong, "BadField in record 2001 field 3"):
+            requests.commands_of(body, requests.RECORDS, "GAS")
+
     def test_tables(self):
         table = b"participant,order,kind,side,price_eur_mwh,periods,volume_mw\nGAS,A,hour,buy,12.50,8,30\n"
         self.assertEqual(requests.table_records(table, "GAS", 24), (["submit,GAS,A,hour,buy,1250,8:300,,"], []))

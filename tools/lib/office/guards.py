@@ -9,6 +9,7 @@ MOST_CONNECTIONS = 1_000
 IDLE_SECONDS = 15  # for the head of a request to come whole
 BUSY_SECONDS = 60  # for a request, from its head to the last byte of its answer
 LOOK_SECONDS = 1
+MOST_AHEAD = 100  # requests that a connection may send before the answers
 MOST_BUCKETS = 10_000
 TEXTS = {"Content-Type": "text/plain", "X-Content-Type-Options": "nosniff", "Cache-Control": "no-store", "Server": "dam-office"}
 
@@ -41,6 +42,11 @@ class Handler(web_protocol.RequestHandler):
     def begin(self):
         """A request has come, and is answered from now on."""
         self._manager.mark(self, True)
+
+    def data_received(self, data):
+        super().data_received(data)
+        if len(self._messages) > MOST_AHEAD and self.transport:
+            self.transport.abort()
 
     async def finish_response(self, request, response, began):
         found = await super().finish_response(request, response, began)
@@ -104,7 +110,8 @@ class Runner(web.AppRunner):
     """Runs an application with such a server."""
 
     def __init__(self, app, counts, **how):
-        super().__init__(app, access_log=None, **how)
+        # a compressed body stays so: a few bytes of one may stand for all the memory
+        super().__init__(app, access_log=None, auto_decompress=False, **how)
         self.counts = counts
 
     async def _make_server(self):

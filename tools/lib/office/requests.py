@@ -1,6 +1,7 @@
 """The commands in the body of a request: records of a journal, or JSON. And the records that a table of orders or commands makes."""
 
 import json
+import re
 
 from .. import command_table, journal, lint, order_table, rules, text
 
@@ -11,6 +12,8 @@ FIELDS = {  # of a command in JSON, by its kind: those that it must have, and th
     "cancel": ({"order"}, set()),
 }
 MOST_COMMANDS = rules.MOST_RECORDS - 2
+MOST_LINTED = 1 << 14  # bytes
+RECORD = re.compile("record ([0-9]+)")
 DAY = b"day,%d,,,,,,,\n" % rules.GREATEST_PERIOD  # before records; the desk's book knows the day's periods
 
 
@@ -26,8 +29,8 @@ def commands_of(body, kind, who):
         raise Wrong(f"the type of the content should be {RECORDS} or {JSON}")
     try:
         commands = journal.read_journal(DAY + body).commands
-    except journal.Fault:
-        raise Wrong("no records of a journal:" + lint.in_few_words(body, rules.GREATEST_PERIOD)) from None
+    except journal.Fault as fault:
+        raise Wrong(f"no records of a journal:{in_words(body, fault)}") from None
     if not commands:
         raise Wrong("there is no command")
     for place, command in enumerate(commands, 1):
@@ -36,6 +39,13 @@ def commands_of(body, kind, who):
         if command.who != who:
             raise Wrong(f"command {place} isn't yours: its participant should be {who}")
     return commands
+
+
+def in_words(body, fault):
+    """The faults of a body in words. Of a long one, the first as it is named, counted from the first of its records."""
+    if len(body) <= MOST_LINTED:
+        return lint.in_few_words(body, rules.GREATEST_PERIOD)
+    return " " + RECORD.sub(lambda found: f"record {int(found[1]) - 1}", str(fault).removeprefix("input: "))
 
 
 def json_records(body, who):

@@ -19,10 +19,12 @@ from .guards import Buckets
 MOST_BODY = 1 << 20  # bytes
 BODY_SECONDS = 15  # for a body to come
 ANSWER_SECONDS = 30  # for the entries of commands
-COMMANDS_A_SECOND, MOST_COMMANDS = 200, 2_000  # of a participant
+COMMANDS_A_SECOND, MOST_COMMANDS = 200, 2_000  # of a participant; many bytes count as several
+BYTES_OF_COMMAND, LONG_BODY = 100, 1 << 14
 READS_A_SECOND, MOST_READS = 50, 200  # of a participant
 GUESSES_A_SECOND, MOST_GUESSES = 1, 20  # wrong tokens of an address
-RECEIPTS_AT_ONCE = 8  # that are signed before others get a turn
+RECEIPTS_AT_ONCE = 8  # that are made before others get a turn
+RECEIPTS_OF_READ, COMMANDS_OF_READ, READS_OF_TABLE = 20, 200, 100  # how much of an answer counts as one read
 JSONL = "application/jsonl"
 HEADERS = {
     "Content-Security-Policy": "default-src 'none'; script-src 'self'; style-src 'self'; connect-src 'self'; img-src 'self'; "
@@ -80,6 +82,7 @@ class Web:
         self.files["/openapi.json"] = OPENAPI.read_text(encoding="utf-8"), "application/json"
         self.files["/key"] = office.public_key, "application/x-pem-file"
         self.demo = demo
+        self.tables = asyncio.Semaphore(1)  # tables are read one at a time
 
     def page(self, name):
         reasons = Markup(json.dumps(book.REASONS))
@@ -186,12 +189,18 @@ class Web:
         gate, who = self.asked(request, self.commands)
         body = await self.body(request)
         began = time.monotonic()
-        commands = requests.commands_of(body, request.content_type, who)
-        self.commands.take(who, len(commands) - 1)
+        commands = await self.read(body, request.content_type, who)
         entries = await self.entered(gate, who, int(request.match_info["number"]), commands)
         answer = await self.receipts(gate, entries)
         self.counts.took(time.monotonic() - began)
         return answer
+
+    async def read(self, body, kind, who):
+        """The commands of a body. A long one is read in a thread, so that others get their turns, and counts as many commands."""
+        self.commands.take(who, len(body) // BYTES_OF_COMMAND)
+        if len(body) < LONG_BODY:
+            return requests.commands_of(body, kind, who)
+        return await asyncio.to_thread(requests.commands_of, body, kind, who)
 
     async def entered(self, gate, who, first, commands):
         """The numbers of the entries of commands, once they are on the disk."""
@@ -219,12 +228,14 @@ class Web:
 
     async def own_receipts(self, request):
         """All receipts of a participant, under the newest head."""
-        gate, who = self.asked(request, count=20)
+        gate, who = self.asked(request)
+        self.reads.take(who, gate.ledger.count(who) // RECEIPTS_OF_READ)
         return await self.receipts(gate, list(gate.ledger.own.get(who, ())), gate.ledger.head())
 
     async def own_commands(self, request):
         gate, who = self.asked(request)
         since = query_number(request, "since")
+        self.reads.take(who, max(0, gate.ledger.count(who) - since) // COMMANDS_OF_READ)
         names = ("number", "entry", "record", "reply")
         found = [dict(zip(names, one)) for one in gate.ledger.entries(who)[since:]]
         return web.json_response({"next": gate.ledger.count(who) + 1, "share": gate.ledger.share(who), "commands": found})
@@ -235,12 +246,15 @@ class Web:
 
     async def table(self, request):
         """The records that a table makes. They aren't entered: the participant sees them first."""
-        gate, who = self.asked(request, count=10)
-        records, notes = await asyncio.to_thread(requests.table_records, await self.body(request), who, gate.terms.periods)
+        gate, who = self.asked(request, count=READS_OF_TABLE)
+        body = await self.body(request)
+        async with self.tables:
+            records, notes = await asyncio.to_thread(requests.table_records, body, who, gate.terms.periods)
         return web.json_response({"records": records, "notes": notes})
 
     async def statement(self, request):
-        gate, who = self.asked(request, count=5)
+        gate, who = self.asked(request)
+        self.reads.take(who, gate.ledger.count(who) // COMMANDS_OF_READ)
         found = gate.published.statement(who)
         if found is None:
             raise Refused("NotFound", "the statement isn't published yet")
