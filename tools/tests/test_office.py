@@ -8,6 +8,7 @@ import io
 import json
 import os
 import random
+import signal
 import stat
 import tempfile
 import unittest
@@ -73,6 +74,10 @@ class DeskInMemory:
         await asyncio.sleep(0)
 
 
+def late(*_):
+    raise AssertionError(f"no end after {SECONDS} seconds")
+
+
 def opener(disk):
     async def opened(program, path, periods):
         desk = DeskInMemory(disk, periods)
@@ -90,6 +95,9 @@ class Office(unittest.IsolatedAsyncioTestCase):
     def setUp(self):
         if aiohttp is None:
             self.skipTest("python3-aiohttp, python3-jinja2 or python3-cryptography is missing")
+        self.addCleanup(signal.signal, signal.SIGALRM, signal.signal(signal.SIGALRM, late))
+        self.addCleanup(signal.setitimer, signal.ITIMER_REAL, 0)
+        signal.setitimer(signal.ITIMER_REAL, SECONDS, 1)  # again and again, in case that something takes the first for a defect
         room = tempfile.TemporaryDirectory()
         self.addCleanup(room.cleanup)
         self.office = folder.Folder(Path(room.name, "office"))
@@ -158,7 +166,7 @@ class Crashes(Office):
             try:
                 given = held[0]
                 entries = await asyncio.wait_for(asyncio.shield(given.submit(who, first, commands(*many))), 5)
-            except (gate.Refused, asyncio.CancelledError, asyncio.TimeoutError) as fault:
+            except (gate.Refused, asyncio.TimeoutError) as fault:
                 self.assertNotIn(getattr(fault, "fault", None), ("NumberUsed", "NumberAhead", "Malformed"))
                 self.assertIsNone(given.fault)
                 await asyncio.sleep(0.001)
@@ -189,7 +197,7 @@ class Crashes(Office):
                     tasks[-1].cancel()
                     await asyncio.gather(tasks[-1], return_exceptions=True)
                     for one in [*held[0].waiting, *(one for _, one in held[0].entering)]:
-                        one.done.cancel()
+                        gate.fail(one.done, gate.Refused("Unreached", "no answer came"))
                     held[0] = self.gate()
                     tasks.append(asyncio.create_task(held[0].run()))
             sent = dict(zip(NAMES, await asyncio.wait_for(asyncio.gather(*clients), SECONDS)))
