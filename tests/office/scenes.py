@@ -2,7 +2,8 @@
 
 import asyncio
 import contextlib
-import os
+import json
+import signal
 import subprocess
 import sys
 import tempfile
@@ -12,8 +13,9 @@ from pathlib import Path
 import browser
 import hostile
 import loads
-from served import TOP, OfficeFault, served
+from served import TOOL, TOP, OfficeFault, free_port, served
 
+from dam_tools.office import Asked, Office
 from lib import heads, rules, signing
 
 KILLS, ALL_KILLS = 3, 30
@@ -137,6 +139,62 @@ def whole_day(args, counts):
         counts.check(
             "another's share isn't touched", office.client(office.who[0]).next(office.day) <= (rules.MOST_RECORDS - 2) // CONNECTIONS + 1
         )
+
+
+def week(args, counts):
+    """A second day and a new participant, while the first day is open; a new token; an office that is served twice; a start after a close."""
+    with served(args.dam, args.desk) as office:
+        office.start()
+        first, later, who = office.day, "2099-11-30", office.who[0]
+        office.client(who).enter(first, f"cancel,{who},A,,,,,,")
+        table = office.folder.parent / "more.csv"
+        table.write_text(f"participant,commands\n{who},7\nNEW,9\n")
+        made = office.tool("init", office.folder, "--day", later, "--periods", 96, "--close", "12:00", "--participants", table, "--json")
+        office.tokens.update(json.loads(made.stdout)["tokens"])
+        until = time.monotonic() + 10
+        while office.get(f"/days/{later}")[0] != 200 and time.monotonic() < until:
+            time.sleep(0.05)
+        new = office.client("NEW")
+        counts.check("a day is added while another is open", new.enter(later, "submit,NEW,A,hour,buy,1,96:1,,")[0]["reply"] == "done")
+        counts.check("days have journals of their own", [one["entries"] for one in new.days()] == [1, 1])
+        counts.check("and shares of their own", refused(lambda: office.client(who).enter(later, *[f"cancel,{who},A,,,,,,"] * 8), "ShareUsed"))
+        counts.check("a participant of one day has none of another", refused(lambda: new.enter(first, "cancel,NEW,A,,,,,,"), "ShareUsed"))
+        again = subprocess.run([*TOOL, "serve", office.folder, "--port", "0"], env=office.environment, capture_output=True, text=True)
+        counts.check(f"an office is served once: {again.stderr}", again.returncode == 3 and "another process serves" in again.stderr)
+        old, token = office.client("NEW"), office.tool("renew", office.folder, "NEW").stdout.decode().strip()
+        office.tokens["NEW"] = token
+        counts.check("a renewed token ends the old one", refused(lambda: old.orders(later), "Token") and len(office.client("NEW").orders(later)) == 1)
+        office.tool("close", office.folder, first)
+        state = json.loads(office.tool("status", office.folder, "--json").stdout)
+        counts.check("one day is closed, and the other open", [day["state"] for day in state["days"]] == ["published", "open"] and state["served"])
+        office.stop()
+        office.start()
+        receipts = office.client(who).receipts(first)
+        counts.check("a closed day is served after a start", heads.parsed(receipts, heads.receipt_read)[0].head.size == 2)
+        counts.check("and the other day is still open", office.client("NEW").enter(later, "cancel,NEW,A,,,,,,")[0]["number"] == 2)
+
+
+def demo(args, counts):
+    """The demo, without a browser: its page, its tokens, a close at once, results."""
+    port = free_port()
+    words = [*TOOL, "demo", "--no-browser", "--port", str(port), "--dam", args.dam, "--desk", args.desk]
+    with subprocess.Popen(words, stdout=subprocess.PIPE, stderr=subprocess.DEVNULL, text=True) as process:
+        try:
+            counts.check("a demo names its page", f"http://127.0.0.1:{port}/" in process.stdout.readline())
+            url = f"http://127.0.0.1:{port}"
+            token = Office(url, "").get("/demo")["participants"]["GAS"]
+            gas = Office(url, token)
+            (day,) = (one["day"] for one in gas.days())
+            gas.enter(day, "submit,GAS,UNIT-8,hour,sell,6000,8:500,,")
+            gas.ask(Asked("POST", f"/days/{day}/close"))
+            until = time.monotonic() + 20
+            while not gas.days()[0]["has_statement"] and time.monotonic() < until:
+                time.sleep(0.05)
+            # as in the trader's guide
+            counts.check("a demo has results", gas.prices(day)[7] == (8, 6_000, 800) and gas.statement(day)[0]["executed_mwh"] == 35)
+        finally:
+            process.send_signal(signal.SIGINT)
+    counts.check("a demo ends at Ctrl-C", process.returncode == 0)
 
 
 def check_published(args, counts, office):
