@@ -38,10 +38,19 @@ class Load:
                 began = time.perf_counter()
                 if began > until:
                     return
-                (receipt,) = await client.enter(self.office.day, line)
+                (receipt,) = await self.entered(client, line)
                 self.seconds.append(time.perf_counter() - began)
                 assert receipt["record"] == line, receipt
                 self.acknowledged.append((who, number, receipt))
+
+    async def entered(self, client, line):
+        """The receipt of a command, which is sent until it comes: the office may be down for long."""
+        while True:
+            try:
+                return await client.enter(self.office.day, line)
+            except OfficeFault as fault:
+                if fault.status not in (None, 503):
+                    raise
 
     async def run(self, count, seconds=600):
         """Sends that many commands of each participant, or as many as there is time for. Returns the seconds that it took."""

@@ -157,16 +157,22 @@ def week(args, counts):
         new = office.client("NEW")
         counts.check("a day is added while another is open", new.enter(later, "submit,NEW,A,hour,buy,1,96:1,,")[0]["reply"] == "done")
         counts.check("days have journals of their own", [one["entries"] for one in new.days()] == [1, 1])
-        counts.check("and shares of their own", refused(lambda: office.client(who).enter(later, *[f"cancel,{who},A,,,,,,"] * 8), "ShareUsed"))
+        counts.check(
+            "and shares of their own", refused(lambda: office.client(who).enter(later, *[f"cancel,{who},A,,,,,,"] * 8), "ShareUsed")
+        )
         counts.check("a participant of one day has none of another", refused(lambda: new.enter(first, "cancel,NEW,A,,,,,,"), "ShareUsed"))
         again = subprocess.run([*TOOL, "serve", office.folder, "--port", "0"], env=office.environment, capture_output=True, text=True)
         counts.check(f"an office is served once: {again.stderr}", again.returncode == 3 and "another process serves" in again.stderr)
         old, token = office.client("NEW"), office.tool("renew", office.folder, "NEW").stdout.decode().strip()
         office.tokens["NEW"] = token
-        counts.check("a renewed token ends the old one", refused(lambda: old.orders(later), "Token") and len(office.client("NEW").orders(later)) == 1)
+        counts.check(
+            "a renewed token ends the old one", refused(lambda: old.orders(later), "Token") and len(office.client("NEW").orders(later)) == 1
+        )
         office.tool("close", office.folder, first)
         state = json.loads(office.tool("status", office.folder, "--json").stdout)
-        counts.check("one day is closed, and the other open", [day["state"] for day in state["days"]] == ["published", "open"] and state["served"])
+        counts.check(
+            "one day is closed, and the other open", [day["state"] for day in state["days"]] == ["published", "open"] and state["served"]
+        )
         office.stop()
         office.start()
         receipts = office.client(who).receipts(first)

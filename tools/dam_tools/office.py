@@ -74,6 +74,15 @@ class Calls:
         self.who = token.partition(".")[0]
         self.numbers: dict[str, int] = {}  # the next number of each day
 
+    def entering(self, day: str, body: bytes, kind: str) -> Asked:
+        """The request that enters commands under the next number, which stays the next one until an answer says otherwise."""
+        return Asked("PUT", f"{self.own(day, 'commands')}/{self.numbers[day]}", body, kind)
+
+    def heed(self, day: str, fault: OfficeFault) -> None:
+        """Forgets the next number, if it isn't the office's."""
+        if fault.fault in ("NumberUsed", "NumberAhead"):
+            del self.numbers[day]
+
     def own(self, day: str, what: str) -> str:
         return f"/days/{day}/{what}/{self.who}"
 
@@ -118,11 +127,17 @@ class Office(Calls):
         return self.get(f"{self.own(day, 'commands')}?since=99999")["next"]
 
     def enter(self, day: str, *commands: str | dict) -> list[dict]:
-        """Enters commands, and returns the receipt of each once it is on the office's disk. Its `reply` is the book's."""
+        """Enters commands, and returns the receipt of each once it is on the office's disk. Its `reply` is the book's. If no answer comes
+        (the fault's status is None), call it again with the same commands: they are entered once."""
         body, kind = body_of(commands)
-        first = self.numbers.get(day) or self.next(day)
-        made = receipts_of(self.ask(Asked("PUT", f"{self.own(day, 'commands')}/{first}", body, kind)))
-        self.numbers[day] = first + len(made)
+        if day not in self.numbers:
+            self.numbers[day] = self.next(day)
+        try:
+            made = receipts_of(self.ask(self.entering(day, body, kind)))
+        except OfficeFault as fault:
+            self.heed(day, fault)
+            raise
+        self.numbers[day] += len(made)
         return made
 
     def commands(self, day: str) -> list[dict]:
@@ -202,9 +217,14 @@ class AsyncOffice(Calls):
 
     async def enter(self, day: str, *commands: str | dict) -> list[dict]:
         body, kind = body_of(commands)
-        first = self.numbers.get(day) or await self.next(day)
-        made = receipts_of(await self.ask(Asked("PUT", f"{self.own(day, 'commands')}/{first}", body, kind)))
-        self.numbers[day] = first + len(made)
+        if day not in self.numbers:
+            self.numbers[day] = await self.next(day)
+        try:
+            made = receipts_of(await self.ask(self.entering(day, body, kind)))
+        except OfficeFault as fault:
+            self.heed(day, fault)
+            raise
+        self.numbers[day] += len(made)
         return made
 
     async def commands(self, day: str) -> list[dict]:

@@ -4,6 +4,7 @@ import argparse
 import asyncio
 import contextlib
 import datetime
+import http.server
 import io
 import json
 import os
@@ -11,12 +12,14 @@ import random
 import signal
 import stat
 import tempfile
+import threading
 import unittest
 from pathlib import Path
 from unittest import mock
 
 from support import AUCTION, FIRST, tool
 
+from dam_tools import office as client
 from lib import book, command, heads, journal, merkle, rules, tables
 
 try:
@@ -435,6 +438,93 @@ class Requests(unittest.TestCase):
         same = "would gain nothing at the prices, but GAS,LONG offers the same and stands earlier in the book"
         self.assertNotIn("GAS", clearing.own_words(same, "OIL"))
         self.assertEqual(clearing.own_words(same, "GAS"), same)
+
+
+class Answers(http.server.BaseHTTPRequestHandler):
+    """An office that answers as a test has planned: None ends the connection without an answer."""
+
+    def do_PUT(self):
+        self.rfile.read(int(self.headers["Content-Length"]))
+        self.server.asked.append(self.path)
+        answer = self.server.planned.pop(0)
+        if answer is not None:
+            self.say(*answer)
+
+    def do_GET(self):
+        self.server.asked.append(self.path)
+        self.say(200, {"next": self.server.next})
+
+    def say(self, status, value):
+        body = json.dumps(value).encode() + b"\n"
+        self.send_response(status)
+        self.send_header("Content-Length", str(len(body)))
+        self.end_headers()
+        self.wfile.write(body)
+
+    def log_message(self, *_):
+        pass
+
+
+class Clients(unittest.TestCase):
+    """The clients send the same command under the same number until an answer comes, however often they are called."""
+
+    def setUp(self):
+        if aiohttp is None:
+            self.skipTest("python3-aiohttp is missing")
+        self.server = http.server.ThreadingHTTPServer(("127.0.0.1", 0), Answers)
+        self.server.asked, self.server.planned, self.server.next = [], [], 4
+        threading.Thread(target=self.server.serve_forever, daemon=True).start()
+        self.addCleanup(self.server.server_close)
+        self.addCleanup(self.server.shutdown)
+        for name, value in (("FIRST_PAUSE", 0.001), ("LONGEST_PAUSE", 0.001), ("RETRIES", 2)):
+            patch = mock.patch.object(client, name, value)
+            patch.start()
+            self.addCleanup(patch.stop)
+
+    def enter(self, found, *commands):
+        return found.enter(DAY, *commands)
+
+    def made(self):
+        return client.Office(f"http://127.0.0.1:{self.server.server_port}", "GAS.x")
+
+    def test_numbers(self):
+        found, receipt = self.made(), (200, {"reply": "done"})
+        busy, used = (503, {"fault": "Unavailable", "words": ""}), (409, {"fault": "NumberUsed", "words": "", "next": 9})
+        self.server.planned = [None, busy, receipt, None, None, busy, receipt, used, receipt]
+        self.assertEqual(self.enter(found, "a"), [{"reply": "done"}])
+        with self.assertRaises(client.OfficeFault) as caught:
+            self.enter(found, "b")
+        self.assertEqual(caught.exception.fault, "Unavailable")
+        self.assertEqual(self.enter(found, "b"), [{"reply": "done"}])
+        with self.assertRaises(client.OfficeFault) as caught:
+            self.enter(found, "c")
+        self.assertEqual((caught.exception.fault, caught.exception.status, caught.exception.more), ("NumberUsed", 409, {"next": 9}))
+        self.server.next = 9
+        self.enter(found, "c")
+        puts = [int(path.rpartition("/")[2]) for path in self.server.asked if "since" not in path]
+        self.assertEqual(puts, [4, 4, 4, 5, 5, 5, 5, 6, 9])
+
+    def test_no_answer_to_the_first_command(self):
+        found = self.made()
+        self.server.planned = [None, None, None, (200, {"reply": "done"})]
+        with self.assertRaises(client.OfficeFault) as caught:
+            self.enter(found, "a")
+        self.assertEqual((caught.exception.fault, caught.exception.status), ("Unreached", None))
+        self.server.next = 5  # it was entered
+        self.enter(found, "a")
+        self.assertEqual([path.rpartition("/")[2] for path in self.server.asked if "since" not in path], ["4"] * 4)
+
+
+class AsyncClients(Clients):
+    def enter(self, found, *commands):
+        async def entered():
+            async with found:
+                return await found.enter(DAY, *commands)
+
+        return asyncio.run(entered())
+
+    def made(self):
+        return client.AsyncOffice(f"http://127.0.0.1:{self.server.server_port}", "GAS.x")
 
 
 class Tokens(Office):
