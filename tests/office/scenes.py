@@ -142,7 +142,8 @@ def whole_day(args, counts):
 
 
 def week(args, counts):
-    """A second day and a new participant, while the first day is open; a new token; an office that is served twice; a start after a close."""
+    """A second day and a new participant, while the first day is open; a new token; an office that is served twice; a start after a
+    close."""
     with served(args.dam, args.desk) as office:
         office.start()
         first, later, who = office.day, "2099-11-30", office.who[0]
