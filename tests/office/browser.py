@@ -13,7 +13,7 @@ from pathlib import Path
 import aiohttp
 
 NAMES = ("chromium", "chromium-browser", "google-chrome")
-START_SECONDS, WAIT_SECONDS, STEP = 30, 20, 0.05
+START_SECONDS, WAIT_SECONDS, STEP = 60, 60, 0.05
 
 
 def found():

@@ -116,7 +116,7 @@ def kills(args, counts):
             head.write_bytes(client.head(office.day))
             ran = tool("receipts", "verify", receipts, "--head", head, "--key", office.folder / "operator.pem.pub")
             counts.check(f"the receipts are right: {ran.stdout[-200:]}", ran.returncode == 0)
-            print(f"{count // rounds} kills, {len(records) - 1} commands: ready again after {max(starts):.2f} s at most")
+            print(f"{count // rounds} kills, {len(records)} commands: ready again after {max(starts):.2f} s at most")
 
 
 def whole_day(args, counts):

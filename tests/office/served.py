@@ -18,7 +18,7 @@ sys.path[:0] = [str(TOP / "tools"), str(TOP / "tests")]
 from dam_tools.office import AsyncOffice, Office, OfficeFault
 
 DAY, CLOSE = "2099-11-29", "2099-11-28T12:00"
-START_SECONDS, STEP = 30, 0.01
+START_SECONDS, STEP = 60, 0.02
 TOOL = [sys.executable, "-I", "-B", str(TOP / "tools" / "office")]
 
 
