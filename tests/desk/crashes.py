@@ -9,10 +9,13 @@ from typing import NamedTuple
 
 import images
 import journals
+from device import DESK, FOLDER, OPEN, OUTPUT, SYNC
 from images import HEAD, Moment, is_at_rest, marked_in
 
 SHOWN = 5
-OTHER_FILES = 60  # files of a second crash, for each file that is opened
+CHOSEN = 4_000  # files that are opened side by side, or of which the journal is printed
+OPENED_TWICE = 2_000  # files of a run, about, whose opening is always crashed again; of later ones fewer are
+OTHER_FILES = 60  # files of a second crash, for each of these
 TAIL = 60  # bytes of a file that are shown
 # Lines that a crash left in a file, which don't count.
 LEFT = b"+cancel,A,NEVER,,,,,,\n\n+cancel,A,NEVER,,,,,,\n"
@@ -24,6 +27,13 @@ class Case(NamedTuple):
     image: bytes
     moment: Moment
     allowed: frozenset
+
+
+def is_name_safe(events):
+    """Whether the folder of the file was synced after the file was made, and before the first answer."""
+    kinds = [(event.kind, event.target, event.answer >= 0) for event in events]
+    made, answered = kinds.index((OPEN, DESK, True)), [event.kind for event in events].index(OUTPUT)
+    return (SYNC, FOLDER, True) in kinds[made:answered]
 
 
 class Crashes:
@@ -43,6 +53,8 @@ class Crashes:
         entered = [line for line in answers if not line.startswith(b"day,")]
         if ran.status or ran.stderr or answers[:1] + entered != self.journal.answers:
             self.wrong.append(f"{self.about}: the run itself: status {ran.status}, {ran.stderr[:80]!r}")
+        if not is_name_safe(ran.events):
+            self.wrong.append(f"{self.about}: an answer came before the new file's folder was synced")
         return ran
 
     def allowed(self, moment):
@@ -52,7 +64,7 @@ class Crashes:
         """The files that a crash may leave at each moment of the run."""
         for moment in images.moments(ran.events, given_by=self.given.given_by):
             allowed = self.allowed(moment)
-            for image in sorted(images.images(moment, self.rng)):
+            for image in images.images(moment, self.rng):
                 yield Case(image, moment, allowed)
 
     def count(self, image):
@@ -90,7 +102,7 @@ class Crashes:
         """Looks at the files that another crash leaves while the file is opened. The acknowledged records are also those that the opening
         printed."""
         others = [(other, image) for other in images.moments(ran.events, first.base, first.changes, first.safe)
-                  for image in sorted(images.images(other, self.rng, few=True))]
+                  for image in images.images(other, self.rng, few=True)]
         for other, image in others if len(others) <= OTHER_FILES else self.rng.sample(others, OTHER_FILES):
             self.second += 1
             count = self.count(image)
@@ -128,7 +140,7 @@ class Crashes:
         for case, ran in zip(cases, self.desk.open_each([case.image for case in cases])):
             self.look_opened(case, ran)
             for moment in images.moments(ran.events, case.image):
-                left += [Case(image, moment, case.allowed) for image in sorted(images.images(moment, self.rng, few=True))]
+                left += [Case(image, moment, case.allowed) for image in images.images(moment, self.rng, few=True)]
         for case, ran in zip(left, self.desk.open_each([case.image for case in left])):
             self.look(case)
             self.look_opened(case, ran, crash_again=False)
@@ -151,16 +163,33 @@ class Crashes:
     def run(self, sample=None):
         """Opens a sample of the files by the program, or all, and looks at each of them. Returns the faults."""
         ran = self.record()
-        cases = list(self.cases(ran))
-        for case in cases:
+        chosen, next_ones = [], []
+        for case in self.cases(ran):
             self.look(case)
-        chosen = cases if sample is None or sample >= len(cases) else self.rng.sample(cases, sample)
-        for case, opened in zip(chosen, self.desk.open_each([case.image for case in chosen])):
-            self.look_opened(case, opened)
+            self.choose(chosen, case, sample or CHOSEN)
+            if sample is None:
+                next_ones.append(case)
+            if len(next_ones) == CHOSEN:
+                self.open_by_program(next_ones)
+                next_ones = []
+        self.open_by_program(chosen if sample else next_ones)
         self.look_killed(ran)
-        self.look_journal(chosen[: len(chosen) // 4] if sample else chosen)
-        self.go_on(self.rng.sample(cases, min(len(cases), 20)))
+        self.look_journal(chosen[: len(chosen) // 4])
+        self.go_on(self.rng.sample(chosen, min(len(chosen), 20)))
         return self.wrong
+
+    def choose(self, chosen, case, most):
+        """Keeps a sample of all files so far."""
+        if len(chosen) < most:
+            chosen.append(case)
+            return
+        place = self.rng.randrange(self.files)
+        if place < most:
+            chosen[place] = case
+
+    def open_by_program(self, cases):
+        for case, opened in zip(cases, self.desk.open_each([case.image for case in cases])):
+            self.look_opened(case, opened, crash_again=self.rng.random() < OPENED_TWICE / max(OPENED_TWICE, self.opened))
 
     def run_whole(self, sample=None):
         self.run(sample)
@@ -175,7 +204,7 @@ def inputs(dam, whole):
     yield "faults between records", journals.batched(dam, "faulty", journals.drawn, 60, faulty=0.3)
     if whole:
         yield "the shortest names", journals.batched(dam, "short", journals.short_names, 60)
-        for seed in range(4):
+        for seed in range(2):
             yield f"random day {seed}", journals.batched(dam, seed, journals.drawn, 60)
 
 
@@ -186,7 +215,8 @@ def run(counts, desk, dam, whole):
         wrong = crashes.run_whole(None if whole else 2_000)
         counts.passed += crashes.opened - min(crashes.opened, len(wrong))
         counts.failed += len(wrong)
-        print("\n".join(f"differs: {line}" for line in wrong[:SHOWN]), end="\n" if wrong else "", flush=True)
+        print("".join(f"differs: {line}\n" for line in wrong[:SHOWN]), end="")
+        print(f"crashes of {about}: {crashes.files:,} files, {crashes.opened:,} opened, {len(wrong)} wrong", flush=True)
         files, opened, second, killed = files + crashes.files, opened + crashes.opened, second + crashes.second, killed + crashes.killed
     counts.check(f"{files} files of crashes are at least 100,000", files >= (100_000 if whole else 20_000))
     print(f"crashes: {files:,} files that a crash may leave, {opened:,} of them opened by the program, {second:,} files of a second crash, "

@@ -110,8 +110,9 @@ class Desk:
         """Runs the desk on a file of each of these bytes, with no input. The runs are in the order of the images."""
         parts = [images[at : at + CHUNK] for at in range(0, len(images), CHUNK)]
         with ThreadPoolExecutor(self.jobs) as pool:
-            for found in pool.map(lambda part: self.serve(part, words, more), parts):
-                yield from found
+            for at in range(0, len(parts), self.jobs):
+                for found in pool.map(lambda part: self.serve(part, words, more), parts[at : at + self.jobs]):
+                    yield from found
 
     def serve(self, images, words, more):
         folder = self.folder()

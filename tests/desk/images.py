@@ -151,19 +151,26 @@ def torn(file, change, rng, few=False):
 
 def images(moment, rng, few=False):
     """The files that a crash may leave at a moment, each once."""
+    seen = set()
+    for image in images_of(moment, rng, few):
+        if hash(image) not in seen:
+            seen.add(hash(image))
+            yield image
+
+
+def images_of(moment, rng, few):
+    """The same, some of them several times: each change torn, with the others kept or lost."""
     if not moment.changes:
-        return {moment.base}
-    found = set()
+        yield moment.base
     for which in range(len(moment.changes)):
         rest = [at for at in range(len(moment.changes)) if at != which]
         ways = itertools.product([True, False], repeat=len(rest)) if len(rest) < 4 else [[True] * len(rest), [False] * len(rest)]
         for way in ways:
             is_kept = dict(zip(rest, way))
-            files = [moment.base]
-            for at, change in enumerate(moment.changes):
-                if at == which:
-                    files = [image for file in files for image in torn(file, change, rng, few or any(way))]
-                elif is_kept[at]:
-                    files = [kept(file, change) for file in files]
-            found.update(files)
-    return found
+            before = moment.base
+            for at in range(which):
+                before = kept(before, moment.changes[at]) if is_kept[at] else before
+            for image in torn(before, moment.changes[which], rng, few or any(way)):
+                for at in range(which + 1, len(moment.changes)):
+                    image = kept(image, moment.changes[at]) if is_kept[at] else image
+                yield image

@@ -124,6 +124,18 @@ static void gate(size_t length) {
         put_synced(end, "-", 1);
 }
 
+/* Makes the name of the file safe. */
+static void sync_folder(char *path) {
+    char *slash = strrchr(path, '/');
+    if (slash == NULL)
+        return;
+    *slash = '\0';
+    int folder = open(path, O_RDONLY);
+    if (folder < 0 || fsync(folder) != 0)
+        fail("the folder can't be synced");
+    close(folder);
+}
+
 /* Makes a file that never was whole, or closes the end of another one. */
 static void open_file(void) {
     if (!has("no first sync"))
@@ -231,6 +243,8 @@ int main(int count, char **words) {
         fprintf(stderr, "file: another process has it\n");
         return 4;
     }
+    if (!has("no folder"))
+        sync_folder(words[1]);
     open_file();
     bool is_new = entered == 0;
     answer(0, entered);

@@ -72,6 +72,7 @@ FAULTS = [
     ("takes all", by_crashes, "takes lines after the mark that doesn't count"),
     ("drops last", by_crashes, "drops the last acknowledged record"),
     ("no first sync", by_crashes, "prints records that it found and didn't sync"),
+    ("no folder", by_crashes, "doesn't sync the folder of a new file"),
     ("unsynced repair", by_crashes, "doesn't sync its repair of a file"),
     ("mark before blanks", by_repair, "writes the mark before the lines after it are gone"),
     ("retry", by_refused_syncs, "goes on after a sync that failed"),

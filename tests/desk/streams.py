@@ -263,6 +263,30 @@ def together(counts, desk, dam):
     many_at_once(counts, desk, given)
 
 
+def in_mid_load(counts, desk, dam):
+    """The journal, printed again and again while batches come in: whole batches, and each acknowledged one."""
+    given = journals.batched(dam, "load", journals.drawn, 900)
+    file = desk.folder() / "day.desk"
+    surroundings = {**os.environ, **desk.environment(file, DESK_SLOW="300")}
+    ours, feeder = device.feed(given.batches)
+    with subprocess.Popen([*desk.words, str(file)], stdin=ours, stdout=subprocess.PIPE, env=surroundings) as process:
+        os.close(ours)
+        answered, seen = bytearray(process.stdout.readline()), set()
+        os.set_blocking(process.stdout.fileno(), False)
+        while process.poll() is None:
+            answered += process.stdout.read() or b""
+            safe = answered.count(b"\n")
+            shown = subprocess.run([*desk.words, "--journal", str(file)], stdout=subprocess.PIPE, stderr=subprocess.PIPE)
+            count = shown.stdout.count(b"\n")
+            is_right = (shown.returncode, shown.stderr) == (0, b"") and count in given.borders and shown.stdout == given.journal.text(count)
+            counts.check(f"in mid-load: the journal has {count} records, {safe} acknowledged: {shown.stderr!r}", is_right and count >= safe)
+            seen.add(count)
+        answered += process.stdout.read() or b""
+    feeder.join()
+    counts.check("in mid-load: the answers", bytes(answered) == given.journal.printed(len(given.journal)))
+    counts.check(f"in mid-load: {len(seen)} journals were seen", len(seen) > 3)
+
+
 def many_at_once(counts, desk, given):
     """Of several desks that are started at once on a new file, one has it, and the others say so."""
     file = desk.folder() / "day.desk"
@@ -282,5 +306,6 @@ def run(counts, desk, dam, whole):
         for seed, found in enumerate(pool.map(lambda seed: list(streams.wrong(seed)), range(count))):
             counts.check(f"stream {seed}: {'; '.join(found)}", not found)
     together(counts, desk, dam)
+    in_mid_load(counts, desk, dam)
     print(f"streams: {count} of {streams.lines:,} lines, {streams.entries:,} entries and {streams.faults:,} fault lines; "
           f"{time.monotonic() - begun:.1f} s", flush=True)
