@@ -159,6 +159,8 @@ def called(path, text, nodes=MOST_NODES):
 
 
 def program_of(program=None):
+    if program == "":
+        raise Fault("a program with an empty name can't be run")
     named = program or os.environ.get("DAM")
     found = None if named else built()
     if not named and not found:
@@ -303,7 +305,7 @@ def answer(text, program=None, running=None, nodes=MOST_NODES, timeout=None):
     of a run that took too long) and the words of the fault. By the library if there is one, unless a program is named, or a timeout, which
     only a run of the program can have. The pair has no type of this package, so that any executor can send it."""
     try:
-        path = None if program or timeout is not None else library()
+        path = None if program is not None or timeout is not None else library()
         if path:
             status, out = called(path, text, nodes)
             said = out

@@ -226,8 +226,8 @@ def change(args):
 
 def compared(books, who, program):
     """The differences between the results of two books, as a table: of one participant, or of all."""
-    if who and not any(who == owner for one in books for owner, _ in one.rows):
-        raise engine.Fault(f"{who} has no order in the book, before or after the changes")
+    if who is not None and not any(who == owner for one in books for owner, _ in one.rows):
+        raise engine.Fault(f"{who or text.quoted(who)} has no order in the book, before or after the changes")
     printed = list(engine.answers([cleared.book_text(one.rows, one.periods) for one in books], program=program))
     for found in printed:
         if isinstance(found, engine.Fault):

@@ -198,6 +198,9 @@ class Module(unittest.TestCase):
             (lambda: dam_tools.whatif_limit(b"day,24,,,,,,,\n", "GEN", "X"), "^no command closes the book"),
             (lambda: dam_tools.whatif_change(journal, b"cancel,GEN,X,,,,,,"), "^record 1: the book refuses cancel,GEN,X"),
             (lambda: dam_tools.whatif_change(journal, b"cancel,GEN,UNIT,,,,,,", "NOBODY"), "^NOBODY has no order in the book, before or after the changes$"),
+            (lambda: dam_tools.whatif_change(journal, b"cancel,GEN,UNIT,,,,,,", ""), "^'' has no order in the book, before or after the changes$"),
+            (lambda: dam_tools.whatif_change(journal, b"cancel,GEN,UNIT,,,,,,", program=""), "^a program with an empty name can't be run$"),
+            (lambda: dam_tools.clear(journal, program=""), "^a program with an empty name can't be run$"),
         ):
             with self.assertRaisesRegex(dam_tools.Fault, said):
                 call()
