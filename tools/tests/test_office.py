@@ -346,6 +346,25 @@ class Closing(Office):
             await given.run()
         self.assertEqual((disk.records, given.state), (["close,,,,,,,,"], "published"))
 
+    async def test_a_published_day_is_that_of_its_head(self):
+        self.make()
+        with opener(Disk()):
+            given = self.gate()
+            task = asyncio.create_task(given.run())
+            await given.is_ready.wait()
+            await given.submit("GAS", 1, commands("cancel,GAS,A,,,,,,"))
+            given.close()
+            await task
+            await clearing.sign(given)
+        given.files.file(folder.STATEMENT).write_text("{}")
+        async with self.running(self.gate()) as again:
+            self.assertEqual((again.fault, heads.line(again.ledger.head())), (None, given.files.read(folder.HEAD)))
+        journal_file = given.files.file(folder.JOURNAL)
+        journal_file.write_bytes(journal_file.read_bytes().replace(b"GAS,A,", b"GAS,B,"))
+        again = self.gate()
+        await again.run()
+        self.assertIn("isn't of the journal", again.fault or "")
+
     async def test_the_operator_closes_early(self):
         self.make()
         disk = Disk()
