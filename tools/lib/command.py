@@ -12,7 +12,7 @@ import sys
 import zoneinfo
 from pathlib import Path
 
-from . import book, ending, heads, journal, kinds, lint, place, replacing, results, selection, text
+from . import book, ending, journal, kinds, lint, place, replacing, results, selection, text
 
 from .rules import VERSION
 
@@ -107,6 +107,8 @@ def participant(word):
 
 def day(word):
     """The name of a day on the command line, as in a head."""
+    from . import heads
+
     if not heads.DAY.fullmatch(word):
         raise argparse.ArgumentTypeError(f"{text.quoted(word)} should be {heads.A_DAY}")
     return word

@@ -18,6 +18,7 @@ class UnderHead:
         self.findings = [finding for finding in findings if self.is_own(finding)]
         self.foreign = [self.foreign_fault(finding) for finding in findings if not self.is_own(finding)]
         self.odd = [finding for finding in self.findings if finding.verdict == receipts.ENCODING]
+        self.under = self.heads_of(findings)
         self.replies = [sealing.reply_of(reason) for reason in reasons]
         self.records = [journal.command_line(command) for command in read.commands]
         self.periods = read.periods
@@ -53,6 +54,15 @@ class UnderHead:
     def is_own(self, finding):
         """Whether the operator signed a receipt, for this day."""
         return finding.verdict != receipts.WRONG and finding.receipt.head.day == self.head.day
+
+    def heads_of(self, findings):
+        """The heads that the operator signed for this day, each with the first receipt that is under it. That one may be changed itself."""
+        found = {}
+        for finding in findings:
+            head = finding.receipt.head
+            if head.day == self.head.day and (finding.verdict != receipts.WRONG or signing.is_signed(self.key, head)):
+                found.setdefault(receipts.unsigned(head), receipts.Place(finding.file, finding.line))
+        return found
 
     def foreign_fault(self, finding):
         """Why a receipt isn't compared with the journal."""
@@ -95,16 +105,13 @@ class UnderHead:
 
     def receipt_faults(self):
         """The faults of receipts, and of the heads that they are under."""
-        seen = {receipts.unsigned(self.head)}
         for finding in self.findings:
             receipt, name = finding.receipt, receipts.Place(finding.file, finding.line)
             if fault := self.receipt_fault(receipt):
                 yield Fault(f"{name}: {fault}", "receipt", receipt.number + 1)
-            head = receipts.unsigned(receipt.head)
-            if head not in seen:
-                seen.add(head)
-                if fault := self.beginning_fault(head):
-                    yield Fault(f"{name}: {head}: {fault}", "head")
+        for head, name in self.under.items():
+            if head != receipts.unsigned(self.head) and (fault := self.beginning_fault(head)):
+                yield Fault(f"{name}: {head}: {fault}", "head")
 
 
 def files_of(folder):

@@ -65,6 +65,12 @@ class Audit(Audited):
         out = self.audit(1, "day.csv", "--receipts", path)
         self.assertIn("the operator signed entry 1 as", out)
         self.assertIn("not as signed: 2 differences", out)
+        # The same, changed: its head is the operator's all the same.
+        path.write_bytes(lines_of(other)[0].replace(b'"reply":"done"', b'"reply":"refused,Closed"'))
+        out = self.audit(1, "day.csv", "--receipts", path)
+        self.assertIn("not compared: 1 receipt or head\n", out)
+        self.assertIn("not as signed: 1 difference from what the operator signed\n", out)
+        self.assertIn(f"{path} line 1: the head of 2026-11-28 with 983 entries: ", out)
 
     def test_the_audit_of_earlier_heads(self):
         lines = AUCTION.read_bytes().splitlines(keepends=True)
