@@ -114,6 +114,24 @@ async def change_orders(page, who, counts):
     counts.check("a wrong number enters nothing", len(await rows(page, "commands-table")) == 5)
 
 
+# Loses the answer to the next command, which the office enters.
+LOSE = """{ const real = window.fetch; window.lost = false; window.fetch = async (path, how) => { const answer = await real(path, how);
+  if (how?.method !== 'PUT' || window.lost) return answer; window.lost = true; throw new TypeError('lost'); }; }"""
+
+
+async def lose_an_answer(page, counts):
+    """The page sends the command again under the same number, also if it has looked at its commands in the meantime."""
+    await page.run(LOSE)
+    await write(page, "name", "ONCE")
+    await write(page, "price", "1")
+    await write(page, "volume", "1")
+    await page.key("Enter", 13)
+    await page.until("window.lost")
+    await page.run("look()")
+    await page.until("document.getElementById('message').textContent.startsWith('Entered, on the disk')")
+    counts.check("a command whose answer is lost is entered once", len(await rows(page, "commands-table")) == 8)
+
+
 async def upload(page, who, room, counts):
     for words, is_right in (("participant;order\n", False), (TABLE.format(who=who), True)):
         path = Path(room, "orders.csv")
@@ -136,7 +154,7 @@ async def results(page, office, who, other, counts):
     await asyncio.to_thread(office.close_day)
     await page.until("!document.getElementById('results').hidden")
     statement, prices = await rows(page, "statement"), await rows(page, "prices")
-    counts.check("each command has its outcome", len(statement) == 7 and all(row[2] for row in statement if row[1] != "done"))
+    counts.check("each command has its outcome", len(statement) == 8 and all(row[2] for row in statement if row[1] != "done"))
     counts.check("each period has its price", len(prices) == 24 and prices[7][1:] == ["07:00", "61.00", "30.0"])
     counts.check("nothing of another's", f"{other}," not in await page.run("document.body.textContent"))
     counts.check("orders can't be entered any more", await page.run("document.getElementById('entry').hidden"))
@@ -151,6 +169,7 @@ async def scene(office, counts, pictures, room):
         await enter_orders(page, who, counts)
         await change_orders(page, who, counts)
         await upload(page, who, room, counts)
+        await lose_an_answer(page, counts)
         await shown(page, counts, pictures, "orders")
         await results(page, office, who, other, counts)
         await shown(page, counts, pictures, "results")

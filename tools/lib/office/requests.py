@@ -4,6 +4,7 @@ import json
 import re
 
 from .. import command_table, journal, lint, order_table, rules, text
+from .folder import MOST_COMMANDS
 
 RECORDS, JSON = "text/csv", "application/json"
 FIELDS = {  # of a command in JSON, by its kind: those that it must have, and those that it may have
@@ -11,7 +12,6 @@ FIELDS = {  # of a command in JSON, by its kind: those that it must have, and th
     "amend": ({"order", "price", "volumes"}, set()),
     "cancel": ({"order"}, set()),
 }
-MOST_COMMANDS = rules.MOST_RECORDS - 2
 MOST_LINTED = 1 << 14  # bytes
 RECORD = re.compile("record ([0-9]+)")
 DAY = b"day,%d,,,,,,,\n" % rules.GREATEST_PERIOD  # before records; the desk's book knows the day's periods

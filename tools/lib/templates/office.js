@@ -262,9 +262,10 @@ function showOrders() {
 
 async function put(commands) {
   const body = JSON.stringify(commands);
+  const number = state.next; // of all tries, also if a look finds the command entered in the meantime
   for (let time = 1; ; time += 1) {
     try {
-      const answer = await ask(`${own("commands")}/${state.next}`, { method: "PUT", body, headers: { "Content-Type": "application/json" } });
+      const answer = await ask(`${own("commands")}/${number}`, { method: "PUT", body, headers: { "Content-Type": "application/json" } });
       return (await answer.text()).trim().split("\n").map((line) => JSON.parse(line));
     } catch (fault) {
       if (time === RETRIES || ![0, 429, 503].includes(fault.status)) throw fault;
