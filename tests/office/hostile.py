@@ -136,7 +136,7 @@ def check_messages(office, counts):
     many = said(office, b"GET /days HTTP/1.1\r\nHost: x\r\n\r\n" * 200_000)
     counts.check("requests without end aren't answered, and take no memory", len(many) < 10 << 20 and peak(office) - before < 100 << 10)
     chunks = b"".join(b"1000\r\n" + b"a" * 4096 + b"\r\n" for _ in range(400)) + b"0\r\n\r\n"
-    counts.check("a body without end is cut", status(said(office, request("PUT", path, both) + chunks)) == 413)
+    counts.check("a body without a length isn't read", status(said(office, request("PUT", path, both) + chunks)) == 400)
     counts.check("a body of 2 MB is refused", status(said(office, request("PUT", path, [token], b"a" * (2 << 20)))) == 413)
     counts.check("without a token it isn't read", status(said(office, request("PUT", path, [], b"a" * (2 << 20)))) == 401)
     counts.check("nothing was entered", office.client(who).next(office.day) == 1)

@@ -176,6 +176,15 @@ class Web:
             raise Refused("Unavailable", "the day isn't open yet", seconds=1)
         return gate, who
 
+    def length(self, request):
+        """The length of a body, which is known before it is read."""
+        length = request.content_length
+        if length is None:
+            raise Refused("Malformed", "the request needs a Content-Length")
+        if length > MOST_BODY:
+            raise web.HTTPRequestEntityTooLarge(MOST_BODY, length)
+        return length
+
     async def body(self, request):
         try:
             async with async_timeout.timeout(BODY_SECONDS):
@@ -187,6 +196,7 @@ class Web:
 
     async def put(self, request):
         gate, who = self.asked(request, self.commands)
+        self.commands.take(who, self.length(request) // BYTES_OF_COMMAND)  # before it is read, so that not many are at once
         body = await self.body(request)
         began = time.monotonic()
         commands = await self.read(body, kind_of(request), who)
@@ -196,8 +206,7 @@ class Web:
         return answer
 
     async def read(self, body, kind, who):
-        """The commands of a body. A long one is read in a thread, so that others get their turns, and counts as many commands."""
-        self.commands.take(who, len(body) // BYTES_OF_COMMAND)
+        """The commands of a body. A long one is read in a thread, so that others get their turns."""
         if len(body) < LONG_BODY:
             return requests.commands_of(body, kind, who)
         return await asyncio.to_thread(requests.commands_of, body, kind, who)
@@ -247,6 +256,7 @@ class Web:
     async def table(self, request):
         """The records that a table makes. They aren't entered: the participant sees them first."""
         gate, who = self.asked(request, count=READS_OF_TABLE)
+        self.length(request)
         body = await self.body(request)
         async with self.tables:
             records, notes = await asyncio.to_thread(requests.table_records, body, who, gate.terms.periods)
