@@ -1,6 +1,7 @@
 -- The joint price falls as the net volume rises, so that it lies between the prices at the ends of a curve.
-use Rattle.std.proofs.Common.{◌≡◌, ℕ, zero, suc, ◌-◌, ◌*◌, ◌<◌, ℤ, pos, ◌+ℤ◌, ◌≤ℤ◌, neg_ℤ, to_z, of_z, w32, Some, List, [], ◌∷◌, length, get_or, ap, ap₂, ◌∙◌, sym, subst, refl, arith}
-use Rattle.std.proofs.lemmas.Int.{ints}
+use Rattle.std.proofs.Common.{◌≡◌, ℕ, zero, suc, ◌-◌, ◌*◌, ◌<◌, ℤ, pos, ◌+ℤ◌, ◌≤ℤ◌, ◌<ℤ◌, neg_ℤ, to_z, of_z, w32, Some, List, [], ◌∷◌, length, get_or, ap, ap₂, ◌∙◌, sym, subst, refl, arith}
+use Rattle.std.specs.Int.{int_max, int_min}
+use Rattle.std.proofs.lemmas.Int.{ints, int_max_is, int_min_is}
 use Rattle.dam_book.specs.Limits.{last_period}
 use Rattle.dam_hour.specs.Best.{greatest_welfare}
 use Rattle.dam_hour.specs.Limits.{greatest_price}
@@ -95,3 +96,45 @@ pub last_there : (curves : CurvesState) (curve : Curve) (ps : List (List Step)) 
     → suc (length ls - 1) ≡ length ls
 last_there curves curve ps least most ls is some same =
     let long = ap length same ∙ count_is curves.segments curve is.within in omega (arith, some, long)
+
+-- ---- the prices between two net volumes
+-- the ends of a curve, and between them those of a range of net volumes, as the code has them
+pub record AreClipped (curve : Curve) (least most low high : ℤ) : Type 0 where
+  pub least_held : ℤ
+  pub bottom_held : ℤ
+  pub most_held : ℤ
+  pub top_held : ℤ
+  pub least_is : least_held ≡ least
+  pub bottom_is : bottom_held ≡ curve.bottom
+  pub most_is : most_held ≡ most
+  pub top_is : top_held ≡ curve.top
+  pub low_is : low ≡ int_max least_held bottom_held
+  pub high_is : high ≡ int_min most_held top_held
+
+inside_clip : (curve : Curve) (least most low high net : ℤ) → AreClipped curve least most low high → least ≤ℤ net → net ≤ℤ most
+    → curve.bottom ≤ℤ net → net ≤ℤ curve.top → (low ≤ℤ net) × (net ≤ℤ high)
+inside_clip curve least most low high net are a b c d =
+    let over = int_max_is are.least_held are.bottom_held in let under = int_min_is are.most_held are.top_held in
+    let e = are.least_is in let f = are.bottom_is in let g = are.most_is in let h = are.top_is in let l = are.low_is in let m = are.high_is in
+    (omega (arith, ints, over, e, f, l, a, c), omega (arith, ints, under, g, h, m, b, d))
+
+pub between_in : JointPriceFalls → WelfareIsSome → (curves : CurvesState) (curve : Curve) (ps : List (List Step))
+    (lower upper least most low high lowest highest p q : ℤ) → IsCurveAt curves curve ps lower upper → AreClipped curve least most low high
+    → IsJointPrice ps high lowest → IsJointPrice ps low highest → p ≡ lowest → q ≡ highest
+    → (net price : ℤ) → lower ≤ℤ net → net ≤ℤ upper → least ≤ℤ net → net ≤ℤ most → IsJointPrice ps net price → (p ≤ℤ price) × (price ≤ℤ q)
+between_in falls law curves curve ps lower upper least most low high lowest highest p q is are at_high at_low e f net price l u a b at =
+    let found = joint_some law ps net price at in
+    let within = some_there curves curve ps lower upper net found.0 is found.1 l u in
+    let inside = inside_clip curve least most low high net are a b within.0 within.1 in
+    let under = falls ps net high price lowest at at_high inside.1 in
+    let over = falls ps low net highest price at_low at inside.0 in
+    (omega (arith, ints, under, e), omega (arith, ints, over, f))
+
+pub none_between : WelfareIsSome → (curves : CurvesState) (curve : Curve) (ps : List (List Step)) (lower upper least most low high : ℤ)
+    → IsCurveAt curves curve ps lower upper → AreClipped curve least most low high → high <ℤ low
+    → (net price : ℤ) → lower ≤ℤ net → net ≤ℤ upper → least ≤ℤ net → net ≤ℤ most → IsJointPrice ps net price → ⊥
+none_between law curves curve ps lower upper least most low high is are apart net price l u a b at =
+    let found = joint_some law ps net price at in
+    let within = some_there curves curve ps lower upper net found.0 is found.1 l u in
+    let inside = inside_clip curve least most low high net are a b within.0 within.1 in
+    absurd (omega (arith, ints, apart, inside.0, inside.1))

@@ -157,7 +157,22 @@ fn price_in(segments: &[Segment], net: i64, near: usize) -> i32
     segments[place_of(segments, net, near)].price_at(net)
 }
 
-/// The line of the segment that holds at the net volume, or at the nearer end if none does.
+/// The place before the last one if this is the last, since the last segment holds at one net volume alone, and is steep. Any
+/// other place is itself.
+#[inline(always)]
+fn place_before_end(place: usize, count: usize) -> usize
+    requires { place < count }
+    ensures { result < count }
+{
+    if place + 1 == count {
+        place.saturating_sub(1)
+    } else {
+        place
+    }
+}
+
+/// The line of the segment that holds at the net volume, and at one above it if there is one; or at the nearer end if none
+/// does.
 #[inline(always)]
 fn line_in(segments: &[Segment], net: i64, near: usize) -> Line
     requires curve { (periods : List (List Step)) × (least : ℤ) × (most : ℤ)
@@ -169,7 +184,8 @@ fn line_in(segments: &[Segment], net: i64, near: usize) -> Line
         → IsCurve periods least most segments.now → IsAbove periods least most result }
     ensures small { IsSmallLine last_period result }
 {
-    segments[place_of(segments, net, near)].line()
+    let place = place_before_end(place_of(segments, net, near), segments.len());
+    segments[place].line()
 }
 
 impl<A: Allocator + Copy> Curves<A> {
@@ -272,12 +288,28 @@ impl<A: Allocator> Curves<A> {
         ensures at_least { neg_ℤ (pos (last_period * greatest_price)) ≤ℤ result }
         ensures at_most { result ≤ℤ pos (last_period * greatest_price) }
     {
+        self.searched_price(curve, net)
+    }
+
+    /// The prices of the segment for the net volume.
+    #[inline(always)]
+    pub(crate) fn searched_price(&self, curve: Curve, net: i64) -> i32
+        requires curve { (periods : List (List Step)) × (least : ℤ) × (most : ℤ)
+            × IsCurveAt self.now curve periods least most }
+        requires bottom { curve.bottom ≤ℤ net }
+        requires top { net ≤ℤ curve.top }
+        ensures price { (periods : List (List Step)) (least most : ℤ)
+            → IsCurveAt self.now curve periods least most → IsJointPrice periods net result }
+        ensures at_least { neg_ℤ (pos (last_period * greatest_price)) ≤ℤ result }
+        ensures at_most { result ≤ℤ pos (last_period * greatest_price) }
+    {
         let segments = segments_of(&self.segments, curve);
         price_in(segments, net, self.near(curve, net))
     }
 
     /// A line over the joint welfare of the curve's periods, which touches it at the net volume; if some period doesn't
-    /// balance there, it touches it at the nearest net volume at which they do. A curve without segments has the line with
+    /// balance there, it touches it at the nearest net volume at which they do. At the least such net volume it is the line
+    /// that holds above it too, since the one that holds there alone is steep. A curve without segments has the line with
     /// price 0 and surplus 0. Only tests show that the line touches. Takes no memory.
     #[inline(always)]
     pub fn line_near(&self, curve: Curve, net: i64) -> Line

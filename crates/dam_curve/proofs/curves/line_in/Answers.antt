@@ -13,13 +13,13 @@ place_of-requires-clause-last c =
 pub returns-clause-above : goal.returns-clause-above
 returns-clause-above c ps least most is =
     rw c.line.ensures
-    (λ net w low high e. under_at (joint_welfare ps) c.args.segments.now c.place_of.result
-    any_segment is.under c.place_of.ensures.inside net w e)
+    (λ net w low high e. under_at (joint_welfare ps) c.args.segments.now c.place_before_end-place.result
+    any_segment is.under c.place_before_end-place.ensures net w e)
 
 pub returns-clause-small : goal.returns-clause-small
 returns-clause-small c =
-    let small = small_wide c.requires.curve.0 c.requires.curve.1 c.requires.curve.2 c.args.segments.now c.place_of.result
-    any_segment c.requires.curve.3 c.place_of.ensures.inside in
+    let small = small_wide c.requires.curve.0 c.requires.curve.1 c.requires.curve.2 c.args.segments.now c.place_before_end-place.result
+    any_segment c.requires.curve.3 c.place_before_end-place.ensures in
     rw c.line.ensures
     (record {
       price_at_least = small.price_at_least;
