@@ -31,6 +31,7 @@ mod order;
 mod piece;
 mod prefix;
 mod prices;
+mod root;
 mod shared;
 mod space;
 mod view;

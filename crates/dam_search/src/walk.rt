@@ -17,6 +17,7 @@ use crate::incumbent::Incumbent;
 use crate::node::Node;
 use crate::piece::{Progress, equals, surpasses};
 use crate::prices::Prices;
+use crate::root::bound_of_piece;
 use crate::space::kept;
 use dam_blocks::{Best, Problem, Selection, admissible, ranks_above};
 use dam_bound::PriceBound;
@@ -352,12 +353,12 @@ pub(crate) fn explore_by_prices<A: Allocator, P: Prices, I: Incumbent>(
         };
     }
     let mut bound = PriceBound::empty();
-    prices.bound_by_prices(taken, order, &mut bound);
+    let most = bound_of_piece(prices, taken, order, depth, &mut bound);
     let node = Node {
         taken,
         rejected: rejected_under(depth, taken),
         left: order,
-        bound: bound.most(taken, order),
+        bound: most,
     };
     let mut found = Progress {
         best: None,

@@ -4,14 +4,8 @@ use Rattle.dam_search.proofs.Opens.{all_within}
 use Rattle.dam_search.proofs.FirstNode.{piece_node, piece_sound}
 use Rattle.dam_search.proofs.walk.explore_by_prices.Goals as goal
 
-pub bound_by_prices-requires : goal.bound_by_prices-requires
-bound_by_prices-requires g c =
-    let node = piece_node c.args.depth c.args.piece (length c.args.problem.now.blocks) c.choice-taken.result [] c.args.order.now
-    c.choice-taken.ensures c.requires.depth c.kept.ensures.few_blocks c.requires.order (λ place e. absurd (cc)) in
-    all_within c.choice-taken.result c.args.order.now node.free
-
-pub most-requires-clause-places : goal.most-requires-clause-places
-most-requires-clause-places g c =
+pub bound_of_piece-most-requires-clause-places : goal.bound_of_piece-most-requires-clause-places
+bound_of_piece-most-requires-clause-places g c =
     let node = piece_node c.args.depth c.args.piece (length c.args.problem.now.blocks) c.choice-taken.result [] c.args.order.now
     c.choice-taken.ensures c.requires.depth c.kept.ensures.few_blocks c.requires.order (λ place e. absurd (cc)) in
     all_within c.choice-taken.result c.args.order.now node.free

@@ -1,0 +1,48 @@
+//! The bound with which the exploration of a piece begins.
+
+ghost use Rattle.std.specs.Prelude.{◌≡◌, ◌<◌, ◌≤◌, length, All};
+ghost use Rattle.dam_book.specs.Limits.{most_blocks};
+ghost use Rattle.dam_bound.specs.Prices.{most_of, IsPriceBound};
+
+use crate::first::all_places;
+use crate::prices::Prices;
+use dam_blocks::Selection;
+use dam_bound::PriceBound;
+
+/// Writes a bound by prices, and returns its bound of the selections that accept `taken`, any of the places of `order`, and
+/// nothing else. `taken` are decisions on the first `depth` blocks.
+///
+/// The prices are those that suit one of the prefixes of these decisions: of all of them, and of none, those with the least
+/// bound. A walk that decides one block after the other has the same bounds on its way. The prices of the whole prefix
+/// alone may be poor ones, if the decisions are far from the best selection.
+pub(crate) fn bound_of_piece<P: Prices>(
+    prices: &P,
+    taken: Selection,
+    order: &[u8],
+    depth: usize,
+    bound: &mut PriceBound,
+) -> i64
+    requires depth { depth ≤ most_blocks }
+    requires places { All (λ place. place < most_blocks) order.now }
+    requires few { length order.now ≤ most_blocks }
+    ensures bound { IsPriceBound (P.problem prices.now) bound.new }
+    ensures most { result ≡ most_of bound.new taken order.now }
+{
+    let places = all_places();
+    let mut prefix = Selection::none();
+    prices.bound_by_prices(prefix, &places, bound);
+    let mut most = bound.most(taken, order);
+    for at in 0..depth {
+        if taken.has(at) {
+            prefix = prefix.with(at);
+        }
+        let mut own = PriceBound::empty();
+        prices.bound_by_prices(prefix, &places[at + 1..], &mut own);
+        let own_most = own.most(taken, order);
+        if own_most < most {
+            most = own_most;
+            *bound = own;
+        }
+    }
+    most
+}
