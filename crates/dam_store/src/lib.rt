@@ -14,9 +14,11 @@ mod open;
 mod recovery;
 mod scan;
 mod store;
+mod text;
 
 pub use batch::Batch;
 pub use fault::{LineFault, StoreFault};
 pub use file::{FileFault, open_file};
 pub use limits::MOST_BYTES;
 pub use store::{Opened, Store, Unopened};
+pub use text::read_text;

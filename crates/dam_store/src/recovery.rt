@@ -13,11 +13,11 @@ use crate::scan::{Lines, read_lines};
 use sqlite_disk::Disk;
 use std::alloc::{AllocError, Global};
 
-const HEAD_LINE: [u8; 12] = *b"+dam-desk 1\n";
+pub(crate) const HEAD_LINE: [u8; 12] = *b"+dam-desk 1\n";
 
 const AFTER_FIRST: [u8; 12] = *b"dam-desk 1\n-";
 
-fn is_unmade(bytes: &[u8]) -> bool
+pub(crate) fn is_unmade(bytes: &[u8]) -> bool
     ensures { result ≡ is_unmade bytes.now }
 {
     match bytes {

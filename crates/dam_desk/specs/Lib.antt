@@ -1,0 +1,7 @@
+pub mod Limits
+pub mod Room
+pub mod Lines
+pub mod Answers
+pub mod Faults
+pub mod Desk
+pub mod inside

@@ -1,0 +1,12 @@
+-- For which commands a desk's journal has room.
+use Rattle.std.specs.Prelude.{◌-◌, Bool, nat_le, ℕ}
+use Rattle.dam_book.specs.Limits.{most_entries}
+use Rattle.dam_book.specs.declared.command.Command.{Command}
+use Rattle.dam_book.specs.declared.command.Command.TheVariants.{Submit, Amend, Cancel, Close}
+
+-- whether a journal of this many entries has no room for the command: the last entry is kept for a close
+abbrev pub is_full : ℕ → Command → Bool
+is_full held (Submit who name order) = nat_le (most_entries - 1) held
+is_full held (Amend who name price volumes) = nat_le (most_entries - 1) held
+is_full held (Cancel who name) = nat_le (most_entries - 1) held
+is_full held Close = nat_le most_entries held

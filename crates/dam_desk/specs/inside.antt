@@ -1,0 +1,2 @@
+-- Only contracts inside this crate cite these, and the invariants of its types.
+pub mod Day

@@ -1,0 +1,125 @@
+//! The day of a desk: its book, and how many commands were entered.
+ghost use Rattle.std.specs.Prelude.{◌≡◌, ◌+◌, ◌≤◌, ◌++◌, ◌∷◌, [], true, false, if◌then◌else◌, length, IfOk, OnOk};
+ghost use Rattle.dam_book.specs.Book.{book_after, commands_of, empty_book, is_day, reply_to};
+ghost use Rattle.dam_book.specs.Limits.{most_entries};
+ghost use Rattle.dam_results.specs.Replies.{day_line, reply_line};
+ghost use Rattle.dam_results.specs.Records.{day_row};
+ghost use Rattle.dam_results.specs.Written.{row_line, written};
+ghost use Rattle.dam_desk.specs.Room;
+
+use dam_book::{Book, Command, DayLength, Entry, MOST_ENTRIES, PackedCommand, PackedEntry, Seed};
+use dam_results::{packed_journal_text, replies_text};
+use std::alloc::{AllocError, Global};
+
+/// The book of a day, and how many commands were entered.
+#[derive(Drop)]
+pub(crate) struct Day {
+    alloc: Global,
+    periods: DayLength,
+    book: Book,
+    entered: u32,
+    /// The record of the day, with its line feed.
+    header: Vec<u8>,
+    /// The line of the day, which `dam replay` prints first.
+    line: Vec<u8>,
+    ghost header_is: { header.items ≡ row_line (day_row periods) },
+    ghost line_is: { line.items ≡ day_line periods },
+}
+
+impl Day {
+    pub(crate) fn begin(alloc: Global, seed: Seed, periods: DayLength) -> Result<Day, AllocError>
+        ensures periods { IfOk result (λ day. day.periods ≡ periods) }
+        ensures book { IfOk result (λ day. day.book ≡ empty_book periods) }
+        ensures entered { IfOk result (λ day. day.entered ≡ 0) }
+        ensures valid { OnOk result (is_day periods ≡ true) }
+    {
+        let _valid = periods.get(); // for the proof: the length of a day
+        Ok(Day {
+            alloc,
+            periods,
+            book: Book::for_day(alloc, periods, seed),
+            entered: 0,
+            header: packed_journal_text(alloc, periods, &[])?,
+            line: replies_text(alloc, periods, &[])?,
+        })
+    }
+
+    pub(crate) fn periods(&self) -> DayLength
+        ensures { result ≡ self.now.periods }
+    {
+        self.periods
+    }
+
+    pub(crate) fn header(&self) -> &[u8]
+        ensures { result.now ≡ row_line (day_row self.now.periods) }
+    {
+        self.header.as_slice()
+    }
+
+    pub(crate) fn line(&self) -> &[u8]
+        ensures { result.now ≡ day_line self.now.periods }
+    {
+        self.line.as_slice()
+    }
+
+    pub(crate) fn entered(&self) -> u32
+        ensures { result ≡ self.now.entered }
+    {
+        self.entered
+    }
+
+    /// Whether no command like this can be entered any more. The last entry is kept for a close.
+    pub(crate) fn is_full(&self, command: &Command) -> bool
+        ensures value { result ≡ Room.is_full self.now.entered command.now }
+        ensures room { result ≡ false → self.now.entered + 1 ≤ most_entries }
+    {
+        let held = self.entered as usize;
+        match command {
+            Command::Close => held >= MOST_ENTRIES,
+            _ => held >= MOST_ENTRIES - 1,
+        }
+    }
+
+    /// Enters the command as the entry of this number: adds the entry, and the line of its reply.
+    pub(crate) fn enter(
+        &mut self,
+        number: u32,
+        command: &Command,
+        entries: &mut Vec<PackedEntry>,
+        replies: &mut Vec<u8>,
+    ) -> Result<(), AllocError>
+        ensures periods { self.new.periods ≡ self.old.periods }
+        ensures book { OnOk result (self.new.book ≡ book_after self.old.book command.now) }
+        ensures entered { OnOk result (self.new.entered ≡ number) }
+        ensures few { length entries.old.items ≤ self.old.entered → number ≡ self.old.entered + 1
+            → length entries.new.items ≤ self.new.entered }
+        ensures room { self.old.entered ≤ most_entries → number ≤ most_entries
+            → self.new.entered ≤ most_entries }
+        ensures entries { OnOk result (commands_of entries.new.items
+            ≡ commands_of entries.old.items ++ command.now ∷ []) }
+        ensures replies { OnOk result (replies.new.items
+            ≡ replies.old.items ++ reply_line number (reply_to self.old.book command.now)) }
+    {
+        let packed = PackedCommand::of(self.alloc, command)?;
+        let reply = self.book.apply(command)?;
+        self.entered = number;
+        entries.push(PackedEntry::new(number, packed, reply))?;
+        // The line of an entry doesn't depend on its command, so that a close may stand for it.
+        let entry = Entry {
+            number,
+            command: Command::Close,
+            reply,
+        };
+        let line = replies_text(self.alloc, self.periods, &[entry])?;
+        replies.extend_from_slice(&line[self.line.len()..])
+    }
+
+    /// The record of the day, and the records of the entries.
+    pub(crate) fn records(&self, entries: &[PackedEntry]) -> Result<Vec<u8>, AllocError>
+        requires { length entries.now ≤ most_entries }
+        ensures { IfOk result (λ text. text.items
+            ≡ written self.now.periods (commands_of entries.now)) }
+    {
+        packed_journal_text(self.alloc, self.periods, entries)
+    }
+}

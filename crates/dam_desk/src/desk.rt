@@ -1,0 +1,69 @@
+//! A desk: a journal in a store, and the book that it makes.
+ghost use Rattle.std.specs.Prelude.{◌≡◌, ◌++◌, ℕ, List, true, false, IsTrue, IfErr, OnOk};
+ghost use Rattle.dam_store.specs.Store.{disk_of, held, is_broken};
+ghost use Rattle.dam_desk.specs.Desk.{KeepsLines};
+ghost use Rattle.dam_desk.specs.Faults.{is_write};
+
+use crate::answer::write_fault;
+use crate::fault::{DeskFault, LineFault};
+use crate::output::write_text;
+use crate::state::Intake;
+use dam_store::Store;
+use sqlite_disk::Disk;
+use std::io::Write;
+
+/// A journal in a store, and the book that it makes.
+#[derive(Drop)]
+pub(crate) struct Desk<D: Disk> {
+    pub(crate) store: Store<D>,
+    pub(crate) intake: Intake,
+}
+
+impl<D: Disk> Desk<D> {
+    /// Takes the next bytes of the input, and answers the lines that end in them, once their records are safe.
+    ///
+    /// Nothing is retried. After a fault the desk is at its end.
+    pub(crate) fn take<W: Write>(&mut self, bytes: &[u8], writer: &mut W) -> Result<(), DeskFault>
+        ensures ready { OnOk result (is_broken self.new.store ≡ false) }
+        ensures grown { OnOk result (IsTrue (D.Disk.is_clean (disk_of self.new.store))
+            → (batch : List (List ℕ)) × held self.new.store ≡ held self.old.store ++ batch) }
+        // Unless the writer failed, it wasn't called. If it did, all that the lines enter is safe.
+        ensures unanswered { IfErr result (λ fault. is_write fault ≡ false
+            → writer.new ≡ writer.old) }
+        ensures answered { IfErr result (λ fault. is_write fault ≡ true
+            → is_broken self.new.store ≡ false) }
+        // A crash at any moment leaves what was held, and maybe what the lines enter.
+        ensures crash { is_broken self.old.store ≡ false
+            → IsTrue (D.Disk.is_clean (disk_of self.new.store))
+            → KeepsLines (D.Disk.may_leave (disk_of self.new.store)) (held self.old.store) }
+        ensures clean { D.Disk.is_clean (disk_of self.new.store)
+            ≡ D.Disk.is_clean (disk_of self.old.store) }
+    {
+        let _safe = self.store.is_broken(); // for the proof: what an open store has is safe
+        self.intake.take(bytes)?;
+        let batch = self.intake.batch()?;
+        self.store.append(&batch)?;
+        write_text(writer, self.intake.answers.as_slice())
+    }
+
+    /// Answers the line in which the input ended, if it has.
+    pub(crate) fn end<W: Write>(&self, writer: &mut W) -> Result<(), DeskFault> {
+        if self.intake.line.bytes().is_empty() {
+            return Ok(());
+        }
+        let alloc = self.intake.alloc;
+        let mut text = Vec::new(alloc);
+        let number = self.intake.answered.saturating_add(1);
+        write_fault(alloc, &mut text, number, LineFault::CutShort)?;
+        write_text(writer, text.as_slice())
+    }
+
+    /// Whether no write to the file has failed, so that what the desk holds is safe.
+    pub(crate) fn is_safe(&self) -> bool
+        ensures { is_broken self.now.store ≡ false
+            → IsTrue (D.Disk.is_clean (disk_of self.now.store))
+            → KeepsLines (D.Disk.may_leave (disk_of self.now.store)) (held self.now.store) }
+    {
+        !self.store.is_broken()
+    }
+}

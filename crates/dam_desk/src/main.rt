@@ -1,0 +1,78 @@
+//! `dam-desk`, which keeps the journal of a day in a file, and answers each command once it is safe there.
+#![tactic(auto)]
+
+mod answer;
+mod day;
+mod desk;
+mod fault;
+mod held;
+mod intake;
+mod limits;
+mod line;
+mod lines;
+mod open;
+mod output;
+mod reading;
+mod reopened;
+mod serve;
+mod state;
+mod words;
+
+use dam_book::Seed;
+use dam_store::{StoreFault, open_file};
+use fault::{DeskFault, status};
+use held::text_of_file;
+use open::open;
+use output::write_text;
+use serve::serve;
+use sqlite_std_file::Wary;
+use std::process::ExitCode;
+use words::{Job, USAGE, job_of, words};
+
+/// The status of a command line that is refused.
+const REFUSED_LINE: u8 = 2;
+
+fn main(rt: HostRuntime) -> ExitCode {
+    let Ok(words) = words(&rt) else {
+        return refuse(&rt);
+    };
+    let done = match job_of(words.as_slice()) {
+        Some(Job::Serve(path)) => serve_file(&rt, path),
+        Some(Job::Journal(path)) => print_journal(&rt, path),
+        Some(Job::Help) => write_text(&mut rt.stdout(), USAGE.as_bytes()),
+        None => return refuse(&rt),
+    };
+    match done {
+        Ok(()) => ExitCode::SUCCESS,
+        Err(fault) => report(&rt, &fault),
+    }
+}
+
+/// Serves the journal in a file, from standard input to standard output.
+fn serve_file(rt: &HostRuntime, path: &str) -> Result<(), DeskFault> {
+    let opened = open_file(rt, path, Wary)?;
+    let (mut desk, replies) = open(rt.alloc(), Seed::drawn(rt), opened)?;
+    serve(
+        &mut desk,
+        replies.as_slice(),
+        &mut rt.stdin(),
+        &mut rt.stdout(),
+    )
+}
+
+/// Prints the journal that a file holds. It doesn't lock the file or change it.
+fn print_journal(rt: &HostRuntime, path: &str) -> Result<(), DeskFault> {
+    let text = text_of_file(rt, path)?;
+    write_text(&mut rt.stdout(), text.as_slice())
+}
+
+/// Prints the fault's line, and gives its status.
+fn report(rt: &HostRuntime, fault: &DeskFault) -> ExitCode {
+    let _ = eprintln!(rt; "{fault}");
+    ExitCode::from(status(fault))
+}
+
+fn refuse(rt: &HostRuntime) -> ExitCode {
+    let _ = eprint!(rt; "command line\n{USAGE}");
+    ExitCode::from(REFUSED_LINE)
+}

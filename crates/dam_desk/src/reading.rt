@@ -1,0 +1,149 @@
+//! What a line of the input says. It is read as a journal, after the record of the day, if there is one.
+ghost use Rattle.std.specs.Prelude.{◌≡◌, ◌≤◌, ◌++◌, ◌∷◌, [], ℕ, List, Option, None, Some, length, IfOk, IfErr, MatchOption, MatchResult};
+ghost use Rattle.dam_book.specs.Book.{is_day};
+ghost use Rattle.dam_book.specs.declared.command.Command.{Command};
+ghost use Rattle.dam_results.specs.Faults.{IsJournalFault};
+ghost use Rattle.dam_results.specs.Journal.{ReadsAs};
+ghost use Rattle.dam_desk.specs.Limits.{most_line};
+ghost use Rattle.dam_desk.specs.Lines.{IsSameFault, Says, record_of, text_after, kept};
+
+use crate::fault::LineFault;
+use crate::limits::MOST_LINE;
+use dam_book::{Command, DayLength, PackedCommand, Seed};
+use dam_results::laws::{fault_is_no_journal, text_is_one_journal};
+use dam_results::{FromJournal, JournalFault, read_into};
+use std::alloc::{AllocError, Global};
+
+/// What a line says.
+#[derive(Debug, Drop)]
+pub(crate) enum Said {
+    /// It is the record of a day of this length.
+    Day(DayLength),
+    /// It is the record of this command.
+    Command(PackedCommand),
+    /// It is no record.
+    Fault(LineFault),
+}
+
+/// The content of a journal's text, its commands packed as they are read.
+#[derive(Drop)]
+struct PackedJournal {
+    periods: DayLength,
+    commands: Vec<PackedCommand>,
+}
+
+impl FromJournal for PackedJournal {
+    ghost use Rattle.std.specs.Prelude.{◌≡◌};
+
+    ghost made_of = { λ periods commands journal.
+        (journal.periods ≡ periods) × (journal.commands.items ≡ commands) };
+
+    fn begin(alloc: Global, _seed: Seed, periods: DayLength) -> Result<PackedJournal, AllocError> {
+        Ok(PackedJournal {
+            periods,
+            commands: Vec::new(alloc),
+        })
+    }
+
+    fn take(&mut self, _number: u32, command: &Command) -> Result<(), AllocError> {
+        let packed = PackedCommand::of(*self.commands.allocator(), command)?;
+        self.commands.push(packed)?;
+        Ok(())
+    }
+}
+
+/// The journal that a text says, or its first fault.
+fn read(alloc: Global, text: &[u8]) -> Result<PackedJournal, JournalFault>
+    ensures ok { IfOk result (λ journal. ReadsAs text.now journal.periods journal.commands.items) }
+    ensures fault { IfErr result (IsJournalFault text.now) }
+{
+    // A book isn't made, so the seed is never used.
+    read_into(alloc, Seed::fixed(), text)
+}
+
+/// The fault of a line that is read as a journal after `before` bytes, if that has the fault.
+fn line_fault(before: usize, fault: JournalFault) -> Result<LineFault, AllocError>
+    ensures { IfOk result (IsSameFault before fault) }
+{
+    match fault {
+        JournalFault::TooLong => Ok(LineFault::TooLong),
+        JournalFault::NotAscii(at) => Ok(LineFault::NotAscii(at.saturating_sub(before))),
+        JournalFault::TooManyRecords => Ok(LineFault::NotOneRecord),
+        JournalFault::NotDay => Ok(LineFault::NotDay),
+        JournalFault::FieldCount(_) => Ok(LineFault::FieldCount),
+        JournalFault::BadField(_, field) => Ok(LineFault::BadField(field)),
+        JournalFault::Memory => Err(AllocError),
+    }
+}
+
+/// The length of the day of which a text is the record alone.
+fn read_day(alloc: Global, text: &[u8]) -> Result<Option<DayLength>, AllocError>
+    ensures { IfOk result (λ day. MatchOption day
+        ((periods : ℕ) → ¬ (ReadsAs text.now periods []))
+        (λ periods. ReadsAs text.now periods [])) }
+{
+    text_is_one_journal();
+    fault_is_no_journal();
+    match read(alloc, text) {
+        Ok(journal) if journal.commands.is_empty() => Ok(Some(journal.periods)),
+        Ok(_) => Ok(None),
+        Err(JournalFault::Memory) => Err(AllocError),
+        Err(_) => Ok(None),
+    }
+}
+
+/// The command of a journal, if it has just one.
+fn only_command(journal: PackedJournal) -> Option<PackedCommand>
+    ensures { MatchOption result
+        (¬ (length journal.commands.items ≡ 1))
+        (λ command. journal.commands.items ≡ command ∷ []) }
+{
+    let mut commands = journal.commands;
+    if commands.len() != 1 {
+        return None;
+    }
+    commands.pop()
+}
+
+/// What a text says as which a line is read after `before` bytes: the record of the day, or none.
+fn read_text(alloc: Global, text: &[u8], before: usize) -> Result<Said, AllocError>
+    requires { before ≤ length text.now }
+    ensures { (day : Option ℕ) (line : List ℕ) → text.now ≡ text_after day line
+        → before ≡ length (record_of day) → length line ≤ most_line → IfOk result (Says day line) }
+{
+    if let Some(periods) = read_day(alloc, &text[before..])? {
+        return Ok(Said::Day(periods));
+    }
+    let fault = match read(alloc, text) {
+        Ok(_) if before == 0 => LineFault::NotOneRecord,
+        Ok(journal) => match only_command(journal) {
+            Some(command) => return Ok(Said::Command(command)),
+            None => LineFault::NotOneRecord,
+        },
+        Err(fault) => line_fault(before, fault)?,
+    };
+    Ok(Said::Fault(fault))
+}
+
+/// The text as which a line is read: after the record of the day.
+fn text_of(alloc: Global, header: &[u8], line: &[u8]) -> Result<Vec<u8>, AllocError>
+    ensures { IfOk result (λ text. text.items ≡ header.now ++ (line.now ++ 10 ∷ [])) }
+{
+    let mut text = Vec::from_slice(alloc, header)?;
+    text.extend_from_slice(line)?;
+    text.extend_from_slice(b"\n")?;
+    Ok(text)
+}
+
+/// What a line says after the record of the day, which has no bytes if there is no day yet. Of a line that is too long,
+/// `line` has the first `MOST_LINE + 1` bytes.
+pub(crate) fn read_line(alloc: Global, header: &[u8], line: &[u8]) -> Result<Said, AllocError>
+    ensures { (day : Option ℕ) (text : List ℕ) → header.now ≡ record_of day → line.now ≡ kept text
+        → IfOk result (Says day text) }
+{
+    if line.len() > MOST_LINE {
+        return Ok(Said::Fault(LineFault::TooLong));
+    }
+    let text = text_of(alloc, header, line)?;
+    read_text(alloc, text.as_slice(), header.len())
+}

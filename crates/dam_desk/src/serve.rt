@@ -1,0 +1,40 @@
+ghost use Rattle.std.specs.Prelude.{◌≡◌, false, IsTrue, OnOk};
+ghost use Rattle.dam_store.specs.Store.{disk_of, held, is_broken};
+ghost use Rattle.dam_desk.specs.Desk.{KeepsLines};
+
+use crate::desk::Desk;
+use crate::fault::DeskFault;
+use crate::output::write_text;
+use sqlite_disk::Disk;
+use std::io::{Read, Write};
+
+/// How many bytes are asked for at a time. The lines that end in them are one batch.
+const CHUNK: usize = 65_536;
+
+/// Prints the replies to the journal that the desk has, and then answers each line of the reader.
+pub(crate) fn serve<D: Disk, R: Read, W: Write>(
+    desk: &mut Desk<D>,
+    replies: &[u8],
+    reader: &mut R,
+    writer: &mut W,
+) -> Result<(), DeskFault>
+    requires { is_broken desk.old.store ≡ false }
+    ensures ready { OnOk result (is_broken desk.new.store ≡ false) }
+    // A crash at any moment leaves what the desk held, and maybe what was entered since.
+    ensures crash { IsTrue (D.Disk.is_clean (disk_of desk.new.store))
+        → KeepsLines (D.Disk.may_leave (disk_of desk.new.store)) (held desk.old.store) }
+{
+    let _safe = desk.is_safe(); // for the proof: what an open store has is safe
+    write_text(writer, replies)?;
+    let mut chunk = [0; CHUNK];
+    for _ in 0..u64::MAX {
+        let Ok(count) = reader.read(&mut chunk) else {
+            return Err(DeskFault::Read);
+        };
+        if count == 0 {
+            return desk.end(writer);
+        }
+        desk.take(&chunk[..count], writer)?;
+    }
+    Err(DeskFault::Read)
+}

@@ -1,0 +1,28 @@
+//! The state of a desk between two lines.
+ghost use Rattle.std.specs.Prelude.{◌≤◌, length};
+ghost use Rattle.dam_book.specs.Limits.{most_entries};
+ghost use Rattle.dam_desk.specs.inside.Day.{entered_of};
+
+use crate::day::Day;
+use crate::line::Line;
+use dam_book::{PackedEntry, Seed};
+use std::alloc::Global;
+
+/// The day that a desk has, the line that has begun, and the batch.
+#[derive(Drop)]
+pub(crate) struct Intake {
+    pub(crate) alloc: Global,
+    pub(crate) seed: Seed,
+    pub(crate) day: Option<Day>,
+    pub(crate) line: Line,
+    /// How many lines were answered.
+    pub(crate) answered: u64,
+    /// Whether the day begins in this batch.
+    pub(crate) begins: bool,
+    /// The entries of this batch.
+    pub(crate) entries: Vec<PackedEntry>,
+    /// The answers to the lines of this batch.
+    pub(crate) answers: Vec<u8>,
+    ghost few: { length entries.items ≤ entered_of day },
+    ghost room: { entered_of day ≤ most_entries },
+}

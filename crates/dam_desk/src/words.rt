@@ -1,0 +1,42 @@
+//! The command line.
+
+use std::{env, io};
+
+pub(crate) const USAGE: &str = "Usage: dam-desk FILE < COMMANDS
+       dam-desk --journal FILE
+
+Keeps the journal of a day in FILE. Each line of standard input is a record
+of the journal, with the day first if FILE is new. Each line is answered on
+standard output once its record is safe in FILE.
+
+      --journal FILE  prints the journal in FILE, also while a desk has it
+      --help          prints this help
+";
+
+/// What the words ask for.
+#[derive(Clone, Copy, PartialEq, Eq, Debug)]
+pub(crate) enum Job<'a> {
+    /// A desk with this file.
+    Serve(&'a str),
+    /// The journal in this file.
+    Journal(&'a str),
+    Help,
+}
+
+/// The program's words, without its name.
+pub(crate) fn words(rt: &HostRuntime) -> io::Result<Vec<String>> {
+    let mut words = env::args(rt)?;
+    // the first word is the program's name
+    let _program = words.next();
+    Ok(words.collect::<Vec<String>>(rt.alloc())?)
+}
+
+/// What the words ask for, if they are in order.
+pub(crate) fn job_of(words: &[String]) -> Option<Job<'_>> {
+    match words {
+        [word] if word.as_str() == "--help" => Some(Job::Help),
+        [file] if !file.as_str().starts_with("-") => Some(Job::Serve(file.as_str())),
+        [word, file] if word.as_str() == "--journal" => Some(Job::Journal(file.as_str())),
+        _ => None,
+    }
+}
