@@ -16,7 +16,7 @@ sys.path.insert(0, str(Path(__file__).resolve().parent.parent / "tools"))
 
 from lib import command
 
-DAM = "../crates/dam_cli/out/dam_cli"
+DAM = os.environ.get("DAM", "../crates/dam_cli/out/dam_cli")
 MEASURES = "out/measures"
 BASELINE = "out/baseline"
 TWIN = "out/twin"

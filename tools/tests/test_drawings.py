@@ -11,11 +11,13 @@ from support import TOP
 
 from lib import command, crates, merkle, selection
 
-sys.path.insert(0, str(TOP / "docs"))
+sys.path[:0] = [str(TOP / "docs"), str(TOP / "tests" / "desk")]
 import draw_bound
 import draw_crates
+import draw_desk
 import draw_receipt
 import draw_trust
+import images
 
 LIST = "# a comment\nlow:\nhigh staticlib: low kit # more\nmiddle: low\ntop: high middle low\nhigh: other\n"
 WELFARE_OF_THE_SUNNY_DAY = 245_193_556_800  # the line `welfare` of `dam clear < examples/sunny-day.csv`
@@ -59,6 +61,27 @@ class Receipt(unittest.TestCase):
         tree = merkle.Tree(merkle.leaf_hash(b"%d" % entry) for entry in range(1, draw_receipt.ENTRIES + 1))
         given = draw_receipt.kinds(dict(draw_receipt.nodes(0, draw_receipt.ENTRIES)))[1]
         self.assertEqual({tree.hashed(*node) for node in given}, set(tree.inclusion(draw_receipt.OWN - 1)))
+
+
+class Desk(unittest.TestCase):
+    def test_the_picture(self):
+        self.assertEqual((TOP / "docs" / "desk.svg").read_text(), draw_desk.drawing())
+
+    def test_the_lines_that_count(self):
+        """The blue lines are those that the reader of a desk's file finds."""
+        for file in draw_desk.STATES:
+            blue = "".join(f"{text}\n" for text, counts in draw_desk.rows(file) if counts)
+            self.assertEqual(blue.encode(), draw_desk.HEAD + images.marked_in(file))
+            self.assertTrue(file.endswith(b"\n-"))
+
+    def test_the_steps_of_a_batch(self):
+        """Each write changes only bytes after the mark, or the mark alone; and a crash meanwhile leaves the lines before, or all."""
+        before, between, after = draw_desk.STATES
+        place = len(before) - 1
+        self.assertEqual((between[: place + 1], between[:place] + b"+" + between[place + 1 :]), (before, after))
+        for old, change in [(before, images.Change(place + 1, between[place + 1 :])), (between, images.Change(place, b"+"))]:
+            found = {images.marked_in(image) for image in images.torn(old, change, random.Random(1))}
+            self.assertEqual(found, {draw_desk.HELD} | ({images.marked_in(after)} if change.bytes == b"+" else set()))
 
 
 class Bound(unittest.TestCase):
