@@ -25,3 +25,4 @@ pub mod LossPrices
 pub mod MakingClasses
 pub mod PricesByClass
 pub mod Rivalry
+pub mod Losing

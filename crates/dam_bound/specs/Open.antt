@@ -1,5 +1,5 @@
 -- The selections that are open once some blocks are decided.
-use Rattle.std.specs.Prelude.{◌≡◌, ℕ, ◌<◌, Bool, false, ◌==◌, ◌||◌, List, [], ◌∷◌, length}
+use Rattle.std.specs.Prelude.{◌≡◌, ℕ, ◌<◌, Bool, true, false, ◌==◌, ◌||◌, List, [], ◌∷◌, length}
 use Rattle.dam_book.specs.Limits.{most_blocks}
 use Rattle.dam_blocks.specs.Selection.{accepts}
 
@@ -19,3 +19,8 @@ AreFree taken [] = Unit {0}
 AreFree taken (place ∷ left) =
     (place < most_blocks) × (accepts taken place ≡ false) × (is_among place left ≡ false)
     × AreFree taken left
+
+-- a selection that accepts every place that is taken, and none that is rejected
+pub record IsBetween (taken rejected selection : List Bool) : Type 0 where
+  pub all_taken : (place : ℕ) → accepts taken place ≡ true → accepts selection place ≡ true
+  pub none_rejected : (place : ℕ) → accepts rejected place ≡ true → accepts selection place ≡ false

@@ -11,6 +11,7 @@
 //!     let loses = curves.has_loss(selection);
 //! }
 //! let rivals = curves.are_rivals(0, 1); // if true, no eligible selection accepts both
+//! let none = curves.rules_out(Selection::none().with(0), Selection::none().with(1)); // if true, none accepts 0 but not 1
 //!
 //! let relaxed = Relaxed::build(alloc, &problem)?;
 //! let relaxed_welfare = relaxed.bound(Selection::none().with(0), 1); // block 0 accepted, the others open
@@ -39,6 +40,7 @@ mod classes;
 mod families;
 pub mod laws;
 mod levels;
+mod losses;
 mod numbers;
 mod price_bound;
 mod relaxed;

@@ -36,7 +36,8 @@ impl Weights {
 }
 
 /// The greatest product of a volume and a price of the range.
-fn greatest_product(volume: i64, range: PriceRange) -> i64
+#[inline(always)]
+pub(crate) fn greatest_product(volume: i64, range: PriceRange) -> i64
     requires volume { IsWithin (2 * (greatest_volume * greatest_volume)) volume }
     requires range { IsSmallRange last_period range }
     ensures { (price : ℤ) → range.lowest ≤ℤ price → price ≤ℤ range.highest
