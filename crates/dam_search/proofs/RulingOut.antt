@@ -11,6 +11,9 @@ use Rattle.dam_blocks.specs.Family.{descends}
 use Rattle.dam_blocks.specs.Eligible.{IsEligible}
 use Rattle.dam_bound.specs.Relaxed.{without_rows}
 use Rattle.dam_search.specs.declared.conflicts.Conflicts.{Conflicts}
+use Rattle.dam_bound.specs.Open.{IsOpen, IsBetween}
+use Rattle.dam_search.proofs.Opens.{accepts_taken, accepts_none_rejected}
+use Rattle.dam_search.specs.inside.PriceWalk.{IsNode}
 use Rattle.dam_search.specs.inside.Conflicts.{AcceptsAll, AcceptsNone, Needs, IsNeededBy, Excludes, AreConflicts, IsSetOf, are_two_of_group, is_other_of_group}
 use Rattle.dam_search.proofs.Sets.{accepts-none, passes_test}
 
@@ -198,3 +201,15 @@ pub needed_by_one : (problem : ProblemState) (conflicts : Conflicts) (place j : 
     → IsEligible problem selection w → AcceptsAll taken selection → accepts selection place ≡ true
 needed_by_one problem conflicts place j places taken selection w are at among on_too eligible all =
     are.needed_by place places at selection w eligible j among (all j on_too)
+
+-- ---- nodes without an eligible selection, by prices
+pub ruled_out : (problem priced : ProblemState) (taken rejected selection : List Bool) (left : List ℕ) (w : ℤ) → priced ≡ without_rows problem
+    → IsNode taken rejected left
+    → ((sel : List Bool) (v : ℤ) → IsEligible priced sel v → IsBetween taken rejected sel → ⊥)
+    → IsOpen taken left selection → IsEligible problem selection w → ⊥
+ruled_out problem priced taken rejected selection left w same node none opened e =
+    none selection w (subst (λ (p : ProblemState). IsEligible p selection w) (sym same) (with_rows_eligible problem selection w e))
+    (record {
+      all_taken = accepts_taken taken left selection node.free opened;
+      none_rejected = accepts_none_rejected taken rejected left selection node opened;
+    })

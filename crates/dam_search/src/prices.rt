@@ -3,6 +3,7 @@ ghost use Rattle.dam_book.specs.Limits.{most_blocks};
 ghost use Rattle.dam_blocks.specs.Problem.{ProblemState};
 ghost use Rattle.dam_blocks.specs.Selection.{accepts};
 ghost use Rattle.dam_blocks.specs.Eligible.{selection_welfare, ArePrices, HasNoLoss, IsEligible};
+ghost use Rattle.dam_bound.specs.Open.{IsBetween};
 ghost use Rattle.dam_bound.specs.Prices.{IsPriceBound};
 
 use dam_blocks::Selection;
@@ -35,6 +36,12 @@ pub trait Prices {
             → ArePrices (problem self.now).blocks selection 1 (problem self.now).hours prices
             → (result ≡ false) ↔ HasNoLoss (problem self.now).blocks selection prices };
 
+    /// Whether no eligible selection accepts every block that is taken and none that is rejected. It may be `false` even then.
+    fn rules_out(&self, taken: Selection, rejected: Selection) -> bool
+        ensures { result ≡ true → (selection : List Bool) (w : ℤ)
+            → IsEligible (problem self.now) selection w
+            → IsBetween taken rejected selection → ⊥ };
+
     /// Whether one of two blocks loses at the prices of any selection that accepts both, so that no eligible one does. It
     /// may be `false` even then.
     fn are_rivals(&self, sell: usize, buy: usize) -> bool
@@ -58,6 +65,10 @@ impl<A: Allocator, B: Allocator> Prices for ClassCurves<'_, A, B> {
 
     fn has_loss(&self, selection: Selection) -> bool {
         self.has_loss(selection)
+    }
+
+    fn rules_out(&self, taken: Selection, rejected: Selection) -> bool {
+        self.rules_out(taken, rejected)
     }
 
     fn are_rivals(&self, sell: usize, buy: usize) -> bool {

@@ -178,9 +178,12 @@ impl<A: Allocator, P: Prices> PriceWalk<'_, A, P> {
         }
         if node.left.len() < EXAMINED {
             self.branch(node, prices, incumbent, found);
-        } else {
-            self.examine(node, prices, incumbent, found);
+            return;
         }
+        if self.prices.rules_out(node.taken, node.rejected) {
+            return;
+        }
+        self.examine(node, prices, incumbent, found);
     }
 
     /// Explores a node with prices of its own, if they give it a lesser bound.
