@@ -126,6 +126,10 @@ def check_messages(office, counts):
     ):
         answer = said(office, data, wait=False)
         counts.check(f"{words} is refused", status(answer) in (400, 404, 413, 431, None) and b"<script>" not in answer)
+    answer = said(office, request("GET", "/days", ["Expect: <script>alert(1)</script>"]))
+    counts.check("an expectation isn't said again", status(answer) == 200 and b"<script>" not in answer)
+    answer = said(office, request("PUT", path, [token, "Expect: 100-continue", "Content-Type: text/csv"], b"cancel"))
+    counts.check("a client that waits may go on", answer.startswith(b"HTTP/1.1 100 Continue\r\n\r\nHTTP/1.1 400 "))
     bomb = gzip.compress(bytes(300 << 20))
     other = office.who[1]  # whose rate this uses up
     headers = [f"Authorization: Bearer {office.tokens[other]}", "Content-Encoding: gzip", "Content-Type: text/csv"]

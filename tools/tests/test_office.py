@@ -416,6 +416,7 @@ class Requests(unittest.TestCase):
             (b"[", requests.JSON, "isn't JSON"),
             (b"[" * 100_000, requests.JSON, "isn't JSON"),
             (b"1", requests.JSON, "command 1"),
+            (b'{"what":"cancel","order":"A","order":"B"}', requests.JSON, "two members of one name"),
             (json.dumps([right, {**right, "price": 1.5}]).encode(), requests.JSON, "command 2: price"),
             (json.dumps({**right, "price": True}).encode(), requests.JSON, "command 1: price"),
             (json.dumps({**right, "order": "A,OIL"}).encode(), requests.JSON, "command 1: order"),
@@ -566,6 +567,29 @@ class Tokens(Office):
         self.assertTrue(served.knows("A", made["A"]))
         new = register.renew("GAS")
         self.assertTrue(served.knows("GAS", new) and not served.knows("GAS", made["GAS"]))
+
+    def test_no_change_of_the_tokens_is_lost(self):
+        """Several processes change them at the same time: here threads, each with the file for itself."""
+        self.make()
+        path = self.office.file(folder.PARTICIPANTS)
+        names = [[f"P{thread}N{number}" for number in range(5)] for thread in range(8)]
+        made = {}
+
+        def change(own):
+            register = tokens.Register(path)
+            made.update(register.add(own[1:]))
+            made[own[0]] = register.renew(own[0])
+            register.revoke(own[1])
+
+        threads = [threading.Thread(target=change, args=(own,)) for own in names]
+        for thread in threads:
+            thread.start()
+        for thread in threads:
+            thread.join()
+        register = tokens.Register(path)
+        for own in names:
+            self.assertEqual([register.knows(who, made[who]) for who in own], [True, False, True, True, True])
+        self.assertEqual(register.add(names[0]), {})
 
     def test_files_are_the_owners_alone(self):
         before = os.umask(0o077)

@@ -48,10 +48,20 @@ def in_words(body, fault):
     return " " + RECORD.sub(lambda found: f"record {int(found[1]) - 1}", str(fault).removeprefix("input: "))
 
 
+def members(pairs):
+    """The members of an object, of which no two have one name: a reader that takes the first would see another command."""
+    found = dict(pairs)
+    if len(found) < len(pairs):
+        raise Wrong("an object has two members of one name")
+    return found
+
+
 def json_records(body, who):
     """The records of a command in JSON, or of a list of commands."""
     try:
-        value = json.loads(body)
+        value = json.loads(body, object_pairs_hook=members)
+    except Wrong:
+        raise
     except (ValueError, RecursionError):
         raise Wrong("it isn't JSON") from None
     commands = value if isinstance(value, list) else [value]

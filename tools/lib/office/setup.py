@@ -131,6 +131,6 @@ def init(office, args):
     given = participants_read(args.participants) if args.participants else dict.fromkeys(register.names())
     terms = terms_of(args, shares_of(given))
     make_office(office)
-    made = {who: register.renew(who) for who in given if who not in register.names()}
+    made = register.add(given)
     make_day(office, terms)
     return terms, made

@@ -1,9 +1,12 @@
 """The participants and their tokens. A token has the participant's name and 256 random bits. It is shown once; its SHA-256 is kept: nobody
 tries 2 to the 256th tokens, so a slower hash would add nothing."""
 
+import contextlib
+import fcntl
 import hashlib
 import hmac
 import json
+import os
 import secrets
 
 from . import folder
@@ -44,13 +47,33 @@ class Register:
     def renew(self, who):
         """Gives the participant a new token in place of any earlier one, and returns it."""
         token = made(who)
-        self.write(who, digest(token))
+        with self.changed() as digests:
+            digests[who] = digest(token)
         return token
 
-    def revoke(self, who):
-        self.write(who, None)
+    def add(self, names):
+        """Gives a token to each of these who isn't a participant yet, and returns the tokens."""
+        with self.changed() as digests:
+            tokens = {who: made(who) for who in names if who not in digests}
+            digests.update((who, digest(token)) for who, token in tokens.items())
+        return tokens
 
-    def write(self, who, found):
-        self.read()
-        folder.put(self.path, folder.as_json({**self.digests, who: found}))
-        self.seen = None
+    def revoke(self, who):
+        with self.changed() as digests:
+            digests[who] = None
+
+    @contextlib.contextmanager
+    def changed(self):
+        """The digests, which are written again at the end, in one piece. Other processes that change them wait until then, so that no change
+        is lost; the lock ends with the process."""
+        lock = os.open(f"{self.path}.lock", os.O_RDWR | os.O_CREAT, 0o600)
+        try:
+            fcntl.flock(lock, fcntl.LOCK_EX)
+            self.seen = None  # a change within the resolution of the file's time is seen too
+            self.read()
+            digests = dict(self.digests)
+            yield digests
+            folder.put(self.path, folder.as_json(digests))
+            self.seen = None
+        finally:
+            os.close(lock)

@@ -2,6 +2,7 @@
 the participant's own data, nothing of another's."""
 
 import asyncio
+import functools
 import json
 import time
 from pathlib import Path
@@ -24,7 +25,7 @@ BYTES_OF_COMMAND, LONG_BODY = 100, 1 << 14
 READS_A_SECOND, MOST_READS = 50, 200  # of a participant
 GUESSES_A_SECOND, MOST_GUESSES = 1, 20  # wrong tokens of an address
 RECEIPTS_AT_ONCE = 8  # that are made before others get a turn
-RECEIPTS_OF_READ, COMMANDS_OF_READ, READS_OF_TABLE = 20, 200, 100  # how much of an answer counts as one read
+RECEIPTS_OF_READ, COMMANDS_OF_READ, ORDERS_OF_READ, READS_OF_TABLE = 20, 200, 100, 100  # how much of an answer counts as one read
 JSONL = "application/jsonl"
 HEADERS = {
     "Content-Security-Policy": "default-src 'none'; script-src 'self'; style-src 'self'; connect-src 'self'; img-src 'self'; "
@@ -91,7 +92,8 @@ class Web:
     def application(self):
         app = web.Application(middlewares=[self.around], client_max_size=MOST_BODY)
         app.on_response_prepare.append(self.prepare)
-        get, put, post = app.router.add_get, app.router.add_put, app.router.add_post
+        router = app.router
+        get, put, post = (functools.partial(add, expect_handler=self.expected) for add in (router.add_get, router.add_put, router.add_post))
         put(f"{DAY}/commands{OWN}{NUMBER}", self.put)  # first, since routes are tried in turn
         get(f"{DAY}/commands{OWN}{NUMBER}", self.receipt)
         for path in self.files:
@@ -114,6 +116,11 @@ class Web:
             get("/demo", self.demo_tokens)
             post(f"{DAY}/close", self.demo_close)
         return app
+
+    async def expected(self, request):
+        """Tells a client that waits for it to send its body. Other expectations are ignored: aiohttp would say them again in its answer."""
+        if request.headers["Expect"].lower() == "100-continue":
+            await request.writer.write(b"HTTP/1.1 100 Continue\r\n\r\n")
 
     async def prepare(self, request, response):
         response.headers.update(self.headers)
@@ -251,7 +258,13 @@ class Web:
 
     async def own_orders(self, request):
         gate, who = self.asked(request)
-        return web.json_response({"orders": [{"order": name, **order._asdict()} for name, order in gate.ledger.orders(who)]})
+        self.reads.take(who, gate.ledger.count(who) // ORDERS_OF_READ)
+        found = []
+        for place, (name, order) in enumerate(gate.ledger.orders(who), 1):
+            found.append(json.dumps({"order": name, **order._asdict()}))
+            if place % ORDERS_OF_READ == 0:
+                await asyncio.sleep(0)
+        return web.Response(text=f'{{"orders": [{", ".join(found)}]}}', content_type="application/json")
 
     async def table(self, request):
         """The records that a table makes. They aren't entered: the participant sees them first."""
