@@ -8,7 +8,8 @@ use std::io::Write;
 /// Writes the text, and flushes the writer once after its last byte. It isn't called for a text of no bytes.
 pub(crate) fn write_text<W: Write>(writer: &mut W, text: &[u8]) -> Result<(), DeskFault>
     ensures done { OnOk result (Appends (W.contents writer.old) (W.contents writer.new) text.now) }
-    ensures fault { IfErr result (IsWritingFault (W.contents writer.old) (W.contents writer.new) text.now) }
+    ensures fault { IfErr result
+        (IsWritingFault (W.contents writer.old) (W.contents writer.new) text.now) }
 {
     let mut written = 0;
     while written < text.len() {
