@@ -9,6 +9,7 @@ import resource
 import shutil
 import signal
 import ssl
+import subprocess
 from typing import NamedTuple
 
 from aiohttp import web
@@ -29,14 +30,28 @@ class Programs(NamedTuple):
     desk: str
 
 
-def programs(dam=None, desk=None):
-    """The programs that an office runs: those that are named, or else the package's, the clone's or the system's."""
+def compiled(crate):
+    """The program of a crate that is compiled without proofs, which only a clone can do; None elsewhere."""
+    tool = engine.TOP / "tools" / "unproved"
+    if not os.access(tool, os.X_OK):
+        return None
+    ran = subprocess.run([tool, "--compile", crate], stdin=subprocess.DEVNULL, stdout=subprocess.PIPE, text=True)
+    if ran.returncode:
+        raise command.Stop(f"{crate} was not compiled", command.FAILED)  # its line on standard error says why
+    command.tell("office", f"{crate} isn't proved here: this shows how the office works, and no results to rely on")
+    return ran.stdout.removesuffix("\n")
+
+
+def programs(dam=None, desk=None, may_compile=False):
+    """The programs that an office runs: those that are named, or else the package's, the clone's or the system's; or, if they may be
+    compiled, the clone's without proofs."""
     found = engine.built()
-    dam = dam or os.environ.get("DAM") or (found.path if found else None)
+    dam = dam or os.environ.get("DAM") or (found.path if found else None) or (compiled("dam_cli") if may_compile else None)
     if dam is None:
         raise command.Stop("the program dam is missing: build it, or name it with --dam", command.FAILED)
     here = DESK_BUILT if os.access(DESK_BUILT, os.X_OK) else None
     desk = desk or os.environ.get("DAM_DESK") or engine.packaged("bin", "dam-desk") or here or shutil.which("dam-desk")
+    desk = desk or (compiled("dam_desk") if may_compile else None)
     if desk is None:
         raise command.Stop("the program dam-desk is missing: build it, or name it with --desk", command.FAILED)
     return Programs(*(os.path.abspath(path) if os.sep in str(path) else path for path in (dam, desk)))
