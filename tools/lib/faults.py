@@ -25,7 +25,7 @@ KINDS = {
     "changed": "a command differs from the one that was sent",
     "repeated": "a command was sent fewer times",
     "unsent": "a command was not sent",
-    "head": "the journal differs from a head that the operator signed, or another key signed the head",
+    "head": "the journal differs from a head that the operator signed, the salts aren't the journal's, or another key signed the head",
     "receipt": "the journal doesn't have a receipt's entry",
     "foreign": "a receipt or an earlier head isn't the operator's, or is of another day",
     "encoding": "line endings, trailing blank lines, a byte order mark or quotes: no number or word differs",

@@ -30,8 +30,13 @@ class Received(NamedTuple):
 
 
 def key_read(path, read=signing.public):
+    return key_of(path, command.read_bytes(path), read)
+
+
+def key_of(path, data, read=signing.public):
+    """The key in the bytes of a file."""
     try:
-        return read(command.read_bytes(path))
+        return read(data)
     except signing.Wrong as fault:
         raise command.Stop(f"{command.shown(path)} can't be used: {fault}") from None
 
@@ -188,8 +193,13 @@ def reply_fault(receipt):
 def judged(path, head, key, links, who=None):
     """The findings on the receipts of a file, one in each line. After a line that is none, the file isn't read further. If a participant is
     named, all are its own."""
+    return judged_bytes(path, command.read_bytes(path), head, key, links, who)
+
+
+def judged_bytes(path, data, head, key, links, who=None):
+    """The same from the bytes of the file."""
     try:
-        lines = heads.lines_of(command.read_bytes(path))
+        lines = heads.lines_of(data)
     except heads.Wrong as fault:
         yield Finding(path, None, UNREAD, f"it has no receipts: {fault}")
         return

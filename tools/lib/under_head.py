@@ -10,10 +10,11 @@ NOT_OWN = "not the operator's"
 
 
 class UnderHead:
-    """A journal and its replies, compared with what the operator signed: heads, and receipts with a finding on each."""
+    """A journal and its replies, compared with what the operator signed: heads, and receipts with a finding on each. The operator doesn't
+    sign journals, nor salts: only a journal that has the entries of a head, all and no others, is the operator's."""
 
     def __init__(self, key, head, salts, read, reasons, findings):
-        self.key, self.head = key, head
+        self.key, self.head, self.salts = key, head, salts
         self.earlier = 0  # how many earlier heads were compared
         self.findings = [finding for finding in findings if self.is_own(finding)]
         self.foreign = [self.foreign_fault(finding) for finding in findings if not self.is_own(finding)]
@@ -26,10 +27,16 @@ class UnderHead:
             heads.leaf_of(number, record, reply, salts.salt(number, record, reply))
             for number, (record, reply) in enumerate(zip(self.records, self.replies), 1)
         )
-        self.proved = {}  # of each record that the journal lacks as it was signed, the first receipt
-        for finding in self.findings:
+        self.is_of_head = (self.periods, len(self.tree), self.tree.root()) == (head.periods, head.size, head.root)
+        self.lacked = {}  # of each record that the journal lacks as it was signed, the first receipt; one that proves a fault is preferred
+        for finding in sorted(self.findings, key=lambda finding: not self.proves(finding.receipt)):
             if self.receipt_fault(finding.receipt):
-                self.proved.setdefault(finding.receipt.record, finding.receipt)
+                self.lacked.setdefault(finding.receipt.record, finding.receipt)
+
+    def proves(self, receipt):
+        """Whether the journal has the number of a receipt's entry by the operator's own signature. If it has another entry there, the
+        operator signed two."""
+        return self.is_of_head and receipt.number <= self.head.size
 
     def beginning_fault(self, head):
         """Why the journal doesn't begin with a head's entries; None if it does."""
@@ -39,9 +46,27 @@ class UnderHead:
             count = text.counted(len(self.tree), "entry", "entries")
             return f"the journal has {count}, and the operator signed {head.size}"
         if self.tree.root(head.size) != head.root:
-            return f"the first {text.counted(head.size, 'entry', 'entries')} of the journal, with the book's replies, aren't the entries that" \
-                   " the operator signed"
+            return self.root_fault(head)
         return None
+
+    def root_fault(self, head):
+        """Why the root of the journal's beginning isn't a head's. The salts aren't signed: a receipt under the head decides whether it has
+        its salt from them."""
+        words = f"the first {text.counted(head.size, 'entry', 'entries')} of the journal, with the book's replies"
+        if self.is_of_head:
+            return f"{words} and these salts, aren't the entries that the operator signed"
+        own = [finding for finding in self.findings if receipts.unsigned(finding.receipt.head) == receipts.unsigned(head)]
+        if not own:
+            return f"{words}, aren't the entries that the operator signed, or the salts aren't this journal's"
+        finding = next(filter(self.is_salted, own), None)
+        if finding is None:
+            return f"the salts aren't this journal's: the receipt in {receipts.Place(own[0].file, own[0].line)} has another salt"
+        return f"{words}, aren't the entries that the operator signed; the salts are right, by {receipts.Place(finding.file, finding.line)}"
+
+    def is_salted(self, finding):
+        """Whether a receipt has its salt from the given ones."""
+        receipt = finding.receipt
+        return receipt.salt == self.salts.salt(receipt.number, receipt.record, receipt.reply)
 
     def head_faults(self):
         """The differences of the journal from its head."""
@@ -72,10 +97,10 @@ class UnderHead:
     def of_another_day(self, head):
         return f"it is of {head.day}, and the journal's head of {self.head.day}"
 
-    def earlier_faults(self, path):
-        """The differences of the journal's beginning from an earlier head."""
+    def earlier_faults(self, path, data):
+        """The differences of the journal's beginning from an earlier head, by the bytes of its file."""
         odd = []
-        head = receipts.read_one(path, heads.head_read, "a head", odd)
+        head = receipts.value_of(path, data, heads.head_read, "a head", odd)
         is_own, name = signing.is_signed(self.key, head), command.shown(path)
         if not is_own or head.day != self.head.day:
             words = self.of_another_day(head) if is_own else f"{NOT_OWN}: it {receipts.NOT_SIGNED}"
@@ -97,11 +122,13 @@ class UnderHead:
         return None
 
     def proof(self, command):
-        """Whether a receipt proves that the operator had a command that the journal lacks, in words."""
-        receipt = self.proved.get(journal.command_line(command))
+        """Whether a receipt proves that the operator had a command that the journal lacks, in words. The fault is the operator's only if
+        it signed this very journal too: anyone can leave an entry out of a copy, and a later head may have more."""
+        receipt = self.lacked.get(journal.command_line(command))
         if receipt is None:
             return "; no receipt proves that the operator had it"
-        return f"; the operator signed it as entry {receipt.number} of {receipt.head}: the operator's fault, proved"
+        words = f"; the operator signed it as entry {receipt.number} of {receipt.head}"
+        return f"{words}: the operator's fault, proved" if self.proves(receipt) else words
 
     def receipt_faults(self):
         """The faults of receipts, and of the heads that they are under."""
@@ -129,11 +156,12 @@ def files_of(folder):
     return paths
 
 
-def of_folder(folder, key):
-    """The findings on the receipts of a folder, or of one file: whether the operator signed each. All have to be receipts."""
+def of_folder(folder, key, read=command.read_bytes):
+    """The findings on the receipts of a folder, or of one file, whose bytes `read` gives: whether the operator signed each. All have to be
+    receipts."""
     links, findings = receipts.Links([], key, []), []
     for path in files_of(folder):
-        for finding in receipts.judged(str(path), None, key, links):
+        for finding in receipts.judged_bytes(str(path), read(path), None, key, links):
             if finding.verdict == receipts.UNREAD:
                 raise command.Stop(str(finding))
             findings.append(finding)

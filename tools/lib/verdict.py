@@ -1,5 +1,6 @@
 """The verdict of an audit: the checks, the faults, the status that reports them, and the same as a record for programs."""
 
+import functools
 import hashlib
 import time
 
@@ -210,13 +211,14 @@ class Audit:
         from . import heads, receipts, under_head
 
         options = self.options
-        key = receipts.key_read(options.key)
+        key = receipts.key_of(options.key, self.read("key", options.key))
         odd = []
         head = receipts.head_of(options.head, self.read("head", options.head), key, odd, options.day)
-        salts = receipts.read_one(options.salts, heads.salts_read, "the salts of a journal", odd)
+        salts = receipts.value_of(options.salts, self.read("salts", options.salts), heads.salts_read, "the salts of a journal", odd)
         if salts.day != head.day:
             raise command.Stop(f"{command.shown(options.salts)} has the salts of {salts.day}, and the head is of {head.day}")
-        found = under_head.of_folder(options.receipts, key) if options.receipts is not None else []
+        read_receipts = functools.partial(self.read, "receipts")
+        found = under_head.of_folder(options.receipts, key, read_receipts) if options.receipts is not None else []
         signed = under_head.UnderHead(key, head, salts, read, reasons, found)
         signed.odd += odd
         return signed
@@ -225,7 +227,7 @@ class Audit:
         """Compares the journal and its replies with the head that the operator signed, with earlier heads, and with receipts."""
         options = self.options
         self.checked += ["head", "receipts"] if options.receipts is not None else ["head"]
-        earlier = [fault for path in options.earlier for fault in signed.earlier_faults(path)]
+        earlier = [fault for path in options.earlier for fault in signed.earlier_faults(path, self.read("earlier", path))]
         wrong = [*signed.head_faults(), *earlier, *signed.receipt_faults()]
         right = f"as signed: {signed.head}"
         if signed.earlier:

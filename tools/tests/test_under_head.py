@@ -1,13 +1,16 @@
 """The audit of a journal under the head that an operator signed, with earlier heads and with receipts."""
 
+import hashlib
 import json
 import os
+import re
+import shutil
 import unittest
 from pathlib import Path
 from unittest import mock
 
 from signed import DAY, NEEDS_CRYPTOGRAPHY, Audited, lines_of, replies_of, sealed_of
-from support import AUCTION, SUNNY, tool
+from support import AUCTION, SUNNY, TOP, tool
 
 from lib import book, command, heads, journal
 
@@ -83,23 +86,101 @@ class Audit(Audited):
         self.assertIn("b/head.json", self.audit(1, "day.csv", "--earlier", "a/head.json", "--earlier", "b/head.json"))
 
     def test_sent_commands_with_receipts(self):
-        """A command without an entry, with a receipt and without one."""
+        """Two commands without an entry, with a receipt and without one: in a journal that the operator signed, and in a copy of another
+        one, which anyone can make."""
         first, *lines = AUCTION.read_bytes().splitlines(keepends=True)
         own = [line for line in lines if line.split(b",")[1] == b"STAD"]
         Path("mine.csv").write_bytes(b"".join(own))
         self.seal()
-        Path("day.csv").rename("whole.csv")
-        Path("day.csv").write_bytes(b"".join([first, *(line for line in lines if line not in own[:2])]))
-        receipt_of_first = Path("sealed/receipts/STAD.jsonl").read_bytes().splitlines(keepends=True)[0]
-        Path("kept.jsonl").write_bytes(receipt_of_first)
+        Path("less.csv").write_bytes(b"".join([first, *(line for line in lines if line not in own[:2])]))
+        Path("less.txt").write_bytes(replies_of(Path("less.csv").read_bytes()))
+        Path("kept.jsonl").write_bytes(Path("sealed/receipts/STAD.jsonl").read_bytes().splitlines(keepends=True)[0])
         words = ["--sent", "mine.csv", "--participant", "STAD", "--receipts", "kept.jsonl"]
-        out = self.audit(1, "day.csv", *words)
-        proved = [line for line in out.splitlines() if "the operator's fault, proved" in line]
-        unproved = [line for line in out.splitlines() if "no receipt proves" in line]
-        self.assertEqual((len(proved), len(unproved)), (1, 1), out)
-        self.assertIn(own[0].decode().strip(), proved[0])
-        self.assertIn(own[1].decode().strip(), unproved[0])
-        self.assertIn("as sent", self.audit(0, "whole.csv", *words))
+        self.assertIn("as sent", self.audit(0, "day.csv", *words))
+        for is_signed in (False, True):
+            with self.subTest(is_signed):
+                out = self.audit(1, "less.csv", *words)
+                signed = [line for line in out.splitlines() if "; the operator signed it as entry" in line]
+                others = [line for line in out.splitlines() if "; no receipt proves" in line]
+                self.assertEqual((len(signed), len(others)), (1, 1), out)
+                self.assertIn(f" {own[0].decode().strip()}; ", signed[0])
+                self.assertIn(own[1].decode().strip(), others[0])
+                self.assertEqual(signed[0].endswith(": the operator's fault, proved"), is_signed)
+                self.assertEqual("proved" in out, is_signed)
+            shutil.rmtree("sealed")
+            self.seal(journal="less.csv", replies="less.txt")
+
+    def test_a_later_head_is_no_fault(self):
+        """A published journal may begin a longer one that the operator signed later. It lacks the entries after its own, and no others."""
+        first, *lines = AUCTION.read_bytes().splitlines(keepends=True)
+        own = [line for line in lines if line.split(b",")[1] == b"STAD"]
+        middle = lines.index(own[len(own) // 2])
+        Path("a.csv").write_bytes(b"".join([first, *lines[:middle]]))
+        Path("a.txt").write_bytes(replies_of(Path("a.csv").read_bytes()))
+        Path("mine.csv").write_bytes(b"".join(own))
+        self.seal("sealed", "a.csv", "a.txt")
+        self.run_tool(0, "extend", "sealed", "day.csv", "replies.txt", "--key", "key.pem", "-o", "later")
+        words = ["--sent", "mine.csv", "--participant", "STAD", "--receipts", "receipts.jsonl", "--all"]
+        Path("receipts.jsonl").write_bytes(Path("later/receipts/STAD.jsonl").read_bytes())
+        out = self.audit(1, "a.csv", *words)
+        said = [line for line in out.splitlines() if "; the operator signed it as entry" in line]
+        self.assertEqual(len(said), len(own) - len(own) // 2)
+        self.assertNotIn("proved", out)
+        # A receipt under another head, of an entry with a number that the journal has: of two receipts of a command, it is the proof.
+        number = lines.index(own[-1]) + 1
+        key = signing.private(Path("key.pem").read_bytes())
+        other = sealed_of(b"".join([first, own[-1], *lines[1:]]), key=key)
+        with open("receipts.jsonl", "ab") as file:
+            file.write(lines_of(other)[0])
+        proved = [line for line in self.audit(1, "a.csv", *words).splitlines() if line.endswith(": the operator's fault, proved")]
+        self.assertEqual(len(proved), 1)
+        self.assertIn("the operator signed it as entry 1 of the head of", proved[0])
+        self.assertGreater(number, middle)
+
+    def test_salts_that_are_not_the_journals(self):
+        """They aren't signed. A receipt under the head tells whether they are of the journal; its own head does too, if it matches."""
+        self.seal()
+        Path("results.txt").write_bytes(Path("replies.txt").read_bytes())
+        Path("other.csv").write_bytes(Path("day.csv").read_bytes().replace(b",30000,1:3600,", b",30000,1:3601,"))
+        self.assertNotEqual(Path("other.csv").read_bytes(), Path("day.csv").read_bytes())
+        right = Path("sealed/salts.json").read_bytes()
+        wrong = heads.line(heads.Salts(DAY, bytes(heads.HASH_BYTES)))
+        words = "the first 94 entries of the journal, with the book's replies"
+        receipt = ["--receipts", "sealed/receipts/STAD.jsonl"]
+        place = "sealed/receipts/STAD.jsonl line 1"
+        for salts, day, more, said in (
+            (wrong, "day.csv", [], f"{words}, aren't the entries that the operator signed, or the salts aren't this journal's"),
+            (wrong, "day.csv", receipt, f"the salts aren't this journal's: the receipt in {place} has another salt"),
+            (right, "other.csv", [], f"{words}, aren't the entries that the operator signed, or the salts aren't this journal's"),
+            (right, "other.csv", receipt, f"{words}, aren't the entries that the operator signed; the salts are right, by {place}"),
+        ):
+            Path("sealed/salts.json").write_bytes(salts)
+            with self.subTest(said, day=day):
+                out = self.audit(1, day, "--replies", *more)
+                self.assertIn(f"\nthe head of 2026-11-28 with 94 entries: {said}\n", out)
+        # A receipt under another head doesn't decide: the operator may have sealed two journals, with two secrets.
+        other = sealed_of(AUCTION.read_bytes(), key=signing.private(Path("key.pem").read_bytes()))
+        self.receipt_of(other)
+        Path("sealed/salts.json").write_bytes(wrong)
+        self.assertIn("or the salts aren't this journal's\n", self.audit(1, "day.csv", "--replies", "--receipts", "receipt.jsonl"))
+        # The salts are those of the published head: the operator signed another journal, or this one with other salts.
+        Path("sealed/salts.json").write_bytes(right)
+        out = self.audit(1, "day.csv", "--replies", "--receipts", "receipt.jsonl")
+        self.assertIn(f"receipt.jsonl line 1: the head of 2026-11-28 with 94 entries: {words} and these salts, aren't the entries that", out)
+        self.assertNotIn("the salts aren't", out)
+
+    def test_the_record_names_each_file(self):
+        self.seal()
+        shutil.copytree("sealed", "earlier")
+        files = [("key", "key.pem.pub"), ("head", "sealed/head.json"), ("salts", "sealed/salts.json")]
+        files += [("receipts", str(path)) for path in sorted(Path("sealed/receipts").iterdir())] + [("earlier", "earlier/head.json")]
+        made = json.loads(self.audit(0, "day.csv", "--receipts", "sealed/receipts", "--earlier", "earlier/head.json", "--json"))
+        told = {(entry["role"], entry["file"]): (entry["bytes"], entry["sha256"]) for entry in made["inputs"]}
+        data = {one: Path(one[1]).read_bytes() for one in [("journal", "day.csv"), ("results", "results.txt"), *files]}
+        self.assertEqual(told, {one: (len(text), hashlib.sha256(text).hexdigest()) for one, text in data.items()})
+        page = (TOP / "docs" / "FORMATS.md").read_text()
+        roles = re.search(r"with its `role` \((.*?)\)", page)[1]
+        self.assertEqual(set(re.findall(r"`(\w+)`", roles)), {role for role, _ in told} | {"day", "sent"})
 
     def test_receipts_without_an_end(self):
         """Nothing is waited for, and what isn't a receipt ends the audit before the next line is read."""
