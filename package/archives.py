@@ -80,10 +80,10 @@ def plain_name(version):
 
 
 def depends(root, room):
-    """The packages that the program and the library need, by Debian's own tool: the C library, and since which version."""
+    """The packages that the programs and the library need, by Debian's own tool: the C library, and since which version."""
     (room / "debian").mkdir()
     (room / "debian" / "control").write_text("Source: dam\n\nPackage: dam\nArchitecture: amd64\n", encoding="utf-8")
-    line = ["dpkg-shlibdeps", "-O", *(f"-e{root / 'usr' / name}" for name in ("bin/dam", SHARED))]
+    line = ["dpkg-shlibdeps", "-O", *(f"-e{root / 'usr' / name}" for name in ("bin/dam", "bin/dam-desk", SHARED))]
     shown = called(line, room).decode()
     return re.search(r"^shlibs:Depends=(.*)$", shown, re.MULTILINE)[1]
 

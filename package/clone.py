@@ -12,10 +12,10 @@ from lib import command, sources
 from lib.rules import VERSION
 
 TOP = Path(sources.TOP)
-PROGRAM = "crates/dam_cli/out/dam_cli"
+PROGRAM, DESK = "crates/dam_cli/out/dam_cli", "crates/dam_desk/out/dam_desk"
 SHARED, STATIC = "library/out/libdam.so.1", "library/out/libdam.a"
-BUILT = {PROGRAM: "dam_cli", SHARED: sources.LIBRARY, STATIC: sources.LIBRARY}
-MADE_BY = {PROGRAM: "./dam prove", SHARED: "library/build", STATIC: "library/build"}
+BUILT = {PROGRAM: "dam_cli", DESK: "dam_desk", SHARED: sources.LIBRARY, STATIC: sources.LIBRARY}
+MADE_BY = {PROGRAM: "./dam prove", DESK: "./dam prove", SHARED: "library/build", STATIC: "library/build"}
 CHECKED = TOP / "out" / "check.json"
 SHOWN = 3  # changes that are named
 # The commands that make a package, with Debian's package of each.
@@ -46,7 +46,7 @@ def git(*words):
 
 
 class Clone:
-    """A clone without changes, whose program and libraries were built of its sources."""
+    """A clone without changes, whose programs and libraries were built of its sources."""
 
     def __init__(self):
         refuse_lack()

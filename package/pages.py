@@ -13,6 +13,7 @@ from .clone import TOP, environment
 # The commands, each with those of its words that have help of their own.
 COMMANDS = {
     "dam": ("replay", "clear", "day"),
+    "dam-desk": (),
     **{f"dam-{tool}": () for tool in TOOLS},
     "dam-office": ("init", "serve", "status", "close", "publish", "revoke", "renew", "demo"),
     "dam-receipts": ("keys", "seal", "extend", "verify", "heads"),
@@ -21,20 +22,25 @@ COMMANDS = {
 HEADS = re.compile(r"(examples|statuses)\b[^:\n]*:", re.IGNORECASE)
 # How the help names a list of arguments or options, and help2man the section of it.
 LISTS = {"positional arguments:": "*Arguments*", "options:": "Options:", "commands:": "*Commands*"}
-# The statuses of the program, which its help doesn't have, stand in this table of a page. The launcher of a clone isn't packaged.
-FORMATS = TOP / "docs" / "FORMATS.md"
+# An option in a help that has no title for the list of its options.
+OPTION = re.compile(r" +--")
+# The statuses of the programs, which their helps don't have, stand in these tables of pages. The launcher of a clone isn't packaged.
+FORMATS, DESK = TOP / "docs" / "FORMATS.md", TOP / "docs" / "DESK.md"
 STATUSES = re.compile(r"^## Statuses and faults\n\n\| Status \| Meaning \|\n\|---\|---\|\n((?:\|.*\n)+)", re.MULTILINE)
 STATUS = re.compile(r"\| (\d+) \| (.*) \|")
+DESK_STATUSES = re.compile(r"^## Statuses\n\n(?:.+\n)+\n\| Status \| Why \| Do \|\n\|---\|---\|---\|\n((?:\|.*\n)+)", re.MULTILINE)
+DESK_STATUS = re.compile(r"\| (\d+|other) \| (.*) \| (.*) \|")
 NOT_OF = {"dam": {"70"}, "dam-replay": {"3", "70"}, "dam-clear": {"70"}, "dam-day": {"70"}}
 MORE = (
     "With any other status, the shell or a signal ended the run. In the manual, docs/FORMATS.md has the line that each fault prints on"
     " standard error, and docs/OPERATING.md says how to go on after each status."
 )
+MORE_OF_DESK = "In the manual, docs/DESK.md has the lines that it prints on standard output, and says how to go on after a crash."
 WITH_EXAMPLES = (
     "Run these where a copy of the examples is: first copy the folder examples of share/doc/dam/, below /usr or the folder of the archive."
 )
 # The program doesn't know its version.
-VERSION = ".PP\nThis is version {}.\n.B dam\\-audit \\-\\-version\nprints it; dam itself has no such option."
+VERSION = ".PP\nThis is version {}.\n.B dam\\-audit \\-\\-version\nprints it; {} itself has no such option."
 
 
 def help_of(bin_folder, words):
@@ -78,6 +84,13 @@ def statuses_of_program(name):
     return "\n".join([*kept, roff(MORE)])
 
 
+def statuses_of_desk():
+    """The statuses of dam-desk, as the manual has them: why, and how to go on."""
+    rows = DESK_STATUS.findall(DESK_STATUSES.search(DESK.read_text(encoding="utf-8"))[1])
+    kept = [f".TP\n.B {status}\n{roff_line(why)}\n.br\nDo: {roff_line(how)}" for status, why, how in rows]
+    return "\n".join([*kept, roff(MORE_OF_DESK)])
+
+
 def roff_line(line):
     line = line.replace("\\", "\\e").replace("-", "\\-")
     return f"\\&{line}" if line[:1] in (".", "'") else line
@@ -93,6 +106,8 @@ def split(text):
         title, _, rows = one.partition("\n")
         if title.lower() in LISTS:
             lists.append(listed(LISTS[title.lower()], rows))
+        elif OPTION.match(title):
+            lists.append(listed(LISTS["options:"], one))
         elif head and head[1].lower() == "examples":
             sections.setdefault("EXAMPLES", [roff(WITH_EXAMPLES)]).append(roff(one[len(head[0]) :].strip("\n")))
         elif head:
@@ -126,8 +141,10 @@ def page(name, text, clone, room):
     shown.chmod(0o755)
     if name in NOT_OF:
         sections["EXIT STATUS"] = [statuses_of_program(name)]
-    if name == "dam":
-        sections["VERSION"] = [VERSION.format(clone.version)]
+    if name == "dam-desk":
+        sections["EXIT STATUS"] = [statuses_of_desk()]
+    if name in ("dam", "dam-desk"):
+        sections["VERSION"] = [VERSION.format(clone.version, roff_line(name))]
     # in a section that help2man writes too, this comes first
     blocks = [f"[{title}]\n" + "\n".join(parts) for title, parts in sections.items() if parts]
     more.write_text("\n\n".join([*blocks, "[SEE ALSO]\n" + see_also(name)]) + "\n", encoding="utf-8")

@@ -20,12 +20,13 @@ PROVENANCE = "share/dam/provenance.json"
 # Files that are taken as they are, by where they go.
 TAKEN = {
     "bin/dam": made_of.PROGRAM,
+    "bin/dam-desk": made_of.DESK,
     f"{LIBRARY}/libdam.a": made_of.STATIC,
     f"{LIBRARY}/libdam.so.1": made_of.SHARED,
     "include/dam.h": "library/dam.h",
-    "share/bash-completion/completions/dam": "package/completions/dam.bash",
-    "share/zsh/vendor-completions/_dam": "package/completions/_dam",
-    "share/fish/vendor_completions.d/dam.fish": "package/completions/dam.fish",
+    **{f"share/bash-completion/completions/{name}": f"package/completions/{name}.bash" for name in ("dam", "dam-desk")},
+    **{f"share/zsh/vendor-completions/_{name}": f"package/completions/_{name}" for name in ("dam", "dam-desk")},
+    **{f"share/fish/vendor_completions.d/{name}.fish": f"package/completions/{name}.fish" for name in ("dam", "dam-desk")},
     "share/lintian/overrides/dam": "package/lintian-overrides",
     f"{DOC}/copyright": "package/copyright",
     f"{DOC}/examples/caller.c": "tests/library/caller.c",
@@ -36,8 +37,8 @@ LINKS = {
     f"{DOC}/library/dam.h": "../../../../include/dam.h",
     **{f"bin/dam-{tool}": f"../{PYTHON}/{tool}" for tool in TOOLS},
 }
-STRIPPED = ("bin/dam", f"{LIBRARY}/libdam.so.1")  # files without the symbols that only a debugger reads
-PROGRAMS = ("bin/dam", *(f"{PYTHON}/{tool}" for tool in TOOLS))
+STRIPPED = ("bin/dam", "bin/dam-desk", f"{LIBRARY}/libdam.so.1")  # files without the symbols that only a debugger reads
+PROGRAMS = ("bin/dam", "bin/dam-desk", *(f"{PYTHON}/{tool}" for tool in TOOLS))
 # Pages whose commands are run where the examples are: the package has them as installed commands.
 WITH_COMMANDS = ("AUDIT.md", "EXAMPLES.md", "GUIDE.md", "TABLES.md", "TRUST.md", "USING.md", "WHATIF.md")
 COMMANDS = re.compile(r"^```sh\n.*?^```$", re.MULTILINE | re.DOTALL)

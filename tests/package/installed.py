@@ -26,6 +26,24 @@ day = dam_tools.clear(text)
 print(json.dumps([*dam_tools.where(), day.said.welfare, day.wrong]))
 """
 SECONDS = 1_800
+ENTRIES = 14  # of the demo: twelve that are there, one that demo.py enters, and the close
+
+
+def demo(counts, told, at, clears):
+    """What demo.py told of an office below this folder: its page, the programs that it ran, and what became of an order."""
+    log = told.get("log", "")
+    wanted = [["text/html", True], ["text/css", True], ["text/javascript", True], ["application/json", True]]
+    counts.check(f"the demo: its files {told.get('files')} {told.get('fault')} {log}", told.get("files") == wanted)
+    counts.check(f"the demo: its programs {told.get('programs')}", told.get("programs") == [f"{at}/bin/dam-desk"])
+    counts.check(f"the demo: the reply {told.get('reply')}", told.get("reply") == "done")
+    counts.check(f"the demo: its head has {told.get('head')} entries", told.get("head") == ENTRIES)
+    came = told.get("price"), told.get("executed")
+    if clears:
+        # as in the trader's guide
+        counts.check(f"the demo: what came of the order: {came}, {log}", came == ([8, 6_000, 800], 35))
+    else:
+        counts.check(f"the demo: a stand-in was to clear the day: {came}, {log}", f"{at}/bin/dam clears nothing" in log)
+    counts.check(f"the demo ends at Ctrl-C: {told.get('status')}", told.get("status") == 0)
 
 
 class System:
