@@ -11,13 +11,13 @@ from pathlib import Path
 from lib.rules import VERSION
 
 TOP = Path(__file__).resolve().parents[2]
-RESULTS = TOP / "tests/cases/sunny-day.stdout"
+RESULTS, DEMO = TOP / "tests/cases/sunny-day.stdout", TOP / "tests/package/demo.py"
 SUNNY = "/usr/share/doc/dam/examples/sunny-day.csv"
 DAY = "/srv/day"  # in the system: the files of the day
 # These files, and the ones that Debian's own tools keep, aren't the package's.
 OF_DEBIAN = ("proc", "dev", "sys", "run", "tmp", "var/cache", "var/log", "var/lib/apt", "var/lib/dpkg/status-old", "var/lib/dpkg/triggers")
 KEPT = (DAY.removeprefix("/"), *OF_DEBIAN)
-OF_THE_REPORT = "python3-jinja2, python3-matplotlib"
+OF_THE_REPORT, OF_THE_OFFICE = "python3-jinja2, python3-matplotlib", "python3-aiohttp, python3-cryptography"
 FOREIGN = "rt rattle cc gcc clang git"
 IN_PYTHON = """
 import dam_tools, json, sys
@@ -118,6 +118,9 @@ def day(counts, system):
     check("dam-table", f"dam-table --rows blocks {SUNNY} results.txt", lambda out: out.count(b"\n") == 13 and b"COAL,UNIT-7" in out)
     check("dam-report", f"dam-report {SUNNY} results.txt -o day.html && cat day.html", lambda out: b"</html>" in out and b"<svg" in out)
     check("dam-whatif", f"dam-whatif limit --participant COAL --order UNIT-7 {SUNNY}", lambda out: b"COAL UNIT-7 sells" in out)
+    check("dam-desk", f"dam-desk day.desk < {SUNNY} > answers.txt && dam-desk --journal day.desk | dam clear", lambda out: out == results)
+    check("the desk's answers", f"dam replay < {SUNNY} | cmp - answers.txt", lambda out: not out)
+    check("man dam-desk", "man dam-desk", lambda out: b"dam-desk --journal FILE" in out and b"EXIT STATUS" in out)
     check("man dam", "man dam", lambda out: b"dam clear [OPTIONS] < JOURNAL" in out and b"dam-audit --version prints it" in b" ".join(out.split()))
     check("the version", "! dam --version 2> refused && dam-audit --version", lambda out: out == f"dam-audit {VERSION}\n".encode())
     check("man dam-audit", "man dam-audit", lambda out: b"dam-audit --best examples/auction-day.csv" in out)
@@ -129,6 +132,15 @@ def day(counts, system):
     # the status doesn't tell
     check("dpkg --verify of a changed file", f"cp -p {page} kept && echo >> {page} && dpkg --verify dam && cp -p kept {page}",
           lambda out: out.split() == [b"??5??????", page.encode()])
+
+
+def office(counts, system):
+    """The office, from an order to the results, by the installed programs."""
+    shutil.copy(DEMO, f"{system.root}{DAY}/demo.py")
+    status, out, error = system.shell("python3 -B demo.py dam-office")
+    counts.check(f"installed: the demo: status {status}, {error[-500:]}", status == 0)
+    if status == 0:
+        demo(counts, json.loads(out), "/usr", True)
 
 
 def in_c(counts, system, caller):
@@ -165,10 +177,11 @@ def in_system(counts, system, package, caller):
     counts.check(f"a fresh system has none of {FOREIGN}: {out}", status != 0 and not out)
     shutil.copy(package, f"{system.root}/dam.deb")
     apt(counts, system, "update")
-    apt(counts, system, "satisfy", f"{field(package, 'Depends')}, {field(package, 'Recommends')}, {OF_THE_REPORT}")
+    apt(counts, system, "satisfy", f"{field(package, 'Depends')}, {field(package, 'Recommends')}, {OF_THE_REPORT}, {OF_THE_OFFICE}")
     before = system.files()
     apt(counts, system, "install", "/dam.deb")
     day(counts, system)
+    office(counts, system)
     apt(counts, system, "purge", "dam")
     left = sorted(system.files() - before)
     counts.check(f"left after the package was removed: {left[:10]}", not left)
