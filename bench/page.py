@@ -19,7 +19,7 @@ from pathlib import Path
 HERE = Path(__file__).resolve().parent
 PAGE = HERE.parent / "docs" / "MEASURED.md"
 KEPT = HERE / "measured"
-PARTS = ["quick", "families", "blocks", "thin", "growth", "workers", "looks", "quarters", "desk"]
+PARTS = ["quick", "families", "blocks", "thin", "growth", "workers", "looks", "quarters", "desk", "office"]
 PEERS = {"families": "HiGHS", "blocks": "HiGHS and CBC each", "thin": "HiGHS and CBC each"}  # the peers of each part
 COLUMNS = ["what", "figure", "target", "holds", "details"]
 RUN_COLUMNS = ["part", "date", "commit", "machine", "load", "kit", "notes"]
@@ -34,6 +34,7 @@ SHOWN = {
     "looks": r"a look compared with a plain one, while [03] threads.*|a call, 4,000 orders held|dam day.*",
     "quarters": r"dam replay of 10,000 blocks.*",
     "desk": r"dam replay compared with a desk.*wall time|records that a desk keeps.*|opening .* on disk.*wall time|memory of a desk.*records",
+    "office": r".*",
 }
 # The contents of the cells of such a table, and the names of its columns.
 CELLS = {

@@ -4,6 +4,7 @@ also to random requests."""
 import json
 import random
 import re
+import time
 
 from served import TOP
 
@@ -11,6 +12,7 @@ from lib import heads, rules
 
 API = json.loads((TOP / "tools" / "lib" / "office" / "openapi.json").read_text())
 RANDOM = 60  # requests of a day
+WAIT_SECONDS = 20  # for the office to take requests again
 TYPES = {"string": str, "integer": int, "number": (int, float), "boolean": bool, "array": list, "object": dict}
 
 
@@ -134,6 +136,10 @@ def check(office, counts, periods):
         asked(office, counts, "POST", "/days/{day}/tables/{who}", values, token, data.encode())
     office.close_day()
     office.tool("publish", office.folder)
+    until = time.monotonic() + WAIT_SECONDS
+    while office.get(f"/days/{office.day}/orders/{who}", token)[0] == 429 and time.monotonic() < until:  # tables count as many requests
+        time.sleep(0.1)
+    time.sleep(1)  # in which it allows enough for what follows
     for template in API["paths"]:
         if template.startswith("/days/") and "get" in API["paths"][template]:
             status, _ = asked(office, counts, "GET", template, values, token)

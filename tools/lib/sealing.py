@@ -22,18 +22,19 @@ class Seal:
 
     def __init__(self, day, periods, salts, key):
         self.day, self.periods, self.salts, self.key = day, periods, salts, key
-        self.entries = []
+        self.entries, self.entry_salts = [], []
         self.tree = merkle.Tree()
 
     def append(self, entry):
         """Adds an entry. The next head has it."""
         self.entries.append(entry)
         number = len(self.entries)
-        self.tree.append(heads.leaf_of(number, entry.record, entry.reply, self.salt(number)))
+        salt = self.salts.salt(number, entry.record, entry.reply)
+        self.entry_salts.append(salt)
+        self.tree.append(heads.leaf_of(number, entry.record, entry.reply, salt))
 
     def salt(self, number):
-        entry = self.entries[number - 1]
-        return self.salts.salt(number, entry.record, entry.reply)
+        return self.entry_salts[number - 1]
 
     def head(self, size=None):
         """A head of the first `size` entries, or of all."""

@@ -9,6 +9,7 @@ import io
 import json
 import os
 import random
+import shutil
 import signal
 import stat
 import tempfile
@@ -17,7 +18,7 @@ import unittest
 from pathlib import Path
 from unittest import mock
 
-from support import AUCTION, FIRST, tool
+from support import AUCTION, FIRST, TOOLS, tool
 
 from dam_tools import office as client
 from lib import book, command, heads, journal, merkle, rules, tables
@@ -30,6 +31,7 @@ try:
     from lib import sealing, signing
     from lib.office import clearing, folder, gate, guards, observed, operate, requests, setup, tokens
     from lib.office import serve as serving
+    from lib.office import tables as reader
     from lib.office.desk import Desk, Ended
     from lib.office.ledger import Contradiction, Ledger
 except ImportError:  # without python3-aiohttp and the like
@@ -448,6 +450,27 @@ class Requests(unittest.TestCase):
         ):
             with self.assertRaisesRegex(requests.Wrong, words):
                 requests.table_records(data, "GAS", 24)
+
+    def test_a_table_is_read_in_a_process_of_its_own(self):
+        table = b"participant,order,kind,side,price_eur_mwh,periods,volume_mw\nGAS,A,block,buy,12.50,%d,30\n"
+        read = lambda data, periods=24: asyncio.run(reader.read(data, "GAS", periods))
+        self.assertEqual(read(table % 8), (["submit,GAS,A,block,buy,1250,8:300,,"], []))
+        self.assertEqual(read(table % 100, 100)[0], ["submit,GAS,A,block,buy,1250,100:300,,"])
+        with self.assertRaisesRegex(requests.Wrong, "PeriodOutOfDay"):
+            read(table % 100, 96)
+        with self.assertRaisesRegex(requests.Wrong, "1 command of other"):
+            read(table.replace(b"GAS", b"OIL") % 8)
+        with mock.patch.object(reader, "MOST_SECONDS", 0.001), self.assertRaisesRegex(gate.Refused, "can't be read"):
+            read(table % 8)
+        with tempfile.TemporaryDirectory() as room:
+            shutil.copytree(TOOLS / "lib", Path(room, "lib"), ignore=shutil.ignore_patterns("__pycache__"))
+            path = Path(room, "lib", "office", "tables.py")
+            path.write_text(path.read_text().replace("MOST_MEMORY = 1 << 29", "MOST_MEMORY = 1"))
+            head, _, row = (table % 8).replace(b"block", b"hour").partition(b"\n")
+            long = head + b"\n" + row.replace(b",A,", b",A%d,") * 4_000 % tuple(range(4_000))
+            self.assertEqual(len(read(long)[0]), 4_000)
+            with mock.patch.object(reader, "__file__", str(path)), self.assertRaisesRegex(gate.Refused, "can't be read"):
+                read(long)
 
     def test_reasons_dont_name_the_orders_of_others(self):
         why = "would gain 8.00 EUR at the prices, but with it GAS,LONG would lose 1,200.00 EUR together with its accepted descendants"

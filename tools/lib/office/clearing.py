@@ -2,6 +2,7 @@
 published only if the operator says so."""
 
 import asyncio
+import itertools
 import json
 import os
 import re
@@ -29,7 +30,7 @@ class Published:
     """What of a day is published."""
 
     def __init__(self, files):
-        self.files, self.rows = files, None
+        self.files, self.rows, self.text = files, None, None
 
     @property
     def has_results(self):
@@ -42,6 +43,13 @@ class Published:
     @property
     def has_journal(self):
         return self.has_results and self.files.has(folder.OPEN_JOURNAL)
+
+    def prices(self, periods):
+        """The first lines of the results: the day, the welfare and the periods. They stay the same, and are read once."""
+        if self.text is None:
+            with self.files.file(folder.RESULTS).open(encoding="ascii") as results:
+                self.text = "".join(itertools.islice(results, 2 + periods))
+        return self.text
 
     def statement(self, who):
         """A participant's commands with what became of them; None before they are published. Reasons that name another's order don't,
@@ -115,14 +123,14 @@ async def state(gate):
         folder.put(gate.files.file(folder.STATEMENT), made)
 
 
-async def output(*words, data=b""):
+async def output(*words, data=b"", seconds=MOST_SECONDS):
     """What a program prints. It has no other part in this process: its fault, or a late end, is `Failed`."""
     pipes = {name: asyncio.subprocess.PIPE for name in ("stdin", "stdout", "stderr")}
     process = await asyncio.create_subprocess_exec(*words, start_new_session=True, **pipes)
     try:
-        out, err = await asyncio.wait_for(process.communicate(data), MOST_SECONDS)
+        out, err = await asyncio.wait_for(process.communicate(data), seconds)
     except asyncio.TimeoutError:
-        raise Failed(f"{os.path.basename(words[0])} took more than {MOST_SECONDS} s") from None
+        raise Failed(f"{os.path.basename(words[0])} took more than {seconds} s") from None
     finally:
         if process.returncode is None:
             process.kill()

@@ -13,7 +13,7 @@ from aiohttp import web
 from markupsafe import Markup
 
 from .. import book, clock, heads, style
-from . import folder, requests
+from . import folder, requests, tables
 from .gate import STOPPED, Refused
 from .guards import Buckets
 
@@ -193,6 +193,8 @@ class Web:
         return length
 
     async def body(self, request):
+        if request.content.is_eof():  # it is here already
+            return await request.read()
         try:
             async with async_timeout.timeout(BODY_SECONDS):
                 return await request.read()
@@ -221,11 +223,10 @@ class Web:
     async def entered(self, gate, who, first, commands):
         """The numbers of the entries of commands, once they are on the disk."""
         done = gate.submit(who, first, commands)
-        try:
-            async with async_timeout.timeout(ANSWER_SECONDS):
-                return await asyncio.shield(done)
-        except asyncio.TimeoutError:
-            raise Refused("Unavailable", "the desk hasn't answered yet: send the same command again", seconds=1) from None
+        await asyncio.wait((done,), timeout=ANSWER_SECONDS)
+        if not done.done():
+            raise Refused("Unavailable", "the desk hasn't answered yet: send the same command again", seconds=1)
+        return done.result()
 
     async def receipts(self, gate, entries, head=None):
         made = []
@@ -272,7 +273,7 @@ class Web:
         self.length(request)
         body = await self.body(request)
         async with self.tables:
-            records, notes = await asyncio.to_thread(requests.table_records, body, who, gate.terms.periods)
+            records, notes = await tables.read(body, who, gate.terms.periods)
         return web.json_response({"records": records, "notes": notes})
 
     async def statement(self, request):
@@ -331,8 +332,7 @@ class Web:
         gate = self.gate(request)
         if not gate.published.has_results:
             raise Refused("NotFound", "the results aren't published yet")
-        lines = gate.files.read(folder.RESULTS).decode("ascii").splitlines(keepends=True)
-        return web.Response(text="".join(lines[: 2 + gate.terms.periods]), content_type="text/plain")
+        return web.Response(text=gate.published.prices(gate.terms.periods), content_type="text/plain")
 
     async def published(self, request):
         """The texts that have the orders of all: only if the operator publishes the journal."""
@@ -340,7 +340,7 @@ class Web:
         if not gate.published.has_journal:
             raise Refused("NotFound", "the operator hasn't published the journal")
         files = {"results": folder.RESULTS, "journal": folder.JOURNAL, "replies": folder.REPLIES}
-        return web.Response(body=gate.files.read(files[name]), content_type="text/plain")
+        return web.FileResponse(gate.files.file(files[name]), headers={"Content-Type": "text/plain; charset=utf-8"})
 
     async def health(self, request):
         is_right = all(gate.is_ready.is_set() for gate in self.office.gates.values())

@@ -1,0 +1,46 @@
+"""Reads an uploaded table in a process of its own: one that takes long, or much memory, takes neither from the commands. `read` asks for
+it; run as a program, with the participant and the day's periods as its words, this file does it, from standard input to standard output."""
+
+import json
+import os
+import resource
+import sys
+from pathlib import Path
+
+if not __package__:  # the program: an isolated Python leaves the tools out
+    sys.path.insert(0, str(Path(__file__).resolve().parents[2]))
+
+from lib.office import clearing, requests
+from lib.office.gate import Refused
+
+MOST_SECONDS = 20  # for a table
+MOST_MEMORY = 1 << 29  # bytes of addresses; a workbook of 1 MiB takes a tenth
+NICENESS = 10
+
+
+async def read(data, who, periods):
+    """The records that a table makes, and notes on how it was read."""
+    try:
+        made = await clearing.output(sys.executable, "-I", "-B", __file__, who, str(periods), data=data, seconds=MOST_SECONDS)
+    except clearing.Failed:
+        raise Refused("Malformed", f"the table can't be read within {MOST_SECONDS} s") from None
+    value = json.loads(made)
+    if "wrong" in value:
+        raise requests.Wrong(value["wrong"])
+    return value["records"], value["notes"]
+
+
+def main(who, periods):
+    os.nice(NICENESS)
+    resource.setrlimit(resource.RLIMIT_AS, (MOST_MEMORY, MOST_MEMORY))
+    resource.setrlimit(resource.RLIMIT_CPU, (MOST_SECONDS, MOST_SECONDS))
+    try:
+        records, notes = requests.table_records(sys.stdin.buffer.read(), who, int(periods))
+        made = {"records": records, "notes": notes}
+    except requests.Wrong as fault:
+        made = {"wrong": str(fault)}
+    json.dump(made, sys.stdout)
+
+
+if __name__ == "__main__":
+    main(*sys.argv[1:])
