@@ -1,6 +1,6 @@
 """What one journal can't have: heads and entries that an operator signed, from all given files, which contradict each other."""
 
-from . import text
+from . import command, text
 from .findings import CONTRADICTION, WRONG, Finding
 
 
@@ -11,18 +11,20 @@ def unsigned(head):
 
 class Signed:
     """The heads of an operator, and its receipts' entries. Two heads of a day contradict each other if they have one size and different
-    roots, or different numbers of periods, and two entries if they have one number and different leaves."""
+    roots, different numbers of periods, or different keys, and two entries if they have one number and different leaves."""
 
     def __init__(self):
         self.places = {}  # of each head, the first place that has it
         self.of_size = {}  # of each day and size, the first head
         self.of_day = {}  # of each day, the first head
+        self.keys = {}  # of each day, each key that signed a head, with the first place
         self.entries = {}  # of each day and number, the first receipt and its place
         self.leaves = set()  # each day and number with a leaf
         self.findings = []  # the contradictions
 
-    def add_head(self, head, place):
-        """Adds a head that the operator signed."""
+    def add_head(self, head, place, key):
+        """Adds a head that the operator signed with a key, by its name."""
+        self.add_key(head.day, key, place)
         head = unsigned(head)
         if head in self.places:
             return
@@ -33,6 +35,15 @@ class Signed:
         same = self.of_size.setdefault((head.day, head.size), head)
         if same.root != head.root:
             self.tell(place, f"{roots_differ(head)}; the other one is in {self.places[same]}")
+
+    def add_key(self, day, key, place):
+        """Adds a key that signed a head of a day."""
+        keys = self.keys.setdefault(day, {})
+        if key not in keys:
+            keys[key] = place
+            first, where = next(iter(keys.items()))
+            if key != first:
+                self.tell(place, f"the operator signed {day} with {command.shown(key)}, and with {command.shown(first)}, in {where}")
 
     def add_entry(self, receipt, place):
         """Adds the entry of a receipt that is right under a head that the operator signed."""

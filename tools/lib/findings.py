@@ -6,14 +6,18 @@ from . import command
 
 # In the order in which one of them decides the status of a run.
 WRONG, UNREAD, UNDECIDED, ENCODING, RIGHT = "wrong", "unread", "undecided", "encoding", "right"
+# Of receipts that the operator signed: the published head isn't of a journal that has the entry, or no book gives the reply.
+CONTRARY, IMPOSSIBLE = "contrary", "impossible"
 STATUSES = {
     WRONG: command.DIFFERS,
+    CONTRARY: command.DIFFERS,
+    IMPOSSIBLE: command.DIFFERS,
     UNREAD: command.NO_INPUT,
     UNDECIDED: command.UNDECIDED,
     ENCODING: command.ENCODING,
     RIGHT: command.DONE,
 }
-RECEIPT, FILE, EXTENSION, HEAD, CONTRADICTION = "receipt", "file", "extension", "head", "contradiction"
+RECEIPT, FILE, LINE, EXTENSION, HEAD, CONTRADICTION = "receipt", "file", "line", "extension", "head", "contradiction"
 
 
 class Place(NamedTuple):
@@ -47,4 +51,5 @@ class Finding(NamedTuple):
 
 
 def verdict(findings):
-    return min((finding.verdict for finding in findings), key=list(STATUSES).index, default=RIGHT)
+    found = min((finding.verdict for finding in findings), key=list(STATUSES).index, default=RIGHT)
+    return WRONG if STATUSES[found] == command.DIFFERS else found

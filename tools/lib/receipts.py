@@ -6,10 +6,15 @@ from typing import NamedTuple
 
 from . import command, heads, merkle, sent, signing, text
 from .contradictions import Signed, periods_differ, roots_differ, unsigned
-from .findings import CONTRADICTION, ENCODING, EXTENSION, HEAD, RECEIPT, RIGHT, STATUSES, UNDECIDED, UNREAD, WRONG, Finding, Place, verdict
+from .findings import CONTRADICTION, CONTRARY, ENCODING, EXTENSION, HEAD, IMPOSSIBLE, LINE, RECEIPT, RIGHT, STATUSES, UNDECIDED, UNREAD, WRONG
+from .findings import Finding, Place, verdict
 
 NOT_WRITTEN = "the content is right, but the text isn't in its written form"
 NOT_SIGNED = "isn't signed by this key: it isn't the operator's, or it was changed"
+EMPTY = "it has no receipt"
+MOST_UNREAD = 20  # lines of a file that are named, if they are no receipts
+# Of each verdict on a receipt that the operator signed for the day, the words of the last line; others are named as they are.
+WORDS = {CONTRARY: "contrary to the published head", IMPOSSIBLE: "with an impossible reply"}
 
 
 class Received(NamedTuple):
@@ -81,18 +86,26 @@ class Links:
         later = defaultdict(set)  # of each head, those that begin with it
         for path in paths:
             extension = read_one(path, heads.extension_read, "an extension", findings)
-            ends = [self.add_head(path, end, findings, EXTENSION) for end in (extension.old, extension.new)]
-            if all(ends) and extension.is_right():
+            if not all([self.add_head(path, end, findings, EXTENSION) for end in (extension.old, extension.new)]):
+                continue
+            if fault := self.extension_fault(extension):
+                findings.append(Finding(path, None, UNDECIDED, f"it proves nothing: {fault}", about=EXTENSION))
+            else:
                 later[unsigned(extension.old)].add(unsigned(extension.new))
-            elif all(ends):
-                words = "it proves nothing: its path doesn't lead from the earlier head to the later one"
-                findings.append(Finding(path, None, UNDECIDED, words, about=EXTENSION))
         self.earlier = longest(later)
 
+    def extension_fault(self, extension):
+        """Why an extension of two signed heads proves nothing; None if it does. Anyone can make one, so it is nobody's fault."""
+        one, other = (signing.signer(self.key, end) for end in (extension.old, extension.new))
+        if one != other:
+            return f"its heads are signed with two keys, {command.shown(one)} and {command.shown(other)}"
+        return None if extension.is_right() else "its path doesn't lead from the earlier head to the later one"
+
     def add_head(self, path, head, findings, about=HEAD):
-        """Whether the key signed a head. If it didn't, `findings` gets that."""
-        if signing.is_signed(self.key, head):
-            self.signed.add_head(head, Place(path))
+        """Whether a key signed a head. If none did, `findings` gets that."""
+        key = signing.signer(self.key, head)
+        if key is not None:
+            self.signed.add_head(head, Place(path), key)
             return True
         findings.append(Finding(path, None, WRONG, f"{'it' if about == HEAD else head} {NOT_SIGNED}", about=about))
         return False
@@ -118,7 +131,6 @@ class Links:
         while other is not None and other.size > one.size:
             other = self.earlier.get(other)
         return other == one or one.size == 0
-
 
     def gaps(self):
         """The findings on the heads of a day, each compared with the next one. Contradictions are told elsewhere."""
@@ -162,10 +174,10 @@ def by_size(head):
 def judge(receipt, head, key, links, place=Place("the receipt")):
     """The verdict on a receipt, compared with a head that was published if one is given, and the words for it. The links get what the
     operator signed."""
-    entry = f"entry {receipt.number} of {receipt.head}"
-    if not signing.is_signed(key, receipt.head):
+    entry, signer = f"entry {receipt.number} of {receipt.head}", signing.signer(key, receipt.head)
+    if signer is None:
         return WRONG, f"its head {NOT_SIGNED}"
-    links.signed.add_head(receipt.head, place)
+    links.signed.add_head(receipt.head, place, signer)
     root = merkle.root_of_inclusion(receipt.leaf(), receipt.number - 1, receipt.head.size, receipt.path)
     if root != receipt.head.root:
         return WRONG, f"it isn't {entry}: its record, reply, salt or path was changed, or belongs to another entry"
@@ -174,10 +186,12 @@ def judge(receipt, head, key, links, place=Place("the receipt")):
     if head is None:
         return RIGHT, shown
     if fault := reply_fault(receipt):
-        return WRONG, f"{shown}; {fault}"
+        return IMPOSSIBLE, f"{shown}; {fault}"
     found, words = links.compared(receipt.head, head)
+    if found == WRONG:
+        return CONTRARY, f"{shown}; the published head contradicts it: {words}"
     if found in (RIGHT, UNDECIDED) and receipt.number > head.size:
-        return WRONG, f"{shown}; but the journal of {head} ends before it"
+        return CONTRARY, f"{shown}; but the journal of {head} ends before it"
     return found, shown if found == RIGHT else f"{shown}; {words}"
 
 
@@ -191,8 +205,7 @@ def reply_fault(receipt):
 
 
 def judged(path, head, key, links, who=None):
-    """The findings on the receipts of a file, one in each line. After a line that is none, the file isn't read further. If a participant is
-    named, all are its own."""
+    """The findings on the receipts of a file, one in each line. A line that is none is named. If a participant is named, all are its own."""
     return judged_bytes(path, command.read_bytes(path), head, key, links, who)
 
 
@@ -204,31 +217,54 @@ def judged_bytes(path, data, head, key, links, who=None):
         yield Finding(path, None, UNREAD, f"it has no receipts: {fault}")
         return
     if not lines:
-        yield Finding(path, None, UNREAD, "it has no receipt")
+        yield Finding(path, None, UNREAD, EMPTY)
     for number, data in enumerate(lines, 1):
         try:
             receipt, is_written = heads.parsed(data, heads.receipt_read)
         except heads.Wrong as fault:
-            yield Finding(path, number, UNREAD, f"it isn't a receipt: {fault}")
-            return
+            yield Finding(path, number, UNREAD, f"it isn't a receipt: {fault}", about=LINE)
+            continue
         found, words = judge(receipt, head, key, links, Place(path, number))
-        if who is not None and receipt.who != who and found != WRONG:
+        if who is not None and receipt.who != who and STATUSES[found] != command.DIFFERS:
             found, words = UNREAD, f"it isn't a receipt of {who}: {words}"
         if found == RIGHT and not is_written:
             found, words = ENCODING, f"{NOT_WRITTEN}: {words}"
         yield Finding(path, number, found, words, receipt)
 
 
-def received(findings):
-    """The commands of which there are receipts, in the order of the journal. Whether the published journal has them may be undecided."""
-    kept = [finding.receipt for finding in findings if finding.receipt and finding.verdict in (RIGHT, ENCODING, UNDECIDED)]
+def told(findings):
+    """A line about each finding that isn't right. Of the lines of a file that are no receipts, the first ones are named."""
+    unread = Counter()
+    for finding in findings:
+        unread[finding.file] += finding.about == LINE
+        if finding.verdict != RIGHT and not (finding.about == LINE and unread[finding.file] > MOST_UNREAD):
+            yield str(finding)
+    for path, count in unread.items():
+        if count > MOST_UNREAD:
+            yield f"{command.shown(path)}: {text.counted(count - MOST_UNREAD, 'more line')} without a receipt"
+
+
+def received(findings, who, verdicts):
+    """The commands of a participant of which there are receipts with one of some verdicts, in the order of the journal."""
+    kept = [finding.receipt for finding in findings if finding.receipt and finding.verdict in verdicts and finding.receipt.who == who]
     every = {(receipt.number, receipt.record): heads.command_of(receipt.record) for receipt in kept}
     return [Received(number, found) for (number, _), found in sorted(every.items(), key=lambda one: one[0])]
 
 
-def differences(path, commands, findings):
-    """The findings on the commands that were sent, compared with those of which there are receipts."""
-    return [Finding(path, None, WRONG, str(fault)) for fault in sent.differences(commands, received(findings), "the receipts")]
+def is_none_read(findings):
+    """Whether there are lines or files that can't be read as receipts, and none that can."""
+    return all(finding.receipt is None for finding in findings) and any(finding.words != EMPTY for finding in findings)
+
+
+def differences(path, commands, findings, who):
+    """The findings on the commands that a participant sent, compared with those of which there are receipts. Whether the published journal
+    has these may be undecided. A receipt that contradicts the published head is of another journal, whose entries may have other numbers:
+    of the comparisons with the ones, the others and both, the one with the fewest differences is meant."""
+    own, others = (RIGHT, ENCODING, UNDECIDED), (CONTRARY, IMPOSSIBLE)
+    is_contrary = any(finding.verdict in others for finding in findings)
+    each = [received(findings, who, verdicts) for verdicts in ((own, others, own + others) if is_contrary else (own,))]
+    found = min((sent.differences(commands, one, "the receipts") for one in each), key=len)
+    return [Finding(path, None, WRONG, str(fault)) for fault in found]
 
 
 def refusals(findings):
@@ -246,17 +282,19 @@ def counted(findings):
     return count, len(own) - len(set(own))
 
 
-def summary(findings, unlike, head):
-    """The last line about receipts, and about the differences from the commands that were sent. Several receipts of an entry count once."""
+def summary(findings, unlike, head, as_sent=None):
+    """The last line about receipts, and about the differences from the commands that were sent; `as_sent` is their number, if there are
+    none. Several receipts of an entry count once."""
     found, refused = verdict([*findings, *unlike]), len(refusals(findings))
     count, more = counted(findings)
-    repeats = [f"{more} more of the same entries"] if more else []
+    others = [f"{more} more of the same entries"] if more else []
+    others += [f"{text.counted(len(unlike), 'difference')} from the commands that were sent"] if unlike else []
+    others += [f"as sent: {text.counted(as_sent, 'command')}"] if as_sent is not None else []
     refusal = f", {refused} of them refused" if refused else ""
     if found == RIGHT:
-        return "; ".join([f"right: {text.counted(count[RECEIPT, RIGHT], 'receipt')} of {head}{refusal}", *repeats])
+        return "; ".join([f"right: {text.counted(count[RECEIPT, RIGHT], 'receipt')} of {head}{refusal}", *others])
     order = sorted(count.items(), key=lambda one: (one[0][0] != RECEIPT, -list(STATUSES).index(one[0][1])))
-    kinds = {(about, kind): "" if about == CONTRADICTION else f" {kind}" for about, kind in count}
+    kinds = {(about, kind): "" if about == CONTRADICTION else f" {WORDS.get(kind, kind)}" for about, kind in count}
     kinds[RECEIPT, RIGHT] = f" {RIGHT}{refusal}"
     parts = [f"{text.counted(number, about)}{kinds[about, kind]}" for (about, kind), number in order]
-    parts += [f"{text.counted(len(unlike), 'difference')} from the commands that were sent"] if unlike else []
-    return f"{found}: {'; '.join([*parts, *repeats])}; {head}"
+    return f"{found}: {'; '.join([*parts, *others])}; {head}"

@@ -1,7 +1,5 @@
 """The operator's key: Ed25519 signatures by python3-cryptography, with keys as PEM files that openssl reads too."""
 
-import contextlib
-
 from cryptography.exceptions import InvalidSignature, UnsupportedAlgorithm
 from cryptography.hazmat.primitives import serialization
 from cryptography.hazmat.primitives.asymmetric.ed25519 import Ed25519PrivateKey, Ed25519PublicKey
@@ -23,20 +21,21 @@ class Wrong(Exception):
 
 
 class Keys:
-    """Public keys, each with a name. A signature is right if it is by one of them."""
+    """Public keys, each with a name."""
 
     def __init__(self, keys):
         self.keys = keys  # by name
 
-    def verify(self, signature, signed):
-        for key in self.keys.values():
-            with contextlib.suppress(InvalidSignature):
-                return key.verify(signature, signed)
-        raise InvalidSignature
-
     def signer(self, head):
         """The name of the key that signed a head; None if none did."""
         return next((name for name, key in self.keys.items() if is_signed(key, head)), None)
+
+
+def signer(key, head):
+    """The name of the key, or of one of the keys, that signed a head; None if none did. A key by itself has an empty name."""
+    if isinstance(key, Keys):
+        return key.signer(head)
+    return "" if is_signed(key, head) else None
 
 
 def made():
@@ -81,7 +80,7 @@ def signed(key, head):
 
 
 def is_signed(public_key, head):
-    """Whether the head's signature is by the private half of the key."""
+    """Whether the head's signature is by the private half of the key. OpenSSL's check is the one without the cofactor."""
     try:
         public_key.verify(head.signature, head.signed_text())
     except InvalidSignature:

@@ -227,12 +227,111 @@ class Contradictions(InFolder):
             Path("new.head").write_bytes(heads.line(signed[6]))
             lines, _ = self.told(status, "heads", "A.head", "new.head", *KEYS, "--key", "new.pem.pub")
             self.assertEqual(any(TREES in line for line in lines), status == 1)
+            said = "new.head: the operator signed 2026-11-28 with new.pem.pub, and with key.pem.pub, in A.head"
+            self.assertEqual(said in lines, status == 1)
             self.assertIn("A.head: the head of 2026-11-28 with 6 entries, signed by key.pem.pub", lines)
             self.assertIn(f"new.head: the head of {day} with 6 entries, signed by new.pem.pub", lines)
+        Path("key again.pub").write_bytes(Path("key.pem.pub").read_bytes())
+        self.told(0, "heads", "A.head", *KEYS, "--key", "key again.pub")
         made = json.loads(self.run_tool(1, "heads", "A.head", "new.head", *KEYS, "--json"))
         self.assertEqual(made["keys"], ["key.pem.pub", None])
         lines, _ = self.told(1, "heads", "A.head", "new.head", *KEYS)
         self.assertIn("new.head: it isn't signed by this key: it isn't the operator's, or it was changed", lines)
+
+    def test_two_keys_of_one_day(self):
+        """The heads are of one journal, and may be the same. An extension between two keys is refused; anyone can make one of two days."""
+        self.run_tool(0, "keys", "new.pem")
+        new, keys = signing.private(Path("new.pem").read_bytes()), [*KEYS, "--key", "new.pem.pub"]
+        extension, _ = heads.parsed(Path("B.extension").read_bytes(), heads.extension_read)
+        mixed = extension._replace(new=signing.signed(new, extension.new))
+        Path("again.head").write_bytes(heads.line(mixed.new))
+        Path("mixed.extension").write_bytes(heads.line(mixed))
+        said = "the operator signed 2026-11-28 with {}, and with {}, in {}"
+        other, own = said.format("new.pem.pub", "key.pem.pub", "{}"), said.format("key.pem.pub", "new.pem.pub", "{}")
+        refused = "mixed.extension: it proves nothing: its heads are signed with two keys, key.pem.pub and new.pem.pub"
+        self.assertIn(f"again.head: {other.format('B.head')}", self.told(1, "heads", "B.head", "again.head", *keys)[0])
+        self.assertIn(f"B.head: {own.format('again.head')}", self.told(1, "heads", "again.head", "B.head", *keys)[0])
+        lines, _ = self.told(1, "heads", "A.head", "again.head", "--extension", "mixed.extension", *keys)
+        self.assertIn(refused, lines)
+        self.assertIn(f"mixed.extension: {other.format('mixed.extension')}", lines)
+        links = receipts.Links(["mixed.extension"], signing.Keys({path: receipts.key_read(path) for path in keys[1::2]}), [])
+        self.assertFalse(links.leads(mixed.old, mixed.new))
+        self.told(0, "heads", "A.head", "B.head", "--extension", "B.extension", *keys)
+        mixed = extension._replace(new=signing.signed(new, extension.new._replace(day="2026-11-29")))
+        Path("mixed.extension").write_bytes(heads.line(mixed))
+        lines, _ = self.told(4, "heads", "A.head", "--extension", "mixed.extension", *keys)
+        self.assertEqual(lines[0], refused)
+
+    def test_receipts_that_the_published_head_contradicts(self):
+        """They are the operator's own: they count as receipts of the commands that were sent, and aren't called wrong."""
+        for name, first in (("mine", 100), ("other", 101)):
+            prices = [first] + [100] * 5
+            Path(f"{name}.csv").write_text("".join(f"{ENTRY.format(number, price)}\n" for number, price in enumerate(prices, 1)))
+        own = ["--sent", "mine.csv", "--participant", "TOWN"]
+        trees = f"{TREES} 6 entries: two journals, or one journal twice"
+        lines, last = self.told(1, "verify", "A.receipts", "--head", "A2.head", *own, *KEYS)
+        entries = [f"entry {number} of the head of 2026-11-28 with 6 entries: {ENTRY.format(number, 100)}, done" for number in range(1, 7)]
+        said = [f"A.receipts line {number}: {entry}; the published head contradicts it: {trees}" for number, entry in enumerate(entries, 1)]
+        self.assertEqual(lines, [*said, f"A.receipts line 1: {trees}; the other one is in A2.head"])
+        self.assertEqual(last, "wrong: 6 receipts contrary to the published head; 1 contradiction; as sent: 6 commands; the head of 2026-11-28 with 6 entries")
+        made = json.loads(self.run_tool(1, "verify", "A.receipts", "--head", "A2.head", *own, *KEYS, "--json"))
+        self.assertEqual((made["verdict"], {one["verdict"] for one in made["receipts"]}), ("wrong", {"contrary", "wrong"}))
+        # Together with receipts under the published head, which may be of the same commands, or of the others.
+        self.lines("some.jsonl", "A2", 2, 3, 4, 5, 6)
+        self.lines("one.jsonl", "A", 1)
+        for files, name in ((["A.receipts", "A2.receipts"], "mine"), (["A.receipts", "A2.receipts"], "other"), (["some.jsonl", "one.jsonl"], "mine")):
+            _, last = self.told(1, "verify", *files, "--head", "A2.head", "--sent", f"{name}.csv", "--participant", "TOWN", *KEYS)
+            self.assertIn("; as sent: 6 commands; ", last)
+        lines, last = self.told(1, "verify", "one.jsonl", "--head", "A2.head", *own, *KEYS)
+        self.assertEqual([line.split(": ")[1] for line in lines[2:]], [f"sent record {number} is missing in the receipts" for number in range(2, 7)])
+        # Those of another participant don't count.
+        Path("city.csv").write_text(f"{ENTRY.format(1, 100)}\n".replace("TOWN", "CITY"))
+        lines, _ = self.told(1, "verify", "A.receipts", "--head", "A2.head", "--sent", "city.csv", "--participant", "CITY", *KEYS)
+        self.assertTrue(lines[-1].startswith("city.csv: sent record 1 is missing in the receipts: "), lines)
+        # The published head ends before an entry; or no book gives the reply.
+        self.lines("late.jsonl", "B", *range(1, 8))
+        Path("late.csv").write_text("".join(f"{ENTRY.format(number, 100)}\n" for number in range(1, 8)))
+        _, last = self.told(1, "verify", "late.jsonl", "--head", "A.head", "--extension", "B.extension", "--sent", "late.csv", *own[2:], *KEYS)
+        words = "wrong: 6 receipts right; 1 receipt contrary to the published head; as sent: 7 commands; the head of 2026-11-28 with 6 entries"
+        self.assertEqual(last, words)
+
+    def test_lines_that_are_no_receipts(self):
+        """They are named, and the others are verified. If there is no other, nothing is said about the commands that were sent."""
+        Path("mine.csv").write_text("".join(f"{ENTRY.format(number, 100)}\n" for number in range(1, 7)))
+        own = ["--sent", "mine.csv", "--participant", "TOWN"]
+        data = Path("A.receipts").read_bytes().splitlines(keepends=True)
+        Path("damaged.jsonl").write_bytes(b"".join([data[0], data[1][:100] + b"\n", *data[2:]]))
+        lines, last = self.told(3, "verify", "damaged.jsonl", "--head", "A.head", *KEYS)
+        said = "damaged.jsonl line 2: it isn't a receipt: it isn't JSON in ASCII"
+        self.assertEqual((lines, last), ([said], "unread: 5 receipts right; 1 line unread; the head of 2026-11-28 with 6 entries"))
+        lines, last = self.told(1, "verify", "damaged.jsonl", "--head", "A.head", *own, *KEYS)
+        self.assertEqual(lines, [said, f"mine.csv: sent record 2 is missing in the receipts: {ENTRY.format(2, 100)}"])
+        words = "wrong: 5 receipts right; 1 line unread; 1 difference from the commands that were sent; the head of 2026-11-28 with 6 entries"
+        self.assertEqual(last, words)
+        lines, last = self.told(3, "verify", "A.head", "--head", "A.head", *own, *KEYS)
+        self.assertEqual(lines[1:], ["mine.csv isn't compared, since no receipt could be read"])
+        self.assertEqual(last, "unread: 1 line unread; the head of 2026-11-28 with 6 entries")
+        Path("many.jsonl").write_bytes(b"\n" * 10_001)
+        lines, _ = self.told(3, "verify", "many.jsonl", "--head", "A.head", *own, *KEYS)
+        self.assertEqual(lines[1:], ["mine.csv isn't compared, since no receipt could be read"])
+        Path("empty.jsonl").write_bytes(b"")  # it has no receipt, and that can be read
+        lines, _ = self.told(1, "verify", "empty.jsonl", "--head", "A.head", *own, *KEYS)
+        self.assertEqual(sum(" is missing in the receipts: " in line for line in lines), 6)
+
+    def test_a_table_of_orders(self):
+        """Its rows are the submits; the audit takes the orders at the end too, and so may find no difference."""
+        seal = sealing.Seal(DAY, 24, sealing.new_salts(DAY), self.key)
+        for record in ("submit,TOWN,K,hour,buy,5000,8:100,,", "amend,TOWN,K,,,6000,8:100,,"):
+            seal.append(sealing.Entry(record, heads.DONE, "TOWN"))
+        for size, price, status in ((1, "50", 0), (1, "60", 1), (2, "60", 1)):
+            head = seal.head(size)
+            Path("own.head").write_bytes(heads.line(head))
+            Path("own.jsonl").write_bytes(b"".join(lines_of(seal, head)))
+            Path("mine.csv").write_text(f"participant,order,kind,side,price_eur_mwh,periods,volume_mw\nTOWN,K,hour,buy,{price},8,10\n")
+            lines, last = self.told(status, "verify", "own.jsonl", "--head", "own.head", "--sent", "mine.csv", "--participant", "TOWN", *KEYS)
+            said = "mine.csv is a table of orders, and each row counts as a submit that was sent: after amends or cancels, give records of a journal"
+            self.assertEqual(said in lines, status == 1)
+            self.assertEqual("; as sent: 1 command" in last, status == 0)
 
     def test_the_names_of_days(self):
         """One day under two names is seen by their lines."""
@@ -246,13 +345,13 @@ class Contradictions(InFolder):
         """Of several receipts of an entry one counts, and files that aren't right are no receipts."""
         path = self.lines("thrice.jsonl", "A", 1, 1, 1)
         Path("mine.csv").write_text(f"{ENTRY.format(1, 100)}\n")
-        for more in ([], ["--sent", "mine.csv", "--participant", "TOWN"]):
+        for more, said in (([], ""), (["--sent", "mine.csv", "--participant", "TOWN"], "; as sent: 1 command")):
             _, last = self.told(0, "verify", path, "--head", "A.head", *more, *KEYS)
-            self.assertEqual(last, "right: 1 receipt of the head of 2026-11-28 with 6 entries; 2 more of the same entries")
+            self.assertEqual(last, f"right: 1 receipt of the head of 2026-11-28 with 6 entries; 2 more of the same entries{said}")
         Path("odd.head").write_bytes(Path("A.head").read_bytes().replace(b":", b": "))
         Path("odd.jsonl").write_bytes(b"{}\n")
         _, last = self.told(3, "verify", path, "odd.jsonl", "--head", "odd.head", *KEYS)
-        words = "unread: 1 receipt right; 1 file encoding; 1 file unread; 2 more of the same entries; the head of 2026-11-28 with 6 entries"
+        words = "unread: 1 receipt right; 1 file encoding; 1 line unread; 2 more of the same entries; the head of 2026-11-28 with 6 entries"
         self.assertEqual(last, words)
 
     def test_refusals_are_printed(self):
@@ -281,8 +380,12 @@ class Contradictions(InFolder):
             Path("own.head").write_bytes(heads.line(head))
             Path("own.jsonl").write_bytes(lines_of(seal, head)[0])
             with self.subTest(record):
-                lines, _ = self.told(status, "verify", "own.jsonl", "--head", "own.head", *KEYS)
+                lines, last = self.told(status, "verify", "own.jsonl", "--head", "own.head", *KEYS)
                 self.assertEqual("which no book gives" in "".join(lines), status == 1)
+                self.assertEqual(last.startswith("wrong: 1 receipt with an impossible reply; "), status == 1)
+                Path("mine.csv").write_text(f"{record}\n")
+                _, last = self.told(status, "verify", "own.jsonl", "--head", "own.head", "--sent", "mine.csv", "--participant", "TOWN", *KEYS)
+                self.assertIn("; as sent: 1 command", last)
 
 
 def closed(pairs):

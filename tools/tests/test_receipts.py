@@ -1,6 +1,7 @@
 """Receipts and heads: every change of one is found, and so is every entry that was left out, repeated, moved or changed."""
 
 import contextlib
+import hashlib
 import json
 import os
 import random
@@ -243,6 +244,13 @@ class Receipts(unittest.TestCase):
         private = Ed25519PrivateKey.from_private_bytes(bytes(range(32)))
         seal = sealing.sealed(read, book.run(read)[1], DAY, salts, private)
         self.assertEqual(heads.line(seal.receipt(2, seal.head())), line)
+        # The extension to it.
+        words = "The path of the extension from two entries to three is the second hash above. The root and the signature of its `from` are"
+        root, signature = re.search(rf"{words}\n\n```text\n(\S+)\n(\S+)\n```", page).groups()
+        extension = seal.extension(seal.head(2), seal.head())
+        self.assertTrue(extension.is_right())
+        self.assertEqual((heads.packed(extension.old.root), heads.packed(extension.old.signature)), (root, signature))
+        self.assertEqual(extension.path, receipt.path[1:])
 
     def said_by_openssl(self, data, key=None):
         """What the second reading of the format says about the text of a receipt."""
@@ -329,6 +337,34 @@ class Receipts(unittest.TestCase):
                     signing.public(key.public_bytes(serialization.Encoding.PEM, form))
         with self.assertRaises(signing.Wrong):
             signing.public(signing.public_text(self.key) + signing.public_text(signing.made()))
+
+    def test_which_check_of_a_signature(self):
+        """The one without the cofactor, and with a scalar below the group's order: signatures that only other checks take are refused."""
+        seal = sealed_of(b"day,24,,,,,,,\ncancel,A,B,,,,,,\n", key=self.key)
+        head, prime, order = seal.head(), 2**255 - 19, 2**252 + 27742317777372353535851937790883648493
+
+        def scalar(key):
+            raw = key.private_bytes(serialization.Encoding.Raw, serialization.PrivateFormat.Raw, serialization.NoEncryption())
+            half = bytearray(hashlib.sha512(raw).digest()[:32])
+            half[0], half[31] = half[0] & 248, half[31] & 63 | 64
+            return int.from_bytes(half, "little")
+
+        def signature(point, more=0):
+            """With the point of a nonce; `more` is added to the scalar."""
+            hashed = hashlib.sha512(point + raw_of(self.public) + head.signed_text()).digest()
+            made = (scalar(nonce) + int.from_bytes(hashed, "little") * scalar(self.key)) % order + more
+            return point + made.to_bytes(32, "little")
+
+        nonce = signing.made()
+        point = raw_of(nonce.public_key())
+        number = int.from_bytes(point, "little")
+        height, sign = number % 2**255, number >> 255
+        moved = (prime - height | (1 - sign) << 255).to_bytes(32, "little")  # by the point of order 2
+        for made, is_right in ((signature(point), True), (signature(moved), False), (signature(point, order), False)):
+            signed = head._replace(signature=made)
+            self.assertEqual(signing.is_signed(self.public, signed), is_right)
+            said = self.said_by_openssl(heads.line(seal.receipt(1, head)._replace(head=signed)))
+            self.assertEqual(said, "right: cancel,A,B,,,,,,, refused,UnknownOrder\n" if is_right else "wrong\n")
 
     def test_the_head_of_no_entry(self):
         head = sealing.Seal(DAY, 24, sealing.new_salts(DAY), self.key).head()
@@ -450,7 +486,7 @@ class Command(InFolder):
             self.seal("x", "x.csv", "x.txt")
             return self.verify(status, own, *more, *words, head="x/head.json")
 
-        self.assertEqual(outcome(0, amends), "right: 3 receipts of the head of 2026-11-28 with 3 entries\n")
+        self.assertEqual(outcome(0, amends), "right: 3 receipts of the head of 2026-11-28 with 3 entries; as sent: 3 commands\n")
         self.assertIn("is out of its order", outcome(1, [amends[0], amends[2], amends[1]]))
         self.assertIn("the receipt of entry 4 was not sent: cancel,NORD,W,,,,,,", outcome(1, [*amends, b"cancel,NORD,W,,,,,,\n"]))
         self.assertIn("right: 3 receipts of the head of 2026-11-28 with 4 entries, 3 of them refused", outcome(0, [b"close,,,,,,,,\n", *amends]))
@@ -466,7 +502,7 @@ class Command(InFolder):
         Path(own).write_bytes(data.replace(b",300,", b",301,"))
         self.assertIn("wrong: 2 receipts right; 1 receipt wrong; 1 difference from", self.verify(1, own, *words, head="x/head.json"))
         Path(own).write_bytes(data + data)
-        said = "right: 3 receipts of the head of 2026-11-28 with 4 entries; 3 more of the same entries\n"
+        said = "right: 3 receipts of the head of 2026-11-28 with 4 entries; 3 more of the same entries; as sent: 3 commands\n"
         self.assertEqual(self.verify(0, own, *words, head="x/head.json"), said)
         Path("mine.csv").write_bytes(b"close,,,,,,,,\n")
         self.verify(1, own, *words, head="x/head.json")
@@ -510,7 +546,10 @@ class Command(InFolder):
         Path("many.jsonl").write_bytes(b"\n" * 2_000_000)
         self.assertIn("more than 10,000 lines", self.verify(3, "many.jsonl"))
         Path("many.jsonl").write_bytes(b"{}\n" * 9_000)
-        self.assertEqual(len(self.verify(3, "many.jsonl").splitlines()), 2)
+        *named, more, last = self.verify(3, "many.jsonl").splitlines()
+        self.assertEqual(len(named), receipts.MOST_UNREAD)
+        self.assertEqual(more, f"many.jsonl: {9_000 - len(named)} more lines without a receipt")
+        self.assertEqual(last, "unread: 9000 lines unread; the head of 2026-11-28 with 94 entries")
 
     def test_salts_of_another_day(self):
         self.seal()

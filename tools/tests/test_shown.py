@@ -2,8 +2,11 @@
 orders that GUIDE.md quotes are in its journals."""
 
 import re
+import shutil
+import subprocess
 import tempfile
 import unittest
+from pathlib import Path
 
 import shown
 from support import TOP
@@ -34,6 +37,13 @@ class Shown(unittest.TestCase):
                     status, printed, said = shown.ran(folder, commands)
                     self.assertEqual((status, said), (0, ""))
                     self.assertEqual(printed, quoted or "")
+            self.check_ignored({path.name for path in Path(folder).iterdir() if not path.is_symlink()})
+
+    def check_ignored(self, names):
+        """Git ignores the files, among them a private key, that the commands write into the folder of a clone."""
+        if (TOP / ".git").exists() and shutil.which("git"):
+            words = ["git", "-C", TOP, "-c", "safe.directory=*", "check-ignore", "--no-index", *names]
+            self.assertEqual(set(subprocess.run(words, capture_output=True, text=True).stdout.split()), names)
 
     @NEEDS_CRYPTOGRAPHY
     @NEEDS_NUMPY
