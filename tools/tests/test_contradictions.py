@@ -8,6 +8,7 @@ from pathlib import Path
 from unittest import mock
 
 from signed import DAY, NEEDS_CRYPTOGRAPHY, InFolder, lines_of
+from support import TOP
 
 from lib import heads
 
@@ -294,6 +295,26 @@ class Contradictions(InFolder):
         _, last = self.told(1, "verify", "late.jsonl", "--head", "A.head", "--extension", "B.extension", "--sent", "late.csv", *own[2:], *KEYS)
         words = "wrong: 6 receipts right; 1 receipt contrary to the published head; as sent: 7 commands; the head of 2026-11-28 with 6 entries"
         self.assertEqual(last, words)
+
+    def test_the_guides_words_of_evidence(self):
+        """A line has each of them, if a file contradicts another one."""
+        self.run_tool(0, "keys", "new.pem")
+        for name, key, more in (("periods", self.key, {"periods": 96}), ("keys", signing.private(Path("new.pem").read_bytes()), {})):
+            _, signed = grown(key, [100] * 9, (9,), **more)
+            Path(f"{name}.head").write_bytes(heads.line(signed[9]))
+        seal, signed = grown(self.key, [100] * 7, (7,))
+        Path("again.jsonl").write_bytes(b"".join(lines_of(seal, signed[7])))
+        lines, _ = self.told(1, "verify", "A.receipts", "A2.receipts", "again.jsonl", "--head", "A.head", *KEYS)
+        for name in ("periods", "keys"):
+            lines += self.told(1, "heads", "A.head", f"{name}.head", *KEYS, "--key", "new.pem.pub")[0]
+        said = "\n".join(lines)
+        page = " ".join((TOP / "docs" / "GUIDE.md").read_text().split())
+        for words in ("the published head contradicts it", "the operator signed", "; and with another salt"):
+            self.assertIn(f"`{words}`", page)
+            self.assertIn(words, said)
+        self.assertIn("`the operator signed` with two trees, periods, keys, or entries of one number (`as ..; and as ..`", page)
+        for words in ("two trees of", r"\S+ with 96 periods, and with 24,", r"\S+ with new.pem.pub, and with key.pem.pub,", "entry 1 of .* as .*; and as "):
+            self.assertRegex(said, f"the operator signed {words}")
 
     def test_lines_that_are_no_receipts(self):
         """They are named, and the others are verified. If there is no other, nothing is said about the commands that were sent."""
