@@ -1,5 +1,6 @@
 """demo.py DAM-OFFICE: runs the demo of an installed office. As the participant GAS it enters an order, closes the day, and waits for the
-results, or for the line of the log that says why there are none. It prints what came of each step as JSON, and needs the module dam_tools."""
+results, or for the line of the log that says why there are none. It prints what came of each step as JSON. It needs the module
+dam_tools."""
 
 import contextlib
 import json
@@ -9,6 +10,7 @@ import signal
 import subprocess
 import sys
 import tempfile
+import threading
 import time
 import urllib.request
 
@@ -17,6 +19,7 @@ from dam_tools.office import Asked, Office, OfficeFault
 ORDER = "submit,GAS,UNIT-8,hour,sell,6000,8:500,,"
 PATHS = ("/", "/office.css", "/office.js", "/openapi.json")
 SECONDS, STEP = 60, 0.05
+MOST_SECONDS = 150  # after which the office is ended, whatever it does
 
 
 def programs(parent):
@@ -73,12 +76,16 @@ def main(command):
     with tempfile.TemporaryFile("w+") as log:
         words = [command, "demo", "--no-browser", "--port", "0"]
         with subprocess.Popen(words, stdout=subprocess.PIPE, stderr=log, text=True) as process:
+            timer = threading.Timer(MOST_SECONDS, process.kill)
+            timer.start()
             try:
                 told = seen(process, log)
             except (OfficeFault, OSError) as fault:
                 told = {"fault": str(fault)}
             finally:
                 process.send_signal(signal.SIGINT)
+                process.wait()
+                timer.cancel()
         print(json.dumps({**told, "status": process.returncode, "log": text_of(log)[-2_000:]}))
 
 
