@@ -202,6 +202,15 @@ def demo(args, counts):
         finally:
             process.send_signal(signal.SIGINT)
     counts.check("a demo ends at Ctrl-C", process.returncode == 0)
+    words = [*TOOL, "demo", "--no-browser", "--dam", args.dam, "--desk", "/bin/false"]
+    with subprocess.Popen(words, stdout=subprocess.DEVNULL, stderr=subprocess.PIPE, text=True) as process:
+        said = next((line for line in process.stderr if "desk ended" in line), "")
+        process.send_signal(signal.SIGINT)
+        try:
+            process.communicate(timeout=20)
+        except subprocess.TimeoutExpired:
+            process.kill()
+    counts.check(f"a demo whose desk doesn't open ends at Ctrl-C: {said}", said and process.returncode == 0)
 
 
 def check_published(args, counts, office):

@@ -132,9 +132,15 @@ async def serve(office, host, port, tls=None, behind_proxy=False, demo=None, sta
             raise command.Stop(f"can't listen at {host} port {port}: {fault.strerror}") from None
         port = runner.addresses[0][1]
         office.log.write("serving", host=host, port=port, tls=tls is not None)
-        if started:
-            await started(port)
         waits = asyncio.create_task(stopped.wait())
+        if started:
+            # a signal ends it too, if no desk opens
+            starts = asyncio.create_task(started(port))
+            await asyncio.wait({waits, days, starts}, return_when=asyncio.FIRST_COMPLETED)
+            if not starts.done():
+                starts.cancel()
+            else:
+                starts.result()
         await asyncio.wait({waits, days}, return_when=asyncio.FIRST_COMPLETED)
         waits.cancel()
     finally:
