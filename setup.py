@@ -16,8 +16,8 @@ except ImportError:
 TOP = os.path.dirname(os.path.abspath(__file__))
 sys.path.insert(0, f"{TOP}/tools")
 
-from lib import sources
-from lib.place import TOOLS
+from lib.crates import sources
+from lib.base.place import TOOLS
 
 LIBRARY = f"{TOP}/library/out/libdam.so.1"
 HAS_LIBRARY = sources.fault(LIBRARY, sources.LIBRARY) is None

@@ -14,7 +14,7 @@ from typing import NamedTuple
 
 sys.path.insert(0, str(Path(__file__).resolve().parent.parent / "tools"))
 
-from lib import command
+from lib.tool import command
 
 DAM = os.environ.get("DAM", "../crates/dam_cli/out/dam_cli")
 MEASURES = "out/measures"

@@ -3,7 +3,7 @@
 welfare of a journal's blocks. PEER is `highs`, which scipy has in it, or `cbc`, Debian's coinor-cbc with its usual cuts. Prints the
 welfare, and on standard error the nanoseconds that the solver took; or prints `gave up`, or `missing: PACKAGE`.
 
-Both get the program of tools/lib/solver.py. It has the executions of the hourly orders, the balance of each period, blocks that are
+Both get the program of tools/lib/audit/solver.py. It has the executions of the hourly orders, the balance of each period, blocks that are
 accepted as a whole or not at all, links and groups, and prices that support the executions, at which no accepted block loses, unless its
 descendants make up for that. It doesn't have the rule that chooses among supporting prices, nor the rule on ties. So a solver is asked
 again without each selection that isn't eligible, and its answer may be another selection of the same welfare than that of `dam`."""
@@ -19,7 +19,9 @@ from pathlib import Path
 sys.dont_write_bytecode = True
 sys.path.insert(0, str(Path(__file__).resolve().parent.parent / "tools"))
 
-from lib import book, command, journal, selection
+from lib.journal import book, journal
+from lib.results import selection
+from lib.tool import command
 
 PACKAGES = {"highs": "python3-scipy", "cbc": "coinor-cbc"}
 OPTIONS = ["-ratioGap", "0", "-allowableGap", "0"]
@@ -125,7 +127,7 @@ def main():
     if lacking := missing(peer):
         print(f"missing: {lacking}")
         return
-    from lib import solver
+    from lib.audit import solver
 
     closed, _ = book.run(journal.read_journal(Path(path).read_bytes()))
     problem = selection.Problem(closed)

@@ -10,7 +10,8 @@ from aiohttp import web
 
 sys.path.insert(0, str(Path(__file__).resolve().parent.parent / "tools"))
 
-from lib import book, heads
+from lib.journal import book
+from lib.seal import heads
 
 TABLE = "CREATE TABLE entries (entry INTEGER PRIMARY KEY, who TEXT, number INTEGER, record TEXT, reply TEXT, UNIQUE (who, number))"
 

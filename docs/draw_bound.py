@@ -14,7 +14,8 @@ TOP = Path(__file__).resolve().parent.parent
 sys.dont_write_bytecode = True
 sys.path.insert(0, str(TOP / "tools"))
 
-from lib import book, journal, period, selection
+from lib.journal import book, journal
+from lib.results import period, selection
 
 
 def problem():
@@ -149,7 +150,7 @@ def draw_tree(axes, found, least, pictures):
 
 
 def figure():
-    from lib import pictures
+    from lib.pictures import pictures
 
     day = problem()
     prices = prices_of(day)
@@ -166,6 +167,6 @@ def figure():
 
 
 if __name__ == "__main__":
-    from lib import pictures
+    from lib.pictures import pictures
 
     sys.stdout.buffer.write(pictures.picture(figure(), "svg"))

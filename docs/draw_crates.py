@@ -11,7 +11,7 @@ TOP = Path(__file__).resolve().parent.parent
 sys.dont_write_bytecode = True
 sys.path.insert(0, str(TOP / "tools"))
 
-from lib import crates
+from lib.crates import crates
 
 WIDTH, HEIGHT, PASSAGE, ACROSS, DOWN, EDGE = 116, 30, 10, 16, 40, 12
 SWEEPS = 8  # over the rows, in turn from the bottom up and from the top down

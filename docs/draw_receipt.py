@@ -7,7 +7,7 @@ from pathlib import Path
 sys.dont_write_bytecode = True
 sys.path.insert(0, str(Path(__file__).resolve().parent.parent / "tools"))
 
-from lib import merkle
+from lib.seal import merkle
 
 ENTRIES, OWN = 11, 7
 WIDTH, HEIGHT, ACROSS, DOWN, EDGE, LEFT = 38, 24, 54, 52, 12, 74

@@ -13,7 +13,11 @@ TOP = Path(__file__).resolve().parent.parent
 sys.dont_write_bytecode = True
 sys.path.insert(0, str(TOP / "tools"))
 
-from lib import best, book, command, journal, rules, selection, text
+from lib.audit import best
+from lib.base import rules, text
+from lib.journal import book, journal
+from lib.results import selection
+from lib.tool import command
 
 BLOCK = "COAL", "UNIT-7"
 LEFT = 0.6  # where the bars of the selections begin, so that one selection is seen
@@ -130,7 +134,7 @@ def say_selections(day):
 
 def draw_effect(day):
     """The prices of the block's periods without it and with it, and its limit."""
-    from lib import pictures
+    from lib.pictures import pictures
 
     found = effect(day, counted(day)[1])
     edges = [found.periods[0] - 1, *found.periods]
@@ -151,7 +155,7 @@ def draw_effect(day):
 
 def draw_selections(day):
     """How many selections each rule leaves, as bars on a logarithmic scale."""
-    from lib import pictures
+    from lib.pictures import pictures
 
     rows = list(steps(counted(day)[0]))
     with pictures.matplotlib.rc_context({**pictures.STYLE, "axes.grid": False}):
@@ -183,7 +187,7 @@ def main():
         print(*say(problem()), sep="\n")
         return
     command.need("matplotlib")
-    from lib import pictures
+    from lib.pictures import pictures
 
     sys.stdout.buffer.write(pictures.picture(draw(problem()), "svg"))
 

@@ -15,7 +15,8 @@ import tarfile
 import zlib
 from typing import NamedTuple
 
-from lib import command, text
+from lib.base import text
+from lib.tool import command
 
 from . import clone as made_of
 from .tree import PROVENANCE

@@ -8,8 +8,9 @@ import shutil
 import subprocess
 from pathlib import Path
 
-from lib import command, sources
-from lib.rules import VERSION
+from lib.crates import sources
+from lib.tool import command
+from lib.base.rules import VERSION
 
 TOP = Path(sources.TOP)
 PROGRAM, DESK = "crates/dam_cli/out/dam_cli", "crates/dam_desk/out/dam_desk"

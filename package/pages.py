@@ -5,8 +5,8 @@ import re
 import subprocess
 import textwrap
 
-from lib import command
-from lib.place import TOOLS
+from lib.tool import command
+from lib.base.place import TOOLS
 
 from .clone import TOP, environment
 

@@ -6,8 +6,8 @@ import re
 import subprocess
 from pathlib import Path
 
-from lib.place import TOOLS
-from lib.sources import sum_of_file
+from lib.base.place import TOOLS
+from lib.crates.sources import sum_of_file
 
 from . import changelog, pages
 from . import clone as made_of

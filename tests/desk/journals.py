@@ -10,7 +10,7 @@ TOP = Path(__file__).resolve().parents[2]
 sys.path[:0] = [str(TOP / "tests"), str(TOP / "tests" / "fuzz")]
 
 from shared.printed import Printed  # by which `lib` is found
-from lib import rules
+from lib.base import rules
 
 import days
 

@@ -17,7 +17,7 @@ from device import INPUT, SYNC
 from journals import CLOSE, rules
 
 import hostile  # of tests/fuzz
-from lib import journal as format_of
+from lib.journal import journal as format_of
 
 IN_USE = b"file: another process has it\n"
 LONGEST = 65_536  # bytes of a line

@@ -12,7 +12,10 @@ if sys.version_info < (3, 10):
 sys.path.insert(0, str(Path(__file__).resolve().parents[1]))
 
 from shared.printed import Printed, wrong_of_journal
-from lib import best, book, check, journal, results, rules, selection
+from lib.audit import best
+from lib.base import rules
+from lib.journal import book, journal
+from lib.results import check, results, selection
 
 # A program that tries all selections takes twice the time with each block.
 MOST_BLOCKS = 10

@@ -1,7 +1,7 @@
 """Random journals: days with hourly orders, blocks, links and groups, drawn so that prices and volumes meet, tie or reach
 their limits, with commands that the book refuses among them. All by docs/FORMATS.md, as lines of text."""
 
-from lib import rules
+from lib.base import rules
 
 PARTICIPANTS = ["A", "B", "NORD", "STADTWKE"]
 LIMITS = [rules.LEAST_PRICE, rules.LEAST_PRICE + 1, -1, 0, 1, rules.GREATEST_PRICE - 1, rules.GREATEST_PRICE]

@@ -28,7 +28,11 @@ sys.dont_write_bytecode = True
 
 import compare
 import days
-from lib import best, book, command, journal, kinds, results, selection, verdict
+from lib.audit import best, verdict
+from lib.journal import book, journal
+from lib.results import results, selection
+from lib.sheets import kinds
+from lib.tool import command
 from shared.counts import Counts
 
 MOST_BLOCKS = 6

@@ -12,7 +12,7 @@ sys.dont_write_bytecode = True
 
 import compare
 from shared.counts import Counts
-from lib import rules
+from lib.base import rules
 
 EXAMPLES = Path(__file__).resolve().parents[2] / "examples"
 

@@ -18,7 +18,9 @@ sys.dont_write_bytecode = True
 import compare
 import days
 from shared.counts import Counts
-from lib import book, check, rules, selection
+from lib.base import rules
+from lib.journal import book
+from lib.results import check, selection
 
 MOST_COMMANDS = rules.MOST_RECORDS - 1
 PARTICIPANTS = ["A", "BRAVO", "CHARLIE", "DELTA", "ECHO", "FOXTROT", "GOLF", "PARTICIP"]

@@ -2,7 +2,7 @@
 
 import re
 
-from lib import rules
+from lib.base import rules
 
 SPECIAL = [b",", b'"', b"\r", b"\n", b"\r\n", b";", b":", b"-", b"+", b"0", b" ", b"\t", b"\x00", b"\x7f", b"\x80", b"\xff"]  # fmt: skip
 NUMBER = re.compile(rb"-?[0-9]+")

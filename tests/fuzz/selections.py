@@ -1,5 +1,5 @@
 #!/usr/bin/env python3
-"""Runs the program on random days of up to 24 blocks, and tries every selection of each by `tools/lib/enumeration.py`.
+"""Runs the program on random days of up to 24 blocks, and tries every selection of each by `tools/lib/audit/enumeration.py`.
 
 The results that the program prints must be as the rules say, and no selection may be better. Then they are altered to those of an eligible
 selection that ranks below, the best one that differs in one block and what hangs on it; and the enumeration must find the program's
@@ -22,8 +22,11 @@ sys.path.insert(0, str(Path(__file__).resolve().parent))  # an isolated Python l
 import compare
 import days
 from shared.counts import Counts
-from lib import better, book, check, command, journal, results, selection
-from lib.progress import Progress
+from lib.audit import better
+from lib.journal import book, journal
+from lib.results import check, results, selection
+from lib.tool import command
+from lib.base.progress import Progress
 
 BENCH = Path(__file__).resolve().parents[2] / "bench"
 LEAST_BLOCKS, MOST_BLOCKS = 5, 24

@@ -16,7 +16,7 @@ import subprocess
 
 from again import REFUSALS
 from preload import Program, Refusal  # by which `lib` is found
-from lib import rules
+from lib.base import rules
 
 ORDERS = rules.MOST_HOURLY
 TIMES = 3  # names that collide take less than 3 times the instructions of others; with the fixed seed 50 times or more

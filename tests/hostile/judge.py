@@ -5,7 +5,8 @@ import threading
 
 from preload import Refusal
 from shared.printed import Printed, wrong_of_journal
-from lib import journal, results
+from lib.journal import journal
+from lib.results import results
 
 NOTHING_REFUSED = Refusal("memory")
 MACHINE = 4  # the status of a fault of the machine

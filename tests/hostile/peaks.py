@@ -8,7 +8,7 @@ ROOM is for a book at its limits, the journal of a day and the search, which tak
 
 from preload import Refusal  # by which `lib` is found
 from shared.printed import Printed
-from lib import rules
+from lib.base import rules
 
 TIMES, ROOM = 4, 8 << 20
 LONGEST = rules.MOST_BYTES

@@ -9,8 +9,9 @@ sys.path[:0] = [str(TESTS), str(TESTS / "fuzz")]
 
 import shared  # by which `lib` is found
 import days
-from lib import book, journal, rules
-from lib.journal import Close, Journal, Order, Submit
+from lib.base import rules
+from lib.journal import book, journal
+from lib.journal.journal import Close, Journal, Order, Submit
 
 MOST_BLOCKS = 8
 SPAN = rules.GREATEST_PRICE - rules.LEAST_PRICE

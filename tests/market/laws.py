@@ -5,7 +5,7 @@ import itertools
 from typing import NamedTuple
 
 import books
-from lib import rules
+from lib.base import rules
 
 
 class Printed(NamedTuple):

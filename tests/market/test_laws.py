@@ -7,8 +7,8 @@ import books
 import laws
 from books import Book, Row
 from laws import Printed
-from lib import rules
-from lib.journal import Order
+from lib.base import rules
+from lib.journal.journal import Order
 
 UNIT = Row("GEN", "UNIT", Order("block", "sell", 4_000, ((1, 20),)))
 START = Row("GAS", "START", Order("block", "sell", 3_000, ((1, 10),)))

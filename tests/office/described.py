@@ -8,7 +8,8 @@ import time
 
 from served import TOP
 
-from lib import heads, rules
+from lib.base import rules
+from lib.seal import heads
 
 API = json.loads((TOP / "tools" / "lib" / "office" / "openapi.json").read_text())
 RANDOM = 60  # requests of a day

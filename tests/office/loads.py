@@ -8,7 +8,7 @@ import time
 
 from served import OfficeFault
 
-from lib import heads, merkle, signing
+from lib.seal import heads, merkle, signing
 
 
 def record(rng, who, number, live):

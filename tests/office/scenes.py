@@ -16,7 +16,8 @@ import loads
 from served import TOOL, TOP, OfficeFault, free_port, served
 
 from dam_tools.office import Asked, Office
-from lib import heads, rules, signing
+from lib.base import rules
+from lib.seal import heads, signing
 
 KILLS, ALL_KILLS = 3, 30
 CONNECTIONS = 50  # of a load, each of a participant

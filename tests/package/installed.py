@@ -8,7 +8,7 @@ import subprocess
 import tempfile
 from pathlib import Path
 
-from lib.rules import VERSION
+from lib.base.rules import VERSION
 
 TOP = Path(__file__).resolve().parents[2]
 RESULTS, DEMO = TOP / "tests/cases/sunny-day.stdout", TOP / "tests/package/demo.py"

@@ -2,7 +2,7 @@
 
 from typing import NamedTuple
 
-from lib import journal
+from lib.journal import journal
 
 
 class Printed(NamedTuple):

@@ -50,11 +50,14 @@ from .checks import (
     whatif_limit,
 )
 from .given import JournalSource, Source, as_faults, as_journal, bytes_of, is_text, read_journal, text_of
-from .lib import book, command, engine, journal, order_table, shapes, tables
-from .lib.command import Day
-from .lib.engine import Fault, TimedOut, where
-from .lib.journal import Journal
-from .lib.rules import VERSION as __version__
+from .lib.journal import book, journal
+from .lib.runs import engine
+from .lib.sheets import order_table, shapes, tables
+from .lib.tool import command
+from .lib.tool.command import Day
+from .lib.runs.engine import Fault, TimedOut, where
+from .lib.journal.journal import Journal
+from .lib.base.rules import VERSION as __version__
 
 __all__ = [
     "Audit",

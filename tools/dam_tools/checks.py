@@ -7,12 +7,16 @@ import types
 from dataclasses import dataclass
 
 from .given import JournalSource, Source, as_faults, as_journal, bytes_of, name_of, text_of
-from .lib import best as best_of
-from .lib import better, changes, command, limits, linted, selection, shapes, verdict, whatif
-from .lib import lint as lint_of
-from .lib.command import Day
-from .lib.engine import Fault
-from .lib.journal import Journal
+from .lib.audit import best as best_of
+from .lib.audit import better, verdict
+from .lib.results import selection
+from .lib.sheets import shapes
+from .lib.tool import command, linted
+from .lib.whatif import changes, limits, whatif
+from .lib.lint import lint as lint_of
+from .lib.tool.command import Day
+from .lib.runs.engine import Fault
+from .lib.journal.journal import Journal
 
 
 @dataclass(frozen=True)

@@ -7,9 +7,11 @@ import os
 from collections.abc import Iterator
 from pathlib import Path
 
-from .lib import command, journal, order_table, shapes
-from .lib.engine import Fault
-from .lib.journal import Journal
+from .lib.journal import journal
+from .lib.sheets import order_table, shapes
+from .lib.tool import command
+from .lib.runs.engine import Fault
+from .lib.journal.journal import Journal
 
 REFUSED = 1  # the program's status for a text that it doesn't take
 Source = str | os.PathLike[str] | bytes

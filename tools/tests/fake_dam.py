@@ -12,7 +12,9 @@ import support  # noqa: F401 (it makes lib and the fuzzer's modules found)
 
 import compare
 from shared.printed import Printed, by_participant
-from lib import book, journal, results, rules, selection
+from lib.base import rules
+from lib.journal import book, journal
+from lib.results import results, selection
 
 # The price of a period without orders, and its line.
 MIDDLE = (rules.LEAST_PRICE + rules.GREATEST_PRICE) // 2

@@ -4,8 +4,8 @@ on prices."""
 
 import itertools
 
-from lib.rules import GREATEST_PRICE as GREATEST
-from lib.rules import LEAST_PRICE as LEAST
+from lib.base.rules import GREATEST_PRICE as GREATEST
+from lib.base.rules import LEAST_PRICE as LEAST
 
 
 class Plain:

@@ -11,7 +11,7 @@ from pathlib import Path
 
 from support import TOP
 
-from lib import engine
+from lib.runs import engine
 
 BLOCK = re.compile(r"^```(\w+)\n(.*?)^```$", re.MULTILINE | re.DOTALL)
 SHOWN = re.compile(r"^```sh\n(.*?)^```\n\n```text\n(.*?)^```$", re.MULTILINE | re.DOTALL)

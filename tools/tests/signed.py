@@ -8,10 +8,13 @@ from unittest import mock
 
 from support import AUCTION, AUCTION_RESULTS, tool
 
-from lib import book, command, heads, journal
+from lib.journal import book, journal
+from lib.seal import heads
+from lib.tool import command
 
 try:
-    from lib import receipts, sealing, signing
+    from lib.receipts import receipts
+    from lib.seal import sealing, signing
 except ImportError:  # without python3-cryptography
     signing = None
 

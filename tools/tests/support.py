@@ -18,7 +18,9 @@ sys.path[:0] = [str(TOOLS), str(TOP / "tests" / "fuzz")]
 
 import compare
 import days
-from lib import book, command, journal, results, selection
+from lib.journal import book, journal
+from lib.results import results, selection
+from lib.tool import command
 from shared import cases as worked
 
 SECONDS = 300  # that a run may take
@@ -122,7 +124,7 @@ def tool(name, *words, data=b"", python=None):
 def load(name):
     """Loads the packages that a tool needs, for all runs of it."""
     if name in ("plot", "report") and command.has("matplotlib") and command.has("jinja2"):
-        importlib.import_module("lib.page")
+        importlib.import_module("lib.report.page")
 
 
 def copied(path, words, data=b""):

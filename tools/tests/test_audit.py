@@ -16,9 +16,14 @@ import support
 from support import AUCTION, AUCTION_RESULTS, audit, cleared_cases, journal_of, printed, problem, ranked, results_of, small_problems, tool
 
 import days
-from lib import best, book, check, command, journal, period, results, rules, selection, sheets, tables, verdict
-from lib.progress import Progress
-from lib.text import exact_euros
+from lib.audit import best, verdict
+from lib.base import rules
+from lib.journal import book, journal
+from lib.results import check, period, results, selection
+from lib.sheets import sheets, tables
+from lib.tool import command
+from lib.base.progress import Progress
+from lib.base.text import exact_euros
 
 NOT_COMPARED = f"{verdict.NOT_COMPARED}\n"
 NUMBER = re.compile(rb"(?<=,)-?\d+(?=[,\n])")
@@ -164,7 +169,7 @@ class Text(unittest.TestCase):
             return b"", f"{fault}\n".encode()
 
     def test_records(self):
-        from lib.text import records
+        from lib.base.text import records
 
         for given, wanted in {
             b"": [],
@@ -187,7 +192,7 @@ class Text(unittest.TestCase):
                 self.assertEqual(list(records(given)), wanted)
 
     def test_where_records_and_open_quotes_begin(self):
-        from lib.text import open_quote, placed_records
+        from lib.base.text import open_quote, placed_records
 
         text = b'\r\na,b\r\n\n"c""\n";d\re,"f'
         self.assertEqual(list(placed_records(text)), [(2, [b"a", b"b"]), (8, [b'c"\n;d']), (17, [b"e", b"f"])])
@@ -293,7 +298,7 @@ class Best(unittest.TestCase):
     def test_highs(self):
         if not command.has("scipy"):
             self.skipTest("scipy is missing (Debian's python3-scipy)")
-        from lib import solver
+        from lib.audit import solver
 
         tried = 0
         for day, selections in [*small_problems(80), *self.equal_prices()]:
@@ -448,7 +453,7 @@ class CommandLine(unittest.TestCase):
 
     @unittest.skipUnless(command.has("scipy"), "scipy is missing (Debian's python3-scipy)")
     def test_the_words_for_what_highs_offers(self):
-        from lib import solver
+        from lib.audit import solver
 
         day = problem(AUCTION.read_bytes())
         accepted = frozenset(results.read_results(day, printed(AUCTION))[0].accepted)

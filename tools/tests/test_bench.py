@@ -17,7 +17,7 @@ from support import TOP, worked
 sys.path.insert(0, str(TOP / "bench"))
 import clearing
 import figures
-from lib import command
+from lib.tool import command
 
 PEER, THIN = TOP / "bench" / "peer.py", worked.named("thin")
 

@@ -10,11 +10,12 @@ from unittest import mock
 from signed import DAY, NEEDS_CRYPTOGRAPHY, InFolder, lines_of
 from support import TOP
 
-from lib import heads
+from lib.seal import heads
 
 try:
-    from lib import receipts, sealing, signing
-    from lib.contradictions import unsigned
+    from lib.receipts import receipts
+    from lib.seal import sealing, signing
+    from lib.receipts.contradictions import unsigned
 except ImportError:  # without python3-cryptography
     pass
 

@@ -14,7 +14,10 @@ from pathlib import Path
 
 from support import AUCTION, QUARTERS, TOOLS, printed, results_of, tool
 
-from lib import command, days, engine, record, text, verdict
+from lib.audit import days, verdict
+from lib.base import record, text
+from lib.runs import engine
+from lib.tool import command
 
 DATA, TEXT = AUCTION.read_bytes(), printed(AUCTION)
 

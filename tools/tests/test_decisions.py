@@ -6,7 +6,9 @@ import unittest
 
 from support import AUCTION, TOP, day_of, journal_of, printed, problem, results_of
 
-from lib import book, decisions, journal, selection, tables
+from lib.journal import book, journal
+from lib.results import decisions, selection
+from lib.sheets import tables
 from plain import Plain
 
 # Periods in which 50 MW are bought at 80 EUR, and offered at 60. Without a block the price is 70 EUR; with a selling one it is 60,

@@ -9,7 +9,10 @@ from pathlib import Path
 
 from support import TOP
 
-from lib import command, crates, merkle, selection
+from lib.crates import crates
+from lib.results import selection
+from lib.seal import merkle
+from lib.tool import command
 
 sys.path[:0] = [str(TOP / "docs"), str(TOP / "tests" / "desk")]
 import draw_bound
@@ -123,7 +126,7 @@ class Bound(unittest.TestCase):
 
     @NEEDS_MATPLOTLIB
     def test_what_the_picture_says(self):
-        from lib import pictures
+        from lib.pictures import pictures
 
         drawn = pictures.picture(draw_bound.figure(), "svg", words_as_text=True).decode()
         for words in ("COAL BASE", "gains at these prices", "of 8,191 nodes", "accepted (solid)"):
@@ -133,7 +136,7 @@ class Bound(unittest.TestCase):
 class Trust(unittest.TestCase):
     @NEEDS_MATPLOTLIB
     def test_what_the_pictures_say(self):
-        from lib import pictures
+        from lib.pictures import pictures
 
         day = draw_trust.problem()
         for draw, words in (draw_trust.draw_effect, ["hour 19", "its limit: 130"]), (draw_trust.draw_selections, ["4,096 ways", "207 of"]):

@@ -17,10 +17,11 @@ from unittest import mock
 
 from support import AUCTION, AUCTION_RESULTS, TOOLS, heed_interrupts, journal_of, results_of
 
-from lib import aside, command
-from lib.progress import Progress
+from lib.base import aside
+from lib.tool import command
+from lib.base.progress import Progress
 
-RUN = "from lib import ending; ending.watch('audit'); from lib import command; command.run('audit', lambda: CALL)"
+RUN = "from lib.base import ending; ending.watch('audit'); from lib.tool import command; command.run('audit', lambda: CALL)"
 SECONDS = 60
 PACKAGES = {"audit": [], "lint": [], "plot": ["matplotlib"], "report": ["matplotlib", "jinja2"], "table": []}
 
@@ -107,12 +108,12 @@ class Failing(unittest.TestCase):
                 self.assertEqual((status, out.count(b"\n"), err), (command.FAULTY, 9_002, ""))
 
     def test_a_failed_import(self):
-        run = "import sys; from lib import ending; ending.watch('lint'); raise MemoryError"
+        run = "import sys; from lib.base import ending; ending.watch('lint'); raise MemoryError"
         ran = subprocess.run([sys.executable, "-B", "-c", run], cwd=TOOLS, capture_output=True, text=True)
         self.assertEqual((ran.returncode, ran.stderr), (command.FAILED, "lint: out of memory\n"))
         for name in PACKAGES:
             text = (TOOLS / name).read_text()
-            self.assertIn(f'from lib import ending\n\nending.watch("{name}")\n\n', text)
+            self.assertIn(f'from lib.base import ending\n\nending.watch("{name}")\n\n', text)
 
 
 class Interrupted(unittest.TestCase):
@@ -157,7 +158,7 @@ class Interrupted(unittest.TestCase):
         """As HiGHS does; its process ends with the tool."""
         call = "lambda tell: (tell(str(os.getpid())), ctypes.PyDLL(None).sleep(600))"
         shown = "type('', (), {'look': lambda self, words: print(words, flush=True), 'end': lambda self: None})()"
-        main = f"import ctypes, os; from lib import aside, command; command.run('audit', lambda: aside.answer({call}, {shown}, ''))"
+        main = f"import ctypes, os; from lib.base import aside; from lib.tool import command; command.run('audit', lambda: aside.answer({call}, {shown}, ''))"
         words = [sys.executable, "-B", "-c", main]
         running = subprocess.Popen(words, stdout=subprocess.PIPE, stderr=subprocess.PIPE, cwd=TOOLS, text=True)
         try:

@@ -9,8 +9,12 @@ from unittest import mock
 
 from support import TOP, audit, journal_of, problem, results_of, small_problems, tool
 
-from lib import best, book, command, journal, period, rules, selection
-from lib.progress import Progress
+from lib.audit import best
+from lib.base import rules
+from lib.journal import book, journal
+from lib.results import period, selection
+from lib.tool import command
+from lib.base.progress import Progress
 
 # Of this many days each kind that a test asks for comes up 15 times or more: with all of 20 seeds, so another draw in `days` does no harm.
 SMALL_DAYS = 400
@@ -104,7 +108,7 @@ class Blocks(unittest.TestCase):
 class Enumeration(unittest.TestCase):
     def better(self, day, accepted, welfare, few=1_024, **more):
         """`few` selections are looked at for every block's loss at once, and more of them for one block's at first."""
-        from lib import enumeration
+        from lib.audit import enumeration
 
         with mock.patch.object(enumeration, "FEW", few):
             return enumeration.better(day, frozenset(accepted), welfare, Progress("test", 600), **more)
@@ -138,7 +142,7 @@ class Enumeration(unittest.TestCase):
         self.assertGreater(min(found.values()), 5, found)
 
     def test_tables_of_a_period(self):
-        from lib import enumeration
+        from lib.audit import enumeration
 
         for number in range(300):
             rng = random.Random(number)
@@ -161,7 +165,7 @@ class Enumeration(unittest.TestCase):
 
     def test_sums_fit(self):
         """The sums of the fullest book are nearer to 0 than the number for a period that doesn't balance."""
-        from lib import enumeration
+        from lib.audit import enumeration
 
         volumes = rules.MOST_HOURLY + rules.MOST_BLOCKS * rules.GREATEST_PERIOD
         price = max(rules.GREATEST_PRICE, -rules.LEAST_PRICE)
@@ -187,7 +191,7 @@ class Enumeration(unittest.TestCase):
     def test_losses_of_each_block(self):
         """Of one block at a time, and of all at once, in each selection that links and groups admit and that balances."""
         import numpy
-        from lib import enumeration
+        from lib.audit import enumeration
 
         losing = rescued = 0
         for day, _ in small_problems(60):
@@ -209,7 +213,7 @@ class Enumeration(unittest.TestCase):
     def test_a_loss_of_one_is_a_loss(self):
         """Of a period at 50 cents with the block, the block asks 50 or 51; the welfare is greater with it."""
         import numpy
-        from lib import enumeration
+        from lib.audit import enumeration
 
         for few, (limit, accepted) in itertools.product((1, 1_024), ((50, frozenset({0})), (51, None))):
             hourly = ["submit,A,B,hour,buy,100,1:10,,", "submit,A,S1,hour,sell,40,1:9,,", "submit,A,S2,hour,sell,60,1:1,,"]
@@ -234,7 +238,7 @@ class Enumeration(unittest.TestCase):
     def test_time_is_over(self):
         day = problem(family("spread", "200"))
         with self.assertRaisesRegex(TimeoutError, "after 0 seconds, 0 of 0 selections have been tried"):
-            from lib import enumeration
+            from lib.audit import enumeration
 
             enumeration.better(day, frozenset(), selection.eligible(day, frozenset()), Progress("test", 0), jobs=2)
 
@@ -244,7 +248,7 @@ class CommandLine(unittest.TestCase):
     def test_a_better_selection_is_told(self):
         data = family("market", "200", "12")
         day = problem(data)
-        from lib import enumeration
+        from lib.audit import enumeration
 
         found, _ = enumeration.better(day, frozenset(), selection.eligible(day, frozenset()), Progress("test", 600))
         status, out, _ = audit(data, results_of(data, found.accepted), "--best", "--jobs", "2")

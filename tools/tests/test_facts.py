@@ -6,8 +6,9 @@ import unittest
 
 from support import TOP, loaded, worked
 
-from lib import engine, rules
-from lib.specs import Repository
+from lib.base import rules
+from lib.runs import engine
+from lib.crates.specs import Repository
 
 PAGES = [TOP / "README.md", TOP / "CHANGELOG.md", TOP / "library" / "dam.h", *sorted((TOP / "docs").glob("*.md"))]
 PAGES += sorted((TOP / "crates").glob("*/*.md"))
@@ -77,6 +78,15 @@ def plain(page):
 
 def found(number):
     return number and int(number.replace(",", ""))
+
+
+def imported(path):
+    """The modules of tools/lib that a file imports, all or in part."""
+    for node in ast.walk(ast.parse(path.read_text())):
+        if isinstance(node, ast.ImportFrom):
+            parts = (node.module or "").split(".")
+            outer = {0: 2, 1: 0, 2: 1}[node.level]  # how many parts name tools/lib and the package
+            yield from parts[outer : outer + 1] if parts[outer:] not in ([], [""]) else [name.name for name in node.names]
 
 
 class Facts(unittest.TestCase):
@@ -165,18 +175,16 @@ class Facts(unittest.TestCase):
         def lines(paths):
             return sum(len(path.read_text().splitlines()) for path in paths)
 
+        files = {path.stem: path for path in lib.glob("*/*.py") if path.stem != "__init__"}
         found, left = set(), [TOP / "tools" / "audit"]
         while left:
             path = left.pop()
             if path not in found:
                 found.add(path)
-                nodes = [node for node in ast.walk(ast.parse(path.read_text())) if isinstance(node, ast.ImportFrom)]
-                names = {name.name for node in nodes if node.module in ("lib", None) for name in node.names}
-                names |= {node.module.removeprefix("lib.") for node in nodes if node.module}
-                left += [each for each in (lib / f"{name}.py" for name in names) if each.exists()]
+                left += [files[name] for name in imported(path) if name in files]
         modules = re.findall(r"`(\w+)`", re.search(r"in `tools/lib/` the modules (.*?)\.", text)[1])
-        self.assertLessEqual({lib / f"{name}.py" for name in modules}, found)
-        for said, count in (r"some ([\d,]+) lines of Python", lines(found)), (r"some ([\d,]+) of these", lines(lib / f"{name}.py" for name in modules)):
+        self.assertLessEqual({files[name] for name in modules}, found)
+        for said, count in (r"some ([\d,]+) lines of Python", lines(found)), (r"some ([\d,]+) of these", lines(files[name] for name in modules)):
             with self.subTest(said):
                 self.assertAlmostEqual(int(re.search(said, text)[1].replace(",", "")) / count, 1, delta=0.1)
 

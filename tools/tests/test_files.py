@@ -16,7 +16,9 @@ from unittest import mock
 
 from support import AUCTION, AUCTION_RESULTS, TOOLS, printed, tool
 
-from lib import command, replacing, tables
+from lib.base import replacing
+from lib.sheets import tables
+from lib.tool import command
 
 PACKAGES = {"plot": ["matplotlib"], "report": ["matplotlib", "jinja2"], "table": []}
 MARK = b"\xef\xbb\xbf"

@@ -16,7 +16,8 @@ import compare
 import doctored
 import fake_dam
 from days import Profiles, hours_of
-from lib import command, rules
+from lib.base import rules
+from lib.tool import command
 
 
 def fake_program(folder, name):

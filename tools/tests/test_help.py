@@ -10,7 +10,8 @@ from pathlib import Path
 
 from support import TOP, tool
 
-from lib import command, engine
+from lib.runs import engine
+from lib.tool import command
 
 TOOLS = {"table": [], "lint": [], "plot": ["matplotlib"], "report": ["matplotlib", "jinja2"], "reading-list": [], "compare": []}
 TOOLS["receipts"] = ["cryptography"]

@@ -10,7 +10,8 @@ from unittest import mock
 
 from support import AUCTION, AUCTION_RESULTS, TOOLS, tool
 
-from lib import command, place
+from lib.base import place
+from lib.tool import command
 
 PACKAGES = ("jinja2", "matplotlib", "numpy", "openpyxl", "pandas", "scipy", "tqdm")
 # What a stranger may have put into the folder in which a tool is started.
@@ -42,7 +43,7 @@ class Isolation(unittest.TestCase):
 
     def test_the_scripts_of_the_launcher_start_too(self):
         self.assertEqual(self.ran("prove", "--help", **STRANGE)[::2], (0, b""))
-        sources = [sys.executable, "-I", "-B", TOOLS / "lib" / "sources.py", "dam_plan"]
+        sources = [sys.executable, "-I", "-B", TOOLS / "lib" / "crates" / "sources.py", "dam_plan"]
         self.assertEqual(subprocess.run(sources, cwd=self.folder, stdout=subprocess.DEVNULL).returncode, 0)
 
     @unittest.skipUnless(command.has("matplotlib"), "matplotlib is missing (Debian's python3-matplotlib)")
@@ -59,7 +60,7 @@ class Isolation(unittest.TestCase):
 
     def test_debians_python_is_asked_apart(self):
         """A Python that lacks packages asks Debian's for them; neither looks into the working folder."""
-        code = "import sys\nsys.path.insert(0, {tools!r})\nfrom lib import command\ncommand.is_debians = lambda: False\n"
+        code = "import sys\nsys.path.insert(0, {tools!r})\nfrom lib.tool import command\ncommand.is_debians = lambda: False\n"
         code += "print(command.elsewhere('json'), command.elsewhere('json', 'nosuch'), command.elsewhere('lib'))\n"
         path = self.folder.parent / f"{self.folder.name}-ask"
         path.write_text(code.format(tools=str(TOOLS)))

@@ -38,7 +38,7 @@ class Library(unittest.TestCase):
         sources = {
             "crates/dam_plan/src/plan.rt": rf"^pub const MOST_NODES: u32 = {number};$",
             "library/dam.h": rf"^#define DAM_MOST_NODES UINT32_C\({number}\)$",
-            "tools/lib/engine.py": rf"^MOST_NODES, MOST_ANSWER = {number}, ",
+            "tools/lib/runs/engine.py": rf"^MOST_NODES, MOST_ANSWER = {number}, ",
         }
         found = {path: re.findall(line, (TOP / path).read_text(), re.MULTILINE) for path, line in sources.items()}
         plan = int(found["crates/dam_plan/src/plan.rt"][0])

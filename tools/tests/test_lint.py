@@ -10,7 +10,10 @@ import support
 from support import AUCTION, AUCTION_RESULTS, FIRST, cases, journal_of, tool
 
 import days
-from lib import book, command, journal, lint, rules
+from lib.base import rules
+from lib.journal import book, journal
+from lib.lint import lint
+from lib.tool import command
 
 GOOD = b"day,24,,,,,,,\nsubmit,NORD,WIND-8,hour,sell,1200,8:450,,\nsubmit,GAS,UNIT-1,block,sell,6800,8:200;9:200,,\nclose,,,,,,,,\n"
 HOUR, BLOCK = GOOD.splitlines()[1:3]
@@ -286,7 +289,7 @@ class CommandLine(unittest.TestCase):
         said = "/nowhere/a.csv can't be read: No such file or directory"
         self.assertEqual((status, made["verdict"], made["message"], err), (command.NO_INPUT, "unread", said, f"lint: {said}\n"))
         self.assertEqual(made["inputs"], [{"role": "journal", "file": "/nowhere/a.csv", "bytes": None, "sha256": None}])
-        with unittest.mock.patch("lib.lint.faults", side_effect=MemoryError):
+        with unittest.mock.patch("lib.lint.lint.faults", side_effect=MemoryError):
             status, made, err = self.record(AUCTION)
         self.assertEqual((status, made["verdict"], made["message"], err), (command.FAILED, "failed", "out of memory", "lint: out of memory\n"))
 

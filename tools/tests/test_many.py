@@ -17,8 +17,8 @@ import support
 from support import AUCTION, FIRST, QUARTERS, journal_of, printed
 
 import dam_tools
-from dam_tools.lib import engine
-from lib import command
+from dam_tools.lib.runs import engine
+from lib.tool import command
 
 FAKE = Path(__file__).with_name("fake_dam.py")
 SECONDS = 30

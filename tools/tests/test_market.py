@@ -4,7 +4,10 @@ import re
 import unittest
 
 from support import TOP, cases, journal
-from lib import best, book, results, rules, selection
+from lib.audit import best
+from lib.base import rules
+from lib.journal import book
+from lib.results import results, selection
 
 PAGE = TOP / "docs" / "MARKET.md"
 MOST = 8_192  # bytes

@@ -4,7 +4,7 @@ import unittest
 
 import support  # noqa: F401  (the path of lib)
 
-from lib import merkle
+from lib.seal import merkle
 
 MOST = 300
 LEAVES = [merkle.leaf_hash(b"leaf %d" % number) for number in range(MOST)]

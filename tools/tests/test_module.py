@@ -18,8 +18,9 @@ import support
 from support import AUCTION, AUCTION_RESULTS, FIRST, TOP, printed
 
 import dam_tools
-from dam_tools.lib import engine
-from lib import command, shapes, sheets, tables
+from dam_tools.lib.runs import engine
+from lib.sheets import shapes, sheets, tables
+from lib.tool import command
 
 END = "is the first or the last day of the calendar: it should be another"
 FAKE = support.TOOLS / "tests" / "fake_dam.py"

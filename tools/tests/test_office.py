@@ -21,14 +21,18 @@ from unittest import mock
 from support import AUCTION, FIRST, TOOLS, tool
 
 from dam_tools import office as client
-from lib import book, command, heads, journal, merkle, rules, tables
+from lib.base import rules
+from lib.journal import book, journal
+from lib.seal import heads, merkle
+from lib.sheets import tables
+from lib.tool import command
 
 try:
     import aiohttp
     import jinja2
     from cryptography.exceptions import InvalidSignature
 
-    from lib import sealing, signing
+    from lib.seal import sealing, signing
     from lib.office import clearing, folder, gate, guards, observed, operate, requests, setup, tokens
     from lib.office import serve as serving
     from lib.office import tables as reader

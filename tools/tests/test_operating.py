@@ -12,7 +12,8 @@ from pathlib import Path
 
 from support import AUCTION, AUCTION_RESULTS, TOOLS, TOP, printed
 
-from lib import book, engine, journal
+from lib.journal import book, journal
+from lib.runs import engine
 
 FOLDER = TOP / "examples" / "operating"
 SCRIPT = FOLDER / "day.sh"

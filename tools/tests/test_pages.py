@@ -11,8 +11,8 @@ from pathlib import Path
 
 from support import AUCTION, AUCTION_RESULTS, SUNNY, TOP, book, journal, printed, selection, tool
 
-from lib import best
-from lib.specs import Repository
+from lib.audit import best
+from lib.crates.specs import Repository
 from shared.pages import links, prose
 
 CRATES = sorted(path for path in (TOP / "crates").iterdir() if (path / "src").is_dir())

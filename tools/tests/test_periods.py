@@ -4,7 +4,7 @@ import unittest
 
 import support  # noqa: F401 (it makes lib found)
 
-from lib import clock, rules, spans
+from lib.base import clock, rules, spans
 
 
 class Spans(unittest.TestCase):

@@ -8,7 +8,9 @@ from pathlib import Path
 import support
 from support import AUCTION, AUCTION_RESULTS, FIRST, QUARTERS, day_of, journal_of, results_of, tool
 
-from lib import command, rules, trades
+from lib.base import rules
+from lib.results import trades
+from lib.tool import command
 
 PICTURES = ["day", "prices", "blocks"]
 
@@ -43,7 +45,7 @@ class Missing(unittest.TestCase):
 @unittest.skipUnless(command.has("matplotlib"), "matplotlib is missing (Debian's python3-matplotlib)")
 class Pictures(unittest.TestCase):
     def test_days_with_little_in_them(self):
-        from lib import pictures
+        from lib.pictures import pictures
 
         few = ["empty", "buy-block", "too-large-block", "floor-of-negative"]
         for name, data, text in (case for case in support.cleared_cases() if case[0] in few):
@@ -55,7 +57,7 @@ class Pictures(unittest.TestCase):
                         self.assertIn(words, drawn)
 
     def test_what_the_pictures_of_the_auction_day_say(self):
-        from lib import pictures
+        from lib.pictures import pictures
 
         day = day_of(AUCTION.read_bytes(), support.printed(AUCTION))
         drawn = pictures.picture(pictures.day_picture(day), "svg", words_as_text=True).decode()
@@ -68,7 +70,7 @@ class Pictures(unittest.TestCase):
             self.assertIn(words, drawn)
 
     def test_what_the_pictures_of_a_quarter_hour_day_say(self):
-        from lib import pictures
+        from lib.pictures import pictures
 
         day = day_of(QUARTERS.read_bytes(), support.printed(QUARTERS))
         drawn = pictures.picture(pictures.day_picture(day), "svg", words_as_text=True).decode()
@@ -81,7 +83,7 @@ class Pictures(unittest.TestCase):
             self.assertIn(words, drawn)
 
     def test_periods_without_trade_do_not_set_the_scale(self):
-        from lib import pictures
+        from lib.pictures import pictures
 
         day = day_of(FIRST, results_of(FIRST, frozenset()))
         figure = pictures.prices_picture(day)
@@ -91,7 +93,7 @@ class Pictures(unittest.TestCase):
         self.assertEqual(drawn.count(">no trade<"), 2)
 
     def test_a_used_sheet_draws_what_a_new_one_does(self):
-        from lib import pictures
+        from lib.pictures import pictures
 
         data = journal_of("submit,A,B1,hour,buy,9000,8:8,,", "submit,B,S1,hour,sell,8000,8:8,,")
         auction = day_of(AUCTION.read_bytes(), support.printed(AUCTION))
@@ -105,7 +107,7 @@ class Pictures(unittest.TestCase):
                     self.assertEqual(pictures.picture(sheet.drawn(day, number), "svg", words_as_text), fresh, (number, width))
 
     def test_the_axes_of_small_volumes_and_of_no_orders(self):
-        from lib import pictures
+        from lib.pictures import pictures
 
         data = journal_of("submit,A,B1,hour,buy,9000,8:8,,", "submit,B,S1,hour,sell,8000,8:8,,")
         day = day_of(data, results_of(data, frozenset()))
@@ -121,7 +123,7 @@ class Pictures(unittest.TestCase):
         self.assertIn("no hourly orders", drawn)
 
     def test_links_groups_and_surpluses_of_blocks(self):
-        from lib import pictures
+        from lib.pictures import pictures
 
         day = day_of(AUCTION.read_bytes(), support.printed(AUCTION))
         for width in pictures.WIDTHS.values():
@@ -136,7 +138,7 @@ class Pictures(unittest.TestCase):
                 self.assertIn(words, drawn)
 
     def test_days_of_quarter_hours_have_no_outline_for_each_period(self):
-        from lib import pictures
+        from lib.pictures import pictures
 
         for case in (AUCTION, QUARTERS):
             day = day_of(case.read_bytes(), support.printed(case))
@@ -147,14 +149,14 @@ class Pictures(unittest.TestCase):
             self.assertEqual(len(pictures.blocks_picture(day).axes[0].patches), len(day.problem.blocks))
 
     def test_the_same_day_gives_the_same_bytes(self):
-        from lib import pictures
+        from lib.pictures import pictures
 
         day = day_of(AUCTION.read_bytes(), support.printed(AUCTION))
         one, other = (pictures.picture(pictures.day_picture(day), "svg") for _ in range(2))
         self.assertEqual(one, other)
 
     def test_what_matters_differs_in_lightness(self):
-        from lib.pictures import COLOURS
+        from lib.pictures.pictures import COLOURS
 
         def lightness(name):
             red, green, blue = (int(COLOURS[name][at : at + 2], 16) for at in (1, 3, 5))

@@ -7,7 +7,7 @@ from unittest import mock
 
 import support  # noqa: F401 (it makes lib found)
 
-from lib.progress import Bar, Progress
+from lib.base.progress import Bar, Progress
 
 
 class Terminal(io.StringIO):

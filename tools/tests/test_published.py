@@ -11,7 +11,10 @@ from fractions import Fraction
 import support
 from support import AUCTION, AUCTION_RESULTS, FIRST, QUARTERS, TOP, day_of, printed, results_of, tool
 
-from lib import clock, command, published, rules, shapes, sheets, tables, text, trades
+from lib.base import clock, rules, text
+from lib.results import published, trades
+from lib.sheets import shapes, sheets, tables
+from lib.tool import command
 
 PAGE = (TOP / "docs" / "TABLES.md").read_text()
 

@@ -8,7 +8,7 @@ from pathlib import Path
 
 from support import TOOLS, loaded, tool
 
-from lib import command
+from lib.tool import command
 
 CRATES = "upper: lower\nlower:\ndam_engines: upper lower\ndam_gate: lower\ndam_c: dam_engines\n"
 LIB = {"lower": ["Limits", "Sizes", "Unused"], "upper": ["Rule"], "dam_engines": ["Engine"]}

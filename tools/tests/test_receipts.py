@@ -18,13 +18,15 @@ from pathlib import Path
 from signed import DAY, NEEDS_CRYPTOGRAPHY, InFolder, lines_of, replies_of, sealed_of, verdict_of
 from support import AUCTION, FIRST, QUARTERS, SUNNY, TOOLS, TOP, tool
 
-from lib import book, heads, journal, merkle
+from lib.journal import book, journal
+from lib.seal import heads, merkle
 
 try:
     from cryptography.hazmat.primitives import serialization
     from cryptography.hazmat.primitives.asymmetric.ed25519 import Ed25519PrivateKey, Ed25519PublicKey
 
-    from lib import receipts, sealing, signing
+    from lib.receipts import receipts
+    from lib.seal import sealing, signing
 except ImportError:  # without python3-cryptography
     pass
 

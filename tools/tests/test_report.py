@@ -14,7 +14,8 @@ from pathlib import Path
 import support
 from support import AUCTION, AUCTION_RESULTS, FIRST, QUARTERS, SUNNY, day_of, journal_of, printed, results_of, tool
 
-from lib import command, trades
+from lib.results import trades
+from lib.tool import command
 
 # Elements that have no end.
 VOID = {"meta", "br", "use", "path", "rect", "stop", "line", "circle"}
@@ -76,7 +77,7 @@ class Trades(unittest.TestCase):
 
 @functools.lru_cache(maxsize=None)
 def made(data, text, curves):
-    from lib import page
+    from lib.report import page
 
     return page.page(day_of(data, text), "A <day> & its results", list(curves))
 
@@ -214,16 +215,16 @@ class Page(unittest.TestCase):
         """As the page of the day does, with amounts written alike."""
         day, whys = day_of(AUCTION.read_bytes(), printed(AUCTION)), []
         place = next(place for place, block in enumerate(day.problem.blocks) if block.name == "UNIT-7")
-        with unittest.mock.patch("lib.limits.of_rejected", lambda *_: {place: "With a limit of 92.00 EUR/MWh."}):
+        with unittest.mock.patch("lib.whatif.limits.of_rejected", lambda *_: {place: "With a limit of 92.00 EUR/MWh."}):
             for who in (None, "OLD"):
-                page = importlib.import_module("lib.page").page(day, "day", [], None, who)
+                page = importlib.import_module("lib.report.page").page(day, "day", [], None, who)
                 whys.append(re.search(r"[^>]*With a limit of 92.00 EUR/MWh[^<]*", page)[0].strip())
         self.assertEqual(whys[0], whys[1])
         self.assertIn("7,920.00 EUR", whys[0])
 
     def test_many_curves_are_the_same_as_few(self):
         """Several processes draw them, in their order."""
-        from lib import page
+        from lib.report import page
 
         day = day_of(QUARTERS.read_bytes(), printed(QUARTERS))
         numbers = list(range(60, 60 + page.FEW_CURVES + 2))
@@ -236,7 +237,7 @@ class Page(unittest.TestCase):
 
     def test_the_axis_is_cut_about_the_price(self):
         """The limits go from -40 to 3,000 EUR/MWh; those far from the price are said in words."""
-        from lib import pictures
+        from lib.pictures import pictures
 
         day = day_of(SUNNY.read_bytes(), printed(SUNNY))
         for number in (13, 20):

@@ -14,7 +14,11 @@ from pathlib import Path
 
 from support import AUCTION, TOOLS, journal_of, tool
 
-from lib import book, changes, cleared, command, engine, journal, rules, scenarios
+from lib.base import rules
+from lib.journal import book, journal
+from lib.runs import cleared, engine
+from lib.tool import command
+from lib.whatif import changes, scenarios
 
 HEADS = "scenario,participant,order,kind,side,price_eur_mwh,periods,volume_mw,parent,group\n"
 COMMANDS = HEADS.replace("scenario,", "scenario,what,")

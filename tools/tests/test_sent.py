@@ -10,7 +10,10 @@ from pathlib import Path
 from support import AUCTION, AUCTION_RESULTS, journal_of, printed, tool
 
 import days
-from lib import book, command, common, journal, rules, sent
+from lib.base import common, rules
+from lib.journal import book, journal
+from lib.lint import sent
+from lib.tool import command
 
 
 def audit(published, own, who="A", *words):

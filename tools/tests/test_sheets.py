@@ -8,7 +8,10 @@ from pathlib import Path
 
 from support import AUCTION, AUCTION_RESULTS, journal_of, printed, results_of, tool
 
-from lib import clock, command, journal, order_table, rules, sheets, text
+from lib.base import clock, rules, text
+from lib.journal import journal
+from lib.sheets import order_table, sheets
+from lib.tool import command
 
 HEADER = "participant,order,kind,side,price_eur_mwh,periods,volume_mw,parent,group"
 TEXTS = [AUCTION, AUCTION_RESULTS]

@@ -11,7 +11,9 @@ from pathlib import Path
 import shown
 from support import TOP
 
-from lib import book, command, engine, journal
+from lib.journal import book, journal
+from lib.runs import engine
+from lib.tool import command
 
 TRUST, GUIDE = TOP / "docs" / "TRUST.md", TOP / "docs" / "GUIDE.md"
 NUMBER = re.compile(r"(?<![\w.-])-?\d[\d,]*(?:\.\d+)?(?![\w-])")

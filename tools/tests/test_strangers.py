@@ -6,7 +6,7 @@ from pathlib import Path
 
 from support import AUCTION, printed, tool
 
-from lib import text
+from lib.base import text
 
 BAD = "\x1b[31m\x07\x9b2J\u202e\r\x00"
 HEADER = "participant,order,kind,side,price_eur_mwh,periods,volume_mw,parent,group"

@@ -7,7 +7,8 @@ import support
 from support import AUCTION, QUARTERS, audit, cleared_cases, journal_of, printed, problem, results_of
 from test_audit import changed_numbers
 
-from lib import command, results, sums, trades
+from lib.results import results, sums, trades
+from lib.tool import command
 
 # ONE's sell of period 1 sets its price, 40 EUR; the block K1 loses there, and its child K2 gains more in period 2.
 FAMILY = journal_of(

@@ -10,7 +10,10 @@ from pathlib import Path
 import support
 from support import AUCTION, AUCTION_RESULTS, FIRST, QUARTERS, QUARTERS_RESULTS, day_of, printed, results_of, tool
 
-from lib import book, command, journal, order_table, rules, sheets, tables, text
+from lib.base import rules, text
+from lib.journal import book, journal
+from lib.sheets import order_table, sheets, tables
+from lib.tool import command
 
 HEADER = "participant,order,kind,side,price_eur_mwh,periods,volume_mw,parent,group"
 HOUR = "NORD,WIND-8,hour,sell,12.5,8,45,,"

@@ -12,10 +12,13 @@ from unittest import mock
 from signed import DAY, NEEDS_CRYPTOGRAPHY, Audited, lines_of, replies_of, sealed_of
 from support import AUCTION, SUNNY, TOP, tool
 
-from lib import book, command, heads, journal
+from lib.journal import book, journal
+from lib.seal import heads
+from lib.tool import command
 
 try:
-    from lib import receipts, sealing, signing, under_head
+    from lib.receipts import receipts, under_head
+    from lib.seal import sealing, signing
 except ImportError:  # without python3-cryptography
     pass
 

@@ -14,7 +14,10 @@ from pathlib import Path
 
 from support import AUCTION, AUCTION_RESULTS, TOOLS, TOP, audit, cleared_cases, journal_of, printed, results_of, tool
 
-from lib import command, faults, rules, verdict
+from lib.audit import verdict
+from lib.base import rules
+from lib.results import faults
+from lib.tool import command
 
 DATA, TEXT = AUCTION.read_bytes(), printed(AUCTION)
 MARK = b"\xef\xbb\xbf"
@@ -112,7 +115,7 @@ class Record(unittest.TestCase):
         for kind, words in faults.KINDS.items():
             self.assertIn(f"| `{kind}` |", page)
             self.assertTrue(words)
-        source = "".join(path.read_text() for path in (TOP / "tools" / "lib").glob("*.py") if path.name != "faults.py")
+        source = "".join(path.read_text() for path in (TOP / "tools" / "lib").rglob("*.py") if path.name != "faults.py")
         for kind in faults.KINDS:
             self.assertIn(f'"{kind}"', source)
 
@@ -134,7 +137,7 @@ class Record(unittest.TestCase):
             made = json.loads(ran.stdout)
             self.assertEqual((ran.returncode, made["verdict"]), (command.FAILED, "failed"), files)
             self.assertEqual(ran.stderr.decode(), f"audit: {made['message']}\n")
-        run = "from lib import ending; ending.watch('audit'); from lib import record; raise MemoryError"
+        run = "from lib.base import ending; ending.watch('audit'); from lib.base import record; raise MemoryError"
         for more, keys in ([], {"verdict", "search", "inputs"}), (["--days", "x"], {"counts", "days"}), (["--days=x"], {"counts", "days"}):
             ran = subprocess.run([sys.executable, "-B", "-c", run, "--json", *more], cwd=TOOLS, capture_output=True)
             made = json.loads(ran.stdout)
@@ -190,7 +193,7 @@ class Version(unittest.TestCase):
         self.assertEqual(heads[0], rules.VERSION)
         text = (TOP / "pyproject.toml").read_text()
         self.assertIn('\ndynamic = ["version"]\n', text)
-        self.assertIn('\nversion = { attr = "tools.lib.rules.VERSION" }\n', text)
+        self.assertIn('\nversion = { attr = "tools.lib.base.rules.VERSION" }\n', text)
         for name in ("audit", "lint", "plot", "report", "table"):
             self.assertEqual(tool(name, "--version"), (0, f"{name} {rules.VERSION}\n".encode(), ""))
 

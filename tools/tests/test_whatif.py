@@ -19,7 +19,12 @@ import support
 from support import AUCTION, AUCTION_RESULTS, FIRST, QUARTERS, QUARTERS_RESULTS, journal_of, printed, tool
 
 import compare
-from lib import book, changes, cleared, command, engine, journal, limits, order_table, rules, scenarios, tables, text
+from lib.base import rules, text
+from lib.journal import book, journal
+from lib.runs import cleared, engine
+from lib.sheets import order_table, tables
+from lib.tool import command
+from lib.whatif import changes, limits, scenarios
 from test_many import ends
 
 FAKE = Path(__file__).with_name("fake_dam.py")

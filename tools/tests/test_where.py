@@ -14,7 +14,8 @@ from pathlib import Path
 from support import AUCTION, TOP
 
 import dam_tools
-from lib import command, place
+from lib.base import place
+from lib.tool import command
 
 CODE = "import dam_tools; print(*(dam_tools.where() or ['nothing']))"
 

@@ -11,8 +11,11 @@ from unittest import mock
 from support import AUCTION, tool
 
 import workbooks as made
-from lib import changes, command, engine, order_table, scenarios, sheets
-from lib.book import Book
+from lib.runs import engine
+from lib.sheets import order_table, sheets
+from lib.tool import command
+from lib.whatif import changes, scenarios
+from lib.journal.book import Book
 
 UP = "up to this line: delete those that it doesn't need"
 LIMITED = "the sheet has more than 300,000 cells before this one: delete those that the table doesn't need"

@@ -1,9 +1,10 @@
 """The auction office, which participants reach by HTTP: tools/office starts it.
 
 It judges nothing. The desk, a child process, keeps a day's journal on the disk and gives the book's reply to each command; `dam clear`
-clears the journal; tools/table says what became of each order; `lib.sealing` signs heads and makes receipts. Receipts, replay, clear and
-the audit show whether an office was right. These modules may import the standard library, aiohttp, cryptography (by `lib.signing`) and the
-other modules of `lib`, but none that judges a journal or draws; no module outside of this folder imports them, but tools/office.
+clears the journal; tools/table says what became of each order; `lib.seal` signs heads and makes receipts. Receipts, replay, clear and
+the audit show whether an office was right. Its modules draw nothing, and no module outside of this folder imports them, but tools/office.
+
+It may import: base, journal, lint, receipts, report, runs, seal, sheets, tool.
 
 | Module | What |
 |---|---|

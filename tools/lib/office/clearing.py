@@ -9,7 +9,8 @@ import re
 import sys
 import time
 
-from .. import heads, place, replacing, rules
+from ..base import place, replacing, rules
+from ..seal import heads
 from . import folder
 from .ledger import Contradiction
 

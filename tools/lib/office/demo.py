@@ -6,7 +6,8 @@ import datetime
 import tempfile
 import webbrowser
 
-from .. import command, heads
+from ..seal import heads
+from ..tool import command
 from . import folder, observed, setup, tokens
 from .serve import Office, serve
 

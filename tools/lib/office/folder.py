@@ -8,7 +8,9 @@ import os
 from pathlib import Path
 from typing import NamedTuple
 
-from .. import command, heads, replacing, rules, text
+from ..base import replacing, rules, text
+from ..seal import heads
+from ..tool import command
 
 KEY, PUBLIC, PARTICIPANTS, LOCK, DAYS = "operator.pem", "operator.pem.pub", "participants.json", "lock", "days"
 TERMS, SALTS, DESK = "terms.json", "salts.json", "desk"  # of a day; the last one is the desk's file
@@ -94,7 +96,8 @@ class Folder:
                 raise command.Stop(f"{command.shown(self.file(name))} can be read by others: chmod 600")
 
     def key(self):
-        from .. import receipts, signing
+        from ..receipts import receipts
+        from ..seal import signing
 
         return receipts.key_read(self.file(KEY), signing.private)
 

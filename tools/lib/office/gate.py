@@ -7,7 +7,7 @@ import time
 
 from . import clearing, folder
 from .desk import Desk, Ended
-from ..journal import Close, command_line
+from ..journal.journal import Close, command_line
 from .ledger import Contradiction, Ledger
 
 MOST_BATCH = 1_000  # records that the desk gets at once

@@ -3,7 +3,8 @@
 import asyncio
 import collections
 
-from .. import book, heads, journal, sealing, signing
+from ..journal import book, journal
+from ..seal import heads, sealing, signing
 
 
 class Contradiction(Exception):

@@ -5,7 +5,8 @@ import asyncio
 import datetime
 import time
 
-from .. import command, text
+from ..base import text
+from ..tool import command
 from . import folder, tokens
 from .desk import Ended, shown
 

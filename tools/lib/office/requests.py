@@ -3,7 +3,10 @@
 import json
 import re
 
-from .. import command_table, journal, lint, order_table, rules, text
+from ..base import rules, text
+from ..journal import journal
+from ..lint import lint
+from ..sheets import command_table, order_table
 from .folder import MOST_COMMANDS
 
 RECORDS, JSON = "text/csv", "application/json"

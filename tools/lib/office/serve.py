@@ -14,7 +14,8 @@ from typing import NamedTuple
 
 from aiohttp import web
 
-from .. import command, engine
+from ..runs import engine
+from ..tool import command
 from . import folder, guards, observed, tokens
 from .gate import Clock, Gate
 from .web import Web

@@ -8,7 +8,10 @@ import shutil
 import tempfile
 import zoneinfo
 
-from .. import command, heads, replacing, rules, sealing, shapes, signing, text
+from ..base import replacing, rules, text
+from ..seal import heads, sealing, signing
+from ..sheets import shapes
+from ..tool import command
 from . import folder, tokens
 
 CLOCK = re.compile(r"([01][0-9]|2[0-3]):[0-5][0-9]")

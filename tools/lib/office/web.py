@@ -12,7 +12,10 @@ from aiohttp import web
 
 from markupsafe import Markup
 
-from .. import book, clock, heads, style
+from ..base import clock
+from ..journal import book
+from ..report import style
+from ..seal import heads
 from . import folder, requests, tables
 from .gate import STOPPED, Refused
 from .guards import Buckets

@@ -1,0 +1,137 @@
+"""Whether a better selection of blocks exists, by trying all of them.
+
+The welfare and the price of a period come from a curve here, made once, not from `period`; a selection found to be better
+is checked again by the rules alone."""
+
+import itertools
+from bisect import bisect_left, bisect_right
+from typing import NamedTuple
+
+from ..base import rules
+from ..results import selection
+
+# This many blocks take some ten seconds, and each further one doubles the time.
+ENUMERABLE = 18
+STEP = 256  # selections from one look at the time to the next
+
+
+class Found(NamedTuple):
+    accepted: frozenset
+    welfare: int
+
+
+class Curve:
+    """The welfare and the price of a period's hourly orders by net volume.
+
+    If all buys and no sells are executed, the net volume is the greatest, and the welfare is the value of all buys. Each
+    tenth of a MW less comes from the cheapest order that is left: a sell that is executed, or a buy that no longer is. Of
+    these tenths by their limit, the last one taken and the next one have the ends of the supporting prices."""
+
+    def __init__(self, orders):
+        self.most = sum(volume for side, _, volume in orders if side == "buy")
+        self.value = sum(limit * volume for side, limit, volume in orders if side == "buy")
+        merged = {}
+        for _, limit, volume in orders:
+            merged[limit] = merged.get(limit, 0) + volume
+        self.limits = sorted(merged)
+        self.volumes = [merged[limit] for limit in self.limits]
+        self.ends = [0, *itertools.accumulate(self.volumes)]
+        costs = [limit * volume for limit, volume in zip(self.limits, self.volumes)]
+        self.costs = [0, *itertools.accumulate(costs)]
+        # The net volumes at which an execution balances.
+        self.least = self.most - self.ends[-1]
+
+    def welfare(self, net):
+        """None if no execution balances."""
+        taken = self.most - net
+        if not 0 <= taken <= self.ends[-1]:
+            return None
+        at = bisect_right(self.ends, taken) - 1
+        part = taken - self.ends[at]
+        return self.value - self.costs[at] - (part * self.limits[at] if part else 0)
+
+    def supporting(self, net):
+        """The ends of the supporting prices, if an execution balances."""
+        taken = self.most - net
+        low = self.limits[bisect_left(self.ends, taken) - 1] if taken else rules.LEAST_PRICE
+        high = self.limits[bisect_right(self.ends, taken) - 1] if taken < self.ends[-1] else rules.GREATEST_PRICE
+        return low, high
+
+
+def curves(problem):
+    return {number: Curve(orders) for number, orders in problem.orders.items()}
+
+
+class Search:
+    """Tries the selections that links and groups admit, those first that accept earlier blocks."""
+
+    def __init__(self, problem, progress=None):
+        self.problem, self.progress = problem, progress
+        self.curves = curves(problem)
+        self.group_of = {place: key for key, members in problem.groups().items() for place in members}
+        self.best = None
+        self.tried = 0
+
+    def run(self):
+        """The best selection."""
+        net = dict.fromkeys(self.curves, 0)
+        self.descend(0, frozenset(), {}, net, {number: curve.welfare(0) for number, curve in self.curves.items()}, 0)
+        return self.best
+
+    def descend(self, place, accepted, taken, net, worth, value):
+        """Tries the selections that accept these blocks before a place: `taken` are the groups that they use up, `net` and `worth` the net
+        volumes and welfares of the periods, `value` the welfare that the blocks themselves add."""
+        if place == len(self.problem.blocks):
+            self.look(accepted, net, worth, value)
+            return
+        order = self.problem.blocks[place].order
+        parent, group = self.problem.parents[place], self.group_of.get(place)
+        if (parent is None or parent in accepted) and group not in taken:
+            groups = taken if group is None else {**taken, group: place}
+            self.descend(place + 1, accepted | {place}, groups, *self.with_block(order, net, worth, value))
+        self.descend(place + 1, accepted, taken, net, worth, value)
+
+    def with_block(self, order, net, worth, value):
+        net, worth = dict(net), dict(worth)
+        for number, volume in selection.signed(order):
+            net[number] += volume
+            worth[number] = self.curves[number].welfare(net[number])
+            value -= order.price * volume
+        return net, worth, value
+
+    def look(self, accepted, net, worth, value):
+        """Keeps a selection if it is eligible and of greater welfare than those before."""
+        self.tried += 1
+        if self.progress and self.tried % STEP == 1:
+            self.progress.step(STEP)
+        if None in worth.values():
+            return
+        welfare = sum(worth.values()) + value
+        if self.best is not None and welfare <= self.best.welfare:
+            return
+        prices = {number: rules.price_between(*curve.supporting(net[number]))[0] for number, curve in self.curves.items()}
+        surpluses = [selection.surplus(block.order, prices) for block in self.problem.blocks]
+        if not selection.losing(self.problem, accepted, surpluses):
+            self.best = Found(accepted, welfare)
+
+
+def enumerate_all(problem, progress=None):
+    """The best selection, and how it was found."""
+    search = Search(problem, progress)
+    if progress:
+        progress.expect(2 ** len(problem.blocks))
+    best = search.run()
+    if selection.eligible(problem, best.accepted) != best.welfare:
+        raise AssertionError(f"the selection {sorted(best.accepted)} is not eligible with the welfare that the search gave it")
+    return best, tried(len(problem.blocks), search.tried)
+
+
+def tried(blocks, admitted, losing=0):
+    """How many selections were tried, and how many of them links and groups admit; and, if none is better, how many would be if none
+    of their blocks lost."""
+    if blocks == 0:
+        return "there is no block to select"
+    whole = f"each of {2**blocks:,} selections was tried"
+    if admitted < 2**blocks:
+        whole += f", of which links and groups admit {admitted:,}"
+    return whole + (f"; {losing:,} would be better if none of {'its' if losing == 1 else 'their'} blocks lost" if losing else "")

@@ -1,0 +1,270 @@
+"""The audit of many days: each in a process of its own, so that one which breaks, or takes all memory, doesn't end the rest."""
+
+import json
+import os
+import subprocess
+import sys
+import threading
+from pathlib import Path
+from typing import NamedTuple
+
+from ..base import ending, record, text
+from ..sheets import sheets
+from ..tool import command
+from . import verdict
+from ..runs.engine import Running
+from ..base.progress import Bar
+
+TOOL = Path(__file__).resolve().parents[2] / "audit"
+JOURNAL, RESULTS = ".csv", ".txt"
+NAME, COLUMNS = "day", ["journal", "results"]  # the columns of a manifest: the day's name, and those that it needs
+MOST_SHOWN = command.LONGEST_PATH + 200  # characters of the first fault, which may begin with a file's name
+# Of the statuses of the days, the first that one of them has is the status of all.
+WORST = [command.DIFFERS, command.FAILED, command.NO_INPUT, command.UNDECIDED, command.ENCODING]
+HEADS = ["day", "verdict", "periods", "hourly", "blocks", "accepted", "welfare, EUR", "refused", "faults", "seconds", "first fault"]
+TO_THE_RIGHT = {"periods", "hourly", "blocks", "accepted", "welfare, EUR", "refused", "faults", "seconds"}
+
+
+class Pair(NamedTuple):
+    """The files of a day; no results if the journal's file is the text of a day, or if they are missing."""
+
+    name: str
+    journal: Path
+    results: object
+    unread: object = None  # why they can't be read, if that is known beforehand
+    missing: object = None  # the message if there are no results, and the journal isn't the text of a day
+
+
+def pairs_of(place):
+    """The days of a folder, by name, or of a manifest, in its order. None of their files is read."""
+    path = Path(place)
+    try:
+        pairs = named_pairs(path) if path.is_dir() else list(listed_pairs(path))
+    except OSError as fault:
+        raise command.Stop(f"{command.shown(place)} can't be read: {fault.strerror}") from None
+    if not pairs:
+        raise command.Stop(f"{command.shown(place)} has no days: a day is NAME{JOURNAL} with its results NAME{RESULTS}")
+    return pairs
+
+
+def named_pairs(folder):
+    """Each journal of a folder with the results of the same name; results without a journal too. A suffix may have capital letters."""
+    found = {}
+    for path in sorted(folder.iterdir()):
+        key = path.stem, path.suffix.lower()
+        if key[1] in (JOURNAL, RESULTS):
+            if key in found:
+                raise command.Stop(f"{command.shown(found[key])} and {command.shown(path)} have one name: rename one of them")
+            found[key] = path
+    names = sorted({stem for stem, _ in found})
+    return [pair_of(name, *(found.get((name, suffix), folder / f"{name}{suffix}") for suffix in (JOURNAL, RESULTS))) for name in names]
+
+
+def pair_of(name, journal, published):
+    if os.path.lexists(published):
+        return Pair(name, journal, published, command.unread_file(journal) or command.unread_file(published), None)
+    return Pair(name, journal, None, command.unread_file(journal), f"{command.shown(published)} is missing")
+
+
+def listed_pairs(path):
+    """The pairs of a manifest: a table with the columns `journal` and `results`, whose files are sought from its own folder."""
+    try:
+        rows = sheets.text_rows(command.read_bytes(path))[0]
+    except sheets.Wrong as fault:
+        raise command.Stop(f"{command.shown(path)} isn't a table of days: {fault}") from None
+    heads = [cell.strip().lower() for cell in rows[0][1]] if rows else []
+    if not set(COLUMNS) <= set(heads):
+        raise command.Stop(f"{command.shown(path)} isn't a table of days: its first line should name the columns {', '.join(COLUMNS)}")
+    for name in (NAME, *COLUMNS):
+        if heads.count(name) > 1:
+            raise command.Stop(f"{command.shown(path)} isn't a table of days: its first line names the column {name} twice")
+    if not rows[1:]:
+        raise command.Stop(f"{command.shown(path)} has no days: it has no row below its header")
+    for line, row in rows[1:]:
+        yield listed_pair(path.parent, dict(zip(heads, (cell.strip() for cell in row))), extra_cells(line, row, heads))
+
+
+def extra_cells(line, row, heads):
+    """Why a row of a manifest can't be read, if it has cells in no named column. A name with a comma that isn't quoted is two cells."""
+    if len(row) > len(heads):
+        return f"line {line} of the table has {len(row)} cells, but the header has {len(heads)}"
+    unnamed = [f"line {line}, column {at}" for at, (head, cell) in enumerate(zip(heads, row), 1) if cell.strip() and not head]
+    return f"{unnamed[0]} of the table: its cell is in a column without a name" if unnamed else None
+
+
+def listed_pair(folder, cells, extra):
+    """The pair of a row of a manifest."""
+    journal, published = (folder / cells.get(name, "") for name in COLUMNS)
+    has_results = bool(cells.get("results"))
+    missing = None if has_results else f"its row names no results, and {command.shown(journal)} has no line 'results'"
+    unread = extra or unread_row(cells) or command.unread_file(journal) or (command.unread_file(published) if has_results else None)
+    return Pair(cells.get(NAME) or journal.stem, journal, published if has_results else None, unread, missing)
+
+
+def unread_row(cells):
+    """Why a row of a manifest names no files, if it names none."""
+    if not cells.get("journal"):
+        return "its row names no journal"
+    for name in COLUMNS:
+        if "\0" in cells.get(name, ""):
+            return f"the name {text.quoted(cells[name])} has a NUL"
+    return None
+
+
+def options_of(args):
+    """The options of the audit of each day."""
+    words = ["--best"] if args.best else []
+    words += ["--by", args.by] if args.by else []
+    return words + (["--seconds", str(args.seconds)] if args.seconds is not None else [])
+
+
+def file_name(path):
+    """The name of a file on the command line of a day; `-` alone would be standard input."""
+    return "./-" if str(path) == "-" else str(path)
+
+
+def audited(pair, options, running):
+    """The record of the audit of a day, also if the audit fails."""
+    if pair.unread is not None:
+        return failed(pair, command.NO_INPUT, pair.unread)
+    try:
+        return of_process(pair, *ran(pair, options, running))
+    except OSError as fault:
+        return failed(pair, command.FAILED, f"its process can't be started: {fault.strerror}")
+    except Exception as fault:
+        return failed(pair, command.FAILED, ending.words(fault))
+
+
+def ran(pair, options, running):
+    """The status of the process of a day, its output and its lines on standard error. Until it ends, it is among the `running`."""
+    files = [file_name(path) for path in (pair.journal, pair.results) if path is not None]
+    words = [sys.executable, os.fspath(TOOL), "--json", *options, "--", *files]
+    process = subprocess.Popen(words, stdin=subprocess.DEVNULL, stdout=subprocess.PIPE, stderr=subprocess.PIPE)
+    with running.holds(process):
+        out, err = process.communicate()
+    return process.returncode, out, err
+
+
+def of_process(pair, status, out, err):
+    """The record that the process of a day printed."""
+    try:
+        made = json.loads(out)
+        if made["status"] == status:
+            if pair.missing and made["message"] == command.no_results(pair.journal):
+                made["message"] = pair.missing
+            return {"name": pair.name, **made}
+    except (ValueError, KeyError, TypeError):
+        pass
+    said = err.decode(errors="replace").strip().splitlines()
+    how = said[-1] if said else f"its process ended with {status}"
+    return failed(pair, command.FAILED, how.removeprefix("audit: "))
+
+
+def failed(pair, status, message):
+    """A record of a day without a verdict, of which no file was read."""
+    files = [(role, file_name(path)) for role, path in (("journal", pair.journal), ("results", pair.results)) if path]
+    return {"name": pair.name, **record.unread(verdict.OF_STATUS[status], status, message, files)}
+
+
+class Work:
+    """The audits of all days, which threads take one by one. `records` has those that are made, in the order of the days."""
+
+    def __init__(self, pairs, options):
+        self.pairs, self.options, self.running = pairs, options, Running()
+        self.records, self.places = [None] * len(pairs), iter(range(len(pairs)))
+        self.lock, self.done = threading.Lock(), threading.Semaphore(0)
+
+    def next(self):
+        with self.lock:
+            return next(self.places, None)
+
+    def run(self):
+        """The work of a thread."""
+        while (at := self.next()) is not None:
+            try:
+                self.records[at] = audited(self.pairs[at], self.options, self.running)
+            except MemoryError:
+                pass  # it gets its record at the end
+            finally:
+                self.done.release()
+
+    def start(self, jobs):
+        """Starts threads, or fewer if memory is short, and does the work itself if there is none."""
+        for number in range(jobs):
+            try:
+                threading.Thread(target=self.run, daemon=True).start()
+            except RuntimeError:
+                if not number:
+                    self.run()
+                return
+
+    def end(self):
+        """No day is begun any more, and those that run end."""
+        with self.lock:
+            self.places = iter(())
+        self.running.end()
+
+
+def audit_all(pairs, options, jobs, bar):
+    """The records of all days, in their order."""
+    work = Work(pairs, options)
+    try:
+        work.start(jobs)
+        for _ in pairs:
+            work.done.acquire()
+            wrong = sum(made is not None and made["status"] == command.DIFFERS for made in work.records)
+            bar.step(1, f"{wrong} wrong" if wrong else "")
+    finally:
+        work.end()
+        bar.end()
+    return [made or failed(pair, command.FAILED, ending.words(MemoryError())) for pair, made in zip(pairs, work.records)]
+
+
+def cells(made):
+    """The row of a day."""
+    day, faults = made["day"] or {}, made["faults"]
+    words = faults[0]["words"].split("\n")[:1] if faults else (made["message"] or "").split("\n")
+    first = "; ".join(map(str.strip, words))
+    welfare = day.get("welfare_eur")
+    numbers = [day.get(name, "") for name in ("periods", "hourly_orders", "blocks", "accepted")]
+    shown = text.grouped(welfare) if welfare is not None else ""
+    ends = [day.get("refused", ""), len(faults), f"{made['seconds']:.1f}", text.safe(first, MOST_SHOWN)]
+    return [text.safe(made["name"]), made["verdict"], *numbers, shown, *ends]
+
+
+def total(records):
+    """The last row: how many days there are of each verdict, and the sums."""
+    told = ", ".join(f"{count} {kind}" for kind, count in record.counts(records).items() if count)
+
+    def summed(name):
+        return sum((made["day"] or {}).get(name, 0) for made in records)
+
+    sums = [summed(name) for name in ("hourly_orders", "blocks", "accepted")]
+    faults, seconds = sum(len(made["faults"]) for made in records), sum(made["seconds"] for made in records)
+    return [text.counted(len(records), "day"), told, "", *sums, "", summed("refused"), faults, f"{seconds:.1f}", ""]
+
+
+def aligned(rows):
+    """The lines of a table."""
+    rows = [[str(cell) for cell in row] for row in rows]
+    widths = [max(map(len, column)) for column in zip(*rows)]
+    for row in rows:
+        placed = [cell.rjust(width) if head in TO_THE_RIGHT else cell.ljust(width) for head, cell, width in zip(HEADS, row, widths)]
+        yield "  ".join(placed).rstrip()
+
+
+def table(records):
+    """The lines of the table of all days."""
+    return aligned([HEADS, *map(cells, records), total(records)])
+
+
+def status_of(records):
+    found = {made["status"] for made in records}
+    return next((status for status in WORST if status in found), command.DONE)
+
+
+def audit(args):
+    """The records of all days."""
+    pairs = pairs_of(args.days)
+    jobs = min(args.jobs or os.cpu_count() or 1, len(pairs))
+    return audit_all(pairs, options_of(args), jobs, Bar("audit", len(pairs), "days", args.quiet))

@@ -1,0 +1,329 @@
+"""Whether a better selection of blocks exists, by trying every one: for n blocks each of the 2^n, with no bound and no solver.
+
+A selection is a number of n bits, of which the first block has the highest: among selections of one welfare the greater number
+ranks above. Its high bits say in which row it stands, and its low bits say where. Links and groups among the low bits are looked
+at once, for all rows.
+
+In a period, each tenth of a MW that hourly orders take comes from the cheapest order left: a sell that is executed, or a buy that
+isn't. If they take none, all buys are executed and no sell; accepted buy blocks take more, and sell blocks less. So a period has
+one table, of the welfare of its hourly orders by the tenths taken, over all that its blocks can reach; and a selection's welfare
+is a sum of one number from each table, and of the worths of its blocks themselves.
+
+Only a selection that ranks above the published one is checked for a loss. A selection that is found is checked again by the rules alone.
+
+All numbers are whole, of 64 bits, which no sum exceeds (`greatest_sum`)."""
+
+import threading
+from concurrent.futures import ThreadPoolExecutor
+
+import numpy
+
+from ..base import rules
+from ..results import selection
+from .best import Curve, Found, tried
+
+LOW_BITS = 14
+# The welfare of a period that doesn't balance. It is so low that a sum with it is under every welfare, and 100 of it are a number.
+NEVER = -(2**56)
+# Selections that are looked at for the loss of one block, and of all, at once.
+BATCH, FEW = 2**14, 2**10
+
+
+def subset_sums(parts):
+    """The sum of each subset of these numbers, by the subset's number; the first part has the highest bit."""
+    sums = numpy.zeros(1, dtype=numpy.int64)
+    for part in reversed(parts):
+        sums = numpy.concatenate([sums, sums + part])
+    return sums
+
+
+class Period:
+    """The tables of a period, by how many tenths of a MW its hourly orders take."""
+
+    def __init__(self, orders, takes, low_bits):
+        """`takes` has the tenths that each block takes, if it is accepted; a sell's are under 0."""
+        self.curve = Curve(orders)
+        self.limits, self.ends, self.buys = self.curve.limits, self.curve.ends, self.curve.most
+        # The volumes that the blocks of high bits take, and the ones of low bits.
+        high_bits = len(takes) - low_bits
+        self.high, self.low = subset_sums(takes[:high_bits]), subset_sums(takes[high_bits:])
+        # The volume that the orders take in all, at least and at most; and the same for the selections that balance.
+        self.least = self.buys + int(self.high.min() + self.low.min())
+        self.most = self.buys + int(self.high.max() + self.low.max())
+        self.first, self.last = max(self.least, 0), min(self.most, self.ends[-1])
+        self.lock = threading.Lock()
+        self.coded = None
+
+    def worths(self):
+        """The welfare by the volume that is taken, from `least` to `most`."""
+        table = numpy.full(self.most - self.least + 1, NEVER, dtype=numpy.int64)
+        balanced = table[self.first - self.least : self.last - self.least + 1]
+        balanced[0] = self.curve.welfare(self.buys - self.first)
+        # The welfare that each further tenth adds.
+        counts = numpy.diff(numpy.clip(self.ends, self.first, self.last))
+        balanced[1:] = numpy.repeat(-numpy.array(self.limits, dtype=numpy.int64), counts)
+        numpy.cumsum(balanced, out=balanced)
+        return table
+
+    def prices(self, highs, lows):
+        """The period's price for each of these pairs of numbers of high and of low bits, for which it balances."""
+        with self.lock:
+            if self.coded is None:
+                self.coded = self.code_prices()
+        codes, prices = self.coded
+        taken = self.high.take(highs)
+        taken += self.low.take(lows)
+        taken += self.buys - self.first
+        return prices.take(codes.take(taken))
+
+    def code_prices(self):
+        """For each number of tenths from `first` to `last` the place of its price in a list, and that list.
+
+        The last tenth taken and the next one have the ends of the supporting prices. So the price changes only where the limits
+        of two orders meet, and there it is a price of its own."""
+        edges = [rules.LEAST_PRICE, *self.limits, rules.GREATEST_PRICE]
+        begins, prices = [], []
+        for place, end in enumerate(self.ends):
+            begins += [end, end + 1]
+            prices += [rules.price_between(edges[place], edges[place + 1])[0], edges[place + 1]]
+        counts = numpy.diff(numpy.clip(begins, self.first, self.last + 1))
+        there = numpy.flatnonzero(counts)
+        kind = numpy.uint8 if len(there) <= 256 else numpy.uint16
+        codes = numpy.repeat(numpy.arange(len(there), dtype=kind), counts[there])
+        return codes, numpy.array(prices[:-1], dtype=numpy.int64)[there]
+
+
+class Links:
+    """Which numbers links and groups admit."""
+
+    def __init__(self, problem):
+        count = len(problem.blocks)
+        bit = [1 << (count - 1 - place) for place in range(count)]
+        # A child's bit needs its parent's, which is higher; two bits of a group don't go together.
+        self.needs = [(bit[child], bit[parent]) for child, parent in enumerate(problem.parents) if parent is not None]
+        self.apart = [
+            bit[one] | bit[other] for members in problem.groups().values() for one in members for other in members if one < other
+        ]
+
+    def within(self, bits, numbers):
+        """Those of these numbers, which have some of these bits alone, that no link or group among the bits forbids."""
+        admitted = numpy.ones(len(numbers), dtype=bool)
+        for child, parent in self.needs:
+            if child & bits and parent & bits:
+                admitted &= (numbers & child == 0) | (numbers & parent != 0)
+        for pair in self.apart:
+            if pair & bits == pair:
+                admitted &= numbers & pair != pair
+        return numbers[admitted]
+
+    def across(self, low_bits, numbers, high):
+        """Whether each number of low bits is admitted together with one of high bits."""
+        admitted = numpy.ones(len(numbers), dtype=bool)
+        for child, parent in self.needs:
+            if child <= low_bits < parent and not high & parent:
+                admitted &= numbers & child == 0
+        for pair in self.apart:
+            if pair > low_bits and pair & low_bits and high & pair:
+                admitted &= numbers & pair == 0
+        return admitted
+
+
+class Floor:
+    """The published selection, or the best one found above it: its welfare and its number."""
+
+    def __init__(self, welfare, number):
+        self.welfare, self.number = welfare, number
+
+    def under(self, welfares, numbers):
+        """Which selections rank above it."""
+        return (welfares > self.welfare) | ((welfares == self.welfare) & (numbers > self.number))
+
+    def lift(self, welfares, numbers):
+        """The best of these selections, which rank above it, takes its place."""
+        if len(numbers):
+            self.welfare = int(welfares.max())
+            self.number = int(numbers[welfares == self.welfare].max())
+
+
+class Selections:
+    """All selections of a problem, to be tried in some rows at a time."""
+
+    def __init__(self, problem, low_bits=LOW_BITS):
+        self.problem = problem
+        self.count = len(problem.blocks)
+        self.low_bits = min(low_bits, self.count)
+        self.links = Links(problem)
+        takes = {number: [0] * self.count for number in problem.orders}
+        for place, block in enumerate(problem.blocks):
+            for number, net in selection.signed(block.order):
+                takes[number][place] = -net
+        self.periods = {number: Period(orders, takes[number], self.low_bits) for number, orders in problem.orders.items()}
+        # By period and block the sold less the bought volume; and the worth of a block, but for the prices.
+        self.volumes = -numpy.array([*takes.values()], dtype=numpy.int64).T
+        self.own = [-block.order.price * sum(net for _, net in selection.signed(block.order)) for block in problem.blocks]
+        high_bits = self.count - self.low_bits
+        self.high_own, self.low_own = subset_sums(self.own[:high_bits]), subset_sums(self.own[high_bits:])
+        self.all_low = (1 << self.low_bits) - 1
+        self.lows = self.links.within(self.all_low, numpy.arange(1 << self.low_bits))
+        self.highs = self.links.within((1 << self.count) - 1 - self.all_low, numpy.arange(1 << high_bits) << self.low_bits)
+        greatest = greatest_sum(problem)
+        if greatest >= -NEVER or (len(self.periods) + 1) * -NEVER >= 2**63:
+            raise AssertionError(f"sums up to {greatest} don't fit")
+
+    def prices(self, number, numbers):
+        """The price of a period that follows from each of these selections, for which it balances."""
+        return self.periods[number].prices(numbers >> self.low_bits, numbers & self.all_low)
+
+    def accepted_of(self, numbers, place):
+        """Which of these selections accept a block."""
+        return numbers & self.bit(place) != 0
+
+    def surplus(self, place, numbers):
+        """The surplus of a block that follows from each of these selections."""
+        volumes = selection.signed(self.problem.blocks[place].order)
+        total = numpy.full(len(numbers), self.own[place], dtype=numpy.int64)
+        for number, net in volumes:
+            total += net * self.prices(number, numbers)
+        return total
+
+    def loses(self, place, numbers):
+        """Whether a block loses, together with its accepted descendants, in each of these selections, which accept it."""
+        gain = self.surplus(place, numbers)
+        for other in self.problem.rescuers[place]:
+            gain += self.surplus(other, numbers) * self.accepted_of(numbers, other)
+        return gain < 0
+
+    def all_losing(self, numbers):
+        """For each block, whether it is accepted and loses in each of these selections: by families, from the last block to the
+        first."""
+        prices = numpy.array([self.prices(number, numbers) for number in self.periods])
+        gains = numpy.einsum("bp,ps->bs", self.volumes, prices) + numpy.array(self.own, dtype=numpy.int64)[:, None]
+        for place in reversed(range(self.count)):
+            gains[place] *= self.accepted_of(numbers, place)
+            parent = self.problem.parents[place]
+            if parent is not None:
+                gains[parent] += gains[place]
+        return gains < 0
+
+    def bit(self, place):
+        return 1 << (self.count - 1 - place)
+
+    def number(self, accepted):
+        return sum(self.bit(place) for place in accepted)
+
+    def accepted(self, number):
+        return frozenset(place for place in range(self.count) if number & self.bit(place))
+
+
+def greatest_sum(problem):
+    """No sum of the enumeration is greater, of either sign: each order at the limits of prices, with its whole volume."""
+    volumes = sum(volume for row in problem.rows for _, volume in row.order.volumes)
+    return 2 * volumes * max(rules.GREATEST_PRICE, -rules.LEAST_PRICE)
+
+
+class Rows:
+    """Some rows of selections: their welfares, and the ones that rank above the published selection and has no loss."""
+
+    def __init__(self, every, highs, floor, progress):
+        self.every, self.highs, self.progress = every, highs, progress
+        self.floor = Floor(floor.welfare, floor.number)
+        self.looked = self.admitted = 0
+        # In which order blocks are looked at for a loss: those first that have lost most often, else from the last one.
+        self.lost = dict.fromkeys(reversed(range(every.count)), 0)
+
+    def run(self):
+        """The best of them that ranks above the floor, as a new floor."""
+        welfares = self.welfares()
+        waiting, held = [], 0
+        for row in reversed(range(len(self.highs))):
+            found = self.above(row, welfares[row])
+            waiting.append(found)
+            held += len(found[0])
+            if held >= BATCH or row == 0:
+                self.look(*map(numpy.concatenate, zip(*waiting)))
+                waiting, held = [], 0
+        return self.floor
+
+    def welfares(self):
+        """The welfare of each selection, a row for each number of high bits; NEVER or about that if a period doesn't balance."""
+        every, rows = self.every, self.highs >> self.every.low_bits
+        welfares = every.high_own[rows][:, None] + every.low_own[every.lows][None, :]
+        for period in every.periods.values():
+            self.add(welfares, period, rows)
+            self.progress.step(len(self.highs))
+        return welfares
+
+    def add(self, welfares, period, rows):
+        """Adds the welfare of a period. Rows whose blocks take the same volume of it get the same welfare."""
+        table = period.worths()
+        places = period.low[self.every.lows] - period.low.min()
+        starts = period.high[rows] - period.high.min()
+        last = None
+        for row in numpy.argsort(starts, kind="stable").tolist():
+            if starts[row] != last:
+                last = starts[row]
+                worths = table[last:].take(places)
+            welfares[row] += worths
+
+    def above(self, row, welfares):
+        """The numbers and welfares of the selections of a row that rank above the floor."""
+        every, high = self.every, int(self.highs[row])
+        admitted = every.links.across(every.all_low, every.lows, high)
+        self.admitted += numpy.count_nonzero(admitted)
+        places = numpy.flatnonzero(admitted & (welfares >= self.floor.welfare))
+        numbers, welfares = every.lows[places] | high, welfares[places]
+        over = self.floor.under(welfares, numbers)
+        return numbers[over], welfares[over]
+
+    def look(self, numbers, welfares):
+        """Checks some selections that rank above the floor for a loss. The best one without is the new floor."""
+        for first in range(0, len(numbers), BATCH):
+            part = slice(first, first + BATCH)
+            over = self.floor.under(welfares[part], numbers[part])
+            gaining = self.without_loss(numbers[part][over])
+            lasting = numpy.isin(numbers[part], gaining)
+            self.floor.lift(welfares[part][lasting], numbers[part][lasting])
+
+    def without_loss(self, numbers):
+        """Those of some selections of which no accepted block loses. As long as the block that has lost most often leaves out many,
+        it alone is looked at, in the selections that accept it; then all blocks are."""
+        self.looked += len(numbers)
+        for place in sorted(self.lost, key=lambda place: -self.lost[place]):
+            before = len(numbers)
+            if before >= FEW:
+                accepting = numpy.flatnonzero(self.every.accepted_of(numbers, place))
+                losing = accepting[self.every.loses(place, numbers[accepting])]
+                self.lost[place] += len(losing)
+                numbers = numpy.delete(numbers, losing)
+            self.progress.step(0)
+            if 4 * len(numbers) > 3 * before:
+                break
+        gaining = [numbers[:0]]
+        for first in range(0, len(numbers), FEW):
+            part = numbers[first : first + FEW]
+            losing = self.every.all_losing(part)
+            for place, count in enumerate(losing.sum(axis=1).tolist()):
+                self.lost[place] += count
+            gaining.append(part[~losing.any(axis=0)])
+        return numpy.concatenate(gaining)
+
+
+def better(problem, accepted, welfare, progress, jobs=1, low_bits=LOW_BITS):
+    """The best selection, if it ranks above this eligible one, else None; and how that was found."""
+    every = Selections(problem, low_bits)
+    published = Floor(welfare, every.number(accepted))
+    shares = [Rows(every, highs, published, progress) for highs in numpy.array_split(every.highs, jobs) if len(highs)]
+    progress.expect(len(every.highs) * len(every.periods))
+    with ThreadPoolExecutor(jobs) as threads:
+        try:
+            floors = [running.result() for running in [threads.submit(share.run) for share in shares]]
+        finally:
+            progress.end()
+    best = max(floors, key=lambda floor: (floor.welfare, floor.number))
+    how = tried(len(problem.blocks), sum(share.admitted for share in shares), sum(share.looked for share in shares))
+    if best.number == published.number:
+        return None, how
+    found = Found(every.accepted(best.number), best.welfare)
+    if selection.eligible(problem, found.accepted) != found.welfare:
+        raise AssertionError(f"the selection {sorted(found.accepted)} is not eligible with the welfare that the tables gave it")
+    return found, how

@@ -1,0 +1,265 @@
+"""Whether a better selection of blocks exists, by HiGHS (through scipy).
+
+HiGHS is given a program of whole and real numbers of which each eligible selection is a solution: its executions, some
+supporting price of each period at which no accepted block loses, links and groups. It is asked for a solution of more welfare
+than that at hand; then, for each block that is rejected, for one of as much welfare that accepts this block and is the same on
+the blocks before it. Each selection that it gives is looked at exactly, by the rules and in whole numbers: it is better, or it
+is forbidden and HiGHS is asked again. When HiGHS has no more solution, none is better. That HiGHS misses none is taken on trust;
+that its finds are better is checked."""
+
+import contextlib
+import itertools
+import os
+
+import numpy
+from scipy import optimize, sparse
+
+from ..base import rules
+from ..results import selection
+from . import best
+
+EUR, MW = 100, 10  # cents and tenths: the program is reckoned in EUR per MWh and MW, for moderate numbers
+
+# The size of rounding: half a unit of welfare, or this part of the greatest sum. HiGHS loses solutions where the rows leave no more
+# room than that, so it gets more, and offers some selections that turn out to lose or to have less welfare. Where it has offered
+# too many, its room for welfare is narrowed.
+HALF, ROUNDING, ROOM, TOO_MANY = 0.5 / (EUR * MW), 1e-11, 1_000, 100
+
+
+LIMIT, NO_SOLUTION = 1, 2  # statuses of scipy's
+
+
+@contextlib.contextmanager
+def quiet():
+    """Discards the output of HiGHS itself on standard output."""
+    print(end="", flush=True)
+    kept, nowhere = os.dup(1), os.open(os.devnull, os.O_WRONLY)
+    os.dup2(nowhere, 1)
+    try:
+        yield
+    finally:
+        os.dup2(kept, 1)
+        os.close(kept)
+        os.close(nowhere)
+
+
+class GaveUp(Exception):
+    """HiGHS says neither a solution nor that there is none; with its status as scipy numbers it."""
+
+
+class Program:
+    """Columns with a cost and bounds, and rows with bounds, as HiGHS takes them."""
+
+    def __init__(self):
+        self.costs, self.lower, self.upper, self.whole = [], [], [], []
+        self.at, self.rows = [], []
+
+    def column(self, cost=0.0, lower=0.0, upper=numpy.inf, whole=False):
+        self.costs.append(cost)
+        self.lower.append(lower)
+        self.upper.append(upper)
+        self.whole.append(whole)
+        return len(self.costs) - 1
+
+    def row(self, terms, lower=-numpy.inf, upper=numpy.inf):
+        """Terms are pairs of a column and a factor. Answers the row's number."""
+        self.at += [(len(self.rows), column, factor) for column, factor in terms]
+        self.rows.append((lower, upper))
+        return len(self.rows) - 1
+
+    def solve(self, seconds, presolve):
+        rows, columns, factors = zip(*self.at)
+        matrix = sparse.csc_matrix((factors, (rows, columns)), shape=(len(self.rows), len(self.costs)))
+        lower, upper = zip(*self.rows)
+        with quiet():
+            return optimize.milp(
+                numpy.array(self.costs),
+                integrality=numpy.array(self.whole, dtype=int),
+                bounds=optimize.Bounds(self.lower, self.upper),
+                constraints=optimize.LinearConstraint(matrix, lower, upper),
+                options={"time_limit": seconds, "mip_rel_gap": 0, "presolve": presolve},
+            )
+
+
+class Model:
+    """The program of a problem.
+
+    For each step of a period's curve: how much of it is taken, and at least its gain at the price. Welfare is the value of
+    all buys less the cost of the part that is taken; the gain of all steps and accepted blocks together is never less, and equal exactly
+    if the prices support the execution, which is the one row over the whole day."""
+
+    def __init__(self, problem):
+        self.problem = problem
+        self.program = Program()
+        curves = best.curves(problem)
+        self.accepted = [self.program.column(whole=True, upper=1) for _ in problem.blocks]
+        self.welfare, self.duality, self.value = [], [], 0
+        self.size = 1.0  # of the greatest sum, by which the slack goes
+        self.prices = {number: self.period(number, curve) for number, curve in curves.items()}
+        gains = [self.gain(place, block.order) for place, block in enumerate(problem.blocks)]
+        for place, gain in enumerate(gains):
+            helping = [(gains[other], 1) for other in problem.rescuers[place]]
+            self.program.row([(gain, 1), *helping], lower=0)
+        self.links_and_groups()
+        self.slack = max(HALF, ROUNDING * self.size)
+        self.program.row(self.duality, upper=ROOM * self.slack)
+        self.least = self.program.row(self.welfare)
+        for column, factor in self.welfare:
+            self.program.costs[column] -= factor
+
+    def period(self, number, curve):
+        """The rows of a period; its price's column."""
+        nets = [
+            (place, volume)
+            for place, block in enumerate(self.problem.blocks)
+            for at, volume in selection.signed(block.order)
+            if at == number
+        ]
+        least = max(sum(min(volume, 0) for _, volume in nets), curve.least)
+        most = min(sum(max(volume, 0) for _, volume in nets), curve.most)
+        lower, upper = price_ends(curve, least, most)
+        lower, upper = lower / EUR, upper / EUR
+        price = self.program.column(lower=lower, upper=upper)
+        taken = []
+        for limit, volume in zip(curve.limits, curve.volumes):
+            limit, volume = limit / EUR, volume / MW
+            take = self.program.column(upper=volume)
+            gain = self.program.column()
+            self.program.row([(gain, 1), (price, -volume)], lower=-limit * volume)
+            self.welfare.append((take, -limit))
+            self.duality += [(take, limit), (gain, 1)]
+            self.size += abs(limit * volume)
+            taken.append((take, 1))
+        balance = [(self.accepted[place], volume / MW) for place, volume in nets]
+        self.program.row(taken + balance, lower=curve.most / MW, upper=curve.most / MW)
+        self.duality.append((price, -curve.most / MW))
+        self.value += curve.value / (EUR * MW)
+        return price
+
+    def gain(self, place, order):
+        """The column of a block's gain: its surplus if it is accepted, else 0."""
+        accepted, limit = self.accepted[place], order.price / EUR
+        volumes = [(number, volume / MW) for number, volume in selection.signed(order)]
+        ends = [
+            [net * (bound[self.prices[number]] - limit) for bound in (self.program.lower, self.program.upper)]
+            for number, net in volumes
+        ]
+        least, most = min(0, sum(map(min, ends))), max(0, sum(map(max, ends)))
+        gain = self.program.column(lower=least, upper=most)
+        self.program.row([(gain, 1), (accepted, -most)], upper=0)
+        self.program.row([(gain, 1), (accepted, -least)], lower=0)
+        surplus = [(self.prices[number], -net) for number, net in volumes]
+        total = sum(net for _, net in volumes)
+        # At least the surplus at the price, if it is accepted.
+        self.program.row([(gain, 1), *surplus, (accepted, -most)], lower=-limit * total - most)
+        self.welfare.append((accepted, -limit * total))
+        self.duality += [(gain, 1), (accepted, limit * total)]
+        self.size += max(abs(limit * total), most, -least)
+        return gain
+
+    def links_and_groups(self):
+        for place, parent in enumerate(self.problem.parents):
+            if parent is not None:
+                self.program.row([(self.accepted[place], -1), (self.accepted[parent], 1)], lower=0)
+        for members in self.problem.groups().values():
+            self.program.row([(self.accepted[place], 1) for place in members], upper=1)
+        for one, other in equal_blocks(self.problem):
+            self.program.row([(self.accepted[one], 1), (self.accepted[other], -1)], lower=0)
+
+    def ask(self, welfare, fixed, room):
+        """From now on solutions have at least a welfare, and accept or reject the blocks at the first places as in a list."""
+        self.program.rows[self.least] = (welfare / (EUR * MW) - self.value - room * self.slack, numpy.inf)
+        for place, column in enumerate(self.accepted):
+            self.program.lower[column] = fixed[place] if place < len(fixed) else 0
+            self.program.upper[column] = fixed[place] if place < len(fixed) else 1
+
+    def forbid(self, accepted):
+        terms = [(column, -1 if place in accepted else 1) for place, column in enumerate(self.accepted)]
+        self.program.row(terms, lower=1 - len(accepted))
+
+    def next(self, seconds):
+        """A selection that isn't forbidden; None if there is none. Fails if HiGHS doesn't say.
+
+        For books with equal prices HiGHS sometimes says wrongly that there is none, with its presolve or without; if it is
+        asked in both ways, that is rare."""
+        for presolve in (True, False):
+            answer = self.program.solve(seconds, presolve)
+            if answer.x is not None:
+                return frozenset(place for place, column in enumerate(self.accepted) if answer.x[column] > 0.5)
+            if answer.status == LIMIT:
+                raise TimeoutError("the time is over")
+            if answer.status != NO_SOLUTION:
+                raise GaveUp(answer.status)
+        return None
+
+
+def price_ends(curve, least, most):
+    """Between which prices the rule's price lies, for the net volumes from `least` to `most`: between supporting prices, and
+    never beyond the limits of all orders but where no order or every one is taken."""
+    edges = [rules.price_between(*curve.supporting(net))[0] for net in (curve.least, curve.most)]
+    lower, upper = min(curve.limits[:1] + edges), max(curve.limits[-1:] + edges)
+    return max(lower, curve.supporting(most)[0]), min(upper, curve.supporting(least)[1])
+
+
+def equal_blocks(problem):
+    """Pairs of blocks that differ in name alone, without links and groups: the best selection doesn't accept the later one
+    alone, since the earlier one in its place would rank above."""
+    named = {place for place, parent in enumerate(problem.parents) if parent is not None}
+    named |= {parent for parent in problem.parents if parent is not None}
+    named |= {place for members in problem.groups().values() for place in members}
+    last = {}
+    for place, block in enumerate(problem.blocks):
+        if place not in named:
+            key = block.order.side, block.order.price, block.order.volumes
+            if key in last:
+                yield last[key], place
+            last[key] = place
+
+
+def questions(accepted, welfare, blocks):
+    """The question to HiGHS: the least welfare, and how the blocks at the first places are decided."""
+    flags = [int(place in accepted) for place in range(blocks)]
+    yield welfare + 1, []
+    for place in range(blocks):
+        if not flags[place]:
+            yield welfare, flags[:place] + [1]
+
+
+def better(problem, accepted, welfare, progress, tell=lambda words: None):
+    """A selection that ranks above this eligible one, or None if HiGHS has none; and how that was found. `tell` gets in words how far
+    the search is."""
+    model = Model(problem)
+    model.forbid(accepted)
+    looked = 0
+    tell(offered(looked))
+    for least, fixed in questions(accepted, welfare, len(problem.blocks)):
+        for count in itertools.count():
+            model.ask(least, fixed, ROOM if count < TOO_MANY else 1)
+            other = asked(model, progress, looked)
+            if other is None:
+                break
+            looked += 1
+            tell(offered(looked))
+            value = selection.eligible(problem, other)
+            if value is not None and selection.ranks_above(len(problem.blocks), value, other, welfare, accepted):
+                return best.Found(other, value), "found by HiGHS"
+            model.forbid(other)
+    kind = "which breaks a rule or ranks below" if looked == 1 else "which break a rule or rank below"
+    return None, f"HiGHS offers {looked} other{'s' * (looked > 1)}, {kind}" if looked else "HiGHS found none better"
+
+
+def offered(looked):
+    """How far the search is, in words, as long as nothing better was offered."""
+    found = f", and has offered {looked} other selection{'s' * (looked > 1)}" if looked else ""
+    return f"HiGHS is still searching{found}"
+
+
+def asked(model, progress, looked):
+    """The next selection that HiGHS offers, or None. Fails if no time is left."""
+    left = progress.left()
+    try:
+        if left > 0:
+            return model.next(left)
+    except TimeoutError:
+        pass
+    raise TimeoutError(progress.over(offered(looked)))

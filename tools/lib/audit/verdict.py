@@ -1,0 +1,331 @@
+"""The verdict of an audit: the checks, the faults, the status that reports them, and the same as a record for programs."""
+
+import functools
+import hashlib
+import time
+
+from ..base import place, text
+from ..journal import book, journal
+from ..lint import sent
+from ..results import check, results, selection, sums
+from ..sheets import kinds
+from ..tool import command
+from . import better
+from ..results.faults import Fault, matched
+from ..base.progress import Progress
+from ..base.record import ENCODING, FAILED, RIGHT, UNDECIDED, UNREAD, WRONG
+from ..base.rules import VERSION
+
+# Of each status, the verdict.
+OF_STATUS = {
+    command.DONE: RIGHT,
+    command.DIFFERS: WRONG,
+    command.COMMAND_LINE: FAILED,
+    command.NO_INPUT: UNREAD,
+    command.UNDECIDED: UNDECIDED,
+    command.FAILED: FAILED,
+    command.ENCODING: ENCODING,
+}
+SECONDS = 600  # that the search for a better selection, or the comparison of commands, may take
+NOT_COMPARED = "no number was compared, since the form is wrong"
+NOT_LOOKED = "no better selection was looked for, since the results break other rules"
+NEITHER = "no number was compared and no better selection was looked for, since the form is wrong"
+NOT_CHECKED = "; whether another selection of blocks is better was not checked (--best)"
+HINTS = {
+    kinds.REPLIES: "; --replies checks replies",
+    kinds.DAY: "; give it as the only file",
+    kinds.ORDERS: place.as_here("; tools/table --journal makes a journal of it"),
+}
+
+
+class Audit:
+    """An audit of one day by the options of the command line. It keeps its inputs, checks and findings, so that a record can be made of
+    it at any time, also if it fails."""
+
+    def __init__(self, options):
+        self.options = options
+        self.begun = time.monotonic()
+        self.inputs = []  # a record of each file
+        self.checked = []
+        self.day = None  # figures of the day, if its journal could be read
+        self.wrong, self.odd = [], []  # faults, and differences of encoding alone
+        self.notes = []  # on a table of orders that was sent
+        self.unlike = 0  # how many of the faults, the first ones, are of the commands that were sent
+        self.unsigned = 0  # and how many after these are differences from the signed head and the receipts
+        self.foreign = []  # receipts and earlier heads that weren't compared
+        self.is_signed = True  # whether the key signed the head, if there is one
+        self.search = None  # a record of the search for a better selection
+        self.right, self.last = [], None  # lines about the right parts, and one after the faults
+        self.progress = None
+
+    def run(self):
+        """Makes the checks that the options ask for. Ends with `command.Stop` if that can't be done."""
+        options = self.options
+        written, published = self.texts()
+        read = self.read_journal(written)
+        closed, reasons = book.run(read)
+        self.day = {"periods": read.periods, "commands": len(reasons), "refused": sum(reason is not None for reason in reasons)}
+        try:
+            signed = self.read_signed(read, reasons) if options.head is not None else None
+        except command.Stop as fault:
+            if fault.status != command.DIFFERS:
+                raise
+            self.is_signed, self.wrong, self.last = False, [Fault(str(fault), "head")], f"{WRONG}: {fault}"
+            return
+        if options.sent is not None:
+            self.check_sent(read, reasons, closed, signed.proof if options.receipts is not None else sent.no_proof)
+        if signed is not None:
+            self.check_head(signed)
+        if options.replies:
+            self.check_replies(read.periods, reasons, published)
+        elif published is not None:
+            self.check_results(closed, reasons, published)
+
+    @property
+    def status(self):
+        if self.wrong:
+            return command.DIFFERS
+        if self.foreign:
+            return command.NO_INPUT
+        return command.ENCODING if self.odd else command.DONE
+
+    @property
+    def message(self):
+        """Why there is no verdict, though the audit ended; None if there is one."""
+        return f"{self.uncompared()}: not the operator's, or of another day" if self.status == command.NO_INPUT else None
+
+    def uncompared(self):
+        return f"not compared: {text.counted(len(self.foreign), 'receipt or head', 'receipts or heads')}"
+
+    @property
+    def seconds(self):
+        """How long a search, or a comparison of commands, may take."""
+        return SECONDS if self.options.seconds is None else self.options.seconds
+
+    def read(self, role, path):
+        told = {"role": role, "file": str(path), "bytes": None, "sha256": None}
+        self.inputs.append(told)
+        data = command.read_bytes(path)
+        told.update(bytes=len(data), sha256=hashlib.sha256(data).hexdigest())
+        return data
+
+    def texts(self):
+        """The bytes of the journal, and of the results or replies; None if there are none, which only --sent allows."""
+        options = self.options
+        if options.results is not None:
+            written, published = self.read("journal", options.journal), self.read("results", options.results)
+            command.refuse_kind(options.journal, written, kinds.JOURNAL, HINTS)
+            command.refuse_kind(options.results, published, kinds.REPLIES if options.replies else kinds.RESULTS, HINTS)
+            return written, published
+        data = self.read("day", options.journal)
+        written, published = results.split_day(data) or (data, None)
+        if published is not None and data[len(written) :].startswith(b"results\r") and b"\r" not in published:
+            self.odd.append(Fault("the line 'results' ends with CR LF instead of LF alone", "encoding"))
+        command.refuse_kind(options.journal, written, kinds.JOURNAL, HINTS)
+        if published is None:
+            if options.sent is None or options.best:
+                raise command.Stop(command.no_results(options.journal))
+            self.inputs[0]["role"] = "journal"
+        return written, published
+
+    def read_journal(self, written):
+        read = command.parse_journal(self.options.journal, written)
+        is_of_day = self.inputs[0]["role"] == "day"
+        if is_of_day and journal.journal_text(read).encode() != written:
+            self.odd.append(Fault("the journal of the day isn't in its written form, but has the same commands", "encoding"))
+        return read
+
+    def check_replies(self, periods, reasons, published):
+        self.checked.append("replies")
+        data, odd = results.plain(published)
+        self.odd += odd
+        wrong = reply_faults(periods, reasons, data)
+        self.wrong += wrong
+        if wrong:
+            return
+        self.right.append(f"as the rules say: {text.counted(len(reasons), 'reply', 'replies')}{sent.refused(reasons)}")
+
+    def check_results(self, closed, reasons, published):
+        self.checked.append("results")
+        data, odd = results.plain(published)
+        self.odd += odd
+        if not closed.closed:
+            self.wrong.append(Fault("no command closes the book, so it has no results", "journal"))
+            return
+        problem = selection.Problem(closed)
+        said, wrong = check.differences(problem, data)
+        self.wrong += wrong
+        self.checked += ["sums"] if said is not None else []
+        self.day.update(figures(problem, said))
+        if wrong:
+            self.last = last_line(said is not None, self.options.best)
+            return
+        how = self.look(problem, said) if self.options.best else None
+        if self.search is None or self.search["better"] is None:
+            others = f"; no selection is better: {how}" if how else NOT_CHECKED if problem.blocks else ""
+            self.right.append(right_line(problem, said, reasons) + others)
+            self.right.append(sums.line(problem, sums.sums(problem, said)))
+            if self.options.sent is not None:
+                self.right += own_lines(data, self.options.participant)
+
+    def look(self, problem, said):
+        """Looks for a better selection than the one of right results, and says how."""
+        options = self.options
+        by, whole = options.by or better.ENUMERATION, 2 ** len(problem.blocks)
+        self.progress = Progress("audit", self.seconds, options.quiet, whole)
+        self.search = {"by": by, "selections": whole, "tried": 0, "better": None, "how": None}
+        try:
+            found, how = better.look(problem, said, by, self.progress, options.jobs or 1)
+        finally:
+            self.search["tried"] = None if by == better.HIGHS else self.progress.tried_count()
+        self.checked.append("best selection")
+        self.search["how"] = how
+        if by == better.ENUMERATION:
+            self.search["tried"] = whole
+        if found is not None:
+            words = list(better.told(problem, said, found))
+            self.wrong.append(Fault("\n".join(words), "better"))
+            self.search["better"] = [str(problem.blocks[place]) for place in sorted(found.accepted)]
+        return how
+
+    def check_sent(self, read, reasons, closed, proof):
+        """Compares a participant's sent commands with the journal. Of a command that the journal lacks, `proof` says what receipts show."""
+        options = self.options
+        self.checked.append("commands sent")
+        published = sent.published_of(read, reasons, options.participant)
+        has_none = bool(published) and all(who != options.participant for who, _ in closed.rows)
+        try:
+            own = sent.read_sent(self.read("sent", options.sent), options.participant, read.periods, has_none)
+        except sent.Wrong as fault:
+            raise command.Stop(f"{command.shown(options.sent)} isn't what {options.participant} sent: {fault}") from None
+        self.notes = [f"{command.shown(options.sent)}: {note}" for note in own.notes]
+        for note in [] if options.quiet else self.notes:
+            command.tell("audit", note)
+        self.progress = Progress("audit", self.seconds, options.quiet)
+        words = f"the commands of {options.participant} aren't compared yet"
+        try:
+            wrong, right = sent.compared(own, published, closed, options.participant, lambda: self.progress.look(words), proof)
+        except TimeoutError as fault:
+            raise command.Stop(str(fault), command.UNDECIDED) from None
+        finally:
+            self.progress.end()
+        self.wrong, self.unlike = wrong, len(wrong)
+        self.right += right if not wrong else []
+
+    def read_signed(self, read, reasons):
+        """The journal with what the operator signed: its head, and receipts."""
+        from ..receipts import receipts, under_head
+        from ..seal import heads
+
+        options = self.options
+        key = receipts.key_of(options.key, self.read("key", options.key))
+        odd = []
+        head = receipts.head_of(options.head, self.read("head", options.head), key, odd, options.day)
+        salts = receipts.value_of(options.salts, self.read("salts", options.salts), heads.salts_read, "the salts of a journal", odd)
+        if salts.day != head.day:
+            raise command.Stop(f"{command.shown(options.salts)} has the salts of {salts.day}, and the head is of {head.day}")
+        read_receipts = functools.partial(self.read, "receipts")
+        found = under_head.of_folder(options.receipts, key, read_receipts) if options.receipts is not None else []
+        signed = under_head.UnderHead(key, head, salts, read, reasons, found)
+        signed.odd += odd
+        return signed
+
+    def check_head(self, signed):
+        """Compares the journal and its replies with the head that the operator signed, with earlier heads, and with receipts."""
+        options = self.options
+        self.checked += ["head", "receipts"] if options.receipts is not None else ["head"]
+        earlier = [fault for path in options.earlier for fault in signed.earlier_faults(path, self.read("earlier", path))]
+        wrong = [*signed.head_faults(), *earlier, *signed.receipt_faults()]
+        right = f"as signed: {signed.head}"
+        if signed.earlier:
+            right += f", which begins with {text.counted(signed.earlier, 'earlier head')}"
+        if options.receipts is not None:
+            right += f"; {text.counted(len(signed.findings), 'receipt')} of its entries"
+        self.wrong += wrong
+        self.foreign = signed.foreign
+        self.odd += [Fault(str(finding), "encoding") for finding in signed.odd]
+        self.unsigned = len(wrong)
+        self.right += [] if wrong else [right]
+
+    def parts(self):
+        """The faults by part, each a headline and its faults; without --sent and --head there is one part, which has no headline."""
+        if not self.is_signed:
+            return []
+        if self.options.sent is None and self.options.head is None:
+            return [(None, self.wrong)]
+        unlike, signed = self.unlike, self.unlike + self.unsigned
+        own, unsigned, rest = self.wrong[:unlike], self.wrong[unlike:signed], self.wrong[signed:]
+        headlines = [
+            self.uncompared(),
+            f"not as sent: {text.counted(len(own), 'difference')} in the commands of {self.options.participant}",
+            f"not as signed: {text.counted(len(unsigned), 'difference')} from what the operator signed",
+            f"not as the rules say: {text.counted(len(rest), 'fault')} in the results",
+        ]
+        return [(headline, faults) for headline, faults in zip(headlines, (self.foreign, own, unsigned, rest)) if faults]
+
+    def record(self, status, message=None):
+        """The verdict for programs."""
+        made = {
+            "verdict": OF_STATUS[status],
+            "status": status,
+            "message": message,
+            "version": VERSION,
+            "seconds": round(time.monotonic() - self.begun, 3),
+            "inputs": self.inputs,
+            "checked": self.checked,
+            "day": self.day,
+            "search": self.search,
+            "notes": self.notes,
+        }
+        made["faults"] = [fault.record() for fault in [*self.wrong, *self.foreign, *self.odd]]
+        return made
+
+
+def reply_faults(periods, reasons, data):
+    """The lines of a replies text that differ from the book's replies."""
+    (wanted, _), (found, more) = (results.first_lines(part) for part in (book.replies_of(periods, reasons).encode(), data))
+    numbers = [[line.split(b",")[0] for line in part] for part in (wanted, found)]
+    wrong, last = more if data else [Fault("the replies are empty", "form")], 0
+    for at, place in matched(*numbers):
+        last = last if place is None else place + 1
+        if place is None:
+            wrong.append(Fault(f"replies line {last + 1}: {text.quoted(wanted[at])} is missing", "missing", last + 1))
+        elif at is None:
+            wrong.append(Fault(f"replies line {last}: {text.quoted(found[place])} is not a line of these replies", "stray", last))
+        elif wanted[at] != found[place]:
+            words = f"replies line {last}: it is {text.quoted(found[place])} and should be {text.quoted(wanted[at])}"
+            wrong.append(Fault(words, "reply", last))
+    return wrong
+
+
+def figures(problem, said):
+    """The figures of a day, for a record; as the rules have it if the results can't be read."""
+    made = {"hourly_orders": len(problem.rows) - len(problem.blocks), "blocks": len(problem.blocks)}
+    if said is not None:
+        amounts = {"welfare": said.welfare, **sums.sums(problem, said)._asdict()}
+        made["accepted"] = len(said.accepted)
+        made.update((f"{name}_eur", text.euros(amount, problem.hours, "")) for name, amount in amounts.items())
+    return made
+
+
+def own_lines(data, who):
+    """The lines of the results about a participant's orders."""
+    for number, line in enumerate(data.decode(errors="replace").splitlines(), 1):
+        kind, *fields = line.split(",")
+        if kind in ("hour", "block") and fields[0] == who:
+            yield f"results line {number}: {line}"
+
+
+def last_line(is_compared, is_best):
+    """The lines after the faults of results about the checks that weren't made."""
+    if not is_compared:
+        return NEITHER if is_best else NOT_COMPARED
+    return NOT_LOOKED if is_best else None
+
+
+def right_line(problem, said, reasons):
+    hourly = text.counted(len(problem.rows) - len(problem.blocks), "hourly order")
+    return (
+        f"as the rules say: {problem.periods} periods, {hourly}, {len(said.accepted)} of"
+        f" {text.counted(len(problem.blocks), 'block')} accepted, welfare {problem.euros(said.welfare)} EUR{sent.refused(reasons)}"
+    )

@@ -1,0 +1,224 @@
+"""The definitions and types of a repository, and the names in each of them and in each contract."""
+
+import itertools
+import re
+
+from ..tool import command
+from . import crates
+
+USE = re.compile(r"^[ ]*(?:pub )?(?:ghost )?use ([\w.]+?)(?:\.\{([^}]*)\})?(?: as \w+)?;?$", re.MULTILINE)
+IMPORT = re.compile(r"^use (\w+)(?:::\w+)*::(?:\{([^}]*)\}|(\w+));$", re.MULTILINE)
+HEAD = re.compile(r"^(?:pub )?(?:abbrev|unfoldable|record|data) (?:pub )?([^\s:(]+)")
+WORD = re.compile(r"[^\W\d]\w*")
+COMMENT = re.compile(r"(?://|--).*")
+FUNCTION = re.compile(r'^( *)pub (?:const )?(?:extern "C" )?fn (\w+)\b.*?^\1\{', re.M | re.S)
+CLAUSE = re.compile(r"^ +(?:requires|ensures)\b", re.M)
+VARIANT = re.compile(r"^    \w+", re.MULTILINE)  # the name of a variant or a field, which is no type
+
+
+class Unknown(command.Stop):
+    """A name that leads to no definition, or a definition that no contract names."""
+
+
+def names_used(text):
+    return set(WORD.findall(COMMENT.sub("", text)))
+
+
+def aliases(words):
+    """The names in braces of a `use` line, each under the name that the file gives it."""
+    for word in filter(None, (word.strip() for word in words.split(","))):
+        name, _, other = word.partition(" as ")
+        yield (other or name).strip(), name.strip()
+
+
+class Repository:
+    """The definitions and types of a repository. A place that a name leads to is a tuple of crate, kind, module and name."""
+
+    def __init__(self, top):
+        self.top = top
+        self.crates = list(crates.listed(command.read_bytes(top / "crates.txt").decode()))
+        self.texts = {}
+        self.modules = {}
+
+    def read(self, path):
+        if path not in self.texts:
+            file = self.top / path
+            self.texts[path] = command.read_bytes(file).decode() if file.is_file() else None
+        return self.texts[path]
+
+    def definitions(self, crate, module):
+        """The text of each definition of a module of `specs/`: it ends where the next one or a comment at the margin begins."""
+        found = self.modules.get((crate, module))
+        if found is None:
+            found, name = {}, None
+            for line in (self.read(f"crates/{crate}/specs/{module}.antt") or "").splitlines():
+                head = HEAD.match(line)
+                if head:
+                    name = head[1]
+                elif line.startswith(("--", "use ", "pub use ")):
+                    name = None
+                if name:
+                    found[name] = found.get(name, "") + line + "\n"
+            self.modules[crate, module] = found
+        return found
+
+    def sentence(self, crate, module, name):
+        """The comment above a definition."""
+        lines = self.read(f"crates/{crate}/specs/{module}.antt").splitlines()
+        at = next(place for place, line in enumerate(lines) if (HEAD.match(line) or [None, None])[1] == name)
+        first = at
+        while lines[first - 1].startswith("-- "):
+            first -= 1
+        if first == at:
+            raise Unknown(f"crates/{crate}/specs/{module}.antt says nothing above {name}")
+        return " ".join(line[3:] for line in lines[first:at])
+
+    def subject(self, crate, module):
+        """The comment at the head of a module: its subject."""
+        lines = self.read(f"crates/{crate}/specs/{module}.antt").splitlines()
+        comment = list(itertools.takewhile(lambda line: line.startswith("-- "), lines))
+        if not comment:
+            raise Unknown(f"crates/{crate}/specs/{module}.antt doesn't say what it is about")
+        return " ".join(line[3:] for line in comment)
+
+    def own_modules(self, crate):
+        """The modules of a crate's `specs/` in the order of its `Lib`, without those for contracts inside the crate."""
+        declared = re.findall(r"^(?:pub )?mod (\w+)$", self.read(f"crates/{crate}/specs/Lib.antt") or "", re.M)
+        return [module for module in declared if self.read(f"crates/{crate}/specs/{module}.antt") is not None]
+
+    def whole(self, crate, module, name):
+        """The definition of which a name is a part, such as a field, or the name."""
+        texts = self.definitions(crate, module)
+        holders = (key for key, text in texts.items() if re.search(rf"^  (?:pub )?{re.escape(name)} :", text, re.M))
+        return name if name in texts else next(holders, name)
+
+    def cited(self):
+        """Each definition that the clauses of a public function name, with the function."""
+        for crate in self.crates:
+            folder = self.top / "crates" / crate / "src"
+            for path in sorted(folder.rglob("*.rt")):
+                module = str(path.relative_to(folder).with_suffix(""))
+                text, found = self.source_names(crate, module)
+                for function in FUNCTION.finditer(text):
+                    clauses = CLAUSE.search(function[0])
+                    for name in sorted(names_used(function[0][clauses.start() :])) if clauses else ():
+                        node = found.get(name)
+                        if node and node[1] == "specs" and not node[2].startswith("inside"):
+                            yield (*node[:3], self.whole(node[0], *node[2:])), f"{crate}::{module}::{function[2]}"
+
+    def home(self, crate, module):
+        """The crate of a module of `specs/`: a crate may re-export modules of a lower one."""
+        while self.read(f"crates/{crate}/specs/{module}.antt") is None:
+            given = re.search(rf"^pub use Rattle\.(\w+)\.specs\.{module}$", self.read(f"crates/{crate}/specs/Lib.antt") or "", re.M)
+            if not given:
+                raise Unknown(f"{crate} has no module {module} of definitions")
+            crate = given[1]
+        return crate
+
+    def definition(self, path, name):
+        """The target of a name of a `use` line, or nothing if that is the kit's."""
+        parts = path.split(".")
+        if parts[0] != "Rattle" or parts[1] not in self.crates:
+            return None
+        crate, kind, rest = parts[1], parts[2], parts[3:]
+        if kind == "specs" and rest[0] == "declared":
+            return crate, "src", rest[1], rest[2]
+        if kind != "specs" or rest[0] == "contracts":
+            return None
+        module = "/".join(rest)
+        return self.home(crate, module), "specs", module, name
+
+    def used(self, text, into):
+        """The targets of the names of a file's text, by its `use` lines."""
+        for path, words in USE.findall(text):
+            for alias, name in aliases(words):
+                into[alias] = self.definition(path, name)
+        return into
+
+    def type_of(self, crate, name):
+        """Where a crate declares a type, or the crate whose type it re-exports."""
+        folder = self.top / "crates" / crate / "src"
+        for path in sorted(folder.glob("*.rt")):
+            if re.search(rf"^pub(?:\(crate\))? (?:struct|enum) {name}\b", self.read(path.relative_to(self.top)), re.M):
+                return crate, "src", path.stem, name
+        for given, words in re.findall(r"^pub use (\w+)::\{([^}]*)\};$", self.read(f"crates/{crate}/src/lib.rt") or "", re.M):
+            if given in self.crates and name in dict(aliases(words)):
+                return self.type_of(given, name)
+        return None
+
+    def source(self, crate, module):
+        text = self.read(f"crates/{crate}/src/{module}.rt")
+        if text is None:
+            raise Unknown(f"{crate} has no source {module}")
+        return text
+
+    def source_names(self, crate, module):
+        """The targets of the names of a source: by its own types, its imports, and its `ghost use` lines."""
+        text = self.source(crate, module)
+        found = {}
+        for name in re.findall(r"^pub(?:\(crate\))? (?:struct|enum) (\w+)", text, re.M):
+            found[name] = (crate, "src", module, name)
+        for origin, words, word in IMPORT.findall(text):
+            home = crate if origin == "crate" else origin
+            if home in self.crates:
+                for alias, name in aliases(words or word):
+                    found[alias] = self.type_of(home, name)
+        self.used("\n".join(re.findall(r"^ghost use [^;]*;", text, re.M)), found)
+        return text, found
+
+    def head(self, function, crate, module):
+        """The signature and the clauses of a public function or method."""
+        name = function.rpartition(":")[2]
+        whole = re.search(rf'^( *)pub (?:extern "C" )?fn {name}\b.*?^\1\{{$', self.source(crate, module), re.M | re.S)
+        if not whole:
+            raise Unknown(f"{crate}/src/{module}.rt has no function {function}")
+        return whole[0].rstrip("{").rstrip() + "\n"
+
+    def contract(self, function, crate, module):
+        """The names in the clauses of a public function or method."""
+        head = self.head(function, crate, module)
+        _, found = self.source_names(crate, module)
+        return {found.get(name) for name in names_used(head[CLAUSE.search(head).start() :])} - {None}
+
+    def below(self, node):
+        """The names in a definition or a type."""
+        crate, kind, module, name = node
+        if kind == "src":
+            return self.below_type(crate, module, name)
+        texts = self.definitions(crate, module)
+        if name not in texts:
+            holder = next((key for key, text in texts.items() if re.search(rf"^  {re.escape(name)} :", text, re.M)), None)
+            if not holder:
+                raise Unknown(f"{crate}/specs/{module}.antt has no definition {name}")
+            return {(crate, kind, module, holder)}
+        found = {other: (crate, kind, module, other) for other in texts}
+        self.used(self.read(f"crates/{crate}/specs/{module}.antt"), found)
+        return {found.get(word) for word in names_used(texts[name])} - {None, node}
+
+    def below_type(self, crate, module, name):
+        text, found = self.source_names(crate, module)
+        model = re.search(rf"^impl(?:<[^>]*>)? Model for {name}\b.*?^\}}$", text, re.M | re.S)
+        if model:
+            self.used(model[0], found)
+            told = re.search(r"ghost Value = \{(.*?)\};", model[0], re.S)[1]
+        else:
+            told = re.search(rf"^pub(?:\(crate\))? (?:struct|enum) {name}\b.*?(?:^\}}|;)$", text, re.M | re.S)
+            if not told:
+                raise Unknown(f"{crate}/src/{module}.rt has no type {name}")
+            told = VARIANT.sub("", told[0])
+        return {found.get(word) for word in names_used(told)} - {None, (crate, "src", module, name)}
+
+    def closure(self, nodes):
+        """The names that can be reached from some names, each before those that name it, if there is no circle."""
+        ordered, seen = [], set()
+
+        def visit(node):
+            if node not in seen:
+                seen.add(node)
+                for other in sorted(self.below(node)):
+                    visit(other)
+                ordered.append(node)
+
+        for node in sorted(nodes):
+            visit(node)
+        return ordered

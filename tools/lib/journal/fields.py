@@ -1,0 +1,139 @@
+"""The fields of a journal's record, read one by one: the fault of each in words, and the value that it is taken for, so that one
+fault isn't reported as several.
+
+A reader takes the text of a field and returns a value, or None if it has none, and the fault of the text: the allowed texts
+and the text to write instead."""
+
+import re
+from fractions import Fraction
+
+from ..base import rules, text
+
+# The names of the fields, and those that each kind of command has. The others are empty.
+NAMES = ["command", "participant", "order", "kind", "side", "price", "volumes", "parent", "group"]
+USED = {
+    "submit": NAMES[1:],
+    "amend": ["participant", "order", "price", "volumes"],
+    "cancel": ["participant", "order"],
+    "close": [],
+}
+DECIMAL = re.compile(r"([+-]?)([0-9]{1,9})(?:[.,]([0-9]{1,6}))?")
+
+
+def read_word(words):
+    allowed = f"{', '.join(words[:-1])} or {words[-1]}"
+
+    def read(found):
+        if found in words:
+            return found, None
+        if found.lower() in words:
+            return found.lower(), f"it should be {allowed}: write {found.lower()}"
+        return None, f"it should be {allowed}"
+
+    return read
+
+
+def read_day(found):
+    days = [str(periods) for periods in rules.DAYS]
+    if found in days:
+        return int(found), None
+    allowed = f"the number of periods should be {', '.join(days[:3])} (hours), {', '.join(days[3:-1])} or {days[-1]} (quarter-hours)"
+    return None, allowed
+
+
+def read_name(allowed, reader):
+    def read(found):
+        if found.isascii() and reader(found.encode()) is not None:
+            return found, None
+        better = found.upper().replace("_", "-").replace(" ", "-")
+        if better.isascii() and reader(better.encode()) is not None:
+            return better, f"it should be {allowed}: write {better}"
+        return None, f"it should be {allowed}"
+
+    return read
+
+
+read_participant = read_name(f"1 to {rules.LONGEST_PARTICIPANT} capitals A to Z", text.participant)
+read_order = read_name(text.A_NAME, text.name)
+
+
+def read_price(found):
+    if found.isascii() and text.price(found.encode()) is not None:
+        return int(found), None
+    allowed = f"it should be whole cents per MWh from {rules.LEAST_PRICE} to {rules.GREATEST_PRICE}"
+    return suggested(found, allowed, 100, "EUR/MWh", rules.LEAST_PRICE, rules.GREATEST_PRICE)
+
+
+def suggested(found, allowed, factor, unit, least, greatest):
+    """The number that is meant by one that breaks its rule, if that is plain."""
+    digits = DECIMAL.fullmatch(found.strip())
+    if not digits:
+        return None, allowed
+    sign, whole, rest = digits.groups()
+    value = Fraction(f"{whole}.{rest or 0}") * (-1 if sign == "-" else 1)
+    if rest:
+        value *= factor
+    if value.denominator != 1 or not least <= value <= greatest:
+        return None, allowed
+    shown = f" for {found.strip().replace(',', '.')} {unit}" if rest else ""
+    return int(value), f"{allowed}: write {int(value)}{shown}"
+
+
+def read_pair(pair):
+    """A period and a volume of a text `period:volume`, and its fault."""
+    number, colon, volume = (part.strip() for part in pair.partition(":"))
+    if not colon:
+        return None, f"{text.quoted(pair)} should be period:volume, such as 8:450"
+    if re.fullmatch(r"[0-9]+-[0-9]+", number):
+        return None, f"{text.quoted(pair)} has a range of periods: write a pair for each, such as 8:450;9:450"
+    if text.number(number.encode(), 1, rules.GREATEST_PERIOD) is None:
+        return None, f"{text.quoted(number)} in {text.quoted(pair)} should be a period from 1 to {rules.GREATEST_PERIOD}"
+    if volume.isascii() and text.volume(volume.encode()) is not None:
+        pair_now = int(number), int(volume)
+        return pair_now, None if pair == f"{number}:{volume}" else f"{text.quoted(pair)} has a space: write {number}:{volume}"
+    allowed = f"{text.quoted(volume)} in {text.quoted(pair)} should be whole tenths of a MW from 1 to {rules.GREATEST_VOLUME}"
+    value, wrong = suggested(volume, allowed, 10, "MW", 1, rules.GREATEST_VOLUME)
+    return (None if value is None else (int(number), value)), wrong
+
+
+def read_volumes(found):
+    """Pairs by increasing period: all that is wrong with them."""
+    if found.isascii() and text.volumes(found.encode()) is not None:
+        return text.volumes(found.encode()), None
+    if not found:
+        return None, "it should be period:volume, such as 8:450, or several, such as 8:450;9:450"
+    pairs, wrong = [], []
+    for part in found.split(";"):
+        pair, fault = read_pair(part) if part.strip() else (None, "a pair between `;` is missing, or there is one `;` too many")
+        pairs.append(pair)
+        wrong += [fault] if fault else []
+    numbers = [pair[0] for pair in pairs if pair]
+    for one, other in zip(numbers, numbers[1:]):
+        if one == other:
+            wrong.append(f"period {one} appears twice")
+        elif one > other:
+            wrong.append(f"period {other} stands after {one}: write the pairs by increasing period")
+    whole = tuple(sorted(pairs)) if None not in pairs and len(set(numbers)) == len(pairs) else None
+    return whole, "; ".join(wrong) or "it should be pairs period:volume by increasing period, with `;` between them"
+
+
+READERS = {
+    "participant": read_participant,
+    "order": read_order,
+    "kind": read_word(["hour", "block"]),
+    "side": read_word(["buy", "sell"]),
+    "price": read_price,
+    "volumes": read_volumes,
+    "parent": read_order,
+    "group": read_order,
+}
+
+
+def read(name, found):
+    """A field without the spaces around it: its value, and its fault."""
+    bare = found.strip(" \t\u00a0")
+    value, wrong = READERS[name](bare)
+    if bare != found:
+        spaces = f"there is a space around it: write {text.safe(bare)}"
+        wrong = f"{spaces}; {wrong}" if wrong else spaces
+    return value, wrong

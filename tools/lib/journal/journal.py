@@ -1,0 +1,160 @@
+"""Journals: from bytes to a day and its commands, or to the first fault, and back to the written form."""
+
+from typing import NamedTuple
+
+from ..base import rules, text
+
+
+class Order(NamedTuple):
+    kind: str  # "hour" or "block"
+    side: str  # "buy" or "sell"
+    price: int  # cents per MWh
+    volumes: tuple  # pairs of a period and tenths of a MW
+    parent: str = ""
+    group: str = ""
+
+
+class Submit(NamedTuple):
+    who: str
+    name: str
+    order: Order
+
+
+class Amend(NamedTuple):
+    who: str
+    name: str
+    price: int
+    volumes: tuple
+
+
+class Cancel(NamedTuple):
+    who: str
+    name: str
+
+
+class Close(NamedTuple):
+    pass
+
+
+class Journal(NamedTuple):
+    periods: int
+    commands: list
+
+    def __repr__(self):
+        return f"<Journal: {self.periods} periods, {len(self.commands)} commands>"
+
+
+class Fault(Exception):
+    """The text isn't a journal: the line of docs/FORMATS.md that says why."""
+
+
+class BadField(Exception):
+    """The number of the least field of a record that breaks its rule."""
+
+
+def read_journal(data):
+    """The journal that the bytes are, or its first fault."""
+    if len(data) > rules.MOST_BYTES:
+        raise Fault("input: TooLong")
+    if not data.isascii():
+        raise Fault(f"input: NotAscii at {next(at for at, byte in enumerate(data) if byte > 127)}")
+    periods, commands = None, []
+    for number, fields in enumerate(text.records(data), 1):
+        if number > rules.MOST_RECORDS:
+            raise Fault("input: TooManyRecords")
+        if number == 1 and fields[0] != b"day":
+            raise Fault("input: NotDay")
+        if len(fields) != 9:
+            raise Fault(f"input: FieldCount in record {number}")
+        try:
+            if number == 1:
+                periods = read_day(fields)
+            else:
+                commands.append(read_command(fields))
+        except BadField as bad:
+            raise Fault(f"input: BadField in record {number} field {bad}") from None
+    if periods is None:
+        raise Fault("input: NotDay")
+    return Journal(periods, commands)
+
+
+def empty(field):
+    return "" if field == b"" else None
+
+
+def optional_name(field):
+    return "" if field == b"" else text.name(field)
+
+
+def word(*words):
+    """The reader of one of these words."""
+    return lambda field: field.decode() if field.decode() in words else None
+
+
+def one_volume(field):
+    pairs = text.volumes(field)
+    return pairs if pairs and len(pairs) == 1 else None
+
+
+def take(fields, *readers):
+    """The values that the readers make of the fields after the first, one each; an empty field after the last reader's. The first
+    that breaks its rule is the record's fault."""
+    values = []
+    for at in range(1, 9):
+        reader = readers[at - 1] if at <= len(readers) else empty
+        value = reader(fields[at])
+        if value is None:
+            raise BadField(at + 1)
+        values.append(value)
+    return values[: len(readers)]
+
+
+def read_day(fields):
+    (periods,) = take(fields, word(*map(str, rules.DAYS)))
+    return int(periods)
+
+
+def read_command(fields):
+    kind = fields[0]
+    if kind == b"submit":
+        # The fields up to the fourth say how the ones after it are read.
+        hourly = fields[3] == b"hour"
+        behind = (one_volume, empty, empty) if hourly else (text.volumes, optional_name, optional_name)
+        who, name, *order = take(
+            fields, text.participant, text.name, word("hour", "block"), word("buy", "sell"), text.price, *behind
+        )
+        return Submit(who, name, Order(*order))
+    if kind == b"amend":
+        who, name, _, _, price, volumes = take(fields, text.participant, text.name, empty, empty, text.price, text.volumes)
+        return Amend(who, name, price, volumes)
+    if kind == b"cancel":
+        return Cancel(*take(fields, text.participant, text.name))
+    if kind == b"close":
+        take(fields)
+        return Close()
+    raise BadField(1)
+
+
+def volumes_text(volumes):
+    return ";".join(f"{period}:{volume}" for period, volume in volumes)
+
+
+def command_line(command):
+    """The record of a command in the written journal."""
+    match command:
+        case Submit(who, name, order):
+            fields = ["submit", who, name, order.kind, order.side, str(order.price), volumes_text(order.volumes)]
+            fields += [order.parent, order.group]
+        case Amend(who, name, price, volumes):
+            fields = ["amend", who, name, "", "", str(price), volumes_text(volumes), "", ""]
+        case Cancel(who, name):
+            fields = ["cancel", who, name, "", "", "", "", "", ""]
+        case Close():
+            fields = ["close", "", "", "", "", "", "", "", ""]
+    return ",".join(fields)
+
+
+def journal_text(journal):
+    """The written journal."""
+    lines = [f"day,{journal.periods},,,,,,,"] + [command_line(command) for command in journal.commands]
+    return "".join(f"{line}\n" for line in lines)

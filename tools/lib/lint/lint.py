@@ -1,0 +1,335 @@
+"""Every fault of a journal at once, in words: its line, the field, its text, the allowed texts and the remedy.
+
+Breaches of the format are reported for each record, and then the record is taken for the one that was probably meant, so
+that the commands after it are judged as well, also those that the book would refuse."""
+
+import re
+from typing import NamedTuple
+
+from ..base import place, rules, text
+from ..journal import book, fields, journal
+from ..sheets import kinds
+
+DAY = "day,24,,,,,,,"
+CLOSE = "close,,,,,,,,"
+RESULTS = ([b"results"],)  # the line before the results in the output of `dam day`
+MOST_LINES = 20  # of those with characters that aren't ASCII
+FEW = 5  # faults that other tools report
+MOST_QUOTES = 20  # that aren't closed and are reported
+SEPARATORS = {";": "semicolons", "\t": "tabs"}  # that stand in place of commas
+AUDIT, LINT, TABLE = map(place.as_here, ("tools/audit", "tools/lint", "tools/table"))
+# The tool for a text of another kind.
+OTHERS = {
+    kinds.ORDERS: f"this seems to be a table of orders: {TABLE} --journal makes a journal of it",
+    kinds.RESULTS: f"these seem to be results, which aren't a journal: {AUDIT} reads them with their journal",
+    kinds.REPLIES: f"these seem to be replies of `dam replay`, which aren't a journal: {AUDIT} --replies reads them with their journal",
+    **{kind: f"this is {kind}: {advice}" for kind, advice in kinds.ADVICE.items()},
+}
+BYTE_ORDER_MARKS = {b"\xef\xbb\xbf": "utf-8-sig", b"\xff\xfe": "utf-16", b"\xfe\xff": "utf-16"}
+
+
+class Found(NamedTuple):
+    line: int
+    field: str  # its name, or nothing if the whole record or text is meant
+    words: str
+    refusal: str = ""  # the book's reason, if the format allows the record
+
+    def __str__(self):
+        return f"line {self.line}{', ' if self.field else ''}{self.field}: {self.words}"
+
+
+class Lint:
+    """Gathers the faults of a text that should be a journal for a command of the program. If `periods` are given, the text may lack
+    the day, which has that number of periods."""
+
+    def __init__(self, data, command, periods=None, bar=None):
+        self.command, self.periods, self.bar = command, periods, bar
+        self.found, self.held = [], None
+        self.lines = {}  # of each order of the book that was submitted, by participant and name
+        self.unclear = set()  # participants and names of submits that couldn't be read
+        self.others = set()  # participants
+        self.closed = None  # the line of the first close
+        self.is_cut = False  # whether records at the end weren't looked at
+        self.data = data
+        self.has_semicolons = False  # between the fields of all lines
+
+    def tell(self, line, words, field="", refusal=""):
+        self.found.append(Found(line, field, words, refusal))
+
+    def run(self):
+        other = OTHERS.get(kinds.kind_of(self.data))
+        if other:
+            self.tell(1, other)
+            return self.found
+        data, comma = self.readable(self.data)
+        self.has_semicolons = comma == b";"
+        if self.periods and first_word(data, comma) != "day":
+            self.held = book.Book(self.periods)
+        line, behind, number = 1, 0, 0
+        for number, (at, record) in enumerate(text.placed_records(data, comma), 1):
+            line += len(text.LINE_END.findall(data, behind, at))
+            if self.bar:
+                self.bar.step(at - behind)
+            behind = at
+            if number > rules.MOST_RECORDS:
+                self.tell(line, f"a journal has at most {rules.MOST_RECORDS - 1} commands: remove the rest")
+                self.is_cut = True
+                break
+            if record in RESULTS or record[0] == b"welfare":
+                whole = "the results of a day begin here" if record in RESULTS else "these are results"
+                self.tell(line, f"{whole}, which aren't part of a journal: {AUDIT} reads both")
+                break
+            self.record(line, [field.decode(errors="replace") for field in record])
+        self.end(line, number)
+        return sorted(self.found, key=lambda found: (bool(found.refusal), found.line))
+
+    def readable(self, data):
+        """The text with the faults put right that concern all of it, and the separator of its fields."""
+        if len(data) > rules.MOST_BYTES:
+            self.tell(1, f"the text has {len(data):,} bytes, but a journal has at most {rules.MOST_BYTES:,}: split the day")
+        for mark, encoding in BYTE_ORDER_MARKS.items():
+            if data.startswith(mark):
+                name, tool = "a byte order mark", ""
+                if encoding == "utf-16":
+                    name, tool = "a byte order mark, and the text is in UTF-16", ", or convert it: iconv -f UTF-16 -t UTF-8 FILE"
+                self.tell(1, f"the text begins with {name}: save it as plain CSV, in ASCII or UTF-8 without the mark{tool}")
+                data = data.decode(encoding, errors="replace").encode()
+                break
+        self.characters(data)
+        comma = self.comma(data)
+        return self.closed_quotes(data, comma), comma
+
+    def comma(self, data):
+        """The separator of the fields, by the first line."""
+        first = re.split(rb"[\r\n]", data.lstrip(b"\r\n"), maxsplit=1)[0]
+        for mark, name in SEPARATORS.items():
+            if first.count(mark.encode()) > first.count(b",") != len(fields.NAMES) - 1:
+                self.tell(1, f"the fields are separated by {name}: separate them by commas")
+                return mark.encode()
+        return b","
+
+    def closed_quotes(self, data, comma):
+        """The text without the quotes that aren't closed on their line, after which no line could be told from another."""
+        for _ in range(MOST_QUOTES):
+            at = text.open_quote(data, comma)
+            if at is None:
+                break
+            line = len(text.LINE_END.findall(data, 0, at)) + 1
+            self.tell(line, "a quote begins a field and isn't closed on its line: remove it, or close it")
+            data = data[:at] + data[at + 1 :]
+        return data
+
+    def characters(self, data):
+        """Reports the first character of each line that isn't ASCII, and if there are many such lines, how many."""
+        lines, line, behind = {}, 1, 0
+        for found in re.finditer(rb"[\x80-\xff]+", data):
+            line += len(text.LINE_END.findall(data, behind, found.start()))
+            behind = found.start()
+            lines.setdefault(line, found[0].decode(errors="replace"))
+        allowed = "a journal has no accented letters, and no long dashes or special spaces"
+        for at in list(lines)[:MOST_LINES]:
+            self.tell(at, f"{text.quoted(lines[at])} isn't ASCII: {allowed}")
+        if len(lines) > MOST_LINES:
+            at = list(lines)[MOST_LINES]
+            self.tell(at, f"{len(lines) - MOST_LINES} lines from here on aren't ASCII either: save the file as plain CSV, in ASCII")
+
+    def separated(self, line, record):
+        """The fields of a record, also if it alone has something other than commas between them."""
+        for mark, name in SEPARATORS.items():
+            parts = record[0].split(mark)
+            if len(record) == 1 and len(parts) > 1 and parts[0].strip().lower() in {"day", *fields.USED}:
+                self.tell(line, f"the fields of this line are separated by {name}: separate them by commas")
+                return parts if len(parts) == len(fields.NAMES) else None
+        return record
+
+    def record(self, line, record):
+        record = self.separated(line, record)
+        if record is None:
+            return
+        if self.has_semicolons and len(record) > len(fields.NAMES):
+            self.unclear.add((record[1], record[2]))  # those between volumes can't be told from those between fields
+            return
+        word = record[0].strip().lower()
+        if self.held is None:
+            self.day(line, record, word)
+        elif word == "day":
+            self.tell(line, "the day appears twice: a journal has one, as its first line")
+        elif record[0].lstrip().startswith("#"):
+            self.tell(line, "a journal has no comments: remove the line")
+        elif not any(field.strip() for field in record):
+            self.tell(line, "there is nothing in the line but commas: remove it")
+        else:
+            self.entry(line, self.padded(line, record, CLOSE if word == "close" else None))
+
+    def padded(self, line, record, whole=None):
+        """The nine fields of a record that may have more or fewer."""
+        count, most = len(record), len(fields.NAMES)
+        missing = most - count
+        if missing > 0:
+            commas = "a comma is missing" if missing == 1 else f"{missing} commas are missing"
+            do = f"write {whole}" if whole else "complete it at its end"
+            self.tell(line, f"it has {count} field{'s' * (count > 1)} and should have {most}, so {commas}: {do}")
+        elif missing < 0:
+            do = "a field can't contain a comma"
+            if not any(record[most:]):
+                do = f"remove {-missing} comma{'s' * (missing < -1)} at its end"
+            self.tell(line, f"it has {count} fields and should have {most}: {do}")
+        return (record + [""] * most)[:most]
+
+    def day(self, line, record, word):
+        """The first record, which should be the day."""
+        if word != "day":
+            if set(map(str.lower, record)) & {*fields.NAMES, "who", "name", "limit", "volume"}:
+                self.tell(line, f"this is a header, and a journal has none: begin with the day, such as {DAY}")
+                return
+            if word.startswith("#"):
+                self.tell(line, f"a journal has no comments: remove the line, and begin with the day, such as {DAY}")
+                return
+            self.tell(line, f"the first line should be the day, such as {DAY}, but is {text.quoted(','.join(record))}")
+            self.held = book.Book(rules.GREATEST_PERIOD)
+            if word in fields.USED:
+                self.record(line, record)
+            return
+        found = record[1].strip() if len(record) > 1 else ""
+        periods, wrong = fields.read_day(found)
+        whole = f"day,{periods or 24},,,,,,,"
+        record = self.padded(line, record, whole)
+        if record[0] != "day":
+            self.tell(line, f"{text.quoted(record[0])} should be day: write {whole}", "command")
+        if wrong or record[1] != found:
+            self.tell(line, f"{text.quoted(record[1])}: {wrong or f'there is a space around it: write {text.safe(found)}'}", "periods")
+        for place in range(2, 9):
+            if record[place]:
+                self.tell(line, f"{text.quoted(record[place])} should be empty: write {whole}", fields.NAMES[place])
+        self.held = book.Book(periods or rules.GREATEST_PERIOD)
+
+    def entry(self, line, record):
+        kind, wrong = fields.read_word(["submit", "amend", "cancel", "close"])(record[0].strip(" \t\u00a0"))
+        if wrong or kind != record[0]:
+            self.tell(line, f"{text.quoted(record[0])}: {wrong or f'there is a space around it: write {kind}'}", "command")
+        if kind is None:
+            return
+        values, is_whole = {}, True
+        hourly = kind == "submit" and record[3].strip().lower() == "hour"
+        for place, name in list(enumerate(fields.NAMES))[1:]:
+            found = record[place]
+            if name not in fields.USED[kind] or hourly and name in ("parent", "group"):
+                if found:
+                    of = "an hourly order" if hourly and kind == "submit" else f"{'an' if kind == 'amend' else 'a'} {kind}"
+                    self.tell(line, f"{text.quoted(found)} should be empty in {of}", name)
+                values[name] = ""
+            elif not found and name in ("parent", "group"):
+                values[name] = ""
+            else:
+                values[name], wrong = fields.read(name, found)
+                if name == "volumes" and hourly and values[name] and len(values[name]) != 1:
+                    wrong = f"an hourly order has one pair, such as 8:450, not {len(values[name])}" + (f"; {wrong}" if wrong else "")
+                if wrong:
+                    self.tell(line, f"{text.quoted(found)}: {wrong}" if found else f"it is empty: {wrong}", name)
+                is_whole = is_whole and values[name] is not None
+        if kind == "submit" and hourly and values["volumes"] and len(values["volumes"]) != 1:
+            is_whole = False
+        self.apply(line, kind, values, is_whole)
+
+    def apply(self, line, kind, values, is_whole):
+        who, name = values.get("participant"), values.get("order")
+        if kind == "close":
+            if self.command == "day":
+                self.tell(line, "a journal for `dam day` has no close: remove the line")
+                return
+            command = journal.Close()
+        else:
+            self.others.add(who)
+            if not is_whole:
+                self.unclear |= {(who, name)} if kind == "submit" else set()
+                return
+            command = {"submit": self.submit, "amend": journal.Amend, "cancel": journal.Cancel}[kind](
+                *[values[field] for field in fields.USED[kind]]
+            )
+        self.settle(line, kind, values, self.held.apply(command))
+
+    def settle(self, line, kind, values, reason):
+        """Keeps the facts by which later commands are judged, or reports why the book refuses the command."""
+        who, name = values.get("participant"), values.get("order")
+        if reason is None:
+            if kind == "submit":
+                self.lines[who, name] = line
+            if kind == "close":
+                self.closed = line
+            return
+        parent = (who, values.get("parent"))
+        if reason == "UnknownOrder" and (who, name) in self.unclear or reason == "UnknownParent" and parent in self.unclear:
+            return
+        field, words = self.refusal(reason, who, name, values)
+        self.tell(line, f"{words} (the book refuses it: {reason})", field, reason)
+
+    def submit(self, who, name, kind, side, price, volumes, parent, group):
+        return journal.Submit(who, name, journal.Order(kind, side, price, volumes, parent, group))
+
+    def refusal(self, reason, who, name, values):
+        """The field that a refusal is about, and the remedy."""
+        parent = values.get("parent")
+        if reason == "PeriodOutOfDay":
+            late = next(number for number, _ in values["volumes"] if number > self.held.periods)
+            words = f"the day has periods 1 to {self.held.periods}, so there is no period {late}"
+            return "volumes", f"{words}: correct the period, or the day in the first line"
+        if reason == "HasChildren":
+            children = [other for (owner, other), order in self.held.rows.items() if (owner, order.parent) == (who, name)]
+            line = self.lines[who, children[0]]
+            return "order", f"{children[0]} of line {line} names {name} as its parent: cancel {children[0]} first"
+        return {
+            "Closed": ("", f"the book is closed by line {self.closed}: put the command before it"),
+            "NameTaken": (
+                "order",
+                f"{who} has an order {name} since line {self.lines.get((who, name))}: amend that one, or take another name",
+            ),
+            "UnknownOrder": ("order", f"{who} has no order {name} here: it was never entered, was refused, or is cancelled"),
+            "WrongShape": ("volumes", f"the order of line {self.lines.get((who, name))} is hourly: give it one pair, such as 8:450"),
+            "UnknownParent": ("parent", f"{who} has no order {parent} here: submit the parent first"),
+            "ParentNotBlock": (
+                "parent",
+                f"{parent} of line {self.lines.get((who, parent))} is an hourly order: name a block",
+            ),
+            "HourlyFull": ("", f"a book holds at most {rules.MOST_HOURLY} hourly orders: cancel others first"),
+            "BlocksFull": ("", f"a book holds at most {rules.MOST_BLOCKS} blocks: cancel others first"),
+        }[reason]
+
+    def end(self, line, records):
+        if not records:
+            self.tell(1, f"the journal is empty: begin with the day, such as {DAY}")
+        elif self.held is None:
+            self.tell(line, f"there is no day: begin with it, such as {DAY}")
+        if self.command == "clear" and self.closed is None and records and not self.is_cut:
+            self.tell(line, f"no command closes the book, so there are no results: end with {CLOSE}")
+        if self.command == "day":
+            if records > rules.MOST_DAY_COMMANDS + 1:
+                self.tell(line, f"`dam day` takes at most {rules.MOST_DAY_COMMANDS} commands")
+            count = len(self.others - {None})
+            if count > rules.MOST_DAY_PARTICIPANTS:
+                self.tell(line, f"`dam day` takes at most {rules.MOST_DAY_PARTICIPANTS} participants, but there are {count}")
+
+
+def first_word(data, comma=b","):
+    """The first field of a text, as a word that a journal may begin with."""
+    return next(text.placed_records(data, comma), (0, [b""]))[1][0].strip().lower().decode(errors="replace")
+
+
+def faults(data, command="clear", bar=None):
+    """The faults of a text as a journal for `dam clear`, `dam replay` or `dam day`, by line, and then the commands that the book would
+    refuse. A bar shows how far it is read."""
+    return Lint(data, command, bar=bar).run()
+
+
+def counted(found):
+    """How many faults there are, and how many commands the book would refuse."""
+    refused = sum(1 for one in found if one.refusal)
+    counts = [(len(found) - refused, "fault"), (refused, "refused command")]
+    return ", ".join(f"{count} {name}{'s' * (count > 1)}" for count, name in counts if count) or "nothing is wrong"
+
+
+def in_few_words(data, periods=None):
+    """The first faults of a text that can't be read as a journal, each on a line of its own; or as the commands of a day of as many
+    periods, with the day or without it."""
+    lines = [str(fault) for fault in Lint(data, "replay", periods).run() if not fault.refusal]
+    more = [f"and {len(lines) - FEW} more: see {LINT}"] if len(lines) > FEW else []
+    return "".join(f"\n  {line}" for line in lines[:FEW] + more)

@@ -1,0 +1,227 @@
+"""A participant's sent commands, compared with its commands in the published journal: each there once, in its order, and no others."""
+
+import re
+from bisect import bisect_left
+from collections import Counter, defaultdict, deque
+from typing import NamedTuple
+
+from ..base import common, text
+from ..journal import journal
+from ..sheets import command_table, kinds, order_table
+from . import lint
+from ..results.faults import Fault
+
+JOURNAL, BOOK = "the journal", "the book at the end"
+WORDS = re.compile(rb'[\s"]*(?:day|submit|amend|cancel|close)\b', re.IGNORECASE)
+
+
+class Wrong(Exception):
+    """The text isn't from a participant of that name on that day."""
+
+
+class Sent(NamedTuple):
+    record: int  # of the list that was sent, from 1
+    command: object
+
+
+class Published(NamedTuple):
+    record: int  # of the journal; the record of the day is 1
+    command: object
+    reason: object  # for which the book refused it; None if it was carried out
+
+    @property
+    def reply(self):
+        return f"refused, {self.reason}" if self.reason else "done"
+
+    @property
+    def place(self):
+        """The record with its number among the commands, which other tools print."""
+        return f"record {self.record} (command {self.record - 1}) of {JOURNAL}"
+
+    @property
+    def line(self):
+        return self.record
+
+
+class Held(NamedTuple):
+    """An order in the book at the end, as the command that would enter it."""
+
+    record: int  # its number among the participant's orders there, from 1
+    command: object
+    line = None  # it is no line of the journal
+
+    @property
+    def place(self):
+        return f"order {self.record} in {BOOK}"
+
+
+class Own(NamedTuple):
+    """The commands of a participant in a list that was sent."""
+
+    commands: list  # of `Sent`
+    others: int  # how many commands of others the list has
+    is_table: bool  # whether it is a table of orders, which may also be the orders at the end
+    notes: list  # on the table: what was read of it, and what wasn't
+
+
+def read_sent(data, who, periods, has_none):
+    """The commands of a participant in a list: records as in a journal, with the records `day` and `close` or without them, or a table
+    of orders. Those of others are left out. A list with those of others alone is wrong, except a table if the participant `has_none` in the
+    book at the end, having cancelled them."""
+    is_table = not WORDS.match(data.removeprefix(text.MARK))
+    if is_table:
+        own, notes, others = read_table(data, periods, who)
+    else:
+        every = list(read_records(data, periods))
+        own, notes = [sent for sent in every if sent.command.who == who], []
+        others = len(every) - len(own)
+    if others and not own and not (is_table and has_none):
+        raise Wrong("\n".join([f"it has {text.counted(others, 'command')} of others, and none of {who}", *notes]))
+    return Own(own, others, is_table, notes)
+
+
+def read_records(data, periods):
+    own = data if lint.first_word(data) == "day" else b"day,%d,,,,,,,\n" % periods + data
+    try:
+        read = journal.read_journal(own)
+    except journal.Fault:
+        raise Wrong(lint.in_few_words(data, periods).lstrip()) from None
+    if read.periods != periods:
+        raise Wrong(f"it is for a day of {read.periods} periods, but the journal is for one of {periods}")
+    first = 2 if own is data else 1
+    return [Sent(at, command) for at, command in enumerate(read.commands, first) if not isinstance(command, journal.Close)]
+
+
+def read_table(data, periods, who):
+    """The orders of a participant in a table, as the sent commands; notes on the table; and how many others it has."""
+    try:
+        table = order_table.cells_of(data)
+        if command_table.is_command_table(table):
+            raise Wrong(f"it is a table of commands, with the column {command_table.WHAT}: give records of a journal, or a table of orders")
+        orders = order_table.read_tables([("", table)], periods, who)
+    except order_table.Wrong as fault:
+        is_table = kinds.kind_of(data) == kinds.ORDERS
+        where = "its table has rows that aren't orders" if is_table else "it has no journal records and isn't a table of orders"
+        raise Wrong(f"{where}: {fault}") from None
+    return [Sent(number, submit) for number, submit in orders.submits], orders.notes, orders.others
+
+
+def published_of(read, reasons, who):
+    """The commands of a participant in a journal, with the reasons of their refusals."""
+    return [
+        Published(record, command, reason)
+        for record, (command, reason) in enumerate(zip(read.commands, reasons), 2)
+        if getattr(command, "who", None) == who
+    ]
+
+
+def paired(sent, published, key):
+    """Pairs of entries with the same key, by their order; and the rest of both lists."""
+    waiting = defaultdict(deque)
+    for entry in published:
+        waiting[key(entry.command)].append(entry)
+    pairs, left = [], []
+    for entry in sent:
+        same = waiting[key(entry.command)]
+        if same:
+            pairs.append((entry, same.popleft()))
+        else:
+            left.append(entry)
+    return pairs, left, [entry for entries in waiting.values() for entry in entries]
+
+
+def no_proof(_):
+    return ""
+
+
+def compared(own, published, closed, who, look, proof=no_proof):
+    """The faults of a participant's commands in a journal, and lines about the right ones. A table of orders may have the commands, or
+    the orders at the end: of both, the one with fewer differences is meant. `look` is called now and then, and may end the comparison. Of a
+    command that isn't in the journal as it was sent, `proof` says whether the operator had it."""
+    commands, reasons = own.commands, [entry.reason for entry in published]
+    wrong = differences(commands, published, look=look, proof=proof)
+    others = f" ({own.others} of others left out)" if own.others else ""
+    if wrong and own.is_table:
+        at_the_end = differences(commands, held_of(closed, who), BOOK, look)
+        if not at_the_end:
+            count = f"{text.counted(len(commands), 'order')} of {who}"
+            by = f"{text.counted(len(published), 'command')} of {who}{refused(reasons)}"
+            return [], [f"as in the table: {count} in {BOOK}, and no others, after {by}{others}"]
+        wrong = min(wrong, at_the_end, key=len)
+    count = f"{text.counted(len(commands), 'command')} of {who}"
+    line = f"as sent: {count}, each once, in their order, and no others{refused(reasons)}{others}"
+    return wrong, [line, *replies(commands, published)]
+
+
+def refused(reasons):
+    """How many of some commands the book refused, in words; nothing if it refused none."""
+    count = sum(reason is not None for reason in reasons)
+    return f", {count} of {len(reasons)} commands refused" if count else ""
+
+
+def held_of(closed, who):
+    """The orders of a participant in the book, in its order."""
+    own = [journal.Submit(*key, order) for key, order in closed.rows.items() if key[0] == who]
+    return [Held(number, submit) for number, submit in enumerate(own, 1)]
+
+
+def differences(sent, published, where=JOURNAL, look=lambda: None, proof=no_proof):
+    """The faults of the published commands, or of the book's, a line each, by their records."""
+    pairs = common.in_order(*([entry.command for entry in entries] for entries in (sent, published)), look)
+    there, here = ({place[side] for place in pairs} for side in (0, 1))
+    left = [entry for at, entry in enumerate(sent) if at not in there]
+    more = [entry for at, entry in enumerate(published) if at not in here]
+    moved, left, more = paired(left, more, lambda command: command)
+    changed, left, more = paired(left, more, lambda command: (type(command), command.name))
+    sent_times = Counter(entry.command for entry in sent)
+    lines = [(other.record, moved_line(one, other)) for one, other in moved]
+    lines += [(other.record, changed_line(one, other, proof(one.command))) for one, other in changed]
+    found = [(sent[at].record, published[place].record) for at, place in pairs]
+    lines += [(place_of(one, found), missing_line(one, where, proof(one.command))) for one in left]
+    lines += [(other.record, more_line(other, sent_times[other.command])) for other in more]
+    return [line for _, line in sorted(lines, key=lambda line: line[0])]
+
+
+def about(entry):
+    """The subject of a fault of a command."""
+    return f"order {entry.command.who},{entry.command.name}"
+
+
+def moved_line(one, other):
+    shown = journal.command_line(one.command)
+    words = f"sent record {one.record} is moved: {other.place} is out of its order: {shown}"
+    return Fault(words, "moved", other.line, about(one))
+
+
+def changed_line(one, other, proof):
+    was, now = journal.command_line(one.command), journal.command_line(other.command)
+    words = f"sent record {one.record} is changed: it was '{was}', and {other.place} is '{now}'{proof}"
+    return Fault(words, "changed", other.line, about(one))
+
+
+def missing_line(one, where, proof):
+    words = f"sent record {one.record} is missing in {where}: {journal.command_line(one.command)}{proof}"
+    return Fault(words, "missing", None, about(one))
+
+
+def more_line(other, times):
+    """The message about a record that wasn't sent; its command was sent `count` times."""
+    shown = journal.command_line(other.command)
+    if not times:
+        return Fault(f"{other.place} was not sent: {shown}", "unsent", other.line, about(other))
+    count = "once" if times == 1 else f"{times} times"
+    words = f"{other.place} repeats what was sent {count}: {shown}"
+    return Fault(words, "repeated", other.line, about(other))
+
+
+def place_of(one, found):
+    """The record of the journal that a missing command should come after; `found` pairs the records that are sent with these."""
+    before = bisect_left(found, (one.record,))
+    return found[before - 1][1] if before else 0
+
+
+def replies(sent, published):
+    """The reply to each command, if all are published as they were sent."""
+    for one, other in zip(sent, published):
+        shown = journal.command_line(one.command)
+        yield f"sent record {one.record} is {other.place}; the book's reply is {other.reply}: {shown}"

@@ -1,0 +1,3 @@
+"""Pictures of a day.
+
+It may import: base, results."""

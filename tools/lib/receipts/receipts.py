@@ -1,0 +1,303 @@
+"""The verdict on receipts and heads: whether they are the operator's, and whether each belongs to one journal that only grew."""
+
+from collections import Counter, defaultdict
+from itertools import groupby
+from typing import NamedTuple
+
+from ..base import text
+from ..lint import sent
+from ..seal import heads, merkle, signing
+from ..tool import command
+from .contradictions import Signed, periods_differ, roots_differ, unsigned
+from .findings import CONTRADICTION, CONTRARY, ENCODING, EXTENSION, HEAD, IMPOSSIBLE, LINE, RECEIPT, RIGHT, STATUSES, UNDECIDED, UNREAD, WRONG
+from .findings import Finding, Place, verdict
+
+NOT_WRITTEN = "the content is right, but the text isn't in its written form"
+NOT_SIGNED = "isn't signed by this key: it isn't the operator's, or it was changed"
+EMPTY = "it has no receipt"
+MOST_UNREAD = 20  # lines of a file that are named, if they are no receipts
+# Of each verdict on a receipt that the operator signed for the day, the words of the last line; others are named as they are.
+WORDS = {CONTRARY: "contrary to the published head", IMPOSSIBLE: "with an impossible reply"}
+
+
+class Received(NamedTuple):
+    """A command of a participant, of which it has a receipt. `sent` compares it with the commands that were sent."""
+
+    number: int
+    command: object
+
+    @property
+    def record(self):
+        return self.number
+
+    @property
+    def place(self):
+        return f"the receipt of entry {self.number}"
+
+    line = None  # it is no line of a journal
+
+
+def key_read(path, read=signing.public):
+    return key_of(path, command.read_bytes(path), read)
+
+
+def key_of(path, data, read=signing.public):
+    """The key in the bytes of a file."""
+    try:
+        return read(data)
+    except signing.Wrong as fault:
+        raise command.Stop(f"{command.shown(path)} can't be used: {fault}") from None
+
+
+def read_one(path, read, name, odd):
+    """The value in a file of one line. If the file isn't in its written form, `odd` gets a finding."""
+    return value_of(path, command.read_bytes(path), read, name, odd)
+
+
+def value_of(path, data, read, name, odd):
+    """The same from the bytes of the file."""
+    try:
+        value, is_written = heads.parsed(data, read)
+    except heads.Wrong as fault:
+        raise command.Stop(f"{command.shown(path)} isn't {name}: {fault}") from None
+    if not is_written:
+        odd.append(Finding(path, None, ENCODING, NOT_WRITTEN))
+    return value
+
+
+def head_read(path, key, odd, day=None):
+    """The head in a file, which has to be signed by the key, and of a day if one is named."""
+    return head_of(path, command.read_bytes(path), key, odd, day)
+
+
+def head_of(path, data, key, odd, day=None):
+    """The same from the bytes of the file."""
+    head = value_of(path, data, heads.head_read, "a head", odd)
+    if not signing.is_signed(key, head):
+        raise command.Stop(f"{command.shown(path)} {NOT_SIGNED}", command.DIFFERS)
+    if day not in (None, head.day):
+        raise command.Stop(f"{command.shown(path)} is {head}, and not of {day}")
+    return head
+
+
+class Links:
+    """What is given of an operator: all that it signed, and the extensions, which show that a head's journal begins with another's. `findings`
+    gets those on the extensions."""
+
+    def __init__(self, paths, key, findings):
+        self.key, self.signed = key, Signed()
+        later = defaultdict(set)  # of each head, those that begin with it
+        for path in paths:
+            extension = read_one(path, heads.extension_read, "an extension", findings)
+            if not all([self.add_head(path, end, findings, EXTENSION) for end in (extension.old, extension.new)]):
+                continue
+            if fault := self.extension_fault(extension):
+                findings.append(Finding(path, None, UNDECIDED, f"it proves nothing: {fault}", about=EXTENSION))
+            else:
+                later[unsigned(extension.old)].add(unsigned(extension.new))
+        self.earlier = longest(later)
+
+    def extension_fault(self, extension):
+        """Why an extension of two signed heads proves nothing; None if it does. Anyone can make one, so it is nobody's fault."""
+        one, other = (signing.signer(self.key, end) for end in (extension.old, extension.new))
+        if one != other:
+            return f"its heads are signed with two keys, {command.shown(one)} and {command.shown(other)}"
+        return None if extension.is_right() else "its path doesn't lead from the earlier head to the later one"
+
+    def add_head(self, path, head, findings, about=HEAD):
+        """Whether a key signed a head. If none did, `findings` gets that."""
+        key = signing.signer(self.key, head)
+        if key is not None:
+            self.signed.add_head(head, Place(path), key)
+            return True
+        findings.append(Finding(path, None, WRONG, f"{'it' if about == HEAD else head} {NOT_SIGNED}", about=about))
+        return False
+
+    def compared(self, one, other):
+        """The verdict on two heads of one operator, and the words for it."""
+        one, other = sorted(map(unsigned, (one, other)), key=lambda head: head.size)
+        if one.day != other.day:
+            return UNREAD, f"the heads are of different days, {one.day} and {other.day}"
+        if one.periods != other.periods:
+            return WRONG, periods_differ(one, other)
+        if one == other:
+            return RIGHT, f"the heads are the same: {one}"
+        if one.size == other.size:
+            return WRONG, roots_differ(one)
+        if self.leads(one, other):
+            return RIGHT, f"{other} begins with {one}"
+        return UNDECIDED, f"whether {other} begins with {one} isn't shown: the operator has to give an extension"
+
+    def leads(self, one, other):
+        """Whether the extensions show that a head's journal begins with an earlier one. Each journal begins with the empty one."""
+        one, other = unsigned(one), unsigned(other)
+        while other is not None and other.size > one.size:
+            other = self.earlier.get(other)
+        return other == one or one.size == 0
+
+    def gaps(self):
+        """The findings on the heads of a day, each compared with the next one. Contradictions are told elsewhere."""
+        signed = self.signed.heads()
+        for one, other in zip(signed, signed[1:]):
+            found, words = self.compared(one, other)
+            if found in (RIGHT, UNDECIDED):
+                yield Finding(*self.signed.places[other], found, words, about=HEAD)
+
+    def days(self):
+        """A line for each day of the heads."""
+        for day, own in groupby(self.signed.heads(), lambda head: head.day):
+            *others, last = own
+            yield f"{day}: {text.counted(len(others) + 1, 'head')}, the last with {text.counted(last.size, 'entry', 'entries')}"
+
+    def counted(self):
+        """How many heads there are, of how many days."""
+        signed = self.signed.heads()
+        return f"{text.counted(len(signed), 'head')} of {text.counted(len({head.day for head in signed}), 'day')}"
+
+
+def longest(later):
+    """Of each head, the longest of the earlier ones with which its journal begins. Of two that it begins with, the longer one begins with
+    the shorter one, so that this one need not be kept."""
+    earlier = defaultdict(set)
+    for one, others in later.items():
+        for other in others - {one}:
+            earlier[other].add(one)
+    found = {}
+    for head in sorted({*later, *earlier}, key=by_size, reverse=True):
+        if earlier[head]:
+            *others, found[head] = sorted(earlier[head], key=by_size)
+            earlier[found[head]].update(others)
+    return found
+
+
+def by_size(head):
+    return head.size, head.root
+
+
+def judge(receipt, head, key, links, place=Place("the receipt")):
+    """The verdict on a receipt, compared with a head that was published if one is given, and the words for it. The links get what the
+    operator signed."""
+    entry, signer = f"entry {receipt.number} of {receipt.head}", signing.signer(key, receipt.head)
+    if signer is None:
+        return WRONG, f"its head {NOT_SIGNED}"
+    links.signed.add_head(receipt.head, place, signer)
+    root = merkle.root_of_inclusion(receipt.leaf(), receipt.number - 1, receipt.head.size, receipt.path)
+    if root != receipt.head.root:
+        return WRONG, f"it isn't {entry}: its record, reply, salt or path was changed, or belongs to another entry"
+    links.signed.add_entry(receipt, place)
+    shown = f"{entry}: {receipt.record}, {receipt.reply}"
+    if head is None:
+        return RIGHT, shown
+    if fault := reply_fault(receipt):
+        return IMPOSSIBLE, f"{shown}; {fault}"
+    found, words = links.compared(receipt.head, head)
+    if found == WRONG:
+        return CONTRARY, f"{shown}; the published head contradicts it: {words}"
+    if found in (RIGHT, UNDECIDED) and receipt.number > head.size:
+        return CONTRARY, f"{shown}; but the journal of {head} ends before it"
+    return found, shown if found == RIGHT else f"{shown}; {words}"
+
+
+def reply_fault(receipt):
+    """Why no book gives this reply; None if one may. Only the periods are looked at: of the rest, the entries before it decide."""
+    found = heads.command_of(receipt.record)
+    last = max((period for period, _ in getattr(getattr(found, "order", found), "volumes", ())), default=0)
+    if receipt.reply == heads.DONE and last > receipt.head.periods:
+        return f"the operator signed the reply {heads.DONE} for period {last} of a day with {receipt.head.periods}, which no book gives"
+    return None
+
+
+def judged(path, head, key, links, who=None):
+    """The findings on the receipts of a file, one in each line. A line that is none is named. If a participant is named, all are its own."""
+    return judged_bytes(path, command.read_bytes(path), head, key, links, who)
+
+
+def judged_bytes(path, data, head, key, links, who=None):
+    """The same from the bytes of the file."""
+    try:
+        lines = heads.lines_of(data)
+    except heads.Wrong as fault:
+        yield Finding(path, None, UNREAD, f"it has no receipts: {fault}")
+        return
+    if not lines:
+        yield Finding(path, None, UNREAD, EMPTY)
+    for number, data in enumerate(lines, 1):
+        try:
+            receipt, is_written = heads.parsed(data, heads.receipt_read)
+        except heads.Wrong as fault:
+            yield Finding(path, number, UNREAD, f"it isn't a receipt: {fault}", about=LINE)
+            continue
+        found, words = judge(receipt, head, key, links, Place(path, number))
+        if who is not None and receipt.who != who and STATUSES[found] != command.DIFFERS:
+            found, words = UNREAD, f"it isn't a receipt of {who}: {words}"
+        if found == RIGHT and not is_written:
+            found, words = ENCODING, f"{NOT_WRITTEN}: {words}"
+        yield Finding(path, number, found, words, receipt)
+
+
+def told(findings):
+    """A line about each finding that isn't right. Of the lines of a file that are no receipts, the first ones are named."""
+    unread = Counter()
+    for finding in findings:
+        unread[finding.file] += finding.about == LINE
+        if finding.verdict != RIGHT and not (finding.about == LINE and unread[finding.file] > MOST_UNREAD):
+            yield str(finding)
+    for path, count in unread.items():
+        if count > MOST_UNREAD:
+            yield f"{command.shown(path)}: {text.counted(count - MOST_UNREAD, 'more line')} without a receipt"
+
+
+def received(findings, who, verdicts):
+    """The commands of a participant of which there are receipts with one of some verdicts, in the order of the journal."""
+    kept = [finding.receipt for finding in findings if finding.receipt and finding.verdict in verdicts and finding.receipt.who == who]
+    every = {(receipt.number, receipt.record): heads.command_of(receipt.record) for receipt in kept}
+    return [Received(number, found) for (number, _), found in sorted(every.items(), key=lambda one: one[0])]
+
+
+def is_none_read(findings):
+    """Whether there are lines or files that can't be read as receipts, and none that can."""
+    return all(finding.receipt is None for finding in findings) and any(finding.words != EMPTY for finding in findings)
+
+
+def differences(path, commands, findings, who):
+    """The findings on the commands that a participant sent, compared with those of which there are receipts. Whether the published journal
+    has these may be undecided. A receipt that contradicts the published head is of another journal, whose entries may have other numbers:
+    of the comparisons with the ones, the others and both, the one with the fewest differences is meant."""
+    own, others = (RIGHT, ENCODING, UNDECIDED), (CONTRARY, IMPOSSIBLE)
+    is_contrary = any(finding.verdict in others for finding in findings)
+    each = [received(findings, who, verdicts) for verdicts in ((own, others, own + others) if is_contrary else (own,))]
+    found = min((sent.differences(commands, one, "the receipts") for one in each), key=len)
+    return [Finding(path, None, WRONG, str(fault)) for fault in found]
+
+
+def refusals(findings):
+    """The entries of right receipts that the book refused, each once, in words."""
+    kept = [finding.receipt for finding in findings if finding.receipt and finding.verdict == RIGHT]
+    every = {receipt.number: receipt for receipt in kept if receipt.reply != heads.DONE}
+    return [f"entry {number}: {receipt.record}, {receipt.reply}" for number, receipt in sorted(every.items())]
+
+
+def counted(findings):
+    """How many findings there are of each kind and verdict, and how many receipts are of an entry that another one has too."""
+    own = [(finding.verdict, finding.receipt.number, finding.receipt.leaf()) for finding in findings if finding.receipt]
+    count = Counter((RECEIPT, kind) for kind, _, _ in set(own))
+    count.update((finding.about, finding.verdict) for finding in findings if not finding.receipt)
+    return count, len(own) - len(set(own))
+
+
+def summary(findings, unlike, head, as_sent=None):
+    """The last line about receipts, and about the differences from the commands that were sent; `as_sent` is their number, if there are
+    none. Several receipts of an entry count once."""
+    found, refused = verdict([*findings, *unlike]), len(refusals(findings))
+    count, more = counted(findings)
+    others = [f"{more} more of the same entries"] if more else []
+    others += [f"{text.counted(len(unlike), 'difference')} from the commands that were sent"] if unlike else []
+    others += [f"as sent: {text.counted(as_sent, 'command')}"] if as_sent is not None else []
+    refusal = f", {refused} of them refused" if refused else ""
+    if found == RIGHT:
+        return "; ".join([f"right: {text.counted(count[RECEIPT, RIGHT], 'receipt')} of {head}{refusal}", *others])
+    order = sorted(count.items(), key=lambda one: (one[0][0] != RECEIPT, -list(STATUSES).index(one[0][1])))
+    kinds = {(about, kind): "" if about == CONTRADICTION else f" {WORDS.get(kind, kind)}" for about, kind in count}
+    kinds[RECEIPT, RIGHT] = f" {RIGHT}{refusal}"
+    parts = [f"{text.counted(number, about)}{kinds[about, kind]}" for (about, kind), number in order]
+    return f"{found}: {'; '.join([*parts, *others])}; {head}"

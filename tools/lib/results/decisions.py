@@ -1,0 +1,250 @@
+"""The decision on each block of a result: accepted, rejected, or paradoxically rejected, and why.
+
+A rejected block is judged with the best family that it belongs to (see `families`): its gain at the prices, and the welfare that would
+happen if it were accepted instead of the accepted blocks of its groups."""
+
+from typing import NamedTuple
+
+from ..base import text
+from . import families, selection
+
+ACCEPTED, REJECTED, PARADOX = "accepted", "rejected", "paradoxically rejected"
+# At most this many losing blocks of another selection are named.
+MOST_LOSERS = 3
+
+
+class Other(NamedTuple):
+    """Another selection, and the reasons against it."""
+
+    accepted: frozenset
+    unbalanced: object  # the first period that doesn't balance, or None
+    welfare: object  # None if a period doesn't balance
+    losers: dict  # each accepted block that loses, with its loss
+
+
+# Short words for the deciding reasons, for programs and filters: of blocks, and of hourly orders. docs/TABLES.md lists them.
+GAINS, COVERED, LOSES, NEVER, NO_PRICE = "gains", "covered", "loses", "never", "no-price"
+PARENT, GROUP, UNBALANCED, WOULD_LOSE, LESS, TIE, BETTER = "parent", "group", "unbalanced", "would-lose", "less-welfare", "tie", "better"
+IN_THE_MONEY, AT_THE_PRICE, OUT_OF_THE_MONEY, NO_TRADE = "in-the-money", "at-the-price", "out-of-the-money", "no-trade"
+
+
+class Decision(NamedTuple):
+    kind: str
+    why: str
+    code: str
+    family: object = None  # of a rejected block; None if it can't be accepted, or has no surplus
+    other: object = None  # the selection with that family
+
+
+def decisions(problem, accepted, outcome, euros=None):
+    """The decision on each block, by place. Amounts are written by `euros`, which `text.amount` is by default."""
+    judge = Judge(problem, frozenset(accepted), outcome, euros or text.amount)
+    return [judge.decision(place) for place in range(len(problem.blocks))]
+
+
+class Judge:
+    def __init__(self, problem, accepted, outcome, euros):
+        self.problem, self.accepted, self.outcome = problem, accepted, outcome
+        self.surpluses = outcome.surpluses
+        self.write = euros
+
+    def eur(self, amount):
+        return f"{self.write(amount, self.problem.hours)} EUR"
+
+    def name(self, place):
+        return self.problem.blocks[place].name
+
+    def names(self, places):
+        return listed([self.name(place) for place in sorted(places)])
+
+    def decision(self, place):
+        if place in self.accepted:
+            return Decision(ACCEPTED, self.accepted_why(place), self.accepted_code(place))
+        conflict = families.never(self.problem, place)
+        if conflict:
+            return Decision(REJECTED, self.never_why(place, *conflict), NEVER)
+        family = families.best_family(self.problem, self.accepted, self.surpluses, place)
+        if family is None:
+            return Decision(REJECTED, self.unknown_why(place), NO_PRICE)
+        other = self.selection_with(family)
+        paradox = not family.rivals and not family.losers() and family.gains[place] > 0 and family.gain() > 0
+        kind, twin = PARADOX if paradox else REJECTED, self.twin(place, family)
+        if twin is not None:
+            return Decision(kind, self.twin_why(place, family, twin), TIE, family, other)
+        return Decision(kind, self.rejected_why(place, family, other), self.rejected_code(place, family, other), family, other)
+
+    def accepted_code(self, place):
+        surplus = self.surpluses[place]
+        if surplus is None:
+            return NO_PRICE
+        if surplus >= 0:
+            return GAINS
+        return COVERED if selection.answers_for(self.problem, self.accepted, place, self.surpluses) >= 0 else LOSES
+
+    def rejected_code(self, place, family, other):
+        if family.rivals:
+            return GROUP
+        if family.gains[place] < 0:
+            return LOSES
+        if family.losers():
+            return PARENT
+        if other.unbalanced is not None:
+            return UNBALANCED
+        if other.losers:
+            return WOULD_LOSE
+        if self.outcome.welfare is None or other.welfare > self.outcome.welfare:
+            return BETTER
+        return TIE if other.welfare == self.outcome.welfare else LESS
+
+    def twin(self, place, family):
+        """An accepted block that offers the same as a rejected one and stands earlier, in whose place that would be worth as much; None if
+        there is none."""
+        if family.rivals or family.members != {place} or family.gains[place] < 0 or self.outcome.welfare is None:
+            return None
+        order = self.problem.blocks[place].order
+        for other in sorted(self.accepted):
+            same = self.problem.blocks[other].order[:4] == order[:4]
+            if other < place and same and selection.eligible(self.problem, self.accepted - {other} | {place}) == self.outcome.welfare:
+                return other
+        return None
+
+    def twin_why(self, place, family, twin):
+        other, own = self.problem.blocks[twin], self.problem.blocks[place]
+        name = other.name if other.who == own.who else str(other)
+        return f"{self.at_the_prices(place, family)}, but {name} offers the same and stands earlier in the book"
+
+    def accepted_why(self, place):
+        surplus, parent = self.surpluses[place], self.problem.parents[place]
+        if surplus is None:
+            return "is accepted, and has a period that doesn't balance, and so has no price"
+        why = "gains nothing" if not surplus else f"{'gains' if surplus > 0 else 'loses'} at the prices"
+        helping = selection.helping(self.problem, self.accepted, place)
+        if surplus < 0 and helping:
+            together = selection.answers_for(self.problem, self.accepted, place, self.surpluses)
+            does = "loses" if together < 0 else "gains"
+            why += f" by itself, and with {self.names(helping)} it {does} {self.eur(abs(together))}"
+        return why + (f", and its parent {self.name(parent)} is accepted" if parent is not None else "")
+
+    def never_why(self, place, upper, lower):
+        group = self.problem.blocks[upper].order.group
+        both = f"{self.name(upper)} and {self.name(lower)}, from which it descends, are both"
+        if lower == place:
+            both = f"{self.name(upper)}, from which it descends, and it are both"
+        return f"can never be accepted, because {both} of the group {group}"
+
+    def unknown_why(self, place):
+        why = "has a period that doesn't balance, and so has no price"
+        if self.surpluses[place] is not None:
+            why = "descends from a block with a period that doesn't balance, and so has no price"
+        parent = self.problem.parents[place]
+        rejected = parent is not None and parent not in self.accepted
+        return why + (f"; its parent {self.name(parent)} is rejected" if rejected else "")
+
+    def selection_with(self, family):
+        """The result if a family were accepted."""
+        accepted = self.accepted - family.removed | family.members
+        then = selection.outcome(self.problem, accepted)
+        unbalanced = next((number for number, found in then.cleared.items() if found is None), None)
+        losers = selection.losing(self.problem, accepted, then.surpluses) if unbalanced is None else {}
+        return Other(accepted, unbalanced, then.welfare, losers)
+
+    def rejected_why(self, place, family, other):
+        why = self.at_the_prices(place, family)
+        if family.rivals:
+            return f"{why}; {self.instead(place, family)} {self.consequence(place, other)}"
+        if family.gains[place] < 0:
+            parent = self.problem.parents[place]
+            return why + (f"; its parent {self.name(parent)} is rejected" if parent in family.needed else "")
+        count = len(family.members)
+        word = {1: "it", 2: "both,"}.get(count, f"all {count},")
+        join = "; " if family.losers() else ", but " if family.gain() else ", and "
+        return f"{why}{join}with {word} {self.consequence(place, other)}"
+
+    def at_the_prices(self, place, family):
+        """The gain or loss of a block at the prices, with its family."""
+        own, helping = family.gains[place], family.members.intersection(self.problem.rescuers[place])
+        if own < 0:
+            return f"would lose {self.eur(-own)} at the prices" + (f", even with {self.names(helping)}" if helping else "")
+        losers = family.losers()
+        others = helping if losers else family.members - {place}
+        gain = own if losers else family.gain()
+        start = f"with {self.names(others)} it " if others else ""
+        why = start + (f"would gain {self.eur(gain)} at the prices" if gain else "would gain nothing at the prices")
+        if losers:
+            word = "its parent " if losers[0] == self.problem.parents[place] else ""
+            below = family.members.intersection(self.problem.rescuers[losers[0]])
+            why += f", but {word}{self.name(losers[0])}, without which it can't be accepted, would lose"
+            why += f" {self.eur(-family.gains[losers[0]])} even with {'it' if below == {place} else self.names(below)}"
+        return why
+
+    def instead(self, place, family):
+        """Which accepted blocks leave no room in the groups, and the blocks that would take their place."""
+        own = self.problem.blocks[place].order.group
+        groups = []
+        for rival in family.rivals:
+            group = self.problem.blocks[rival].order.group
+            of = next(member for member in family.needed if self.problem.blocks[member].order.group == group)
+            words = f"its group {group}" if group == own else f"the group {group} of {self.name(of)}"
+            groups.append(f"{self.name(rival)} of {words}")
+        are = "is" if len(groups) == 1 else "are"
+        their, them = ("its", "it") if len(groups) == 1 else ("their", "them")
+        orphans = family.removed - set(family.rivals)
+        besides = f" and that of {self.names(orphans)}, which can't be accepted without {them}," if orphans else ""
+        return f"{listed(groups)} {are} accepted, and with {self.names(family.members)} in {their} place{besides}"
+
+    def consequence(self, place, other):
+        """The welfare of another selection, and who would lose in it."""
+        if other.unbalanced is not None:
+            return f"period {other.unbalanced} wouldn't balance"
+        worth = self.worth(other)
+        if other.losers:
+            more = self.outcome.welfare is not None and other.welfare > self.outcome.welfare
+            return f"{self.losses(place, other)}, {'though' if more else 'and'} {worth}"
+        if other.welfare == self.outcome.welfare:
+            flags = len(self.problem.blocks), other.welfare, other.accepted, other.welfare, self.accepted
+            above = selection.ranks_above(*flags)
+            return worth + (", and it ranks above" if above else ", and of equal selections the one with the earlier block is taken")
+        return worth
+
+    def worth(self, other):
+        if self.outcome.welfare is None:
+            return f"the welfare would be {self.eur(other.welfare)}"
+        more = other.welfare - self.outcome.welfare
+        if not more:
+            return "the welfare would be the same"
+        return f"the welfare would be {self.eur(abs(more))} {'greater' if more > 0 else 'less'}"
+
+    def losses(self, place, other):
+        """Who would lose in another selection, the block itself first."""
+        words = []
+        first = sorted(other.losers, key=lambda loser: (loser != place, loser))[:MOST_LOSERS]
+        for loser in first:
+            family = " together with its accepted descendants" if selection.helping(self.problem, other.accepted, loser) else ""
+            who = "the block itself" if loser == place else str(self.problem.blocks[loser])
+            words.append(f"{who} would lose {self.eur(other.losers[loser])}{family}")
+        more = len(other.losers) - MOST_LOSERS
+        if more > 0:
+            words.append(f"{more} more block{'s' * (more > 1)} would lose")
+        return listed(words)
+
+
+def listed(words):
+    """Words in a row, such as `A`, `A and B` or `A, B and C`."""
+    words = list(words)
+    return " and ".join([", ".join(words[:-1]), words[-1]] if len(words) > 1 else words)
+
+
+def hourly(day, row, executed):
+    """The code and the words for the reason that decided an hourly order."""
+    number = row.order.volumes[0][0]
+    if not day.said.volumes[number - 1]:
+        return NO_TRADE, f"nothing is traded in period {number}"
+    price, limit = day.said.prices[number - 1], row.order.price
+    gain = limit - price if row.order.side == "buy" else price - limit
+    shown = f"the price, {text.cents(price)} EUR/MWh"
+    if gain > 0:
+        return IN_THE_MONEY, f"its limit is better than {shown}"
+    if gain < 0:
+        return OUT_OF_THE_MONEY, f"its limit is worse than {shown}"
+    shared = "" if executed == row.order.volumes[0][1] else "; not all that is offered at it is needed"
+    return AT_THE_PRICE, f"its limit is {shown}{shared}"

@@ -1,0 +1,73 @@
+"""The faults of a text, each as a line for readers that has parts for programs; and its lines, compared with the expected ones."""
+
+from ..base import common
+
+# The kinds of faults, in words; docs/FORMATS.md lists them for users.
+KINDS = {
+    "form": "a line that isn't one of these results, or the end of the text",
+    "missing": "a line, or a command that was sent, is missing",
+    "moved": "a line or a command stands in another place",
+    "stray": "a line that doesn't belong there",
+    "journal": "the results seem to be of another journal, or the journal has none",
+    "link": "a block is accepted and its parent isn't",
+    "group": "more than one block of an exclusive group is accepted",
+    "loss": "an accepted block loses; or, by the published numbers, an hourly order or a participant does",
+    "balance": "no execution balances the accepted blocks in a period",
+    "welfare": "the welfare",
+    "price": "the price of a period",
+    "volume": "the volume of a period",
+    "executed": "the executed volume of an hourly order",
+    "surplus": "the surplus of a block",
+    "money": "by the published numbers, the bought, the sold and the published volume of a period differ",
+    "sum": "the welfare isn't the sum of the published surpluses",
+    "reply": "a reply of the book",
+    "better": "another selection of blocks ranks above",
+    "changed": "a command differs from the one that was sent",
+    "repeated": "a command was sent fewer times",
+    "unsent": "a command was not sent",
+    "head": "the journal differs from a head that the operator signed, the salts aren't the journal's, or another key signed the head",
+    "receipt": "the journal doesn't have a receipt's entry",
+    "foreign": "a receipt or an earlier head isn't the operator's, or is of another day",
+    "encoding": "line endings, trailing blank lines, a byte order mark or quotes: no number or word differs",
+}
+
+
+class Fault(str):
+    """A line about a fault; its kind, the number of the line of the text if it has one, and the subject of that line."""
+
+    def __new__(cls, words, kind, line=None, about=None):
+        made = super().__new__(cls, words)
+        made.kind, made.line, made.about = kind, line, about
+        return made
+
+    def record(self):
+        return {"kind": self.kind, "line": self.line, "about": self.about, "words": str(self)}
+
+
+def of_line(kind, line, about, words):
+    """The fault of a line of results."""
+    return Fault(f"results line {line}: {words}", kind, line, about)
+
+
+def moved(wanted, found, pairs):
+    """The lines of `matched` that stand in the place of none and are missing in another: from the place found to the one wanted."""
+    apart = [(at, place) for at, place in pairs if at is None or place is None or wanted[at] != found[place]]
+    missing = {wanted[at]: at for at, _ in apart if at is not None}
+    strays = {found[place]: place for _, place in reversed(apart) if place is not None}
+    return {place: missing[line] for line, place in strays.items() if line in missing}
+
+
+def matched(wanted, found):
+    """The places of the lines that are wanted and of those found, in their order, as pairs; None stands for the other place of a
+    line that is missing, or that is found and not wanted. Lines are given by what they are about, so that a stray line is one pair."""
+    if wanted == found:  # the usual case, and far quicker to see
+        return [(at, at) for at in range(len(wanted))]
+    near = found[: 2 * len(wanted)]
+    pairs, first, begin = [], 0, 0
+    for last, end in [*common.in_order(wanted, near), (len(wanted), len(near))]:
+        both = min(last - first, end - begin)
+        pairs += [(first + step, begin + step) for step in range(both)]
+        pairs += [(at, None) for at in range(first + both, last)] + [(None, at) for at in range(begin + both, end)]
+        pairs += [(last, end)] if last < len(wanted) else []
+        first, begin = last + 1, end + 1
+    return pairs + [(None, at) for at in range(len(near), len(found))]

@@ -1,0 +1,128 @@
+"""The data that others publish of a day: the aggregated curves of its periods and its figures; and long forms of the tables."""
+
+import math
+from fractions import Fraction
+
+from ..base import clock, rules, text
+from . import sums, trades
+
+# The hours of a day, by the clock, whose mean price is the peak price.
+PEAK = 8 * 60, 20 * 60
+
+
+def steps(day, number, side):
+    """The curve of a side in a period: the volume of its accepted blocks, which has no price of its own and so stands at the limit of
+    the range, and then its hourly orders by price, the best first. Each as a part, a price and a volume."""
+    blocks = sum(volume for at, volume in accepted_volumes(day, side) if at == number)
+    if blocks:
+        yield "blocks", rules.GREATEST_PRICE if side == "buy" else rules.LEAST_PRICE, blocks
+    merged = {}
+    for of, limit, volume in day.problem.orders[number]:
+        if of == side:
+            merged[limit] = merged.get(limit, 0) + volume
+    for limit in sorted(merged, reverse=side == "buy"):
+        yield "hourly", limit, merged[limit]
+
+
+def accepted_volumes(day, side):
+    for place in day.said.accepted:
+        order = day.problem.blocks[place].order
+        if order.side == side:
+            yield from order.volumes
+
+
+def curves(day):
+    """A row for each step of the demand and the supply of each period, and one for the point at which it is cleared."""
+    yield ["period", "curve", "part", "price_eur_mwh", "from_mw", "to_mw"]
+    for number in day.problem.orders:
+        for curve, side in (("demand", "buy"), ("supply", "sell")):
+            end = 0
+            for part, limit, volume in steps(day, number, side):
+                yield [number, curve, part, text.cents(limit), text.tenths(end), text.tenths(end + volume)]
+                end += volume
+        if trades.is_traded(day, number):
+            volume = text.tenths(day.said.volumes[number - 1])
+            yield [number, "clearing", "", text.cents(day.said.prices[number - 1]), volume, volume]
+
+
+def is_peak(periods, number):
+    return PEAK[0] <= clock.minutes(periods, number) < PEAK[1]
+
+
+def mean(prices):
+    """The mean of prices in cents, rounded to a cent; None if there are none."""
+    prices = list(prices)
+    return round_half_up(Fraction(sum(prices), len(prices))) if prices else None
+
+
+def round_half_up(value):
+    return math.floor(value + Fraction(1, 2))
+
+
+def mean_prices(day):
+    """The mean prices of a day by their names, in cents, over the periods in which something is traded."""
+    prices = {number: day.said.prices[number - 1] for number in trades.traded(day)}
+    volumes = {number: day.said.volumes[number - 1] for number in prices}
+    periods = day.problem.periods
+    weighted = sum(price * volumes[number] for number, price in prices.items())
+    return {
+        "base": mean(prices.values()),
+        "peak": mean(price for number, price in prices.items() if is_peak(periods, number)),
+        "off_peak": mean(price for number, price in prices.items() if not is_peak(periods, number)),
+        "by_volume": round_half_up(Fraction(weighted, sum(volumes.values()))) if prices else None,
+        "least": min(prices.values(), default=None),
+        "greatest": max(prices.values(), default=None),
+    }
+
+
+def figures(day):
+    """The figures of a day, in a few numbers."""
+    yield ["figure", "unit", "value"]
+    yield ["welfare", "EUR", text.euros(day.said.welfare, day.problem.hours, "")]
+    yield ["energy", "MWh", text.energy(sum(day.said.volumes), day.problem.hours, "")]
+    yield ["traded_periods", "", len(trades.traded(day))]
+    for name, price in mean_prices(day).items():
+        yield [f"{name}_price", "EUR/MWh", "" if price is None else text.cents(price)]
+    for name, amount in sums.sums(day.problem, day.said)._asdict().items():
+        yield [name, "EUR", text.euros(amount, day.problem.hours, "")]
+
+
+def long_periods(rows):
+    """The periods' table with a row for each of its numbers."""
+    heads = next(rows)
+    kept = [at for at, head in enumerate(heads) if head.endswith(("_eur_mwh", "_mw"))]
+    yield ["period", "traded", "quantity", "value"]
+    for row in rows:
+        for at in kept:
+            if row[at] != "":
+                yield [row[0], row[heads.index("traded")], heads[at], row[at]]
+
+
+def long_orders(day, kind=None):
+    """A row for each period of each order, or of each block."""
+    heads = ["participant", "order", "kind", "side", "limit_eur_mwh", "period", "offered_mw", "executed_mw", "price_eur_mwh"]
+    yield [*heads, "amount_eur"]
+    for row, made in trades.row_trades(day):
+        executed = {trade.period: trade for trade in made}
+        for number, offered in row.order.volumes:
+            if kind in (None, row.order.kind):
+                trade = executed.get(number)
+                amount = 0 if trade is None else trade.amount() * (1 if trade.side == "sell" else -1)
+                order = [row.who, row.name, row.order.kind, row.order.side, text.cents(row.order.price), number]
+                volumes = [text.tenths(offered), text.tenths(trade.volume if trade else 0)]
+                price = text.cents(day.said.prices[number - 1]) if trades.is_traded(day, number) else ""
+                yield [*order, *volumes, price, text.euros(amount, day.problem.hours, "")]
+
+
+def long_participants(day):
+    """A row for each period in which a participant trades."""
+    yield ["participant", "period", "bought_mw", "sold_mw", "paid_eur", "received_eur"]
+    found = {}
+    for _, made in trades.row_trades(day):
+        for trade in made:
+            sums = found.setdefault((trade.who, trade.period), [0, 0, 0, 0])
+            sums[trade.side == "sell"] += trade.volume
+            sums[2 + (trade.side == "sell")] += trade.amount()
+    for (who, number), sums in sorted(found.items()):
+        amounts = [text.euros(amount, day.problem.hours, "") for amount in sums[2:]]
+        yield [who, number, *map(text.tenths, sums[:2]), *amounts]

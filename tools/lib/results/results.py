@@ -1,0 +1,244 @@
+"""The results text of a clearing: reading one against its problem, and writing the one that follows from a selection."""
+
+import re
+from typing import NamedTuple
+
+from ..base import text
+from .faults import Fault, matched, moved, of_line
+
+ANOTHER = "these seem to be the results of another journal"
+
+# No welfare, surplus or volume of a result is as large, and no results or replies have as many lines.
+LARGE, MOST_LINES = 10**16, 20_000
+
+
+class Results(NamedTuple):
+    welfare: int
+    prices: list  # of the periods from 1
+    volumes: list
+    executed: list  # of the hourly orders in book order
+    accepted: set  # places of blocks
+    surpluses: list  # of the blocks
+    lines: dict  # from the subject of a line, such as "period 3" or "block WHO,NAME", to its number
+
+
+def split_day(data):
+    """The journal and the results of the text of a day, which the line `results` separates; None if there is no such line."""
+    line = re.search(rb"^results\r?\n", data, re.MULTILINE)
+    return line and (data[: line.start()], data[line.end() :])
+
+
+OTHER_NUMBER = re.compile(rb"[+-]?[0-9]{1,16}")
+
+
+def number(field):
+    return text.number(field, -LARGE, LARGE)
+
+
+def expected_lines(problem):
+    """For each line of the results: its subject, its fields that are known beforehand, and how many numbers or words
+    come after them."""
+    yield "the day", ["day", str(problem.periods)], ""
+    yield "the welfare", ["welfare"], "n"
+    for period in range(1, problem.periods + 1):
+        yield f"period {period}", ["period", str(period)], "nn"
+    for row in problem.rows:
+        kind = row.order.kind
+        yield f"{kind} {row}", [kind, row.who, row.name], "n" if kind == "hour" else "an"
+
+
+def line_values(line, known, behind):
+    """The values after the known fields of a line that begins with these: numbers, and for an `a` whether the word is `accepted`. None if
+    their form is wrong."""
+    fields = line.split(b",")
+    if len(fields) != len(known) + len(behind):
+        return None
+    values = []
+    for field, kind in zip(fields[len(known) :], behind):
+        if kind == "a":
+            value = {b"accepted": True, b"rejected": False}.get(field)
+        else:
+            value = number(field)
+        if value is None:
+            return None
+        values.append(value)
+    return values
+
+
+def beginning(line):
+    """The subject of a line, if it is one of results: its known fields."""
+    fields = line.split(b",", 3)
+    return tuple(fields[: {b"day": 2, b"welfare": 1, b"period": 2}.get(fields[0], 3)])
+
+
+QUOTED = re.compile(rb'(?<![^,\n])"([^",\n]*)"(?![^,\n])')
+MARKS = {text.MARK: ("utf-8-sig", "a byte order mark"), b"\xff\xfe": ("utf-16", "a byte order mark of UTF-16")}
+MARKS[b"\xfe\xff"] = MARKS[b"\xff\xfe"]
+UTF_32 = b"\xff\xfe\0\0"  # its mark begins as the mark of UTF-16
+
+
+def plain(data):
+    """The text as `dam` writes it, if other programs have changed only how it is encoded; and the changes."""
+    odd = []
+    for mark, (encoding, words) in MARKS.items():
+        if data.startswith(mark) and not data.startswith(UTF_32) and is_text(data, encoding):
+            data = data.decode(encoding).encode()
+            odd.append(f"the text begins with {words}")
+    for end, words in ((b"\r\n", "CR LF"), (b"\r", "CR")):
+        if end in data:
+            data = data.replace(end, b"\n")
+            odd.append(f"the lines end with {words} instead of LF alone")
+    if data and not data.endswith(b"\n"):
+        data += b"\n"
+        odd.append("the last line has no line end")
+    elif data.endswith(b"\n\n") and data.strip(b"\n"):
+        data = data.rstrip(b"\n") + b"\n"
+        odd.append("empty lines follow the last line")
+    if QUOTED.search(data):
+        data = QUOTED.sub(rb"\1", data)
+        odd.append("fields stand in quotes")
+    return data, [Fault(words, "encoding") for words in odd]
+
+
+def is_text(data, encoding):
+    """Whether bytes can be read in an encoding."""
+    try:
+        return bool(data.decode(encoding))
+    except UnicodeDecodeError:
+        return False
+
+
+def foreign(wanted, beginnings):
+    """Says so if most lines of orders are of none of this journal's."""
+    orders = [begin for begin in beginnings if begin[0] in (b"hour", b"block")]
+    others = len(orders) - sum(map(set(wanted).__contains__, orders))
+    if 2 * others <= len(orders):
+        return []
+    return [Fault(f"{ANOTHER}: {others} of their {len(orders)} lines of orders are of orders that this journal doesn't have", "journal")]
+
+
+def none_belongs(line, wanted):
+    """The message about results of which no line is one of this journal's."""
+    for comma, name in ((b";", "semicolons"), (b"\t", "tabs")):
+        if comma in line and beginning(line.replace(comma, b",")) in wanted:
+            words = f"the fields of the results are separated by {name} instead of commas: the first line is {text.quoted(line)}"
+            return Fault(words, "form", 1)
+    return Fault(f"none of the lines of the results belongs to this journal: the first is {text.quoted(line)}", "journal", 1)
+
+
+def read_results(problem, data):
+    """The results that a text is for this problem, and the faults of its form; results are None if something is."""
+    wrong, lines, values = [], {}, []
+    if not data.endswith(b"\n"):
+        wrong.append(Fault("the last line of the results has no line end", "form"))
+    found, more = first_lines(data)
+    wrong += more
+    expected = list(expected_lines(problem))
+    last = 0  # the last line that was found
+    wanted = [tuple(field.encode() for field in known) for _, known, _ in expected]
+    beginnings = [beginning(line) for line in found]
+    if set(wanted).isdisjoint(beginnings):
+        return None, [none_belongs(found[0], wanted) if data else Fault("the results are empty", "form")]
+    pairs = matched(wanted, beginnings)
+    away = moved(wanted, beginnings, pairs)
+    elsewhere = set(away.values())
+    for at, place in pairs:
+        last = last if place is None else place + 1
+        if place in away:
+            wrong.append(of_line("moved", last, expected[away[place]][0], moved_line(expected, away[place])))
+        elif at is None:
+            wrong.append(of_line("stray", last, None, stray_line(found[place])))
+        if at is None or at in elsewhere:
+            continue
+        about, known, behind = expected[at]
+        if place is None or place in away:
+            wrong.append(missing_line(last + (place is None), len(found), about))
+            continue
+        read = line_values(found[place], known, behind) if beginnings[place] == wanted[at] else None
+        lines[about] = last
+        if read is None:
+            wrong.append(of_line("form", last, about, form_words(about, found[place], known, behind)))
+        values.append(read)
+    if wrong:
+        return None, foreign(wanted, beginnings) + wrong
+    return gather(problem, values, lines), wrong
+
+
+def first_lines(data):
+    """The lines of a text that are looked at, and a fault if there are more."""
+    found = data.removesuffix(b"\n").split(b"\n", MOST_LINES)
+    if len(found) <= MOST_LINES:
+        return found, []
+    count = MOST_LINES + 1 + found.pop().count(b"\n")
+    words = f"the text has {count:,} lines, and no day has as many: those after line {MOST_LINES:,} weren't looked at"
+    return found, [Fault(words, "stray", MOST_LINES + 1)]
+
+
+def missing_line(line, lines, about):
+    """The message about a line that is missing before another, or at the end."""
+    where = f"before results line {line}" if line <= lines else f"at the end of the results, as line {line}"
+    return Fault(f"the line for {about} is missing {where}", "missing", line, about)
+
+
+def form_words(about, line, known, behind):
+    """The message about a line whose fields after the known ones aren't numbers or words as they should be."""
+    fields = line.split(b",")
+    if len(fields) == len(known) + len(behind):
+        for field, kind in zip(fields[len(known) :], behind):
+            if kind == "n" and number(field) is None and OTHER_NUMBER.fullmatch(field):
+                return f"{about}: {text.quoted(field)} isn't a number as dam writes it: no +, no leading zeros, no -0"
+    form = ",".join(known + [{"n": "<number>", "a": "accepted|rejected"}[kind] for kind in behind])
+    return f"{about} should be '{form}' and is {text.quoted(line)}"
+
+
+def moved_line(expected, at):
+    """The message about a line that stands in another place than its own."""
+    after = f"after that for {expected[at - 1][0]}" if at else "before all others"
+    return f"the line for {expected[at][0]} stands here and belongs {after}"
+
+
+def stray_line(line):
+    return f"{text.quoted(line)} doesn't belong here" if line else "the line is empty, and should not be there"
+
+
+def gather(problem, values, lines):
+    (_, (welfare,), *rest) = values
+    periods, rows = rest[: problem.periods], rest[problem.periods :]
+    kinds = list(zip(problem.rows, rows))
+    blocks = [read for row, read in kinds if row.order.kind == "block"]
+    return Results(
+        welfare,
+        [price for price, _ in periods],
+        [volume for _, volume in periods],
+        [read[0] for row, read in kinds if row.order.kind == "hour"],
+        {place for place, (accepted, _) in enumerate(blocks) if accepted},
+        [surplus for _, surplus in blocks],
+        lines,
+    )
+
+
+def executed_by_row(problem, cleared):
+    """The executed volume of each hourly order, by participant and name; None in a period that doesn't balance."""
+    volumes = {}
+    for number, rows in problem.hourly.items():
+        found = cleared[number]
+        for at, row in enumerate(rows):
+            volumes[row.who, row.name] = None if found is None else found.executed[at]
+    return volumes
+
+
+def results_text(problem, accepted, outcome):
+    """The results that are published of an eligible selection."""
+    lines = [f"day,{problem.periods}", f"welfare,{outcome.welfare}"]
+    for number, found in outcome.cleared.items():
+        lines.append(f"period,{number},{found.price},{outcome.bought[number]}")
+    executed = executed_by_row(problem, outcome.cleared)
+    place = 0
+    for row in problem.rows:
+        if row.order.kind == "hour":
+            lines.append(f"hour,{row},{executed[row.who, row.name]}")
+        else:
+            word = "accepted" if place in accepted else "rejected"
+            lines.append(f"block,{row},{word},{outcome.surpluses[place]}")
+            place += 1
+    return "".join(f"{line}\n" for line in lines)

@@ -1,0 +1,150 @@
+"""A closed book as a problem, and the consequences of a selection of its blocks."""
+
+from typing import NamedTuple
+
+from ..base import rules, text
+from . import period
+
+
+class Row(NamedTuple):
+    who: str
+    name: str
+    order: object
+
+    def __str__(self):
+        return f"{self.who},{self.name}"
+
+
+class Problem:
+    """The rows of a book in book order, its blocks by place, and the hourly orders of each period."""
+
+    def __init__(self, book):
+        self.periods = book.periods
+        self.hours = rules.DAYS[book.periods]  # of a period
+        self.rows = [Row(who, name, order) for (who, name), order in book.rows.items()]
+        self.blocks = [row for row in self.rows if row.order.kind == "block"]
+        # The rows of the hourly orders of each period, and the same as `period` takes them.
+        self.hourly = {number: [] for number in range(1, self.periods + 1)}
+        for row in self.rows:
+            if row.order.kind == "hour":
+                self.hourly[row.order.volumes[0][0]].append(row)
+        self.orders = {
+            number: tuple((row.order.side, row.order.price, row.order.volumes[0][1]) for row in rows)
+            for number, rows in self.hourly.items()
+        }
+        self.parents = [self.place(block.who, block.order.parent) for block in self.blocks]
+        self.rescuers = [rules.rescuers(place, self.blocks) for place in range(len(self.blocks))]
+
+    def place(self, who, name):
+        """The place of the block with this name among the blocks; None if there is none."""
+        named = [at for at, block in enumerate(self.blocks) if (block.who, block.name) == (who, name)]
+        return named[0] if named else None
+
+    def euros(self, amount):
+        """An amount in cents per MWh times tenths of a MW, over periods of this day, in EUR."""
+        return text.exact_euros(amount, self.hours)
+
+    def groups(self):
+        """The places of the blocks of each exclusive group."""
+        members = {}
+        for place, block in enumerate(self.blocks):
+            if block.order.group:
+                members.setdefault((block.who, block.order.group), []).append(place)
+        return members
+
+
+class Outcome(NamedTuple):
+    """The consequences of a selection. A period that doesn't balance has None, and then so has the welfare."""
+
+    cleared: dict  # by period
+    bought: dict  # executed hourly buys and accepted buy blocks, by period
+    surpluses: list  # of each block; None if a period of it has no price
+    welfare: object
+
+
+def signed(order):
+    """The volumes of a block as net volumes: its sold volumes, less its bought volumes."""
+    return [(number, volume if order.side == "sell" else -volume) for number, volume in order.volumes]
+
+
+def link_faults(problem, accepted):
+    """Why links and groups forbid these places to be accepted together, each with the place of a block and the kind of fault; nothing if
+    they don't."""
+    for place in sorted(accepted):
+        parent = problem.parents[place]
+        if parent is not None and parent not in accepted:
+            yield place, "link", f"block {problem.blocks[place]} is accepted and its parent {problem.blocks[parent]} isn't"
+    for (who, group), members in problem.groups().items():
+        chosen = [place for place in members if place in accepted]
+        if len(chosen) > 1:
+            names = " ".join(str(problem.blocks[place]) for place in chosen)
+            yield chosen[1], "group", f"group {group} of {who} has {len(chosen)} accepted blocks: {names}"
+
+
+def surplus(order, prices):
+    """The gain of a block at the prices; None if it has a volume in a period without a price."""
+    total = 0
+    for number, net in signed(order):
+        if prices[number] is None:
+            return None
+        total += net * (prices[number] - order.price)
+    return total
+
+
+def outcome(problem, accepted):
+    """The consequences of the selection that accepts these places."""
+    net = dict.fromkeys(problem.orders, 0)
+    bought = dict.fromkeys(problem.orders, 0)
+    value = 0
+    for place in accepted:
+        order = problem.blocks[place].order
+        for number, volume in signed(order):
+            net[number] += volume
+            bought[number] += max(-volume, 0)
+            value -= order.price * volume
+    cleared = {number: period.clear(orders, net[number]) for number, orders in problem.orders.items()}
+    for number, found in cleared.items():
+        if found is not None:
+            sides = zip(problem.orders[number], found.executed)
+            bought[number] += sum(quantity for (side, _, _), quantity in sides if side == "buy")
+    prices = {number: found and found.price for number, found in cleared.items()}
+    balanced = None not in cleared.values()
+    return Outcome(
+        cleared,
+        bought,
+        [surplus(block.order, prices) for block in problem.blocks],
+        value + sum(found.welfare for found in cleared.values()) if balanced else None,
+    )
+
+
+def helping(problem, accepted, place):
+    """The accepted blocks that make up for the loss of an accepted block."""
+    return [other for other in problem.rescuers[place] if other in accepted]
+
+
+def answers_for(problem, accepted, place, surpluses):
+    """The gain of an accepted block, with the accepted blocks that make up for its loss; None if a surplus isn't known."""
+    gains = [surpluses[other] for other in [place, *helping(problem, accepted, place)]]
+    return None if None in gains else sum(gains)
+
+
+def losing(problem, accepted, surpluses):
+    """The accepted places that lose, each with its loss, as far as that is known."""
+    gains = {place: answers_for(problem, accepted, place, surpluses) for place in sorted(accepted)}
+    return {place: -gain for place, gain in gains.items() if gain is not None and gain < 0}
+
+
+def eligible(problem, accepted):
+    """The welfare of an eligible selection; None for any other."""
+    if any(link_faults(problem, accepted)):
+        return None
+    found = outcome(problem, accepted)
+    if found.welfare is None or losing(problem, accepted, found.surpluses):
+        return None
+    return found.welfare
+
+
+def ranks_above(blocks, welfare, accepted, other_welfare, other):
+    """Greater welfare; among equals, the one that accepts at the first block where two differ."""
+    flags = [[place in chosen for place in range(blocks)] for chosen in (accepted, other)]
+    return (welfare, flags[0]) > (other_welfare, flags[1])

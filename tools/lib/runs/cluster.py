@@ -1,0 +1,102 @@
+"""A dask cluster as an executor. If its scheduler or its workers go away, that is a fault after some seconds, and Ctrl-C ends a run at once:
+dask itself would wait for them."""
+
+import concurrent.futures
+import contextlib
+import logging
+import re
+import socket
+import time
+import warnings
+
+from ..base import text
+from ..tool import command
+from .engine import Fault, Lost
+
+SECONDS = 10  # that a cluster may take to answer, or be without workers
+PAUSE = 1  # seconds from one look at a cluster to the next
+
+
+def first_line(fault):
+    return getattr(fault, "strerror", None) or text.safe(str(fault).split("\n")[0]) or type(fault).__name__
+
+
+class Cluster:
+    """The executor of the cluster of an address."""
+
+    def __init__(self, address):
+        self.name, self.alone_since = f"the cluster {text.safe(address)}", None
+        self.client = self.reached(address)
+        while not self.workers():
+            time.sleep(PAUSE)
+        self.executor = self.client.get_executor()
+
+    def reached(self, address):
+        """The client of the scheduler. What dask reports of lost connections isn't shown."""
+        import distributed
+
+        logging.disable(logging.CRITICAL)
+        warnings.simplefilter("ignore")
+        try:
+            host, port = re.fullmatch(r"(?:tcp|tls)://(.+):([0-9]{1,5})", address).groups()
+            socket.create_connection((host.strip("[]"), int(port)), SECONDS).close()
+            return distributed.Client(address, timeout=SECONDS, set_as_default=False)
+        except AttributeError:
+            raise Fault(f"{self.name} should be an address such as tcp://10.0.0.1:8786") from None
+        except Exception as fault:
+            raise Fault(f"{self.name} can't be reached: {first_line(fault)}") from None
+
+    def workers(self):
+        """How many workers the cluster has. A fault if it doesn't answer, or has been without workers for long."""
+        try:
+            found = self.client.sync(self.client.scheduler.identity, callback_timeout=SECONDS)["workers"].values()
+        except Exception:
+            raise self.lost() from None
+        count = sum(worker["status"] == "running" for worker in found)
+        if count:
+            self.alone_since = None
+        elif self.alone_since is None:
+            self.alone_since = time.monotonic()
+        elif time.monotonic() - self.alone_since >= SECONDS:
+            raise Lost(f"{self.name} has no workers")
+        return count
+
+    def lost(self):
+        return Lost(f"{self.name} doesn't answer any more")
+
+    def submit(self, call, *words):
+        try:
+            return Awaited(self, self.executor.submit(call, *words))
+        except Exception:  # of a client that is closed
+            raise self.lost() from None
+
+
+class Awaited:
+    """The later answer of a cluster, which is looked at while it doesn't come."""
+
+    def __init__(self, cluster, future):
+        self.cluster, self.future = cluster, future
+
+    def result(self):
+        while True:
+            try:
+                return self.future.result(PAUSE)
+            except concurrent.futures.CancelledError:
+                raise self.cluster.lost() from None
+            except concurrent.futures.TimeoutError:
+                if self.future.done():
+                    return self.future.result()
+                self.cluster.workers()
+
+    def cancel(self):
+        """Nothing: the cluster drops the jobs of a client that leaves it."""
+
+
+@contextlib.contextmanager
+def executor(address):
+    """The executor of a cluster. After a failure it isn't waited for, so the process should end at once."""
+    command.need("distributed")
+    cluster = Cluster(address)
+    yield cluster
+    with contextlib.suppress(Exception):
+        cluster.client.close(SECONDS)

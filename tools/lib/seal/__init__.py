@@ -1,0 +1,3 @@
+"""The tree of a journal, its heads and receipts, and their signatures.
+
+It may import: base, journal."""

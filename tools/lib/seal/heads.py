@@ -1,0 +1,241 @@
+"""Heads, receipts and extensions: what an operator signs and hands out about a journal, each as a line of JSON.
+
+A head is the signed root of the tree over a journal's entries. A receipt shows that an entry is in the tree of a head. An extension shows
+that the tree of a head begins with the tree of an earlier one. docs/FORMATS.md has the formats to the byte."""
+
+import base64
+import binascii
+import hmac
+import json
+import re
+from typing import NamedTuple
+
+from ..base import rules, text
+from ..journal import book, journal
+from . import merkle
+
+HEAD, RECEIPT, EXTENSION, SALTS = "dam-head-1", "dam-receipt-1", "dam-extension-1", "dam-salts-1"
+DAY = re.compile(r"[0-9A-Za-z._-]{1,32}")
+A_DAY = "1 to 32 of A to Z, a to z, 0 to 9, '.', '_' and '-', such as 2026-11-28"
+DONE = "done"
+REPLIES = {DONE, *(f"refused,{reason}" for reason in book.REASONS)}
+HASH_BYTES, SIGNATURE_BYTES = 32, 64
+MOST_ENTRIES = rules.MOST_RECORDS - 1
+LONGEST_PATH = MOST_ENTRIES.bit_length()  # hashes of an inclusion proof
+LONGEST_PROOF = LONGEST_PATH + 1  # and of a consistency proof
+LONGEST_LINE = 16_384  # bytes; no head, receipt or extension has as many
+
+
+class Wrong(Exception):
+    """The text isn't what it should be."""
+
+
+class Odd(Exception):
+    """The content is right, but the bytes differ from the written form."""
+
+
+class Head(NamedTuple):
+    day: str  # the operator's name for it
+    periods: int
+    size: int  # how many entries the journal has
+    root: bytes
+    signature: bytes = b""
+
+    def signed_text(self):
+        """The bytes that the signature is of."""
+        return "".join(f"{part}\n" for part in (HEAD, self.day, self.periods, self.size, packed(self.root))).encode()
+
+    def value(self):
+        return {
+            "format": HEAD,
+            "day": self.day,
+            "periods": self.periods,
+            "size": self.size,
+            "root": packed(self.root),
+            "signature": packed(self.signature),
+        }
+
+    def __str__(self):
+        return f"the head of {self.day} with {text.counted(self.size, 'entry', 'entries')}"
+
+
+class Receipt(NamedTuple):
+    number: int  # of the entry, from 1
+    record: str  # the command, as in the written journal
+    reply: str  # the book's, as in the replies
+    salt: bytes
+    path: tuple
+    head: Head
+
+    @property
+    def who(self):
+        """The participant whose entry it is; None for a close, which has none."""
+        return getattr(command_of(self.record), "who", None)
+
+    def leaf(self):
+        return leaf_of(self.number, self.record, self.reply, self.salt)
+
+    def value(self):
+        return {
+            "format": RECEIPT,
+            "number": self.number,
+            "record": self.record,
+            "reply": self.reply,
+            "salt": packed(self.salt),
+            "path": [packed(hashed) for hashed in self.path],
+            "head": self.head.value(),
+        }
+
+
+class Extension(NamedTuple):
+    old: Head
+    new: Head
+    path: tuple
+
+    def value(self):
+        return {"format": EXTENSION, "from": self.old.value(), "to": self.new.value(), "path": [packed(hashed) for hashed in self.path]}
+
+    def is_right(self):
+        """Whether the proof shows that the new head's tree begins with the old head's, of the same day."""
+        same = self.old.day == self.new.day and self.old.periods == self.new.periods
+        return same and merkle.is_consistent(self.old.size, self.old.root, self.new.size, self.new.root, self.path)
+
+
+class Salts(NamedTuple):
+    """The secret of a journal, from which the salts of its entries are made."""
+
+    day: str
+    secret: bytes
+
+    def salt(self, number, record, reply):
+        """The salt of an entry. Another entry in its place has another salt."""
+        return hmac.digest(self.secret, entry_text(number, record, reply), "sha256")
+
+    def value(self):
+        return {"format": SALTS, "day": self.day, "secret": packed(self.secret)}
+
+
+def entry_text(number, record, reply):
+    return f"{number}\n{record}\n{reply}\n".encode()
+
+
+def leaf_of(number, record, reply, salt):
+    """The hash of an entry's leaf."""
+    return merkle.leaf_hash(salt + entry_text(number, record, reply))
+
+
+def packed(data):
+    return base64.b64encode(data).decode()
+
+
+def line(value):
+    """The written form of a head, a receipt, an extension or salts."""
+    return json.dumps(value.value(), separators=(",", ":")).encode() + b"\n"
+
+
+def command_of(record):
+    """The command of a record in its written form; None for any other text."""
+    try:
+        read = journal.read_journal(b"day,%d,,,,,,,\n" % rules.GREATEST_PERIOD + record.encode("ascii"))
+    except (journal.Fault, UnicodeEncodeError):
+        return None
+    if len(read.commands) != 1 or journal.command_line(read.commands[0]) != record:
+        return None
+    return read.commands[0]
+
+
+def bytes_read(word, count):
+    """The bytes that a word is in base64."""
+    try:
+        data = base64.b64decode(word, validate=True) if isinstance(word, str) else b""
+    except (binascii.Error, ValueError):
+        data = b""
+    if len(data) != count:
+        raise Wrong(f"{said(word)} should be {count} bytes in base64")
+    return data
+
+
+def said(value):
+    return text.quoted(value) if isinstance(value, str) else text.safe(json.dumps(value))
+
+
+def number_read(value, least, most, name):
+    if type(value) is not int or not least <= value <= most:
+        raise Wrong(f"{name} {said(value)} should be a number from {least} to {most}")
+    return value
+
+
+def members(value, kind, names):
+    """The values of an object that has these members and no others."""
+    if not isinstance(value, dict) or value.get("format") != kind:
+        raise Wrong(f"it isn't an object with the format {kind}")
+    found = [name for name in value if name != "format"]
+    if sorted(found) != sorted(names):
+        raise Wrong(f"a {kind} has the members {', '.join(names)}, and this one has {text.safe(', '.join(found)) or 'none'}")
+    return [value[name] for name in names]
+
+
+def head_read(value):
+    day, periods, size, root, signature = members(value, HEAD, ("day", "periods", "size", "root", "signature"))
+    if not isinstance(day, str) or not DAY.fullmatch(day):
+        raise Wrong(f"the day {said(day)} should be {A_DAY}")
+    if type(periods) is not int or periods not in rules.DAYS:
+        raise Wrong(f"the periods {said(periods)} should be one of {', '.join(map(str, sorted(rules.DAYS)))}")
+    size, root = number_read(size, 0, MOST_ENTRIES, "the size"), bytes_read(root, HASH_BYTES)
+    if size == 0 and root != merkle.EMPTY:
+        raise Wrong(f"the root of no entry is {packed(merkle.EMPTY)}")
+    return Head(day, periods, size, root, bytes_read(signature, SIGNATURE_BYTES))
+
+
+def path_read(value, most):
+    if not isinstance(value, list) or len(value) > most:
+        raise Wrong(f"the path should be a list of at most {most} hashes")
+    return tuple(bytes_read(word, HASH_BYTES) for word in value)
+
+
+def receipt_read(value):
+    number, record, reply, salt, path, head = members(value, RECEIPT, ("number", "record", "reply", "salt", "path", "head"))
+    number = number_read(number, 1, MOST_ENTRIES, "the number")
+    if not isinstance(record, str) or command_of(record) is None:
+        raise Wrong(f"the record {said(record)} isn't a record of a written journal")
+    if not isinstance(reply, str) or reply not in REPLIES:
+        raise Wrong(f"the reply {said(reply)} isn't one of the book's")
+    return Receipt(number, record, reply, bytes_read(salt, HASH_BYTES), path_read(path, LONGEST_PATH), head_read(head))
+
+
+def extension_read(value):
+    old, new, path = members(value, EXTENSION, ("from", "to", "path"))
+    return Extension(head_read(old), head_read(new), path_read(path, LONGEST_PROOF))
+
+
+def salts_read(value):
+    day, secret = members(value, SALTS, ("day", "secret"))
+    if not isinstance(day, str) or not DAY.fullmatch(day):
+        raise Wrong(f"the day {said(day)} should be {A_DAY}")
+    return Salts(day, bytes_read(secret, HASH_BYTES))
+
+
+def once(pairs):
+    """The object of these members, none of which comes twice."""
+    made = dict(pairs)
+    if len(made) != len(pairs):
+        raise Wrong("a member of an object comes twice")
+    return made
+
+
+def parsed(data, read):
+    """The value that the text of a head, a receipt, an extension or salts has, and whether the text is its written form."""
+    if len(data) > LONGEST_LINE:
+        raise Wrong(f"it has {len(data):,} bytes, and none has more than {LONGEST_LINE:,}")
+    try:
+        value = read(json.loads(data.decode("ascii"), object_pairs_hook=once))
+    except (ValueError, RecursionError):
+        raise Wrong("it isn't JSON in ASCII") from None
+    return value, line(value) == data
+
+
+def lines_of(data):
+    """The lines of a file, each with its end. There are at most as many as a journal has entries."""
+    if data.count(b"\n") + data.count(b"\r") > 2 * MOST_ENTRIES or len(lines := data.splitlines(keepends=True)) > MOST_ENTRIES:
+        raise Wrong(f"it has more than {MOST_ENTRIES:,} lines")
+    return lines

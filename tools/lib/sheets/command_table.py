@@ -1,0 +1,97 @@
+"""Tables of commands: as a table of orders, with the column `what`, which says what a row does: submit, amend or cancel. So
+tools/table --rows commands prints them."""
+
+from ..base import text
+from ..journal import journal
+from . import order_table, sheets
+from .order_table import WHAT
+
+# The columns that each command has. In the others its rows have no cell: it wouldn't do what they say.
+CANCEL = ("participant", "order")
+AMEND = (*CANCEL, "price_eur_mwh", "periods", "volume_mw")
+NEEDED = {"cancel": CANCEL, "amend": AMEND, "close": ()}
+
+
+class Columns:
+    """A table of commands or of orders that has further columns, some of which it must have: where these stand, and the table. Those of
+    orders are needed as far as its commands have them."""
+
+    def __init__(self, found, needed):
+        self.places = {name: at for at, name in reversed(list(enumerate(header_of(found))))}  # the first of each name
+        self.table = order_table.table_of("", found, self.needed([cells for _, cells in found.rows[1:]]), (*needed, WHAT))
+        for name in needed:
+            if name not in self.places:
+                raise order_table.Wrong(f"line 1: there is no column {name}")
+
+    def needed(self, rows):
+        """The columns of orders that the commands of the rows need; all of them if there are none."""
+        filled = [cells for cells in rows if any(self.cell(cells, name) for name in (WHAT, *order_table.ORDER))]
+        every = [NEEDED.get(self.cell(cells, WHAT).lower(), order_table.NEEDED) for cells in filled]
+        return {name for names in every for name in names} if every else order_table.NEEDED
+
+    def given(self, cells, name):
+        """A cell as the table has it."""
+        at = self.places.get(name, len(cells))
+        return cells[at] if at < len(cells) else ""
+
+    def cell(self, cells, name):
+        return sheets.unescaped(self.given(cells, name).strip())
+
+    def is_empty(self, cells):
+        """Whether a row adds no command to a day: it has none, or the close, before which the commands are put."""
+        return not any(self.cell(cells, name) for name in (WHAT, *self.table.places)) or self.cell(cells, WHAT).lower() == "close"
+
+    def read(self, cells, periods):
+        """The command that a row adds to a day, None if it adds none; and the faults of the row."""
+        row, what = order_table.Row(cells, self.table, periods), self.cell(cells, WHAT).lower()
+        refuse_others(row, what)
+        return None if self.is_empty(cells) else read_command(row, what), row.wrong
+
+
+def header_of(found):
+    """The names of a table's columns, by its cells."""
+    return [cell.strip().lower() for cell in found.rows[0][1]]
+
+
+def is_command_table(found):
+    """Whether a table, given by its cells, has the column `what`."""
+    return WHAT in header_of(found)
+
+
+def refuse_others(row, what):
+    """Adds to a row's faults its cells that the command doesn't have."""
+    for name in order_table.ORDER if what in NEEDED else []:
+        if name not in NEEDED[what] and (cell := row.cell(name)):
+            article = "an" if what == "amend" else "a"
+            row.wrong.append(f"column {name}: {text.quoted(cell)} should be left out: {article} {what} has no {name}")
+
+
+def read_command(row, what):
+    """The command of a row: an order to submit, or the amend or cancel of one. Faults are added to the row's faults."""
+    if what == "cancel":
+        return journal.Cancel(row.read("participant", order_table.read_participant), row.read("order", order_table.read_name))
+    if what == "amend":
+        who, name = row.read("participant", order_table.read_participant), row.read("order", order_table.read_name)
+        price = row.read("price_eur_mwh", lambda cell: order_table.read_price(cell, row.decimal_comma))
+        numbers = row.read("periods", lambda cell: order_table.read_periods(cell, row.periods))
+        volumes = row.read(
+            "volume_mw", lambda cell: order_table.read_volumes(cell, numbers or row.many(cell), row.decimal_comma)
+        )
+        return journal.Amend(who, name, price, volumes)
+    if what in ("", "submit"):
+        return row.command()
+    row.wrong.append(f"column {WHAT}: {text.quoted(what)} should be submit, amend or cancel")
+    return None
+
+
+def read_commands(given, periods):
+    """The commands of a table by its cells, each with its line; and notes on the table. Their faults, a line each, are
+    `order_table.Wrong`."""
+    columns, found, wrong = Columns(given, ()), [], []
+    for line, cells in columns.table.rows:
+        command, faults = columns.read(cells, periods)
+        found += [(line, command)] if command else []
+        wrong += [f"line {line}, {words}" for words in faults]
+    if wrong:
+        raise order_table.Wrong("\n".join(wrong))
+    return found, columns.table.notes

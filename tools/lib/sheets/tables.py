@@ -1,0 +1,215 @@
+"""Results as tables of comma-separated values: a header with units, then a row for each period, order or participant.
+
+A table is a list of rows of which the first names the columns. docs/TABLES.md describes each column, and the form as JSON."""
+
+from typing import NamedTuple
+
+from ..base import spans, text
+from ..journal import journal
+from ..results import decisions, published, selection, trades
+from ..journal.book import REASONS
+
+# The columns of a table of orders that make a journal: `order_table` reads them.
+ORDER = ["participant", "order", "kind", "side", "price_eur_mwh", "periods", "volume_mw", "parent", "group"]
+# The further columns of the table of a result's orders.
+RESULT = ["offered_mwh", "executed_mwh", "outcome", "surplus_eur", "amount_eur"]
+# Those that tables of commands have apart from these and the first, `what`.
+REPLY = ["command", "reply", "reason", "code", "why"]
+MOST_NAMED = 5  # participants whose commands were refused
+
+
+def euros(day, amount):
+    return text.euros(amount, day.problem.hours, thousands="")
+
+
+def energy(day, tenths):
+    return text.energy(tenths, day.problem.hours, thousands="")
+
+
+def periods(day):
+    heads = ["period", "hours", "price_eur_mwh", "volume_mw", "traded", "low_eur_mwh", "high_eur_mwh"]
+    yield heads + [f"{'hourly' if kind == 'hour' else kind}_{side}s_mw" for kind, side in trades.SHARES]
+    for number, parts in trades.shares(day).items():
+        found = day.outcome.cleared[number]
+        ends = ["", ""] if found is None else [text.cents(found.low), text.cents(found.high)]
+        price_and_volume = [text.cents(day.said.prices[number - 1]), text.tenths(day.said.volumes[number - 1])]
+        traded = "yes" if trades.is_traded(day, number) else "no"
+        yield [number, float(day.problem.hours), *price_and_volume, traded, *ends, *map(text.tenths, parts.values())]
+
+
+def order_cells(row):
+    """The cells of `ORDER`."""
+    order = row.order
+    volumes = [text.tenths(tenths) for _, tenths in order.volumes]
+    each = volumes[0] if len(set(volumes)) == 1 else ";".join(volumes)
+    numbers = spans.written(number for number, _ in order.volumes)
+    return [row.who, row.name, order.kind, order.side, text.cents(order.price), numbers, each, order.parent, order.group]
+
+
+def outcomes(day):
+    """The outcome of each row of the book, and the surplus of a block."""
+    found = iter(zip(decisions.decisions(day.problem, day.said.accepted, day.outcome), day.said.surpluses))
+    executed = iter(day.said.executed)
+    for row in day.problem.rows:
+        if row.order.kind == "hour":
+            yield trades.how_far(row.order, next(executed)), ""
+        else:
+            decision, surplus = next(found)
+            yield decision.kind, euros(day, surplus)
+
+
+def orders(day):
+    yield ORDER + RESULT
+    for (row, made), outcome in zip(trades.row_trades(day), outcomes(day)):
+        offered = energy(day, sum(tenths for _, tenths in row.order.volumes))
+        executed = energy(day, sum(trade.volume for trade in made))
+        # The payment to a participant for a sell, and by it for a buy.
+        amount = sum(trade.amount() if trade.side == "sell" else -trade.amount() for trade in made)
+        yield [*order_cells(row), offered, executed, *outcome, euros(day, amount)]
+
+
+def blocks(day):
+    """A row for each block: its order, its outcome and why, and, if it is rejected, the worth of its best family."""
+    family_heads = ["family", "family_gain_eur", "family_welfare_eur"]
+    yield [*ORDER, "offered_mwh", "executed_mwh", "outcome", "surplus_eur", *family_heads, "why", "code"]
+    found = decisions.decisions(day.problem, day.said.accepted, day.outcome)
+    for block, surplus, decision in zip(day.problem.blocks, day.said.surpluses, found):
+        offered = sum(tenths for _, tenths in block.order.volumes)
+        executed = offered if decision.kind == decisions.ACCEPTED else 0
+        family = ["", "", ""]
+        if decision.family:
+            names = " ".join(day.problem.blocks[place].name for place in sorted(decision.family.members))
+            welfare = decision.other.welfare
+            family = [names, euros(day, decision.family.gain()), "" if welfare is None else euros(day, welfare)]
+        energies = [energy(day, tenths) for tenths in (offered, executed)]
+        yield [*order_cells(block), *energies, decision.kind, euros(day, surplus), *family, decision.why, decision.code]
+
+
+def participants(day):
+    yield ["participant", "orders", "bought_mwh", "sold_mwh", "paid_eur", "received_eur", "net_eur", "gain_eur"]
+    for who, total in trades.totals(day).items():
+        count = sum(row.who == who for row in day.problem.rows)
+        energies = [energy(day, total.bought), energy(day, total.sold)]
+        amounts = total.paid, total.received, total.received - total.paid, total.gained
+        yield [who, count, *energies, *(euros(day, amount) for amount in amounts)]
+
+
+def command_cells(command):
+    """The content of a command: its kind, and the cells of `ORDER`, empty if it says nothing."""
+    match command:
+        case journal.Submit(who, name, order):
+            return ["submit", *order_cells(selection.Row(who, name, order))]
+        case journal.Amend(who, name, cents, volumes):
+            order = journal.Order("", "", cents, volumes)
+            return ["amend", *order_cells(selection.Row(who, name, order))]
+        case journal.Cancel(who, name):
+            return ["cancel", who, name, *[""] * 7]
+    return ["close", *[""] * 9]
+
+
+def commands(read, reasons):
+    """Each command of a journal with the book's reply."""
+    yield ["command", "what", *ORDER, "reply", "reason"]
+    for number, (command, reason) in enumerate(zip(read.commands, reasons), 1):
+        yield [number, *command_cells(command), "refused" if reason else "done", reason or ""]
+
+
+class Result(NamedTuple):
+    """The outcome of an order of the book."""
+
+    outcome: str
+    surplus: str  # of a block, in EUR
+    executed: str  # MWh
+    amount: str  # EUR
+    code: str
+    why: str
+
+
+def results_by_row(day):
+    """The outcome of each order of the book, by participant and name. `write` writes the amounts of the reasons."""
+    found = iter(zip(decisions.decisions(day.problem, day.said.accepted, day.outcome), day.said.surpluses))
+    executed = iter(day.said.executed)
+    made = {}
+    for row, trades_made in trades.row_trades(day):
+        amount = sum(trade.amount() if trade.side == "sell" else -trade.amount() for trade in trades_made)
+        sums = energy(day, sum(trade.volume for trade in trades_made)), euros(day, amount)
+        if row.order.kind == "hour":
+            done = next(executed)
+            made[row.who, row.name] = Result(trades.how_far(row.order, done), "", *sums, *decisions.hourly(day, row, done))
+        else:
+            decision, surplus = next(found)
+            made[row.who, row.name] = Result(decision.kind, euros(day, surplus), *sums, decision.code, decision.why)
+    return made
+
+
+def last_commands(day):
+    """The number of the command after which each order of the book wasn't changed any more, by participant and name; and of the
+    commands whose order was changed later, the number of the next one that did."""
+    last, replaced = {}, {}
+    for number, (command, reason) in enumerate(zip(day.journal.commands, day.reasons), 1):
+        if reason is None and not isinstance(command, journal.Close):
+            key = command.who, command.name
+            if key in last:
+                replaced[last[key]] = number
+            last[key] = number
+    return last, replaced
+
+
+def statement(day):
+    """Each command with the book's reply, and with the outcome of its order if no later command changed it. `write` writes the amounts of
+    the reasons."""
+    yield ["command", "what", *ORDER, "reply", "reason", "outcome", "executed_mwh", "surplus_eur", "amount_eur", "code", "why"]
+    became, (last, replaced) = results_by_row(day), last_commands(day)
+    for number, (command, reason) in enumerate(zip(day.journal.commands, day.reasons), 1):
+        key = getattr(command, "who", None), getattr(command, "name", None)
+        cells = [number, *command_cells(command), "refused" if reason else "done", reason or ""]
+        result = became.get(key) if last.get(key) == number else None
+        if result:
+            yield [*cells, result.outcome, result.executed, result.surplus, result.amount, result.code, result.why]
+        else:
+            why = REASONS[reason] if reason else later_why(day, replaced[number]) if number in replaced else ""
+            yield [*cells, "", "", "", "", "", why]
+
+
+def later_why(day, number):
+    """The last change of an order by a command."""
+    does = "cancels" if isinstance(day.journal.commands[number - 1], journal.Cancel) else "changes"
+    return f"command {number} {does} it"
+
+
+def refused(read, reasons):
+    """How many commands of a journal were refused, and whose, in words; None if none was."""
+    refusals = [command for command, reason in zip(read.commands, reasons) if reason]
+    if not refusals:
+        return None
+    owners = list(dict.fromkeys(command.who for command in refusals if not isinstance(command, journal.Close)))
+    whose = f" (of {', '.join(owners)})" if 0 < len(owners) <= MOST_NAMED else ""
+    return f"{len(refusals)} of {len(reasons)} commands {'was' if len(refusals) == 1 else 'were'} refused{whose}"
+
+
+def figure_values(day):
+    """The figures of a day as numbers by name, with their unit in it."""
+    _, *rows = published.figures(day)
+    ends = {"": "", "EUR": "_eur", "MWh": "_mwh", "EUR/MWh": "_eur_mwh"}
+    return {
+        name + ends[unit]: None if value == "" else value if isinstance(value, int) else float(value) for name, unit, value in rows
+    }
+
+
+TABLES = {
+    "periods": periods,
+    "orders": orders,
+    "participants": participants,
+    "blocks": blocks,
+    "curves": published.curves,
+    "commands": lambda day: commands(day.journal, day.reasons),
+    "statement": statement,
+    "figures": published.figures,
+}
+# The same in a long form: a row for each period of each thing, or for each number of a period.
+LONG = {
+    "periods": lambda day: published.long_periods(periods(day)),
+    "orders": published.long_orders,
+    "participants": published.long_participants,
+    "blocks": lambda day: published.long_orders(day, "block"),
+}

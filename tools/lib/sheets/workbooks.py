@@ -1,0 +1,748 @@
+"""Excel workbooks, read strictly and in bounded memory.
+
+No row, column or cell is lost: a sheet that could be read in two ways is a fault. openpyxl, which writes the tools' workbooks, believes the
+size that a sheet states, drops cells out of order, and keeps all strings and empty rows. So workbooks are read by zipfile and expat."""
+
+import datetime
+import functools
+import io
+import itertools
+import math
+import posixpath
+import re
+import zipfile
+from xml.parsers import expat
+
+from ..base import text
+
+# A workbook that isn't larger than a table of orders needs keeps to these limits.
+MOST_PARTS = 10_000  # files in it
+MOST_UNPACKED = 96 * 2**20  # bytes of the parts that are read
+MOST_ELEMENTS = 1_500_000  # in these parts
+MOST_CELLS = 300_000  # of a table; an empty cell counts if one after it in its row has a value
+MOST_CHARACTERS = 4 * 2**20  # in these cells
+MOST_NAMES, MOST_NAMED = 10_000, 2**20  # of elements, attributes and namespaces in a part, and characters of these
+MOST_NAMESPACES = 100_000  # declared in a part
+MOST_HEADS = 100_000  # shared strings in the first rows of all sheets
+MOST_SHEETS, MOST_OWN_FORMATS, MOST_FORMATS = 1_000, 5_000, 100_000
+LONGEST_MARKUP, LONGEST_NAME = 65_536, 1_000  # bytes of a tag or comment; characters of a name, or of a format
+DEEPEST = 32  # elements in one another
+CHUNK = 65_536
+# Those of Excel.
+LAST_ROW, LAST_COLUMN, LONGEST_CELL = 2**20, 2**14, 32_767
+
+DIRECTORY = b"PK\x01\x02"  # begins the entry of a file in the directory of a zip archive
+PACKAGING = ("http://schemas.openxmlformats.org/package/2006/relationships",)
+SPREADSHEET = ("http://schemas.openxmlformats.org/spreadsheetml/2006/main", "http://purl.oclc.org/ooxml/spreadsheetml/main")
+RELATION = (
+    "http://schemas.openxmlformats.org/officeDocument/2006/relationships id",
+    "http://purl.oclc.org/ooxml/officeDocument/relationships id",
+)
+WORKBOOK, SHEET, OTHER_SHEETS = "officeDocument", "worksheet", ("chartsheet", "dialogsheet", "xlMacrosheet", "xlIntlMacrosheet")
+STRINGS, STYLES = "sharedStrings", "styles"
+KINDS = {WORKBOOK, SHEET, *OTHER_SHEETS, STRINGS, STYLES}
+
+NUMBER = re.compile(r"[+-]?(?:[0-9]+(?:\.[0-9]*)?|\.[0-9]+)(?:[eE][+-]?[0-9]{1,3})?")
+WHOLE = re.compile(r"-?[0-9]{1,15}")
+PLACE = re.compile(r"[1-9][0-9]{0,6}")
+COLUMN = re.compile(r"[A-Z]{1,3}")
+RANGE = re.compile(r"\$?([A-Z]{1,3})\$?([1-9][0-9]{0,6})(?::\$?([A-Z]{1,3})\$?([1-9][0-9]{0,6}))?")
+ESCAPE = re.compile(r"_x(?![dD][89a-fA-F])([0-9a-fA-F]{4})_")  # a character, but no half of one
+DATE = re.compile(r"([0-9]{4}-[0-9]{2}-[0-9]{2})(?:T[0-9:.]*Z?)?")
+CLOCK = re.compile(r"T?([0-9]{2}:[0-9]{2})(?::[0-9.]*)?Z?")
+# The numbers of Excel's own formats of dates and times, and what in another format isn't one: texts, and a condition or colour.
+DATE_FORMATS = {*range(14, 23), *range(27, 37), *range(45, 48), *range(50, 59)}
+# Those of formats that show a number as it is, and of a format for texts.
+PLAIN_FORMATS, PLAIN_CODES = {0, 1, 49}, {"general", "0", "@"}
+NO_DATE = re.compile(r'"[^"]*"|\\.|_.|\*.|\[(?!(?:h+|m+|s+)\])[^\]\[]*\]', re.IGNORECASE)
+TRUTHS = {"1": "TRUE", "true": "TRUE", "0": "FALSE", "false": "FALSE"}
+
+
+class Wrong(Exception):
+    """A file that isn't a workbook, or a sheet that can't be read whole."""
+
+
+class Unlike(str):
+    """The text of a cell that Excel shows in another way than it is read."""
+
+    __slots__ = ()
+    kind = ""
+
+
+class Date(Unlike):
+    __slots__ = ()
+    kind = "a date or a time"
+
+
+class Formatted(Unlike):
+    __slots__ = ()
+    kind = "a number with a format"
+
+
+class Truth(Unlike):
+    __slots__ = ()
+    kind = "a truth value"
+
+
+class Uncomputed(Unlike):
+    """The formula of a cell that was saved without its value."""
+
+    __slots__ = ()
+    kind = "a formula that was saved without its value"
+
+
+def broken(words):
+    return Wrong(f"line 1: the Excel workbook can't be read: {words}")
+
+
+def too_many(most, things):
+    return broken(f"it has more than {most:,} {things}")
+
+
+def rows_of(data, preferred, needed=(), most=None):
+    """The rows of a workbook's sheet that aren't empty, with their numbers: of the preferred sheet, or else of the first with the needed names
+    in its first row, or else of the first. If there are `most`, more rows after the first are a fault. Also a note on the sheet, if there
+    are several."""
+    package = Package(data)
+    book = Book(package)
+    name, part, note = book.chosen(preferred, needed)
+    sheet = Sheet(name, part, book, most)
+    package.read(sheet.part, sheet)
+    return sheet.whole(book.strings(sheet.needed)), note
+
+
+def checked(name):
+    """The length of a name of XML, or of none, if it isn't too long."""
+    length = len(name or "")
+    if length > LONGEST_NAME:
+        raise broken(f"the name of an element has more than {LONGEST_NAME:,} characters")
+    return length
+
+
+class Package:
+    """The parts of a workbook: the files of a zip archive, whose names don't differ by capitals alone."""
+
+    def __init__(self, data):
+        # The archive's directory is read whole, so its entries are counted first.
+        if data.count(DIRECTORY) > MOST_PARTS:
+            raise too_many(MOST_PARTS, "parts")
+        self.archive = unzipped(lambda: zipfile.ZipFile(io.BytesIO(data)))
+        self.parts = {}
+        for info in self.archive.infolist():
+            if self.parts.setdefault(key(info.filename), info) is not info:
+                raise broken(f"two parts are named {text.quoted(info.filename)}")
+        self.unpacked = self.elements = 0
+
+    def has(self, name):
+        return key(name) in self.parts
+
+    def read(self, name, part):
+        """Reads a part from its beginning to its end."""
+        if not self.has(name):
+            raise broken(f"it has no part {text.quoted(name)}")
+        try:
+            part.read(self, self.chunks(self.parts[key(name)]))
+        except expat.ExpatError as fault:
+            raise broken(f"{text.quoted(name)}: {fault}") from None
+
+    def chunks(self, info):
+        if info.compress_type not in (zipfile.ZIP_STORED, zipfile.ZIP_DEFLATED):
+            raise broken(f"{text.quoted(info.filename)} is compressed in another way than Excel does it")
+        length = 0
+        with unzipped(lambda: self.archive.open(info)) as file:
+            while chunk := unzipped(lambda: file.read(CHUNK)):
+                length += len(chunk)
+                self.unpacked += len(chunk)
+                if self.unpacked > MOST_UNPACKED:
+                    raise too_many(MOST_UNPACKED // 2**20, "MiB in its parts")
+                yield chunk
+        if length != info.file_size:
+            raise broken(f"{text.quoted(info.filename)} has {length} bytes instead of {info.file_size}")
+
+
+def key(name):
+    """The name of a part, as it is looked up."""
+    return name.replace("\\", "/").lower()
+
+
+def unzipped(call):
+    """The result of a call of zipfile, which raises any exception if the archive is broken."""
+    try:
+        return call()
+    except MemoryError:
+        raise
+    except Exception as fault:
+        raise broken(text.safe(str(fault) or type(fault).__name__)) from None
+
+
+class Part:
+    """A part, as expat reads it. The known elements go to the methods open_NAME and close_NAME. In an element of `STRICT` no others may
+    stand, except the ones of `LEFT_OUT`; elsewhere they are left out, with everything in them."""
+
+    NAMESPACES, ROOT = SPREADSHEET, ""
+    KNOWN = {}  # those that may stand in an element
+    STRICT = ()
+    LEFT_OUT = {"extLst", "rPr", "rPh", "phoneticPr"}
+
+    def __init__(self):
+        self.prefix = ""  # of the known names: the namespace
+        self.within, self.left_out = [""], 0
+        names = set().union(*self.KNOWN.values())
+        self.opening, self.closing = ({name: getattr(self, f"{when}_{name}", None) for name in names} for when in ("open", "close"))
+        self.taken, self.length = [], 0
+
+    def read(self, package, chunks):
+        names, self.package, self.namespaces = {}, package, 0
+        self.parser = parser = expat.ParserCreate(None, " ", names)
+        parser.buffer_text = True
+        parser.XmlDeclHandler, parser.StartDoctypeDeclHandler = self.refuse_encoding, self.refuse_type
+        parser.StartNamespaceDeclHandler = self.declared
+        parser.StartElementHandler, parser.EndElementHandler = self.opened, self.closed
+        fed = seen = characters = 0
+        try:
+            for chunk in chunks:
+                parser.Parse(chunk, False)
+                fed += len(chunk)
+                if len(names) > MOST_NAMES:
+                    raise too_many(MOST_NAMES, "names of elements")
+                characters += sum(map(checked, itertools.islice(names, seen, None)))
+                seen = len(names)
+                if characters > MOST_NAMED:
+                    raise too_many(MOST_NAMED, "characters in the names of elements")
+                if fed - parser.CurrentByteIndex > LONGEST_MARKUP:
+                    raise broken(f"a tag has more than {LONGEST_MARKUP} bytes")
+            parser.Parse(b"", True)
+        finally:
+            self.parser = None  # with its names
+
+    def refuse_encoding(self, version, encoding, standalone):
+        if encoding and encoding.lower() not in ("utf-8", "utf-16"):
+            raise broken(f"the encoding {text.quoted(encoding)} isn't one of Excel's")
+
+    def refuse_type(self, *type):
+        raise broken("it has a document type")
+
+    def declared(self, prefix, uri):
+        self.namespaces += 1
+        if self.namespaces > MOST_NAMESPACES:
+            raise too_many(MOST_NAMESPACES, "namespaces")
+        checked(uri)
+
+    def opened(self, name, attributes):
+        self.package.elements += 1
+        if self.package.elements > MOST_ELEMENTS:
+            raise too_many(MOST_ELEMENTS, "elements: delete the rows and columns that the table doesn't need")
+        if self.left_out:
+            self.left_out += 1
+            if self.left_out > DEEPEST:
+                raise broken(f"more than {DEEPEST} elements stand in one another")
+            return
+        if not self.prefix:
+            self.begin(name)
+        within = self.within[-1]
+        name = name.removeprefix(self.prefix)
+        if name in self.KNOWN.get(within, ()):
+            self.within.append(name)
+            if call := self.opening[name]:
+                call(attributes)
+        elif within in self.STRICT and name not in self.LEFT_OUT:
+            raise self.wrong(f"an element {text.quoted(name)} stands in {text.quoted(within)}")
+        else:
+            self.left_out = 1
+
+    def closed(self, name):
+        if self.left_out:
+            self.left_out -= 1
+        elif call := self.closing[self.within.pop()]:
+            call()
+
+    def begin(self, name):
+        """The first element, which says the namespace."""
+        namespace, _, name = name.rpartition(" ")
+        if namespace not in self.NAMESPACES or name != self.ROOT:
+            raise broken(f"a part has {text.quoted(name)} instead of {self.ROOT!r} as its first element")
+        self.prefix = f"{namespace} "
+
+    def wrong(self, words):
+        return broken(words)
+
+    def take(self):
+        """From now on keeps the text of an element."""
+        self.parser.CharacterDataHandler = self.add
+
+    def add(self, words):
+        self.length += len(words)
+        if self.length > LONGEST_CELL:
+            raise self.wrong(f"it has more than {LONGEST_CELL:,} characters")
+        self.taken.append(words)
+
+    def leave(self):
+        self.parser.CharacterDataHandler = None
+
+    def content(self):
+        """The text that was kept, which is kept no longer."""
+        found = "".join(self.taken)
+        self.taken, self.length = [], 0
+        return found
+
+
+class Relations(Part):
+    """The parts that belong to another one: the kind and the name of each by its identifier."""
+
+    NAMESPACES, ROOT = PACKAGING, "Relationships"
+    KNOWN = {"": {ROOT}, ROOT: {"Relationship"}}
+
+    def __init__(self, owner):
+        super().__init__()
+        folder, name = posixpath.split(owner)
+        self.folder = f"/{folder}"
+        self.part = posixpath.join(folder, "_rels", f"{name}.rels")
+        self.found = {}
+
+    def open_Relationship(self, attributes):
+        identifier, target = attributes.get("Id", ""), attributes.get("Target", "")
+        kind = attributes.get("Type", "").rpartition("/")[2]
+        if kind not in KINDS:
+            return
+        if max(len(identifier), len(target)) > LONGEST_NAME:
+            raise broken(f"the name of a part has more than {LONGEST_NAME:,} characters")
+        if identifier in self.found:
+            raise broken(f"two relations are named {text.quoted(identifier)}")
+        if len(self.found) == MOST_SHEETS:
+            raise too_many(MOST_SHEETS, "sheets")
+        if attributes.get("TargetMode") == "External":
+            raise broken(f"{text.quoted(target)} isn't a part of it")
+        self.found[identifier] = kind, posixpath.normpath(posixpath.join(self.folder, target)).lstrip("/")
+
+    def only(self, kind):
+        """The only part of a kind; None if there is none."""
+        found = [part for each, part in self.found.values() if each == kind]
+        if len(found) > 1:
+            raise broken(f"it has two parts of the kind {kind}")
+        return found[0] if found else None
+
+
+class Book(Part):
+    """The sheets of a workbook, and the parts that they share."""
+
+    ROOT = "workbook"
+    KNOWN = {"": {ROOT}, ROOT: {"workbookPr", "sheets", "calcPr"}, "sheets": {"sheet"}}
+    STRICT = {"sheets"}
+
+    def __init__(self, package):
+        super().__init__()
+        self.package, self.from_1904, self.is_computed, self.sheets = package, False, True, []
+        if not package.has("_rels/.rels"):
+            raise broken("it isn't an Excel workbook (.xlsx), but another archive")
+        part = self.relations_of("").only(WORKBOOK)
+        if part is None:
+            raise broken("it has no sheets")
+        self.relations = self.relations_of(part)
+        package.read(part, self)
+        styles = Styles()
+        if part := self.relations.only(STYLES):
+            package.read(part, styles)
+        self.formats = styles.of_cells()
+
+    def relations_of(self, owner):
+        relations = Relations(owner)
+        self.package.read(relations.part, relations)
+        return relations
+
+    def open_workbookPr(self, attributes):
+        self.from_1904 = TRUTHS.get(attributes.get("date1904")) == "TRUE"
+
+    def open_calcPr(self, attributes):
+        """A program that doesn't compute formulas stores any values, and lets Excel compute them once it opens the workbook."""
+        is_due = TRUTHS.get(attributes.get("fullCalcOnLoad")) == "TRUE" or TRUTHS.get(attributes.get("calcCompleted")) == "FALSE"
+        self.is_computed = self.is_computed and not is_due
+
+    def open_sheet(self, attributes):
+        if len(self.sheets) == MOST_SHEETS:
+            raise too_many(MOST_SHEETS, "sheets")
+        name, identifier = attributes.get("name", ""), next((attributes[each] for each in RELATION if each in attributes), "")
+        if max(len(name), len(identifier)) > LONGEST_NAME:
+            raise broken(f"the name of a sheet has more than {LONGEST_NAME:,} characters")
+        self.sheets.append((name, identifier))
+
+    def tables(self):
+        """The sheets with cells: the part of each, by its name."""
+        sheets = {}
+        for name, identifier in self.sheets:
+            kind, part = self.relations.found.get(identifier, (None, None))
+            if kind in OTHER_SHEETS:
+                continue
+            if kind != SHEET or name in sheets:
+                raise broken(f"{'two sheets are' if name in sheets else 'no part has the sheet'} named {text.quoted(name)}")
+            sheets[name] = part
+        if not sheets:
+            raise broken("it has no sheets")
+        return sheets
+
+    def chosen(self, preferred, needed):
+        """The name and the part of the sheet that is read, and a note on it if there are several."""
+        sheets = self.tables()
+        if len(sheets) == 1:
+            return *next(iter(sheets.items())), None
+        found = [preferred] if preferred in sheets else self.having(sheets, needed)
+        name = [*found, *sheets][0]
+        others = [text.quoted(other) for other in found[1:]]
+        more = f"; {', '.join(others)} {'has' if len(others) == 1 else 'have'} the columns of orders too" if others else ""
+        return name, sheets[name], f"of {len(sheets)} sheets, {text.quoted(name)} was read{more}"
+
+    def having(self, sheets, needed):
+        """The sheets with the needed names in their first rows."""
+        rows, heads = {name: FirstRow(name, part, self, needed) for name, part in sheets.items()} if needed else {}, 0
+        for row in rows.values():
+            row.begin_part()
+            heads += len(row.needed)
+            if heads > MOST_HEADS:
+                raise too_many(MOST_HEADS, "strings in the first rows of its sheets")
+        strings = self.strings(set().union(*(row.needed for row in rows.values())))
+        return [name for name, row in rows.items() if set(needed) <= row.names(strings)]
+
+    def strings(self, needed):
+        """Those of the shared strings that are needed, by their numbers."""
+        strings = Strings(needed)
+        part = self.relations.only(STRINGS)
+        if needed and part:
+            self.package.read(part, strings)
+        return strings.found
+
+
+class Styles(Part):
+    """For each format of cells how it shows a number: as a `Date`, `Formatted`, or as it is (`str`)."""
+
+    ROOT = "styleSheet"
+    KNOWN = {"": {ROOT}, ROOT: {"numFmts", "cellXfs"}, "numFmts": {"numFmt"}, "cellXfs": {"xf"}}
+
+    def __init__(self):
+        super().__init__()
+        self.shown = {str(number): kind for numbers, kind in ((DATE_FORMATS, Date), (PLAIN_FORMATS, str)) for number in numbers}
+        self.formats, self.own = [], 0
+
+    def open_numFmt(self, attributes):
+        number, code = attributes.get("numFmtId", ""), attributes.get("formatCode", "")
+        if len(code) > LONGEST_NAME:
+            raise broken(f"a format has more than {LONGEST_NAME:,} characters")
+        is_date = re.search("[dmyhs]", NO_DATE.sub("", code).split(";")[0], re.IGNORECASE)
+        self.shown[number[:10]] = str if code.strip().lower() in PLAIN_CODES else Date if is_date else Formatted
+        self.own += 1
+        if self.own > MOST_OWN_FORMATS:
+            raise too_many(MOST_OWN_FORMATS, "number formats")
+
+    def open_xf(self, attributes):
+        self.formats.append(attributes.get("numFmtId", "0")[:10])
+        if len(self.formats) > MOST_FORMATS:
+            raise too_many(MOST_FORMATS, "formats of cells")
+
+    def of_cells(self):
+        return [self.shown.get(number, Formatted) for number in self.formats]
+
+
+class Strings(Part):
+    """The shared strings that are needed, by their numbers."""
+
+    ROOT = "sst"
+    KNOWN = {"": {ROOT}, ROOT: {"si"}, "si": {"t", "r"}, "r": {"t"}}
+    STRICT = {ROOT, "si", "r", "t"}
+
+    def __init__(self, needed):
+        super().__init__()
+        self.needed, self.number, self.found, self.characters = needed, -1, {}, 0
+
+    def open_si(self, _):
+        self.number += 1
+
+    def open_t(self, _):
+        if self.number in self.needed:
+            self.take()
+
+    def close_t(self):
+        self.leave()
+
+    def close_si(self):
+        if self.number in self.needed:
+            words = unescaped(self.content())
+            self.characters += len(words)
+            if self.characters > MOST_CHARACTERS:
+                raise too_many(MOST_CHARACTERS, "characters in its cells")
+            self.found[self.number] = words
+
+    def wrong(self, words):
+        return broken(f"string {self.number} of its cells: {words}")
+
+
+class Sheet(Part):
+    """The cells of a sheet. Rows and cells have to increase, so that none takes the place of another."""
+
+    ROOT = "worksheet"
+    KNOWN = {
+        "": {ROOT},
+        ROOT: {"sheetData", "mergeCells"},
+        "sheetData": {"row"},
+        "row": {"c"},
+        "c": {"v", "f", "is"},
+        "is": {"t", "r"},
+        "r": {"t"},
+        "mergeCells": {"mergeCell"},
+    }
+    STRICT = {"sheetData", "row", "c", "v", "f", "is", "r", "t", "mergeCells"}
+
+    def __init__(self, name, part, book, most):
+        super().__init__()
+        self.place, self.part, self.book = f"sheet {text.quoted(name)}", part, book
+        self.last = None if most is None else most + 1  # how many rows it may have
+        self.rows, self.needed, self.formats = [], set(), {}
+        self.row = self.column = self.count_of_cells = self.characters = 0
+        self.cells = None  # of a row; None outside
+        self.has_data = False
+
+    def wrong(self, words):
+        column = name_of(self.column) if self.column else ""
+        place = f", {'cell' if column else 'row'} {column}{self.row}" if self.row and self.cells is not None else ""
+        return Wrong(f"{self.place}{place}: {words}")
+
+    def open_sheetData(self, _):
+        if self.has_data:
+            raise self.wrong("it has two tables of cells")
+        self.has_data = True
+
+    def open_row(self, attributes):
+        found = attributes.get("r")
+        if found is None:
+            found = str(self.row + 1)
+        number = int(found) if PLACE.fullmatch(found) else 0
+        if not 1 <= number <= LAST_ROW:
+            raise self.wrong(f"a row has the number {text.quoted(found)}: they go from 1 to {LAST_ROW}")
+        last, self.row, self.column, self.cells = self.row, number, 0, []
+        if number <= last:
+            raise self.wrong("it occurs twice" if number == last else f"it stands after row {last}, but the rows should increase")
+
+    def close_row(self):
+        if self.cells:
+            if len(self.rows) == self.last:
+                self.column = 0
+                raise self.wrong(f"a table has at most {self.last - 1:,} rows after its first")
+            self.rows.append((self.row, self.cells))
+        self.column, self.cells = 0, None
+
+    def open_c(self, attributes):
+        last = self.column
+        found = attributes.get("r")
+        if found is None:
+            self.column += 1
+        else:
+            letters = found.rstrip("0123456789")
+            column = number_of(letters)
+            if not column or found != f"{letters}{self.row}":
+                raise self.wrong(f"a cell of this row has the place {text.quoted(found)}")
+            self.column = column
+        if self.column > LAST_COLUMN:
+            raise self.wrong(f"a row has at most {LAST_COLUMN} cells")
+        if self.column <= last:
+            words = f"it stands after {name_of(last)}{self.row}, but the cells of a row should increase"
+            raise self.wrong("it occurs twice" if self.column == last else words)
+        self.kind, self.style = attributes.get("t", "n"), attributes.get("s", "0")
+        self.value = self.formula = None
+
+    def open_v(self, _):
+        self.refuse_value(self.kind == "inlineStr")
+        self.take()
+
+    def open_is(self, _):
+        self.refuse_value(self.kind != "inlineStr")
+
+    def refuse_value(self, is_other):
+        if self.value is not None:
+            raise self.wrong("it has two values")
+        if is_other:
+            raise self.wrong(f"its value isn't of its type, {text.quoted(self.kind)}")
+
+    def open_f(self, _):
+        if self.formula is not None:
+            raise self.wrong("it has two formulas")
+        self.take()
+
+    def open_t(self, _):
+        self.take()
+
+    def close_t(self):
+        self.leave()
+
+    def close_v(self):
+        self.leave()
+        self.value = self.content()
+
+    def close_is(self):
+        self.value = self.content()
+
+    def close_f(self):
+        self.leave()
+        self.formula = self.content()
+
+    def close_c(self):
+        words = self.words()
+        if words == "":
+            return
+        self.count_of_cells += self.column - len(self.cells)
+        if self.count_of_cells > MOST_CELLS:
+            raise self.wrong(f"the sheet has more than {MOST_CELLS:,} cells before this one: delete those that the table doesn't need")
+        self.cells += [""] * (self.column - 1 - len(self.cells))
+        self.cells.append(words)
+        if isinstance(words, int):
+            self.needed.add(words)
+        else:
+            self.add_characters(words)
+
+    def add_characters(self, words):
+        self.characters += len(words)
+        if self.characters > MOST_CHARACTERS:
+            raise self.wrong(f"the sheet has more than {MOST_CHARACTERS:,} characters before this cell")
+
+    def words(self):
+        """The content of a cell, as it would stand in a text; of a shared string its number. A formula that was saved without its value
+        stands for itself, so that it isn't taken for an empty cell."""
+        value, kind = self.value, self.kind
+        if self.formula is not None and (value is None or value == "" and kind != "str" or not self.book.is_computed):
+            return Uncomputed(f"={self.formula}")
+        if not value:
+            return ""
+        if kind == "n":
+            return self.number(value.strip())
+        if kind == "s":
+            if not WHOLE.fullmatch(value) or value.startswith("-"):
+                raise self.wrong(f"it has no string {text.quoted(value)}")
+            return int(value)
+        if kind in ("str", "inlineStr"):
+            return unescaped(value)
+        if kind == "e":
+            return value
+        if kind == "b" and value in TRUTHS:
+            return Truth(TRUTHS[value])
+        if kind == "d" and (found := DATE.fullmatch(value) or CLOCK.fullmatch(value)):
+            return Date(found[1])
+        raise self.wrong(f"{text.quoted(value)} isn't of its type, {text.quoted(kind)}")
+
+    def number(self, value):
+        """A number with the digits that Excel shows, or the date that it stands for."""
+        if not NUMBER.fullmatch(value) or not math.isfinite(float(value)):
+            raise self.wrong(f"{text.quoted(value)} isn't a number")
+        if self.style not in self.formats:
+            self.formats[self.style] = self.format()
+        made = self.formats[self.style]
+        if made is Date:
+            return Date(self.date(float(value)))
+        return made(int(value) if WHOLE.fullmatch(value) else f"{float(value):.15g}")
+
+    def format(self):
+        """How the cell's format shows numbers."""
+        style, formats = self.style, self.book.formats or [str]
+        if not WHOLE.fullmatch(style) or not 0 <= int(style) < len(formats):
+            raise self.wrong(f"it has no format {text.quoted(style)}")
+        return formats[int(style)]
+
+    def date(self, serial):
+        """The date, or of a number below 1 the time of day."""
+        seconds = round(serial % 1 * 86_400)
+        days = math.floor(serial) + seconds // 86_400
+        if days == 0:
+            return f"{seconds // 3_600:02}:{seconds // 60 % 60:02}"
+        # Excel's calendar has a 29th of February 1900.
+        first = datetime.date(1904, 1, 1) if self.book.from_1904 else datetime.date(1899, 12, 31 if days < 60 else 30)
+        try:
+            if days < 0:
+                raise OverflowError
+            return (first + datetime.timedelta(days)).isoformat()
+        except OverflowError:
+            raise self.wrong(f"{serial:.15g} is no date, which its format shows") from None
+
+    def open_mergeCell(self, attributes):
+        """Of merged cells only the first has a value, so that a row could seem to have none."""
+        ref = attributes.get("ref", "")
+        found = RANGE.fullmatch(ref)
+        if not found or not self.has_data:
+            raise self.wrong(f"the merged cells {text.quoted(ref)} can't be read")
+        if found[3] is None or not self.rows:
+            return
+        width = max(len(cells) for _, cells in self.rows) if self.width is None else self.width
+        self.width = width
+        is_apart = int(found[4]) < self.rows[0][0] or int(found[2]) > self.rows[-1][0] or number_of(found[1]) > width
+        if not is_apart and (found[1], found[2]) != (found[3], found[4]):
+            raise self.wrong(f"the cells {ref} are merged, but each row of a table has its own")
+
+    width = None  # of the widest row, once it is needed
+
+    def whole(self, strings):
+        """The rows, with their shared strings."""
+        if not self.has_data:
+            raise self.wrong("it has no table of cells")
+        for self.row, self.cells in self.rows:
+            for at, cell in enumerate(self.cells):
+                if isinstance(cell, int):
+                    self.column = at + 1
+                    if cell not in strings:
+                        raise self.wrong(f"it has no string '{cell}'")
+                    self.cells[at] = strings[cell]
+                    self.add_characters(strings[cell])
+        return self.rows
+
+
+class Enough(Exception):
+    """The first row of a sheet was read."""
+
+
+class FirstRow(Sheet):
+    """The needed names in the first row of a sheet that isn't empty. A sheet that can't be read has none: if it is read as the table, it is a
+    fault."""
+
+    def __init__(self, name, part, book, names):
+        super().__init__(name, part, book, None)
+        self.sought = names
+
+    def words(self):
+        """The content of a cell, or a word in its place if it isn't needed."""
+        words = super().words()
+        return words if isinstance(words, int) or not words or words.strip().lower() in self.sought else "other"
+
+    def close_row(self):
+        super().close_row()
+        if self.rows:
+            raise Enough
+
+    def begin_part(self):
+        try:
+            self.book.package.read(self.part, self)
+        except Enough:
+            self.rows = [(row, list(set(cells))) for row, cells in self.rows]
+        except Wrong:
+            self.rows, self.needed = [], set()
+
+    def names(self, strings):
+        try:
+            return {cell.strip().lower() for _, cells in self.whole(strings) for cell in cells} & set(self.sought)
+        except Wrong:
+            return set()
+
+
+def unescaped(words):
+    """A text without Excel's escapes of characters."""
+    return ESCAPE.sub(lambda found: chr(int(found[1], 16)), words) if "_x" in words else words
+
+
+@functools.lru_cache(None)
+def name_of(column):
+    """The letters of a column."""
+    before, last = divmod(column - 1, 26)
+    return (name_of(before) if before else "") + chr(ord("A") + last)
+
+
+@functools.lru_cache(2**15)
+def number_of(letters):
+    """The number of a column; 0 if the letters are none."""
+    if not COLUMN.fullmatch(letters):
+        return 0
+    number = 0
+    for letter in letters:
+        number = 26 * number + ord(letter) - ord("A") + 1
+    return number

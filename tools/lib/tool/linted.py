@@ -1,0 +1,60 @@
+"""The findings of the lint on one journal: the status that reports them, and the same as a record for programs."""
+
+import hashlib
+
+from ..lint import lint
+from . import command
+from ..base.progress import Bar
+from ..base.rules import VERSION
+
+RIGHT, REFUSED, FAULTY, UNREAD, FAILED = "right", "refused", "faulty", "unread", "failed"
+# Of each status, the verdict.
+OF_STATUS = {command.DONE: RIGHT, command.DIFFERS: REFUSED, command.FAULTY: FAULTY, command.NO_INPUT: UNREAD, command.FAILED: FAILED}
+
+
+class Linted:
+    """A journal for a command of the program, and the findings on it. A record can be made of it at any time, also if it can't be read."""
+
+    def __init__(self, path, purpose, quiet=False):
+        self.path, self.purpose, self.quiet = path, purpose, quiet
+        self.input = {"role": "journal", "file": path, "bytes": None, "sha256": None}
+        self.found = []
+
+    def run(self):
+        data = command.read_bytes(self.path)
+        self.input.update(bytes=len(data), sha256=hashlib.sha256(data).hexdigest())
+        bar = Bar("lint", len(data), "bytes", self.quiet)
+        try:
+            self.found = lint.faults(data, self.purpose, bar)
+        finally:
+            bar.end()
+
+    @property
+    def status(self):
+        return status_of(self.found)
+
+    def lines(self):
+        """The findings for readers."""
+        return [*self.found, lint.counted(self.found)]
+
+    def record(self, status, message=None):
+        return {
+            "verdict": OF_STATUS[status],
+            "status": status,
+            "message": message,
+            "version": VERSION,
+            "for": self.purpose,
+            "inputs": [self.input],
+            "faults": [{"line": one.line, "field": one.field or None, "words": one.words} for one in self.found if not one.refusal],
+            "refused": [
+                {"line": one.line, "field": one.field or None, "reason": one.refusal, "words": one.words}
+                for one in self.found
+                if one.refusal
+            ],
+        }
+
+
+def status_of(found):
+    if all(one.refusal for one in found):
+        return command.DIFFERS if found else command.DONE
+    return command.FAULTY

@@ -1,0 +1,46 @@
+"""A table as a tool writes it: comma-separated values, JSON or an Excel workbook."""
+
+from ..sheets import shapes, sheets
+from . import command
+
+WORKBOOK, CSV = ".xlsx", ".csv"
+
+
+def add_options(parser):
+    """The options that say how a table is written."""
+    add = parser.add_argument
+    add("--json", action="store_true", help="JSON instead of comma-separated values")
+    add("--decimal-comma", action="store_true", help="numbers as 12,50, and semicolons between cells")
+    add("-o", "--out", default="-", help="the file to write, an Excel workbook if its name ends with .xlsx (default: standard output)")
+
+
+def check_options(args, *inputs):
+    """Ends the tool if the options can't be used together, or would write over an input, or a package is missing."""
+    command.refuse_inputs(args.out, *inputs)
+    if args.json and args.decimal_comma:
+        raise command.Stop("--decimal-comma can't be used with --json", command.COMMAND_LINE)
+    if is_workbook(args.out):
+        if args.json or args.decimal_comma:
+            raise command.Stop("--json and --decimal-comma can't be used with an Excel workbook", command.COMMAND_LINE)
+        command.need("openpyxl")
+
+
+def is_workbook(path):
+    return path is not None and path.lower().endswith(WORKBOOK)
+
+
+def is_table(path):
+    """Whether the name of a file is one of a table."""
+    return is_workbook(path) or path.lower().endswith(CSV)
+
+
+def write(tool, args, name, rows, periods):
+    """Writes a table, which is whole before the first byte is written."""
+    rows = list(rows)
+    if is_workbook(args.out):
+        data = sheets.workbook({name: rows})
+    elif args.json:
+        data = shapes.as_json(name, rows, shapes.day_of_periods(periods)).encode()
+    else:
+        data = sheets.written(rows, args.decimal_comma).encode()
+    command.write_bytes(tool, args.out, data)

@@ -1,0 +1,117 @@
+"""The differences between two cleared days, as a table; and further commands of a day, which are put before its close."""
+
+from ..base import text
+from ..journal import book, journal
+from ..lint import sent
+from ..sheets import command_table, order_table
+from ..runs.engine import Fault
+
+MOST_LINES = 5  # of the faults of a table
+HEADS = ["what", "unit", "participant", "order", "period", "before", "after", "change", "outcome_before", "outcome_after"]
+
+
+class Written:
+    """How the numbers of two days are written."""
+
+    def __init__(self, day):
+        self.hours = day.hours
+
+    def row(self, what, unit, before, after, who="", name="", period="", outcomes=("", "")):
+        """A row of the table; of a number that is None in one of the days the cells are empty."""
+        write = {"EUR": self.eur, "EUR/MWh": text.cents, "MWh": self.mwh, "MW": text.tenths}[unit]
+        change = "" if None in (before, after) else write(after - before)
+        cells = ["" if value is None else write(value) for value in (before, after)]
+        return [what, unit, who, name, period, *cells, change, *outcomes]
+
+    def eur(self, amount):
+        return text.euros(amount, self.hours, thousands="")
+
+    def mwh(self, tenths):
+        return text.energy(tenths, self.hours, thousands="")
+
+
+def table(before, after, who=None):
+    """A row for each number that differs between two days of as many periods: the welfare, prices and volumes, and each order's executed
+    energy and amount, of one participant or of all. With a participant also its gain and its net amount, whether they differ or not."""
+    written = Written(before)
+    yield HEADS
+    if who:
+        yield written.row("gain", "EUR", before.gain(who), after.gain(who), who)
+        yield written.row("net", "EUR", before.net(who), after.net(who), who)
+    if before.welfare != after.welfare:
+        yield written.row("welfare", "EUR", before.welfare, after.welfare)
+    for what, unit, numbers in (
+        ("price", "EUR/MWh", zip(traded_prices(before), traded_prices(after))),
+        ("volume", "MW", zip(before.volumes, after.volumes)),
+    ):
+        for period, (one, other) in enumerate(numbers, 1):
+            if one != other:
+                yield written.row(what, unit, one, other, period=period)
+    for key in {**before.rows, **after.rows}:
+        if not who or key[0] == who:
+            yield from order_rows(written, before, after, key)
+
+
+def traded_prices(day):
+    """The price of each period; None of one in which nothing is traded, whose price says nothing."""
+    return [price if volume else None for price, volume in zip(day.prices, day.volumes)]
+
+
+def order_rows(written, before, after, key):
+    """The rows of an order; of one that is in one book alone there are both, if it is executed there or not."""
+    outcomes = before.outcome(key), after.outcome(key)
+    alone = "" in outcomes
+    for what, unit, number in (("executed", "MWh", "executed"), ("amount", "EUR", "amount")):
+        one, other = (getattr(day, number)(key) if key in day.rows else None for day in (before, after))
+        if one != other or alone:
+            yield written.row(what, unit, one, other, *key, outcomes=outcomes)
+
+
+def differing(before, after, but=None):
+    """The orders that both days have and whose executed volume differs, without one of them."""
+    return [key for key in before.rows if key != but and key in after.rows and before.orders[key] != after.orders[key]]
+
+
+def in_few_lines(fault):
+    """The first lines of the faults, and how many more there are."""
+    lines = str(fault).split("\n")
+    more = len(lines) - MOST_LINES
+    return "\n  ".join(lines[:MOST_LINES] + ([f"and {more} more"] if more > 0 else []))
+
+
+def read_changes(data, periods):
+    """Further commands for a day: records of a journal, with the records `day` and `close` or without them; a table of commands; or one of
+    orders, each a submit. They are pairs of where each stands and a command; with notes on the table."""
+    try:
+        if sent.WORDS.match(data.removeprefix(text.MARK)):
+            return [(f"record {entry.record}", entry.command) for entry in sent.read_records(data, periods)], []
+        table = order_table.cells_of(data)
+        if command_table.is_command_table(table):
+            commands, notes = command_table.read_commands(table, periods)
+            return [(f"line {line}", command) for line, command in commands], notes
+        orders = order_table.read_tables([("", table)], periods)
+        return [(f"order {number}", submit) for number, submit in orders.submits], orders.notes
+    except (sent.Wrong, order_table.Wrong) as fault:
+        raise Fault(in_few_lines(fault)) from None
+
+
+def before_close(read):
+    """The book of a journal as it is before its close."""
+    held = book.Book(read.periods)
+    for command in read.commands:
+        if isinstance(command, journal.Close):
+            return held
+        held.apply(command)
+    raise Fault("no command closes the book: end the journal with close,,,,,,,,")
+
+
+def entered(held, commands):
+    """A book with further commands, each with where it stands; the book itself stays as it is. A command that it refuses is a fault."""
+    after = book.Book(held.periods)
+    after.rows, after.held = dict(held.rows), dict(held.held)
+    for place, command in commands:
+        reason = after.apply(command)
+        if reason:
+            remedy = "; amend it, or use another name" if reason == "NameTaken" else ""
+            raise Fault(f"{place}: the book refuses {journal.command_line(command)}: {book.REASONS[reason]} ({reason}){remedy}")
+    return after

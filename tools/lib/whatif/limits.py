@@ -1,0 +1,293 @@
+"""The worst limit at which a block is accepted, by bisection: a better limit keeps a block (a law of docs/MARKET.md, which is proved). And
+an hourly order under limits of a grid, since no such law holds of one. And what is said of a worst limit: in words with a table, as a
+record, and as a row of a table."""
+
+from typing import NamedTuple
+
+from ..base import rules, text
+from ..journal import journal
+from ..results import decisions
+from ..runs import engine
+from ..tool import command
+from . import changes
+from ..runs.cleared import Cleared, book_text
+from ..runs.engine import Fault
+from ..base.progress import Bar
+
+COUNT = rules.GREATEST_PRICE - rules.LEAST_PRICE + 1  # of limits
+# A bisection over the limits on one side of a block's own, and none of them, needs at most as many clearings.
+MOST_CLEARINGS = (COUNT - 1).bit_length()
+LAW = "a better limit keeps a block: proved, see docs/MARKET.md"
+NO_LAW = "no law says that a better limit keeps an hourly order, see docs/MARKET.md"
+MARK = "?"  # in place of a limit: no journal has it
+BETTER = {"buy": "higher", "sell": "lower"}
+MOST_OTHERS = 20  # orders whose result differs that are named
+HEADS = ["participant", "order", "side", "price_eur_mwh", "outcome", "worst_limit_eur_mwh", "surplus_eur", "welfare_eur", "others", "why"]
+
+
+def limit_at(side, place):
+    """A limit by its place in the range, from the best."""
+    return rules.GREATEST_PRICE - place if side == "buy" else rules.LEAST_PRICE + place
+
+
+def place_of(side, limit):
+    return rules.GREATEST_PRICE - limit if side == "buy" else limit - rules.LEAST_PRICE
+
+
+class Found(NamedTuple):
+    """The worst limit at which a block is accepted, in cents per MWh, None if there is none; the clearing at it, and one cent past it,
+    or at the best limit if none is enough; None at a place past the range. `clearings` is how many were needed apart from the day as it
+    was."""
+
+    limit: object
+    at: object
+    past_limit: object
+    past: object
+    clearings: int
+
+
+class Search:
+    """The clearings of a book with other limits of an order. `clear` gives the bytes of the results of a text, or a `Fault`."""
+
+    def __init__(self, held, key, clear):
+        self.held, self.key, self.clear = held, key, clear
+        self.order = held.rows[key]
+        self.before, self.behind = book_text(self.rows(MARK), held.periods).split(MARK.encode())
+        self.seen, self.printed = {}, {}  # the clearing, and the output, by limit
+
+    def rows(self, limit):
+        """The orders of the book with this limit."""
+        return {**self.held.rows, self.key: self.order._replace(price=limit)}
+
+    def text(self, limit):
+        return b"%s%d%s" % (self.before, limit, self.behind)
+
+    def output(self, limit):
+        """The printed results with a limit."""
+        if limit not in self.printed:
+            self.keep(limit, self.clear(self.text(limit)))
+        return self.printed[limit]
+
+    def at(self, limit):
+        """The clearing with a limit."""
+        if limit not in self.seen:
+            self.seen[limit] = Cleared.of_text(self.rows(limit), self.held.periods, self.output(limit))
+        return self.seen[limit]
+
+    def keep(self, limit, printed):
+        if isinstance(printed, Fault):
+            raise printed
+        self.printed[limit] = printed
+
+    def accepts(self, limit):
+        """Whether the block is accepted with a limit."""
+        output, start = self.output(limit), f"\nblock,{self.key[0]},{self.key[1]},".encode()
+        word = output[output.find(start) + len(start) :].split(b",", 1)[0] if start in output else None
+        if word not in (b"accepted", b"rejected"):
+            raise Fault("the program printed no results of this journal")
+        return word == b"accepted"
+
+    def ends(self):
+        """The worst limit of a block, and the one past it; None for one that isn't in the range. The places of the limits that accept it
+        are those before some place."""
+        side, own = self.order.side, self.order.price
+        low, high = (place_of(side, own) + 1, COUNT) if self.accepts(own) else (0, place_of(side, own))
+        while low < high:
+            middle = (low + high) // 2
+            if self.accepts(limit_at(side, middle)):
+                low = middle + 1
+            else:
+                high = middle
+        return limit_at(side, low - 1) if low else None, limit_at(side, low) if low < COUNT else None
+
+    def worst(self):
+        self.output(self.order.price)
+        before = len(self.printed)
+        limit, past = self.ends()
+        at, after = (None if end is None else self.at(end) for end in (limit, past))
+        return Found(limit, at, past, after, len(self.printed) - before)
+
+
+def why_never(search, found):
+    """Why a block is rejected with the best limit of the range."""
+    read = journal.read_journal(search.text(found.past_limit))
+    day = command.Day.of(read, search.printed[found.past_limit])
+    place = day.problem.place(*search.key)
+    return decisions.decisions(day.problem, day.said.accepted, day.outcome)[place].why
+
+
+def others(search, found):
+    """The orders whose result is another at the limit than one cent past it, without the block."""
+    if found.at is None or found.past is None:
+        return []
+    return changes.differing(found.past, found.at, search.key)
+
+
+def row(search, found):
+    """The cells of `HEADS` for a block."""
+    order, own = search.order, search.at(search.order.price)
+    cells = [*search.key, order.side, text.cents(order.price), own.outcome(search.key)]
+    if found.limit is None:
+        return [*cells, "", "", "", "", f"no limit of the range is enough: with the best it {why_never(search, found)}"]
+    amounts = [text.euros(amount, own.hours, thousands="") for amount in (found.at.surplus(search.key), found.at.welfare)]
+    why = "every limit of the range is enough" if found.past is None else ""
+    return [*cells, text.cents(found.limit), *amounts, len(others(search, found)), why]
+
+
+def cases(search, found):
+    """The days to compare, each with its name: as it was, at the limit, and one cent past it."""
+    own = search.order.price
+    yield "as it was", own, search.at(own)
+    if found.limit is not None:
+        yield "at the worst limit", found.limit, found.at
+    if found.past is not None:
+        yield "one cent past it" if found.limit is not None else "at the best limit", found.past_limit, found.past
+
+
+def record(search, found):
+    """The same for programs."""
+    own = search.order.price
+
+    def case(name, limit, day):
+        amounts = day.surplus(search.key), day.gain(search.key[0]), day.welfare
+        surplus, gain, welfare = (float(text.euros(amount, day.hours, "")) for amount in amounts)
+        numbers = {"limit_eur_mwh": limit / 100, "accepted": day.orders[search.key], "surplus_eur": surplus, "gain_eur": gain}
+        numbers["welfare_eur"] = welfare
+        traded = [volume > 0 for volume in day.volumes]
+        return {"case": name, **numbers, "prices_eur_mwh": [price / 100 for price in day.prices], "traded": traded}
+
+    def other(key):
+        energies = [float(text.energy(day.executed(key), day.hours, "")) for day in (found.past, found.at)]
+        return {"participant": key[0], "order": key[1], "past_mwh": energies[0], "at_mwh": energies[1]}
+
+    names = dict(zip(("participant", "order"), search.key))
+    return {
+        **names,
+        "side": search.order.side,
+        "price_eur_mwh": own / 100,
+        "worst_limit_eur_mwh": None if found.limit is None else found.limit / 100,
+        "why": row(search, found)[-1] or None,
+        "clearings": found.clearings,
+        "law": LAW,
+        "cases": [case(*each) for each in cases(search, found)],
+        "others": [other(key) for key in others(search, found)],
+    }
+
+
+def sentences(search, found):
+    """The answer in words."""
+    order, who = search.order, " ".join(search.key)
+    does, worse = ("buys", "lower") if order.side == "buy" else ("sells", "higher")
+    outcome = search.at(order.price).outcome(search.key)
+    energy = text.energy(sum(volume for _, volume in order.volumes), search.at(order.price).hours)
+    yield f"{who} {does} {energy} MWh in a block with a limit of {text.shown_price(order.price)} EUR/MWh, and is {outcome}."
+    if found.limit is None:
+        best = text.shown_price(found.past_limit)
+        yield f"No limit of the range is enough: with the best, {best} EUR/MWh, it {why_never(search, found)}."
+    elif found.past is None:
+        yield f"Every limit of the range is enough, up to the worst, {text.shown_price(found.limit)} EUR/MWh."
+    else:
+        start = f"Its worst limit is {text.shown_price(found.limit)} EUR/MWh: with it, and with every {BETTER[order.side]} limit"
+        yield f"{start}, it is accepted; with a {worse} one it is rejected."
+    yield f"This is exact, since {LAW}. It took {text.counted(found.clearings, 'clearing')} more than the day itself."
+
+
+def short(search):
+    """The worst limit of a rejected block in one sentence."""
+    limit, _ = search.ends()
+    if limit is None:
+        return "With no limit would it have been accepted."
+    return f"With a limit of {text.shown_price(limit)} EUR/MWh or {BETTER[search.order.side]} it would have been accepted."
+
+
+def of_rejected(day, who=None, is_asked=True):
+    """The same for each rejected block of a day, or of a participant, by place. If a limit isn't computed, the sentence says so, and why:
+    never because of the time that it would take."""
+    places = [place for place, block in enumerate(day.problem.blocks) if place not in day.said.accepted and who in (None, block.who)]
+    if not places or day.wrong or not is_asked:
+        return dict.fromkeys(places, not_computed("the results break the rules" if day.wrong else "the page was made without limits"))
+    own = engine.result(engine.answer(book_text(day.book.rows, day.problem.periods)))
+    if why := why_none(day, own):
+        return dict.fromkeys(places, not_computed(why))
+    bar = Bar("report", len(places), "limits of rejected blocks")
+    with engine.team_of(engine.processors()) as (team, running):
+        waiting = [team.submit(sentence, day.book, day.problem.blocks[place], own, running) for place in places]
+        try:
+            return {place: counted(promise.result(), bar) for place, promise in zip(places, waiting)}
+        finally:
+            bar.end()
+
+
+def counted(words, bar):
+    bar.step()
+    return words
+
+
+def not_computed(why):
+    return f"Its limit wasn't computed: {why}."
+
+
+def why_none(day, own):
+    """Why no limit can be computed, if the program fails on a day or has other results; None if it has the same."""
+    if isinstance(own, Fault):
+        why, more = "the program couldn't clear the day", str(own)
+    elif Cleared.of_text(day.book.rows, day.problem.periods, own).orders != Cleared.of_day(day).orders:
+        why, more = "the program has other results", f"{command.SEE_AUDIT} --best"
+    else:
+        return None
+    command.tell("report", f"the limits that rejected blocks needed weren't computed: {why}: {more}")
+    return why
+
+
+def sentence(held, block, own, running):
+    """What a page says of a rejected block, whose day is printed as `own`."""
+    search = Search(held, (block.who, block.name), lambda given: engine.result(engine.answer(given, running=running)))
+    search.keep(block.order.price, own)
+    try:
+        return short(search)
+    except Fault as fault:
+        command.tell("report", f"the limit of {' '.join(search.key)} wasn't computed: {fault}")
+        return not_computed("a run of the program failed")
+
+
+def columns(rows):
+    """Rows of cells as aligned lines: the first cell to the left, the others to the right."""
+    widths = [max(map(len, column)) for column in zip(*rows)]
+    for first, *rest in rows:
+        yield "  ".join([first.ljust(widths[0]), *(cell.rjust(width) for cell, width in zip(rest, widths[1:]))]).rstrip()
+
+
+def table(search, found):
+    """What the block and the day come to in each case, and the prices that concern the block or differ."""
+    days = list(cases(search, found))
+    yield ["", *(name for name, _, _ in days)]
+    yield ["limit, EUR/MWh", *(text.shown_price(limit) for _, limit, _ in days)]
+    yield ["result", *(day.outcome(search.key) for _, _, day in days)]
+    yield ["surplus at these prices, EUR", *(text.amount(day.surplus(search.key), day.hours) for _, _, day in days)]
+    who = search.key[0]
+    yield [f"gain of {who}, EUR", *(text.amount(day.gain(who), day.hours) for _, _, day in days)]
+    yield ["welfare, EUR", *(text.amount(day.welfare, day.hours) for _, _, day in days)]
+    own = {period for period, _ in search.order.volumes}
+    for period, prices in enumerate(zip(*(changes.traded_prices(day) for _, _, day in days)), 1):
+        if period in own or len(set(prices)) > 1:
+            yield [f"price of period {period}, EUR/MWh", *("no trade" if price is None else text.shown_price(price) for price in prices)]
+
+
+def other_lines(search, found):
+    """The orders whose result differs between the limit and one cent past it."""
+    keys = others(search, found)
+    if found.limit is None or found.past is None:
+        return
+    if not keys:
+        yield "No other order's result differs between the worst limit and one cent past it."
+        return
+    yield f"The result of {text.counted(len(keys), 'other order')} differs. Executed, in MWh, one cent past the limit and at it:"
+    rows = [[" ".join(key), *(text.energy(day.executed(key), day.hours) for day in (found.past, found.at))] for key in keys[:MOST_OTHERS]]
+    yield from (f"  {line}" for line in columns(rows))
+    if len(keys) > MOST_OTHERS:
+        yield f"  and {len(keys) - MOST_OTHERS} more: --json has all"
+
+
+def lines(search, found):
+    """All of it, as lines for readers."""
+    return [*sentences(search, found), "", *columns(list(table(search, found))), "", *other_lines(search, found)]

@@ -1,0 +1,234 @@
+"""Scenarios of a day: those of a table, with its changes, and random ones, in which the orders of all but one participant have other
+limits and volumes. And the tables of scenarios: the requested values of each, and the outcomes of a participant's blocks over all."""
+
+import functools
+import hashlib
+import itertools
+from fractions import Fraction
+from typing import NamedTuple
+
+from ..base import rules, text
+from ..sheets import order_table
+from . import changes
+from ..runs.cleared import NO_RESULTS, book_text
+from ..sheets.command_table import Columns
+from ..runs.engine import Fault
+
+SCENARIO = "scenario"
+# What is said of a block over all scenarios. For each part of its surpluses, in per cent, there is one more column.
+BLOCK = ["participant", "order", "price_eur_mwh", "scenarios", "accepted", "share", "mean_eur"]
+PARTS = [5, 25, 50, 75, 95]
+
+
+class Scenario(NamedTuple):
+    name: str
+    text: bytes  # of the journal that has its book
+    rows: object  # the source of the orders of its book, by participant and name
+
+
+class Listed(NamedTuple):
+    """A scenario of a table. Of its book only the commands are kept, each with where it stands."""
+
+    name: str
+    held: object  # the book of the day
+    commands: list
+
+    def rows(self):
+        return changes.entered(self.held, self.commands).rows
+
+    @property
+    def text(self):
+        return book_text(self.rows(), self.held.periods)
+
+
+class Sampler:
+    """Random scenarios of a book, each by its number. The orders of all but one participant get another limit and other volumes: to the
+    limit a normally distributed number of cents is added, and the volumes, all of a block alike, are multiplied by a factor with the mean
+    1. Both stay in their ranges. A scenario depends only on the book, the seed and its number."""
+
+    def __init__(self, held, who, seed, price_sd, volume_sd):
+        import numpy
+
+        self.held, self.seed, self.numpy = held, seed, numpy
+        self.random = numpy.random.RandomState(0)  # seeded again for each scenario: to make one takes longer than to draw
+        orders = list(held.rows.values())
+        changes_it = numpy.array([key[0] != who for key in held.rows])
+        self.sds = numpy.where(changes_it, price_sd, 0), numpy.where(changes_it, volume_sd, 0)
+        self.prices = numpy.array([order.price for order in orders])
+        self.volumes = numpy.array([volume for order in orders for _, volume in order.volumes])
+        counts = [len(order.volumes) for order in orders]
+        self.owners = numpy.repeat(numpy.arange(len(orders)), counts)  # the order of each volume
+        # Where the numbers of the text stand: of each order its limit, and then its volumes.
+        self.at_price = numpy.concatenate([[0], numpy.cumsum(numpy.array(counts) + 1)[:-1]]).astype(int)
+        self.at_volume = numpy.arange(len(self.volumes)) + self.owners + 1
+        self.template = "".join(map(self.line, held.rows.items()))
+
+    @staticmethod
+    def line(row):
+        """The record of an order with places for its numbers."""
+        (who, name), order = row
+        volumes = ";".join(f"{period}:%d" for period, _ in order.volumes)
+        return f"submit,{who},{name},{order.kind},{order.side},%d,{volumes},{order.parent},{order.group}\n"
+
+    def numbers(self, number):
+        """The limits and volumes of a scenario."""
+        digest = hashlib.sha256(f"{self.seed} {number}".encode()).digest()
+        self.random.seed(self.numpy.frombuffer(digest, dtype="<u4"))
+        added, factors = (self.random.standard_normal(len(self.prices)) * sd for sd in self.sds)
+        prices = self.numpy.rint(self.prices + added).clip(rules.LEAST_PRICE, rules.GREATEST_PRICE)
+        volumes = self.numpy.rint(self.volumes * (1 + factors)[self.owners]).clip(1, rules.GREATEST_VOLUME)
+        return prices.astype(int), volumes.astype(int)
+
+    def text(self, number):
+        prices, volumes = self.numbers(number)
+        every = self.numpy.empty(len(prices) + len(volumes), dtype=int)
+        every[self.at_price], every[self.at_volume] = prices, volumes
+        return f"day,{self.held.periods},,,,,,,\n{self.template % tuple(every.tolist())}close,,,,,,,,\n".encode()
+
+    def rows(self, number):
+        prices, volumes = self.numbers(number)
+        rest, made = iter(volumes.tolist()), {}
+        for (key, order), price in zip(self.held.rows.items(), prices.tolist()):
+            made[key] = order._replace(price=price, volumes=tuple((period, next(rest)) for period, _ in order.volumes))
+        return made
+
+    def scenarios(self, count):
+        """The first scenarios, named by their numbers from 1."""
+        for number in range(1, count + 1):
+            yield Scenario(str(number), self.text(number), functools.partial(self.rows, number))
+
+
+def read_table(name, data, held):
+    """The scenarios of a table: each is the book with the commands of its lines, which stand together. An error is a fault."""
+    try:
+        columns = Columns(order_table.cells_of(data, None), (SCENARIO,))
+    except order_table.Wrong as fault:
+        raise Fault(f"{name}: {changes.in_few_lines(fault)}") from None
+    lines = [(line, columns.cell(cells, SCENARIO), cells) for line, cells in columns.table.rows]
+    seen, found = {}, []
+    for scenario, rows in itertools.groupby(lines, lambda each: each[1]):
+        rows = list(rows)
+        first = rows[0][0]
+        try:
+            for line, _, cells in rows:
+                order_table.refuse_unlike(columns.given(cells, SCENARIO), True)
+        except order_table.Wrong as fault:
+            raise Fault(f"{name}: line {line}, column {SCENARIO}: {fault}") from None
+        if not scenario:
+            raise Fault(f"{name}: line {first}, column {SCENARIO}: it should name the scenario")
+        if scenario in seen:
+            words = f"line {first}: there is a scenario {text.quoted(scenario)} in line {seen[scenario]}"
+            raise Fault(f"{name}: {words}: the lines of a scenario stand together, and no two have one name")
+        seen[scenario] = first
+        found.append(Listed(scenario, held, commands_of(name, columns, rows, held)))
+    if not found:
+        raise Fault(f"{name}: it has no scenarios")
+    return found, columns.table.notes
+
+
+def commands_of(name, columns, rows, held):
+    """The commands of the lines of a scenario, which the book takes."""
+    found = []
+    for line, _, cells in rows:
+        command, faults = columns.read(cells, held.periods)
+        if faults:
+            wrong = "\n".join(f"line {line}, {words}" for words in faults)
+            raise Fault(f"{name}: {changes.in_few_lines(wrong)}")
+        found += [(f"line {line}", command)] if command else []
+    try:
+        changes.entered(held, found)
+    except Fault as fault:
+        raise Fault(f"{name}: {fault}") from None
+    return found
+
+
+def welfare(scenario, before, after, _):
+    written = changes.Written(after)
+    yield [scenario, written.eur(after.welfare), written.eur(after.welfare - before.welfare)]
+
+
+def prices(scenario, before, after, _):
+    for period, (cents, volume, was) in enumerate(zip(after.prices, after.volumes, before.prices), 1):
+        yield [scenario, period, text.cents(cents), text.tenths(volume), text.cents(cents - was)]
+
+
+def orders(scenario, _, after, is_asked):
+    written = changes.Written(after)
+    for key, order in after.rows.items():
+        if is_asked(key):
+            surplus = written.eur(after.surplus(key)) if order.kind == "block" else ""
+            energy, amount = written.mwh(after.executed(key)), written.eur(after.amount(key))
+            yield [scenario, *key, order.kind, after.outcome(key), energy, surplus, amount]
+
+
+def participants(scenario, _, after, is_asked):
+    written = changes.Written(after)
+    for who in sorted({who for who, name in after.rows if is_asked((who, None))}):
+        own = [key for key in after.rows if key[0] == who]
+        energies = [sum(after.executed(key) for key in own if after.rows[key].side == side) for side in ("buy", "sell")]
+        yield [scenario, who, *map(written.mwh, energies), written.eur(after.net(who)), written.eur(after.gain(who))]
+
+
+# Each table with its columns after the first, which names the scenario.
+TABLES = {
+    "welfare": (welfare, ["welfare_eur", "change_eur"]),
+    "prices": (prices, ["period", "price_eur_mwh", "volume_mw", "change_eur_mwh"]),
+    "orders": (orders, ["participant", "order", "kind", "outcome", "executed_mwh", "surplus_eur", "amount_eur"]),
+    "participants": (participants, ["participant", "bought_mwh", "sold_mwh", "net_eur", "gain_eur"]),
+}
+
+
+class Distribution:
+    """What becomes of some blocks over many scenarios: whether each is accepted, and its surplus at the prices."""
+
+    def __init__(self, held, keys):
+        self.rows, self.keys, self.hours = held.rows, keys, rules.DAYS[held.periods]
+        self.surpluses = {key: [] for key in keys}  # of the scenarios that accept it
+        self.rejected = dict.fromkeys(keys, 0)
+
+    def add(self, printed):
+        """Adds a scenario by what `dam clear` printed for it; a fault if it isn't of this book."""
+        for key in self.keys:
+            try:
+                begin = printed.index(f"\nblock,{key[0]},{key[1]},".encode()) + 1
+                outcome, surplus = printed[begin : printed.index(b"\n", begin)].split(b",")[3:]
+                amount = int(surplus)
+            except ValueError:
+                raise Fault(NO_RESULTS) from None
+            if outcome == b"accepted":
+                self.surpluses[key].append(amount)
+            else:
+                self.rejected[key] += 1
+
+    def heads(self):
+        return [*BLOCK, *(f"p{part:02}_eur" for part in PARTS)]
+
+    def table(self):
+        """A row for each block; amounts are rounded to whole cents."""
+        yield self.heads()
+        for key in self.keys:
+            found = sorted(self.surpluses[key])
+            whole = len(found) + self.rejected[key]
+            amounts = [Fraction(sum(found), whole), *(quantile(found, part) for part in PARTS)]
+            shares = [whole, len(found), f"{len(found) / whole:.4f}"]
+            yield [*key, text.cents(self.rows[key].price), *shares, *map(self.eur, amounts)]
+
+    def eur(self, amount):
+        return "" if amount is None else f"{float(amount * self.hours / 1_000):.2f}"
+
+
+def quantile(found, part):
+    """The number of a sorted list that so many per cent of it are at most; None of an empty list."""
+    return found[max(-(-len(found) * part // 100) - 1, 0)] if found else None
+
+
+def words(distribution):
+    """One line for each block."""
+    for key in distribution.keys:
+        found = distribution.surpluses[key]
+        whole = len(found) + distribution.rejected[key]
+        line = f"{' '.join(key)} is accepted in {len(found):,} of {whole:,} scenarios"
+        if found:
+            middle = text.amount(quantile(sorted(found), 50), distribution.hours)
+            line += f"; the median of its surplus is then {middle} EUR"
+        yield line

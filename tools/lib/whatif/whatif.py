@@ -1,0 +1,424 @@
+"""The commands of tools/whatif: their words on the command line, and the work of each."""
+
+import argparse
+import collections
+import contextlib
+import inspect
+import itertools
+import json
+import re
+
+from ..base import place, rules, text
+from ..runs import cleared, cluster, engine
+from ..tool import command, output
+from . import changes, limits, scenarios
+from ..runs.cleared import Cleared
+
+GRID = 2_000, 100  # cents per MWh: how far the limits of an hourly order reach from the price, and their distance
+MOST_LIMITS = 100_000
+
+
+def eur_mwh(word):
+    """A price of the command line in cents per MWh."""
+    if not re.fullmatch(r"-?[0-9]{1,6}(\.[0-9]{1,2})?", word):
+        raise argparse.ArgumentTypeError(f"{text.quoted(word)} should be a price in EUR/MWh, such as 92.50")
+    cents = round(float(word) * 100)
+    if not rules.LEAST_PRICE <= cents <= rules.GREATEST_PRICE:
+        ends = [text.cents(end) for end in (rules.LEAST_PRICE, rules.GREATEST_PRICE)]
+        raise argparse.ArgumentTypeError(f"{text.quoted(word)} should be from {ends[0]} to {ends[1]} EUR/MWh")
+    return cents
+
+
+def order_name(word):
+    """An order's name on the command line."""
+    if text.name(word.encode(errors="surrogateescape")) is None:
+        raise argparse.ArgumentTypeError(f"{text.quoted(word)} should be {text.A_NAME}")
+    return word
+
+
+def jobs(word):
+    if not re.fullmatch(r"[1-9][0-9]{0,2}", word):
+        raise argparse.ArgumentTypeError(f"{text.quoted(word)} should be a number from 1 to 999")
+    return int(word)
+
+
+def add_command(commands, call, name, epilog, words):
+    """The parser of a command, with what all commands read."""
+    words_of_call = call.__doc__ or place.docstring(__file__, call.__name__)
+    parser = commands.add_parser(name, description=inspect.cleandoc(words_of_call), epilog=epilog, help=words)
+    parser.add_argument("journal", metavar="JOURNAL", help="a closed journal; - for standard input")
+    parser.add_argument("--program", metavar="PATH", help="the program `dam` to run (default: the library, or the built program)")
+    output.add_options(parser)
+    parser.set_defaults(call=call)
+    return parser
+
+
+def add_limit(commands, epilog):
+    parser = add_command(commands, limit, "limit", epilog, "the worst limit at which a block is accepted")
+    add = parser.add_argument
+    add("--participant", metavar="NAME", type=command.participant, required=True, help="the participant that entered the order")
+    add("--order", metavar="NAME", type=order_name, help="the order")
+    add("--all", action="store_true", help="every block of the participant, a row each")
+    add("--jobs", metavar="N", type=jobs, help="the number of clearings at the same time (default: the number of processors)")
+    add("--from", dest="least", metavar="EUR", type=eur_mwh, help="for an hourly order: the least limit (default: 20 below the price)")
+    add("--to", dest="greatest", metavar="EUR", type=eur_mwh, help="the greatest limit (default: 20 above the price)")
+    add("--step", metavar="EUR", type=eur_mwh, help="the distance between two limits (default: 1.00)")
+
+
+def add_change(commands, epilog):
+    parser = add_command(commands, change, "change", epilog, "the effect of further commands")
+    words = "further commands: records as in a journal, or a table of orders, or of commands with the column what (CSV or Excel); - for"
+    words += " standard input"
+    parser.add_argument("changes", metavar="CHANGES", help=words)
+    words = "only this participant's orders, with its gain and net amount"
+    parser.add_argument("--participant", metavar="NAME", type=command.participant, help=words)
+    add_quiet(parser)
+
+
+def add_quiet(parser):
+    parser.add_argument("--quiet", action="store_true", help="leave out notes on standard error; faults are still printed")
+
+
+def main(description, epilog):
+    """Reads the command line, and does what it says."""
+    parser = command.Parser("whatif", description, epilog)
+    commands = parser.add_subparsers(dest="command", metavar="COMMAND", required=True)
+    for add in (add_limit, add_change, add_scenarios):
+        add(commands, epilog[epilog.index("\nstatuses:") :])
+    args = parser.parse_args()
+    try:
+        return args.call(args)
+    except engine.Fault as fault:
+        raise command.Stop(str(fault)) from None
+
+
+def check_program(args):
+    """Ends the tool if there is neither the library nor a program."""
+    if args.program or not engine.library():
+        try:
+            args.program = engine.program_of(args.program)
+        except engine.Fault:
+            made = "the package dam has it" if place.IS_INSTALLED else "./dam prove builds it, and --program ./dam takes one that isn't proved"
+            words = f"no program was found: {made}; or name it by --program or the environment variable DAM"
+            raise command.Stop(words, command.FAILED) from None
+
+
+def read(args):
+    """The book of the journal, which has to be closed."""
+    check_program(args)
+    found = command.parse_journal(args.journal, command.read_bytes(args.journal))
+    try:
+        return changes.before_close(found)
+    except engine.Fault as fault:
+        raise command.Stop(f"{command.shown(args.journal)}: {fault}") from None
+
+
+def engine_of(program, running=None):
+    """The engine that clears a text; a run that fails is a `Fault`."""
+    return lambda given: engine.result(engine.answer(given, program, running))
+
+
+def limit(args):
+    """Prints the worst limit at which a block is accepted, to the cent, or why no limit is enough. It adds the prices, the block's surplus,
+    the participant's gain and the welfare at that limit and one cent past it, and the other orders whose results differ. The answer is in
+    words; with --decimal-comma, or a file whose name ends with .csv or .xlsx, it is a table of one row. For an hourly order it prints the
+    results under some limits."""
+    output.check_options(args, args.journal)
+    if args.all == bool(args.order):
+        raise command.Stop("give --order with the order's name, or --all for every block", command.COMMAND_LINE)
+    held = read(args)
+    if args.all:
+        return all_limits(args, held)
+    key = args.participant, args.order
+    if key not in held.rows:
+        raise command.Stop(unknown(held, *key))
+    if held.rows[key].kind == "hour":
+        return sampled(args, held, key)
+    if (args.least, args.greatest, args.step) != (None,) * 3:
+        raise command.Stop("--from, --to and --step can't be used with a block, whose limit is found exactly", command.COMMAND_LINE)
+    search = limits.Search(held, key, engine_of(args.program))
+    found = search.worst()
+    if args.json:
+        data = json.dumps(limits.record(search, found), indent=1) + "\n"
+    elif output.is_table(args.out) or args.decimal_comma:
+        output.write("whatif", args, "limits", [limits.HEADS, limits.row(search, found)], held.periods)
+        return command.DONE
+    else:
+        data = "".join(f"{line}\n" for line in limits.lines(search, found)).rstrip("\n") + "\n"
+    command.write_bytes("whatif", args.out, data.encode())
+    return command.DONE
+
+
+def unknown(held, who, name):
+    """The message about an order that isn't in the book."""
+    own = [other for owner, other in held.rows if owner == who]
+    if not own:
+        return f"{who} has no order in the book"
+    blocks = [other for other in own if held.rows[who, other].kind == "block"]
+    shown = f"its blocks are {', '.join(blocks)}" if blocks else f"it has {text.counted(len(own), 'hourly order')} and no block"
+    return f"{who} has no order {name} in the book: {shown}"
+
+
+def all_limits(args, held):
+    """The worst limits of all blocks of a participant, as a table."""
+    keys = [key for key, order in held.rows.items() if key[0] == args.participant and order.kind == "block"]
+    if not keys:
+        raise command.Stop(f"{args.participant} has no block in the book")
+
+    with engine.threads_of(args.jobs or engine.processors()) as (threads, running):
+
+        def row(key):
+            search = limits.Search(held, key, engine_of(args.program, running))
+            return limits.row(search, search.worst())
+
+        rows = list(engine.with_bar(threads.map(row, keys), len(keys), "block"))
+    output.write("whatif", args, "limits", [limits.HEADS, *rows], held.periods)
+    return command.DONE
+
+
+def sampled(args, held, key):
+    """An hourly order under a grid of limits, as a table."""
+    search = limits.Search(held, key, engine_of(args.program))
+    period = held.rows[key].volumes[0][0]
+    price = search.at(search.order.price).prices[period - 1]
+    reach, step = GRID
+    step = step if args.step is None else args.step
+    least = max(price - reach, rules.LEAST_PRICE) if args.least is None else args.least
+    greatest = min(price + reach, rules.GREATEST_PRICE) if args.greatest is None else args.greatest
+    if step <= 0 or least > greatest:
+        raise command.Stop("--from should be at most --to, and --step more than 0", command.COMMAND_LINE)
+    grid = sorted({*range(least, greatest + 1, step), search.order.price})
+    if len(grid) > MOST_LIMITS:
+        raise command.Stop(f"{len(grid):,} limits are too many: give a larger --step", command.COMMAND_LINE)
+    texts = [search.text(cents) for cents in grid]
+    for cents, printed in zip(grid, engine.with_bar(engine.answers(texts, args.jobs, program=args.program), len(grid), "limit")):
+        search.keep(cents, printed)
+    rows = [["limit_eur_mwh", "executed_mw", "price_eur_mwh", "surplus_eur", "welfare_eur"]]
+    for cents in grid:
+        day = search.at(cents)
+        amounts = [text.euros(amount, day.hours, thousands="") for amount in (day.surplus(key), day.welfare)]
+        rows.append([text.cents(cents), text.tenths(day.executed(key)), text.cents(day.prices[period - 1]), *amounts])
+    own = search.order.price
+    extra = "" if own in range(least, greatest + 1, step) else f", one of them the order's own, {text.shown_price(own)} EUR/MWh"
+    count = text.counted(len(grid), "limit") + extra
+    command.tell("whatif", f"sampled at {count}: between them the result may be another, since {limits.NO_LAW}")
+    output.write("whatif", args, "samples", rows, held.periods)
+    return command.DONE
+
+
+def change(args):
+    """Prints the differences if further commands are put before the close: the welfare, prices and volumes, and each order's executed
+    energy and amount, in the table of tools/compare."""
+    output.check_options(args, args.journal, args.changes)
+    if args.journal == args.changes == "-":
+        raise command.Stop("only one file can be standard input", command.COMMAND_LINE)
+    before = read(args)
+    try:
+        further, notes = changes.read_changes(command.read_bytes(args.changes), before.periods)
+        for note in [] if args.quiet else notes:
+            command.tell("whatif", f"{command.shown(args.changes)}: {note}")
+        books = [before, changes.entered(before, further)]
+    except engine.Fault as fault:
+        raise command.Stop(f"{command.shown(args.changes)}: {fault}") from None
+    rows = list(compared(books, args.participant, args.program))
+    if len(rows) == 1 and not args.quiet:
+        command.tell("whatif", "nothing differs")
+    output.write("whatif", args, "changes", rows, before.periods)
+    return command.DONE
+
+
+def compared(books, who, program):
+    """The differences between the results of two books, as a table: of one participant, or of all."""
+    if who is not None and not any(who == owner for one in books for owner, _ in one.rows):
+        raise engine.Fault(f"{who or text.quoted(who)} has no order in the book, before or after the changes")
+    printed = list(engine.answers([cleared.book_text(one.rows, one.periods) for one in books], program=program))
+    for found in printed:
+        if isinstance(found, engine.Fault):
+            raise found
+    days = [Cleared.of_text(one.rows, one.periods, found) for one, found in zip(books, printed)]
+    return changes.table(*days, who)
+
+
+def add_scenarios(commands, epilog):
+    parser = add_command(commands, run_scenarios, "scenarios", epilog, "the results of many scenarios")
+    add = parser.add_argument
+    words = "a table with the column scenario and those of a table of orders, or of commands with the column what (CSV or Excel)"
+    add("scenarios", metavar="SCENARIOS", nargs="?", help=words)
+    words = "the table that is printed for each scenario (default: welfare; with --sample the blocks over all scenarios)"
+    add("--rows", choices=scenarios.TABLES, help=words)
+    add("--participant", metavar="NAME", type=command.participant, help="only this participant's rows; with --sample, its orders stay")
+    add("--order", metavar="NAME", type=order_name, help="only this order of the participant")
+    add("--jobs", metavar="N", type=jobs, help="the number of clearings at the same time (default: the number of processors)")
+    add("--sample", metavar="N", type=sample_count, help="random scenarios instead of a table")
+    add("--seed", metavar="WORD", help="the seed of the random scenarios (default: 1)")
+    add("--price-sd", metavar="EUR", type=standard_deviation, help="the standard deviation of the changes of limits (default: 3)")
+    add("--volume-sd", metavar="SHARE", type=standard_deviation, help="the standard deviation of the factor of volumes (default: 0.1)")
+    add("--cluster", metavar="ADDRESS", help="the scheduler of a dask cluster to run on, such as tcp://10.0.0.1:8786")
+    add_quiet(parser)
+
+
+def sample_count(word):
+    if not re.fullmatch(r"[1-9][0-9]{0,6}", word):
+        raise argparse.ArgumentTypeError(f"{text.quoted(word)} should be a number from 1 to 9999999")
+    return int(word)
+
+
+def standard_deviation(word):
+    if not re.fullmatch(r"[0-9]{1,4}(\.[0-9]{1,6})?", word):
+        raise argparse.ArgumentTypeError(f"{text.quoted(word)} should be a number from 0 to 9999, such as 0.1")
+    return float(word)
+
+
+def is_picture(path):
+    return path.lower().endswith((".svg", ".png"))
+
+
+def check_scenarios(args):
+    """Ends the tool if the options of scenarios can't be used together."""
+    def stop(words):
+        raise command.Stop(words, command.COMMAND_LINE)
+
+    drawn = {"--seed": args.seed, "--price-sd": args.price_sd, "--volume-sd": args.volume_sd}
+    if (args.scenarios is None) == (args.sample is None):
+        both = "; for another limit of your own, put an amend into a copy of the journal" if args.sample else ""
+        stop(f"give a table of scenarios, or --sample with how many random ones{', not both' * bool(both)}{both}")
+    if args.sample is None:
+        given = [name for name, value in drawn.items() if value is not None]
+        if given:
+            stop(f"{given[0]} can't be used without --sample")
+        if is_picture(args.out):
+            stop("a picture can't be drawn without --sample")
+        if args.participant and args.rows in (None, "welfare", "prices"):
+            stop(f"--participant can't be used with --rows {args.rows or 'welfare'}: give --rows orders or --rows participants")
+    elif not args.participant:
+        stop("--sample needs --participant, whose orders stay as they are")
+    if args.order and not args.participant:
+        stop("--order can't be used without --participant")
+    if is_picture(args.out) and args.rows:
+        stop("--rows can't be used with a picture, which shows the blocks over all scenarios")
+    if args.rows in ("welfare", "prices") and args.order:
+        stop(f"--order can't be used with --rows {args.rows}")
+    if args.journal == args.scenarios == "-":
+        stop("only one file can be standard input")
+
+
+def need_asked(args, books):
+    """Ends the tool if no book has an order that is asked for."""
+    is_asked = asked_of(args)
+    if not any(map(is_asked, itertools.chain.from_iterable(books))):
+        name = f" {args.order}" if args.order else ""
+        raise command.Stop(f"{args.participant} has no order{name} in the book or in a scenario")
+
+
+def keys_asked(args, held):
+    """The blocks whose distribution is asked for."""
+    if args.order and (args.participant, args.order) not in held.rows:
+        raise command.Stop(unknown(held, args.participant, args.order))
+    if not any(who == args.participant for who, _ in held.rows):
+        raise command.Stop(unknown(held, args.participant, None))
+    blocks = [key for key, order in held.rows.items() if key[0] == args.participant and order.kind == "block"]
+    own = [key for key in blocks if args.order in (None, key[1])]
+    if not own:
+        words = f"{args.order} of {args.participant} isn't a block" if args.order else f"{args.participant} has no block in the book"
+        raise command.Stop(f"{words}: give --rows orders or --rows participants")
+    return own
+
+
+@contextlib.contextmanager
+def executor_of(args):
+    """The executor of the cluster that is named, or None; and the engine that it calls."""
+    if args.cluster is None:
+        yield None, engine.answer
+        return
+    with cluster.executor(args.cluster) as executor:
+        import dam_tools
+
+        yield executor, dam_tools.engine.answer  # by the name that it has in the package
+
+
+def run_scenarios(args):
+    """Prints the results of many scenarios. In a table, each scenario has a name, with the orders or commands that it adds to the journal.
+    With --sample the scenarios are random: the orders of all but one participant have other limits and volumes. An output that ends with
+    .svg or .png is a picture of these."""
+    output.check_options(args, args.journal, args.scenarios)
+    check_scenarios(args)
+    if is_picture(args.out):
+        command.need("matplotlib")
+    if args.sample:
+        command.need("numpy")
+    held = read(args)
+    if args.sample is None:
+        data = command.read_bytes(args.scenarios)
+        given, notes = scenarios.read_table(command.shown(args.scenarios), data, held)
+        for note in [] if args.quiet else notes:
+            command.tell("whatif", f"{command.shown(args.scenarios)}: {note}")
+        count = len(given)
+        if args.participant:
+            need_asked(args, itertools.chain([held.rows], (scenario.rows() for scenario in given)))
+    else:
+        sds = [3 if args.price_sd is None else args.price_sd, 0.1 if args.volume_sd is None else args.volume_sd]
+        sampler = scenarios.Sampler(held, args.participant, args.seed or "1", sds[0] * 100, sds[1])
+        given, count = sampler.scenarios(args.sample), args.sample
+    over = scenarios.Distribution(held, keys_asked(args, held)) if args.sample and not args.rows else None
+    rows = list(scenario_rows(args, held, given, count, over))
+    if over is None:
+        output.write("whatif", args, "scenarios", rows, held.periods)
+    else:
+        write_distribution(args, held, over)
+    return command.DONE
+
+
+def scenario_rows(args, held, given, count, over):
+    """The rows of the scenarios, or none, and then their results are added to the distribution."""
+    make, heads = scenarios.TABLES[args.rows or "welfare"]
+    waiting = collections.deque()
+
+    def texts():
+        yield cleared.book_text(held.rows, held.periods)
+        for scenario in given:
+            waiting.append(scenario)
+            yield scenario.text
+
+    if over is None:
+        yield ["scenario", *heads]
+    with executor_of(args) as (executor, call):
+        program = args.program if args.cluster is None else None
+        answers = engine.answers(texts(), args.jobs, executor, program, call)
+        before = day_of("the day as it was", held.rows, held.periods, next(answers))
+        for printed in engine.with_bar(answers, count, "scenario", args.quiet):
+            scenario = waiting.popleft()
+            if over is None:
+                day = day_of(f"scenario {scenario.name}", scenario.rows(), held.periods, printed)
+                yield from make(text.safe(scenario.name), before, day, asked_of(args))
+            else:
+                over.add(printed_of(f"scenario {scenario.name}", printed))
+
+
+def asked_of(args):
+    """Whether an order, or a participant's name with None, is asked for."""
+    return lambda key: args.participant in (None, key[0]) and (key[1] is None or args.order in (None, key[1]))
+
+
+def printed_of(name, printed):
+    """The printed text; ends the tool if it is a fault."""
+    if isinstance(printed, engine.Fault):
+        raise command.Stop(f"{text.safe(name)}: {printed}")
+    return printed
+
+
+def day_of(name, rows, periods, printed):
+    return Cleared.of_text(rows, periods, printed_of(name, printed))
+
+
+def write_distribution(args, held, over):
+    """The table of the blocks over all scenarios, or a picture and then the table on standard output."""
+    if not args.quiet:
+        for line in scenarios.words(over):
+            command.tell("whatif", line)
+    if is_picture(args.out):
+        from . import scenario_picture
+
+        data = scenario_picture.picture(over, args.out.lower().rpartition(".")[2])
+        command.write_bytes("whatif", args.out, data)
+        args.out = "-"
+    output.write("whatif", args, "distribution", over.table(), held.periods)
