@@ -92,7 +92,15 @@ fn open_fault(error: OpenError) -> DeskFault {
         OpenError::HotJournal => DeskFault::Database,
         OpenError::OutOfMemory => DeskFault::Memory,
         OpenError::Io(error) if error.kind() == io::ErrorKind::Unsupported => DeskFault::NotAFile,
-        OpenError::Io(error) => DeskFault::Io(error),
+        OpenError::Io(error) => io_fault(error),
+    }
+}
+
+/// The fault of a call that the system refused.
+pub(crate) fn io_fault(error: io::Error) -> DeskFault {
+    match error.kind() {
+        io::ErrorKind::OutOfMemory => DeskFault::Memory,
+        _ => DeskFault::Io(error),
     }
 }
 

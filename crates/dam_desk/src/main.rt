@@ -22,7 +22,7 @@ use dam_book::Seed;
 use dam_store::{StoreFault, open_file};
 use fault::{DeskFault, status};
 use held::text_of_file;
-use open::open;
+use open::{open, reopen};
 use output::write_text;
 use serve::serve;
 use sqlite_std_file::Wary;
@@ -33,8 +33,10 @@ use words::{Job, USAGE, job_of, words};
 const REFUSED_LINE: u8 = 2;
 
 fn main(rt: HostRuntime) -> ExitCode {
-    let Ok(words) = words(&rt) else {
-        return refuse(&rt);
+    let words = match words(&rt) {
+        Ok(Some(words)) => words,
+        Ok(None) => return refuse(&rt),
+        Err(fault) => return report(&rt, &DeskFault::from(fault)),
     };
     let done = match job_of(words.as_slice()) {
         Some(Job::Serve(path)) => serve_file(&rt, path),
@@ -60,9 +62,11 @@ fn serve_file(rt: &HostRuntime, path: &str) -> Result<(), DeskFault> {
     )
 }
 
-/// Prints the journal that a file holds. It doesn't lock the file or change it.
+/// Prints the journal that a file holds. It doesn't lock the file or change it. A file that a desk refuses has the same fault
+/// here.
 fn print_journal(rt: &HostRuntime, path: &str) -> Result<(), DeskFault> {
     let text = text_of_file(rt, path)?;
+    let _journal = reopen(rt.alloc(), Seed::drawn(rt), text.as_slice())?;
     write_text(&mut rt.stdout(), text.as_slice())
 }
 

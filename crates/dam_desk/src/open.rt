@@ -41,7 +41,11 @@ pub(crate) fn open<D: Disk + Drop>(
 }
 
 /// The day of a journal's text, and the replies to its commands; none, if the text has no bytes.
-fn reopen(alloc: Global, seed: Seed, text: &[u8]) -> Result<(Option<Day>, Vec<u8>), DeskFault>
+pub(crate) fn reopen(
+    alloc: Global,
+    seed: Seed,
+    text: &[u8],
+) -> Result<(Option<Day>, Vec<u8>), DeskFault>
     ensures { IfOk result (λ reopened. entered_of reopened.0 ≤ most_entries) }
 {
     if text.is_empty() {

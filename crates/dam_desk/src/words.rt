@@ -1,6 +1,8 @@
 //! The command line.
 
-use std::{env, io};
+use std::alloc::AllocError;
+use std::env;
+use std::io::ErrorKind;
 
 pub(crate) const USAGE: &str = "Usage: dam-desk FILE < COMMANDS
        dam-desk --journal FILE
@@ -23,12 +25,16 @@ pub(crate) enum Job<'a> {
     Help,
 }
 
-/// The program's words, without its name.
-pub(crate) fn words(rt: &HostRuntime) -> io::Result<Vec<String>> {
-    let mut words = env::args(rt)?;
+/// The program's words, without its name. None: one of them isn't UTF-8.
+pub(crate) fn words(rt: &HostRuntime) -> Result<Option<Vec<String>>, AllocError> {
+    let mut words = match env::args(rt) {
+        Ok(words) => words,
+        Err(error) if error.kind() == ErrorKind::OutOfMemory => return Err(AllocError),
+        Err(_) => return Ok(None),
+    };
     // the first word is the program's name
     let _program = words.next();
-    Ok(words.collect::<Vec<String>>(rt.alloc())?)
+    Ok(Some(words.collect::<Vec<String>>(rt.alloc())?))
 }
 
 /// What the words ask for, if they are in order.
