@@ -64,8 +64,8 @@ class Page:
             f"it never is so: {script}; the page says: {await self.run('document.getElementById(`message`)?.textContent')}"
         )
 
-    async def look(self, width, scheme):
-        await self.call("Emulation.setDeviceMetricsOverride", width=width, height=900, deviceScaleFactor=1, mobile=width < 500)
+    async def look(self, width, scheme, height=900):
+        await self.call("Emulation.setDeviceMetricsOverride", width=width, height=height, deviceScaleFactor=1, mobile=width < 500)
         await self.call("Emulation.setEmulatedMedia", features=[{"name": "prefers-color-scheme", "value": scheme}])
 
     async def picture(self, path):

@@ -1,16 +1,31 @@
-"""The page in a browser: signing in, each form by the keyboard, an upload, the close and the results; light and dark, broad and narrow."""
+"""The page in a browser: signing in, each form by the keyboard, faults at their fields, an upload, the close and the results, the next
+participant in the same tab, and the demo; light and dark, broad and narrow."""
 
 import asyncio
+import signal
+import subprocess
 import tempfile
 from pathlib import Path
 
 import browser
-from served import served
+from served import TOOL, free_port, served
 
 WIDTHS = 390, 1_280
 # How many controls have no name.
 UNNAMED = """[...document.querySelectorAll('input, select, button')].filter((one) => one.checkVisibility())
   .filter((one) => ![one, ...(one.labels ?? [])].some((part) => part.textContent.trim() || part.ariaLabel)).length"""
+# The fields of the form that are seen, those of the periods as one.
+FIELDS = """[...new Set([...document.querySelectorAll('#order-form input, #order-form select')].filter((one) => one.checkVisibility())
+  .map((one) => one.id || (one.dataset.period ? 'periods' : one.value)))].join(' ')"""
+HOURLY = "hour block name side price period volume"
+BLOCK = "hour block name side price parent group fill-volume fill-from fill-to periods"
+# Whether a part is on the screen as a whole, and nothing covers it.
+ON_SCREEN = """(() => { const part = byId('%s'), {top, bottom, left} = part.getBoundingClientRect();
+  const found = document.elementFromPoint(left + 2, (top + bottom) / 2);
+  return 0 <= top && top < bottom && bottom <= innerHeight && part.contains(found); })()"""
+# How many tables are scrolled sideways.
+SCROLLED = """[...document.querySelectorAll('.wide')]
+  .filter((one) => one.checkVisibility() && one.scrollWidth > one.clientWidth).length"""
 HEADS = "participant,order,kind,side,price_eur_mwh,periods,volume_mw,parent,group\n"
 TABLE = HEADS + "{who},T-1,block,buy,80,1-3,10,,G\n{who},T-2,block,buy,70,1;3,5.5,T-1,\n"
 
@@ -22,11 +37,28 @@ async def focus(page, name):
 
 async def write(page, name, words):
     await focus(page, name)
-    await page.type(words)
+    await page.type(words) if words else await page.run(f"document.getElementById('{name}').value = ''")
 
 
 async def choose(page, name, value):
     await page.run(f"document.getElementById('{name}').value = '{value}'")
+
+
+async def click(page, selector):
+    await page.run(f"document.querySelector('{selector}').click()")
+
+
+async def text(page, name):
+    return await page.run(f"document.getElementById('{name}').textContent")
+
+
+async def focused(page):
+    return await page.run("document.activeElement.id")
+
+
+async def said(page, words):
+    """Waits until the page says so."""
+    await page.until(f"document.getElementById('message').textContent.includes({words!r})")
 
 
 async def rows(page, name):
@@ -45,26 +77,83 @@ async def shown(page, counts, pictures, name):
         for scheme in ("light", "dark"):
             await page.look(width, scheme)
             counts.check(f"{name} fits into {width}", await page.run("document.documentElement.scrollWidth") <= width)
+            if width == WIDTHS[0]:
+                counts.check(f"no table of {name} is scrolled at {width}", await page.run(SCROLLED) == 0)
             if pictures:
                 await page.picture(Path(pictures, f"{name}-{width}-{scheme}.png"))
     counts.check(f"each control of {name} has a name", await page.run(UNNAMED) == 0)
 
 
-async def sign_in(page, office, who, counts):
+# --- signing in and out
+
+
+async def sign_in(page, office, who):
     await page.until("!document.getElementById('sign-in').hidden")
-    await write(page, "token", "GAS.wrong")
-    await page.key("Enter", 13)
-    await page.until("document.getElementById('message').className === 'wrong'")
     await write(page, "token", office.tokens[who])
     await page.key("Enter", 13)
-    await page.until("!document.getElementById('entry').hidden && document.activeElement.id === 'name'")
+    await page.until("!document.getElementById('signed-in').hidden && document.getElementById('left')")
+
+
+async def first_sign_in(page, office, who, counts):
+    await page.until("!document.getElementById('sign-in').hidden")
+    for wrong in ("no-dot", "gas.x", "GAS.wrong", f"{office.tokens[who]}\u00e9"):
+        await page.run("say('')")
+        await write(page, "token", wrong)
+        await page.key("Enter", 13)
+        await page.until("document.getElementById('message').className === 'wrong'")
+        counts.check(f"{wrong[:9]} is no token", "This isn't a token of this office" in await text(page, "message"))
+    await sign_in(page, office, who)
+    await page.until("document.activeElement.id === 'name'")
     counts.check(
         "the token isn't in the page or its address",
         office.tokens[who] not in await page.run("document.documentElement.outerHTML + location.href"),
     )
+    counts.check("the first sign-in shows an hourly order's fields alone", await page.run(FIELDS) == HOURLY)
+    await click(page, "input[value=block]")
+    counts.check("and a block's when it is chosen", await page.run(FIELDS) == BLOCK)
+    await click(page, "#sign-out")
+    await sign_in(page, office, who)
+    counts.check("and an hourly order's after the next sign-in", await page.run(FIELDS) == HOURLY)
+    counts.check("only a demo can be closed", await page.run("document.getElementById('demo-close').hidden"))
+
+
+# What a participant leaves.
+LEFT = """[byId('entry-title').textContent, byId('enter').textContent,
+  ...['name', 'price', 'file', 'side', 'fill-volume'].map((id) => byId(id).value), byId('name').disabled,
+  ...['read', 'keep', 'fixed', 'results'].map((id) => byId(id).hidden), document.querySelectorAll('#read-table *').length,
+  document.querySelectorAll('[aria-invalid]').length, byId('enter-all').checkVisibility()]"""
+NOTHING_LEFT = ["Enter an order", "Enter the order", "", "", "", "buy", "", False, True, True, True, True, 0, 0, False]
+# Lets each answer take a time.
+SLOW = """{ window.real = fetch; fetch = async (...words) => {
+  const answer = await real(...words); await new Promise((done) => setTimeout(done, 300)); return answer; }; }"""
+
+
+async def leave(page, office, who, other, room, counts):
+    """Signing out leaves nothing for the next participant: neither what was being done, nor what comes later."""
+    await read_table(page, room, TABLE.format(who=who))
+    await said(page, "was read")
+    await click(page, '[aria-label="Amend UNIT-8"]')
+    await write(page, "price", "x")
+    await click(page, "#enter")
+    await page.run(SLOW)
+    await page.run("Object.assign(state, { looks: null, count: -1 }); look(); undefined")
+    await page.run("new Promise((done) => setTimeout(done, 450))")  # the day has come, and its orders are asked for
+    await click(page, "#sign-out")
+    await sign_in(page, office, other)
+    counts.check("nothing of a participant is left", await page.run(LEFT) == NOTHING_LEFT)
+    await page.run("new Promise((done) => setTimeout(done, 1500))")
+    counts.check("and nothing of it comes later", await rows(page, "orders-table") == await rows(page, "commands-table") == [])
+    await page.run("fetch = real; undefined")
+    await click(page, "#sign-out")
+    await sign_in(page, office, who)
+    await page.until("document.querySelectorAll('#orders-table tbody tr').length")
+
+
+# --- orders
 
 
 async def enter_orders(page, who, counts):
+    await focus(page, "name")
     await page.type("unit-8")
     await choose(page, "side", "sell")
     await write(page, "price", "60.5")
@@ -72,46 +161,140 @@ async def enter_orders(page, who, counts):
     await write(page, "volume", "50,1")
     await page.key("Enter", 13)
     await until_rows(page, "orders-table", 1)
-    counts.check("an hourly order", (await rows(page, "commands-table"))[0][1:3] == ["done", f"submit,{who},UNIT-8,hour,sell,6050,8:501,,"])
-    await page.run("document.querySelector('input[value=block]').click()")
+    first = (await rows(page, "commands-table"))[0]
+    counts.check(f"an hourly order: {first}", first == ["1", "enter", "UNIT-8", "done", "hourly", "sell", "60.50", "8: 50.1", "", "2"])
+    counts.check("the entry names the order", await text(page, "message") == "UNIT-8 entered, on the disk, with a signed receipt.")
+    counts.check(
+        "the next order has its side, and the focus is on its name",
+        await page.run("byId('side').value + document.activeElement.id") == "sellname",
+    )
+    await click(page, "input[value=block]")
     await write(page, "name", "RUN")
+    await choose(page, "side", "buy")
     await write(page, "price", "-3")
     await choose(page, "fill-from", 8)
     await choose(page, "fill-to", 9)
     await write(page, "fill-volume", "30")
-    await page.run("document.getElementById('fill').click()")
+    await page.key("Enter", 13)
+    counts.check("Enter in the volume fills in", await page.run("cells().map((one) => one.value).join(' ').trim()") == "30 30")
     await write(page, "group", "eve")
-    await page.run("document.getElementById('enter').click()")
+    await click(page, "#enter")
     await until_rows(page, "orders-table", 2)
-    counts.check("a block", (await rows(page, "commands-table"))[0][2] == f"submit,{who},RUN,block,buy,-300,8:300;9:300,,EVE")
-    await page.run("document.querySelector('input[value=block]').click()")
+    counts.check("a block", (await rows(page, "commands-table"))[0][4:9] == ["block", "buy", "-3.00", "8-9: 30.0", "group EVE"])
+    counts.check(
+        "the next order is a block too",
+        await page.run(FIELDS) == BLOCK and await page.run("byId('fill-to').value + byId('side').value") == "9buy",
+    )
     await write(page, "name", "MORE")
     await write(page, "price", "75")
     await choose(page, "parent", "RUN")
     await page.run("document.querySelector('#grid input[data-period=\"9\"]').focus()")
     await page.type("5")
-    await page.run("document.getElementById('enter').click()")
+    await click(page, "#enter")
     await until_rows(page, "orders-table", 3)
-    counts.check("a link", (await rows(page, "commands-table"))[0][2] == f"submit,{who},MORE,block,buy,7500,9:50,RUN,")
+    counts.check("a link", (await rows(page, "commands-table"))[0][6:9] == ["75.00", "9: 5.0", "parent RUN"])
 
 
-async def change_orders(page, who, counts):
-    await page.run("document.querySelector('[aria-label=\"Amend UNIT-8\"]').click()")
+async def change_orders(page, counts):
+    await click(page, '[aria-label="Amend UNIT-8"]')
+    looks = await page.run("['name', 'side', 'price'].map((id) => getComputedStyle(byId(id)).backgroundColor)")
+    counts.check(
+        "an amend says how to change the rest",
+        "cancel the order" in await text(page, "fixed") and await page.run("byId('fixed').checkVisibility()"),
+    )
+    counts.check("fields that can't be changed look so", looks[0] == looks[1] != looks[2])
     await write(page, "price", "61")
     await page.key("Enter", 13)
     await until_rows(page, "commands-table", 4)
-    counts.check("an amend", (await rows(page, "commands-table"))[0][2] == f"amend,{who},UNIT-8,,,6100,8:501,,")
-    await page.run("document.querySelector('[aria-label=\"Cancel RUN\"]').click()")
+    first, *_, last = await rows(page, "commands-table")
+    counts.check("an amend", first[1:4] + first[6:8] == ["amend", "UNIT-8", "done", "61.00", "8: 50.1"])
+    counts.check("the message names it", (await text(page, "message")).startswith("UNIT-8 amended, on the disk"))
+    counts.check("what is changed says by which command of one's own", last[3] == "done; changed by your command 4" and last[-1] == "2")
+    await click(page, '[aria-label="Cancel RUN"]')
+    await click(page, "#no")
+    await page.run("look()")
+    counts.check("a cancel asks first", len(await rows(page, "commands-table")) == 4 and not await page.run("byId('sure').open"))
+    await click(page, '[aria-label="Cancel RUN"]')
+    await click(page, "#yes")
     await until_rows(page, "commands-table", 5)
-    first = (await rows(page, "commands-table"))[0]
-    counts.check("a refusal is in words", first[1:3] == ["refused: blocks name this one as their parent", f"cancel,{who},RUN,,,,,,"])
-    await page.run("document.querySelector('input[value=hour]').click()")
-    await write(page, "name", "UNIT-9")
-    await write(page, "price", "60.555")
-    await write(page, "volume", "1")
-    await page.key("Enter", 13)
-    await page.until("document.getElementById('message').textContent.includes('2 digits')")
-    counts.check("a wrong number enters nothing", len(await rows(page, "commands-table")) == 5)
+    reason = "blocks name this one as their parent"
+    counts.check("a refusal is in words", (await rows(page, "commands-table"))[0][1:4] == ["cancel", "RUN", f"refused: {reason}"])
+    counts.check("and the message names it", (await text(page, "message")).startswith(f"RUN wasn't cancelled: {reason}."))
+    await page.until("document.activeElement.id === 'orders-title'")
+
+
+RIGHT = """[limitRule('4000').value, limitRule('-500').value, limitRule('12,5').value, volumeRule('0.1').value, volumeRule('9999,9').value,
+  nameRule('-').value, nameRule('ABCDEFGHIJ-9').value, groupRule('').value].join(' ')"""
+WRONG = (
+    ("price", "5000", "from -500.00 to 4,000.00 EUR/MWh"),
+    ("price", "-500.01", "from -500.00 to 4,000.00 EUR/MWh"),
+    ("price", "60.555", "at most 2 digits after the point, and thousands without a separator"),
+    ("price", "sixty", "Write a number from -500.00"),
+    ("price", "", "Write a number from -500.00"),
+    ("volume", "1000000", "It should be from 0.1 to 9,999.9 MW"),
+    ("volume", "10000", "It should be from 0.1 to 9,999.9 MW"),
+    ("volume", "0", "It should be from 0.1 to 9,999.9 MW"),
+    ("volume", "-5", "It should be from 0.1 to 9,999.9 MW"),
+    ("volume", "0.05", "at most 1 digit after the point"),
+    ("volume", "", "Write a number from 0.1"),
+    ("name", "A_B", "1 to 12 of the characters A to Z, 0 to 9 and -"),
+    ("name", "", "Write a name"),
+)
+# A field that is wrong: whether it has the focus and is marked, and what is said of it where it is described.
+MARKED = """(() => { const one = byId('%s'); return [document.activeElement === one && one.ariaInvalid,
+  one.getAttribute('aria-describedby').split(' ').map((id) => byId(id).textContent).join(' ')]; })()"""
+
+
+async def faults(page, counts):
+    """A wrong field is told in the trader's units at the field, and nothing is sent."""
+    before = len(await rows(page, "commands-table"))
+    counts.check("right values are right", await page.run(RIGHT) == "400000 -50000 1250 1 99999 - ABCDEFGHIJ-9 ")
+    await click(page, "input[value=hour]")
+    counts.check(
+        "the rules are there before a fault",
+        "0.1 to 9,999.9" in await text(page, "volume-help") and "to 12" in await text(page, "name-help"),
+    )
+    for name, words, fault in WRONG:
+        for field, right in (("name", "NEW"), ("price", "1"), ("volume", "1"), (name, words)):
+            await write(page, field, right)
+        await page.key("Enter", 13)
+        is_marked, told = await page.run(MARKED % name)
+        counts.check(f"{name} {words or 'empty'} is told at its field: {told}", is_marked == "true" and fault in told)
+    await write(page, "name", "NEW")
+    counts.check(
+        "a fault goes when its field is changed",
+        await page.run("byId('name-fault').textContent + byId('name').ariaInvalid") in ("", "null"),
+    )
+    await click(page, "input[value=block]")
+    for name, words, fault in (("group", "G_1", "1 to 12 of the characters"), ("fill-volume", "0", "from 0.1 to 9,999.9 MW")):
+        await write(page, name, words)
+        await click(page, "#enter" if name == "group" else "#fill")
+        is_marked, told = await page.run(MARKED % name)
+        counts.check(f"{name} {words} is told at its field: {told}", is_marked == "true" and fault in told)
+    await write(page, "group", "")
+    await click(page, "#enter")
+    counts.check("a block without volumes", "at least one period" in await text(page, "grid-fault"))
+    await page.run("cells()[4].focus()")
+    await page.type("0")
+    await click(page, "#enter")
+    counts.check(
+        "a volume of a period",
+        (await text(page, "grid-fault")).startswith("Period 5: It should be from 0.1")
+        and await page.run("document.activeElement === cells()[4]"),
+    )
+    await write(page, "fill-volume", "5")
+    await choose(page, "fill-from", 9)
+    await choose(page, "fill-to", 8)
+    await click(page, "#fill")
+    counts.check("periods the wrong way round", "Period 9 is after period 8" in await text(page, "fill-fault"))
+    await page.look(390, "light", 600)
+    await click(page, "input[value=hour]")
+    await write(page, "volume", "0")
+    await click(page, "#enter")
+    counts.check("a fault is on a small screen", all([await page.run(ON_SCREEN % name) for name in ("volume", "volume-fault", "message")]))
+    await page.look(1_280, "light")
+    await page.run("change(null)")
+    counts.check("a wrong field sends nothing", len(await rows(page, "commands-table")) == before)
 
 
 # Loses the answer to the next command, which the office enters.
@@ -121,6 +304,7 @@ LOSE = """{ const real = window.fetch; window.lost = false; window.fetch = async
 
 async def lose_an_answer(page, counts):
     """The page sends the command again under the same number, also if it has looked at its commands in the meantime."""
+    before = len(await rows(page, "commands-table"))
     await page.run(LOSE)
     await write(page, "name", "ONCE")
     await write(page, "price", "1")
@@ -128,63 +312,168 @@ async def lose_an_answer(page, counts):
     await page.key("Enter", 13)
     await page.until("window.lost")
     await page.run("look()")
-    await page.until("document.getElementById('message').textContent.startsWith('Entered, on the disk')")
-    counts.check("a command whose answer is lost is entered once", len(await rows(page, "commands-table")) == 8)
+    await said(page, "ONCE entered, on the disk")
+    counts.check("a command whose answer is lost is entered once", len(await rows(page, "commands-table")) == before + 1)
+
+
+# --- tables
+
+
+async def read_table(page, room, words):
+    path = Path(room, "orders.csv")
+    path.write_text(words)
+    root = (await page.call("DOM.getDocument"))["root"]["nodeId"]
+    node = (await page.call("DOM.querySelector", nodeId=root, selector="#file"))["nodeId"]
+    await page.call("DOM.setFileInputFiles", nodeId=node, files=[str(path)])
+    await click(page, "#upload-form button")
 
 
 async def upload(page, who, room, counts):
-    for words, is_right in (("participant;order\n", False), (TABLE.format(who=who), True)):
-        path = Path(room, "orders.csv")
-        path.write_text(words)
-        root = (await page.call("DOM.getDocument"))["root"]["nodeId"]
-        node = (await page.call("DOM.querySelector", nodeId=root, selector="#file"))["nodeId"]
-        await page.call("DOM.setFileInputFiles", nodeId=node, files=[str(path)])
-        await page.run("document.querySelector('#upload-form button').click()")
-        await page.until(f"document.getElementById('message').textContent.includes('{'was read' if is_right else 'no column'}')")
+    before = len(await rows(page, "commands-table"))
+    await read_table(page, room, "participant;order\n")
+    await page.until("byId('file-fault').textContent.includes('no column')")
+    counts.check("a table that can't be read is told at the file", await focused(page) == "file")
+    await read_table(page, room, await page.run("template()"))
+    await said(page, "was read")
+    example = [row[2:] for row in await rows(page, "read-table")]
     counts.check(
-        "a table is shown before it is entered", len(await rows(page, "read-table")) == 2 and len(await rows(page, "commands-table")) == 5
+        f"the template is a table: {example}",
+        example == [["UNIT-8", "hourly", "sell", "60.00", "8: 50.0", ""], ["RUN", "block", "sell", "68.00", "9-12: 15.0", ""]],
     )
-    await page.run("document.getElementById('enter-all').click()")
-    await until_rows(page, "commands-table", 7)
-    counts.check("a table is entered", [row[1] for row in (await rows(page, "commands-table"))[:2]] == ["done", "done"])
+    await click(page, "#drop")
+    counts.check("a dropped table leaves nothing", await text(page, "message") == "" and await rows(page, "read-table") == [])
+    await read_table(page, room, TABLE.format(who=who))
+    await said(page, "was read")
+    read = await rows(page, "read-table")
+    counts.check(
+        f"a table is shown as orders: {read}",
+        read
+        == [
+            ["1", "enter", "T-1", "block", "buy", "80.00", "1-3: 10.0", "group G"],
+            ["2", "enter", "T-2", "block", "buy", "70.00", "1: 5.5, 3: 5.5", "parent T-1"],
+        ],
+    )
+    counts.check("before it is entered", len(await rows(page, "commands-table")) == before)
+    await click(page, "#enter-all")
+    await until_rows(page, "commands-table", before + 2)
+    counts.check("a table is entered", [row[3] for row in (await rows(page, "commands-table"))[:2]] == ["done", "done"])
+    counts.check("and the message counts it", await text(page, "message") == "2 commands done, on the disk, with a signed receipt.")
+
+
+# --- the close
 
 
 async def results(page, office, who, other, counts):
     office.client(other).enter(office.day, f"submit,{other},B,hour,buy,10000,8:300,,", f"submit,{other},S,hour,sell,1000,1:200,,")
+    await page.run("announce(601); announce(599)")
+    counts.check("the time left is announced", await text(page, "announced") == "10 minutes left")
+    await page.run("announce(61); announce(59)")
+    counts.check("and again", await text(page, "announced") == "1 minute left")
+    await write(page, "name", "LATE")
     await asyncio.to_thread(office.close_day)
     await page.until("!document.getElementById('results').hidden")
-    statement, prices = await rows(page, "statement"), await rows(page, "prices")
-    counts.check("each command has its outcome", len(statement) == 8 and all(row[2] for row in statement if row[1] != "done"))
-    counts.check("each period has its price", len(prices) == 24 and prices[7][1:] == ["07:00", "61.00", "30.0"])
+    counts.check(
+        "an unfinished order isn't lost without a word",
+        await text(page, "message") == "The results are published.\nYour unfinished order LATE wasn't sent.",
+    )
+    statement, prices, commands = [await rows(page, name) for name in ("statement", "prices", "commands-table")]
+    found = {row[0]: row[1:] for row in statement}
+    counts.check(f"each order has its result: {sorted(found)}", sorted(found) == ["MORE", "ONCE", "RUN", "T-1", "T-2", "UNIT-8"])
+    unit = ["hourly", "sell", "61.00", "50.1", "30.0", "61.00", "1,830.00", "executed in part"]
+    counts.check(
+        f"in a trader's words: {found['UNIT-8']}",
+        found["UNIT-8"][:8] == unit and found["ONCE"][7] == "not executed" and all(row[8] for row in found.values()),
+    )
+    numbers = [row[0] for row in commands]
+    counts.check("commands have their own numbers", numbers == [str(number) for number in range(len(commands), 0, -1)])
+    counts.check("and no other", "command 2" not in await text(page, "statement"))
+    counts.check("each period has its price", len(prices) == 24 and prices[7] == ["8", "07:00", "61.00", "30.0"])
+    counts.check(f"also one without trade: {prices[8]}", prices[8] == ["9", "08:00", "1,750.00 (nominal)", "0.0"])
     counts.check("nothing of another's", f"{other}," not in await page.run("document.body.textContent"))
     counts.check("orders can't be entered any more", await page.run("document.getElementById('entry').hidden"))
 
 
+async def sign_in_again(page, office, who, counts):
+    """After the close, the results are there for each who signs in."""
+    await click(page, "#sign-out")
+    counts.check(
+        "nothing stays after signing out",
+        await page.run("sessionStorage.length") == 0
+        and "UNIT-8" not in "".join([await text(page, name) for name in ("statement", "orders-table", "commands-table")]),
+    )
+    await sign_in(page, office, who)
+    await page.until("!document.getElementById('results').hidden")
+    counts.check(
+        "the results are there after the next sign-in", len(await rows(page, "statement")) == 6 and len(await rows(page, "prices")) == 24
+    )
+    await click(page, "#sign-out")
+
+
 async def scene(office, counts, pictures, room):
     who, other = office.who[:2]
+    office.client(other).enter(office.day, f"submit,{other},FIRST,hour,sell,300000,24:1,,")  # so that entries and own numbers differ
     async with browser.opened(office.url) as page:
         await page.until("!document.getElementById('sign-in').hidden")
         await shown(page, counts, pictures, "sign-in")
-        await sign_in(page, office, who, counts)
+        await first_sign_in(page, office, who, counts)
         await enter_orders(page, who, counts)
-        await change_orders(page, who, counts)
+        await change_orders(page, counts)
+        await faults(page, counts)
+        await leave(page, office, who, office.who[2], room, counts)
         await upload(page, who, room, counts)
         await lose_an_answer(page, counts)
         await shown(page, counts, pictures, "orders")
         await results(page, office, who, other, counts)
         await shown(page, counts, pictures, "results")
-        await page.run("document.getElementById('sign-out').click()")
-        await page.until("!document.getElementById('sign-in').hidden")
-        counts.check(
-            "nothing stays after signing out",
-            await page.run("sessionStorage.length") == 0 and f"{who}," not in await page.run("document.body.textContent"),
-        )
-        # a wrong token and a table that can't be read are answers that the browser notes
-        faults = [fault for fault in page.faults if "400" not in fault and "401" not in fault]
-        counts.check(f"no script fails, and the policy refuses nothing: {faults}", not faults)
+        await sign_in_again(page, office, who, counts)
+        # a wrong token, a table that can't be read and many tables are answers that the browser notes
+        found = [fault for fault in page.faults if not any(status in fault for status in ("400", "401", "429"))]
+        counts.check(f"no script fails, and the policy refuses nothing: {found}", not found)
+
+
+async def demo_scene(url, counts, pictures):
+    """A block over a night has a price in the demo, and closing the demo asks first."""
+    async with browser.opened(url) as page:
+        await page.until("document.querySelector('#demo-names button')")
+        await page.run("[...document.querySelectorAll('#demo-names button')].find((one) => one.textContent === 'GAS').click()")
+        await page.until("document.activeElement.id === 'name'")
+        await click(page, "input[value=block]")
+        await write(page, "name", "NIGHT")
+        await choose(page, "side", "sell")
+        await write(page, "price", "40")
+        await choose(page, "fill-from", 1)
+        await choose(page, "fill-to", 5)
+        await write(page, "fill-volume", "5")
+        await page.key("Enter", 13)
+        await click(page, "#enter")
+        await said(page, "NIGHT entered")
+        await shown(page, counts, pictures, "demo")
+        await click(page, "#close-now")
+        await click(page, "#no")
+        await page.run("look()")
+        counts.check("a demo isn't closed by one press", await page.run("isOpen()"))
+        await click(page, "#close-now")
+        await click(page, "#yes")
+        await page.until("!document.getElementById('results').hidden")
+        (night,), prices = await rows(page, "statement"), await rows(page, "prices")
+        counts.check(f"a block over a night has a price in the demo: {night}", night[5:7] == ["25.0", "48.00"] and night[8] == "accepted")
+        counts.check("each period of the demo has trade", len(prices) == 24 and not any("nominal" in row[2] for row in prices))
+        counts.check("no script of the demo fails", not page.faults)
+
+
+def demo(args, counts):
+    port = free_port()
+    words = [*TOOL, "demo", "--no-browser", "--port", str(port), "--dam", args.dam, "--desk", args.desk]
+    with subprocess.Popen(words, stdout=subprocess.PIPE, stderr=subprocess.DEVNULL, text=True) as process:
+        try:
+            process.stdout.readline()
+            asyncio.run(demo_scene(f"http://127.0.0.1:{port}/", counts, args.pictures))
+        finally:
+            process.send_signal(signal.SIGINT)
 
 
 def check(args, counts):
     with served(args.dam, args.desk) as office, tempfile.TemporaryDirectory() as room:
         office.start()
         asyncio.run(scene(office, counts, args.pictures, room))
+    demo(args, counts)

@@ -33,7 +33,7 @@ try:
     from cryptography.exceptions import InvalidSignature
 
     from lib.seal import sealing, signing
-    from lib.office import clearing, folder, gate, guards, observed, operate, requests, setup, tokens
+    from lib.office import clearing, demo, folder, gate, guards, observed, operate, requests, setup, tokens
     from lib.office import serve as serving
     from lib.office import tables as reader
     from lib.office.desk import Desk, Ended
@@ -713,6 +713,15 @@ class Setup(Office):
         with self.assertRaisesRegex(command.Stop, "already"):
             setup.init(self.office, self.args(day=later[1]))
         self.assertEqual([path.name for path in self.office.file(folder.DAYS).iterdir() if path.name.startswith(".")], [])
+
+    def test_the_demo_has_the_orders_of_the_guide_and_more(self):
+        guide = (AUCTION.parent / "guide" / "1-hour.csv").read_text().splitlines()
+        self.assertEqual(demo.GUIDE, [record for record in guide[1:-1] if ",GAS," not in record])
+        found = commands(*demo.ORDERS)
+        shares = setup.shares_of(dict.fromkeys(demo.PARTICIPANTS))
+        self.assertLessEqual({one.who for one in found}, set(shares) - {"GAS"})
+        for side in ("buy", "sell"):
+            self.assertEqual({one.order.volumes[0][0] for one in found if one.order.side == side}, set(range(1, 25)))
 
     def test_the_command_line(self):
         room = self.office.path.parent

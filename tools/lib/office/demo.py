@@ -14,13 +14,29 @@ from .serve import Office, serve
 DAY_AFTER = datetime.timedelta(days=1)
 TOWN = ((8, 800), (9, 700), (19, 900), (20, 850))
 WIND = ((8, 450), (9, 300), (19, 200), (20, 250))
-# The orders that are there already, of the trader's guide. GAS has none: its orders are yours to enter.
-ORDERS = [
+# The orders that are there already, in the periods of the trader's guide as it has them. GAS has none: its orders are yours to enter.
+GUIDE = [
     *(f"submit,TOWN,LOAD-{period},hour,buy,15000,{period}:{volume},," for period, volume in TOWN),
     *(f"submit,WIND,PARK-{period},hour,sell,1200,{period}:{volume},," for period, volume in WIND),
     *(f"submit,OIL,PEAKER-{period},hour,sell,11000,{period}:1000,," for period, _ in TOWN),
 ]
-PARTICIPANTS = ("GAS", "TOWN", "WIND", "OIL")
+# In the other periods there are the load, the wind and a river, in MW, so that each has trade: at 48 EUR/MWh by night, at 110 by day.
+OTHERS = {
+    **{1: (52, 34, 25), 2: (50, 36, 25), 3: (48, 38, 25), 4: (47, 38, 25), 5: (49, 36, 25), 6: (55, 34, 25), 7: (68, 32, 25)},
+    **{10: (72, 24, 30), 11: (74, 20, 30), 12: (76, 18, 30), 13: (75, 22, 30), 14: (73, 26, 30), 15: (71, 28, 30), 16: (72, 24, 30)},
+    **{17: (78, 20, 30), 18: (86, 20, 30), 21: (80, 26, 30), 22: (72, 28, 30), 23: (56, 32, 30), 24: (52, 34, 30)},
+}
+ORDERS = GUIDE + [
+    record
+    for period, (load, wind, river) in OTHERS.items()
+    for record in (
+        f"submit,TOWN,LOAD-{period},hour,buy,15000,{period}:{load}0,,",
+        f"submit,WIND,PARK-{period},hour,sell,1200,{period}:{wind}0,,",
+        f"submit,RIVER,FLOW-{period},hour,sell,4800,{period}:{river}0,,",
+        f"submit,OIL,PEAKER-{period},hour,sell,11000,{period}:1000,,",
+    )
+]
+PARTICIPANTS = ("GAS", "TOWN", "WIND", "RIVER", "OIL")
 
 
 def terms(seconds):

@@ -12,7 +12,7 @@ from aiohttp import web
 
 from markupsafe import Markup
 
-from ..base import clock
+from ..base import clock, rules
 from ..journal import book
 from ..report import style
 from ..seal import heads
@@ -58,6 +58,7 @@ DAY = r"/days/{day:[0-9A-Za-z._-]{1,32}}"
 OWN = r"/{who:[A-Z]{1,8}}"
 NUMBER = r"/{number:[1-9][0-9]{0,4}}"
 PARTS = {"/": ("office.html", "text/html"), "/office.css": ("office.css", "text/css"), "/office.js": ("office.js", "text/javascript")}
+RULES = "LEAST_PRICE", "GREATEST_PRICE", "GREATEST_VOLUME", "LONGEST_NAME"  # that the page checks before it sends an order
 OPENAPI = Path(__file__).with_name("openapi.json")
 
 
@@ -89,8 +90,9 @@ class Web:
         self.tables = asyncio.Semaphore(1)  # tables are read one at a time
 
     def page(self, name):
-        reasons = Markup(json.dumps(book.REASONS))
-        return style.style(name) if name.endswith(".css") else style.TEMPLATES.get_template(name).render(reasons=reasons)
+        known = {"reasons": book.REASONS, "rules": {name.lower(): getattr(rules, name) for name in RULES}}
+        made = {name: Markup(json.dumps(value)) for name, value in known.items()}
+        return style.style(name) if name.endswith(".css") else style.TEMPLATES.get_template(name).render(**made)
 
     def application(self):
         app = web.Application(middlewares=[self.around], client_max_size=MOST_BODY)

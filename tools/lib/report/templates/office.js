@@ -1,10 +1,15 @@
 "use strict";
 // The participant's page of an auction office. Texts of others come into it as text alone, never as HTML.
 const REASONS = {{ reasons }};
+const RULES = {{ rules }};
 const LOOK = 2000; // milliseconds between two looks at the day
 const RETRIES = 5; // of a command whose answer didn't come: the same number can't enter it twice
-const byId = (id) => document.getElementById(id);
-const state = { token: sessionStorage.getItem("token") ?? "", day: null, known: null, next: 1, count: -1, orders: [], changes: null, read: [], busy: false };
+const MOST_REFUSED = 10; // that a message names
+const TOLD = [[600, "10 minutes"], [60, "1 minute"]]; // when the time left is announced
+const NOBODY = { token: "", next: 1, count: -1, share: "", orders: [], changes: null, read: [], unsent: "", last: { kind: "hour", side: "buy" } };
+const state = { ...NOBODY, token: sessionStorage.getItem("token") ?? "", day: null, known: null, visit: 0, looks: null, told: 0 };
+
+{% include "office_parts.js" %}
 
 class Fault extends Error {
   constructor(status, fault, words) {
@@ -17,116 +22,102 @@ function who() {
   return state.token.split(".")[0];
 }
 
-function say(words, kind = "right") {
+function say(words, kind = "right", isUnreached = false) {
   byId("message").textContent = words;
   byId("message").className = words ? kind : "";
+  state.isUnreached = isUnreached;
 }
 
+function sayFault(fault, isUnreached = false) {
+  if (fault.fault !== "Left") say(`${fault.message}.`, "wrong", isUnreached);
+}
+
+// An answer in text. What comes after another participant has signed in, or after another day was chosen, is for nobody.
 async function ask(path, how = {}) {
+  const { visit } = state;
   const headers = { ...how.headers };
   if (state.token) headers.Authorization = `Bearer ${state.token}`;
   let answer;
+  let text;
   try {
     answer = await fetch(path, { ...how, headers, cache: "no-store", credentials: "omit" });
+    text = await answer.text();
   } catch {
-    throw new Fault(0, "Unreached", "the office can't be reached");
+    throw new Fault(0, visit === state.visit ? "Unreached" : "Left", "the office can't be reached");
   }
-  if (answer.ok) return answer;
-  const found = await answer.json().catch(() => ({ fault: "Unknown", words: `the office answered ${answer.status}` }));
+  if (visit !== state.visit) throw new Fault(0, "Left", "you have left");
+  if (answer.ok) return text;
+  let found = { fault: "Unknown", words: `the office answered ${answer.status}` };
+  try {
+    found = JSON.parse(text);
+  } catch {} // an answer of something in between
   throw new Fault(answer.status, found.fault, found.words);
 }
 
-const json = async (path) => (await ask(path)).json();
+const json = async (path, how) => JSON.parse(await ask(path, how));
 const own = (what) => `/days/${state.day}/${what}/${who()}`;
-
-// --- elements
-
-function element(name, properties = {}, ...children) {
-  const made = Object.assign(document.createElement(name), properties);
-  made.append(...children);
-  return made;
-}
-
-function options(select, pairs) {
-  const chosen = select.value;
-  select.replaceChildren(...pairs.map(([value, words]) => element("option", { value, textContent: words })));
-  if (pairs.some(([value]) => String(value) === chosen)) select.value = chosen;
-}
-
-// A table as in the report: heads are pairs of words and a class, cells texts or elements.
-function table(caption, heads, rows) {
-  const cell = (name, of, content) => element(name, { className: of }, content ?? "");
-  const head = element("tr", {}, ...heads.map(([words, of]) => element("th", { scope: "col", className: of ?? "", textContent: words })));
-  const body = rows.map((cells) => {
-    const row = cells.map((content, at) => cell(at ? "td" : "th", heads[at][1] ?? "", content));
-    row[0].scope = "row";
-    return element("tr", {}, ...row);
-  });
-  const made = element("table", {}, element("caption", {}, element("span", { textContent: caption })), element("thead", {}, head), element("tbody", {}, ...body));
-  const wide = element("div", { className: "wide", tabIndex: 0 }, made);
-  wide.setAttribute("role", "region");
-  wide.setAttribute("aria-label", caption);
-  return wide;
-}
-
-function figures(pairs) {
-  byId("figures").replaceChildren(...pairs.map(([words, value, id]) => element("div", {}, element("dt", { textContent: words }), element("dd", { textContent: value, id: id ?? "" }))));
-}
-
-// --- numbers: cents per MWh and tenths of a MW are whole, and never go through a fraction
-
-function scaled(words, digits, what) {
-  const found = /^(-?)(\d{1,6})(?:[.,](\d+))?$/.exec(words.trim());
-  if (!found || (found[3] ?? "").length > digits) {
-    throw new Fault(0, "Input", `${what}: ${words ? `${words} should be` : "write"} a number with at most ${digits} digit${digits > 1 ? "s" : ""} after the point`);
-  }
-  return Number(found[1] + found[2] + (found[3] ?? "").padEnd(digits, "0"));
-}
-
-const fixed = (value, digits) => (value / 10 ** digits).toFixed(digits);
-const shown = (value, digits) => Number(value).toLocaleString("en", { minimumFractionDigits: digits, maximumFractionDigits: digits });
 const periodWords = (number) => `${number} (${state.known.begins[number - 1]})`;
+const isOpen = () => state.known.state === "open";
 
-function runs(volumes) {
-  const groups = [];
-  for (const [period, volume] of volumes) {
-    const last = groups.at(-1);
-    if (last && last.volume === volume && last.to === period - 1) last.to = period;
-    else groups.push({ from: period, to: period, volume });
-  }
-  return groups.map(({ from, to, volume }) => `${from === to ? from : `${from}-${to}`}: ${fixed(volume, 1)}`).join(", ");
-}
-
-function replyWords(reply) {
-  const [word, reason] = reply.split(",");
-  return word === "done" ? "done" : element("span", { className: "refused", textContent: `refused: ${REASONS[reason] ?? reason}` });
+// Whether the participant is sure.
+function sure(words, yes) {
+  const dialog = byId("sure");
+  byId("sure-words").textContent = words;
+  byId("yes").textContent = yes;
+  dialog.returnValue = "";
+  dialog.showModal();
+  byId("no").focus();
+  return new Promise((done) => dialog.addEventListener("close", () => done(dialog.returnValue === "yes"), { once: true }));
 }
 
 // --- signing in
 
 async function signIn(token) {
-  state.token = token.trim();
+  token = token.trim();
+  if (!/^[A-Z]{1,8}\.[\w-]+$/.test(token)) return refuse();
+  state.visit += 1;
+  state.token = token;
   try {
     await json(own("orders"));
   } catch (fault) {
     state.token = "";
-    say(fault.fault === "Token" ? "This token isn't known, or was revoked." : fault.message, "wrong");
+    if (fault.fault === "Token") refuse();
+    else sayFault(fault);
     return;
   }
   sessionStorage.setItem("token", state.token);
-  byId("token").value = "";
   say("");
-  state.count = -1;
+  fresh();
   show();
   await look();
   byId("name").focus({ preventScroll: true });
 }
 
+function refuse() {
+  say("This isn't a token of this office, or it was revoked.", "wrong");
+  byId("token").focus();
+}
+
+// The page as it is before anyone has signed in: nothing of a participant stays for the next one.
+function fresh() {
+  Object.assign(state, { ...NOBODY, token: state.token, told: 0 });
+  if (byId("sure").open) byId("sure").close("");
+  for (const id of ["orders-table", "commands-table", "statement", "prices", "figures", "groups"]) byId(id).replaceChildren();
+  byId("announced").textContent = byId("token").value = "";
+  byId("results").hidden = true;
+  for (const form of document.forms) form.reset();
+  for (const id of ["period", "fill-from"]) byId(id).value = "1";
+  byId("fill-to").value = String(state.known.periods);
+  drop();
+  change(null);
+  byId("example").replaceChildren(table("An example", TEMPLATE[0].map((head) => [head]), templateRows().slice(1)));
+}
+
 function signOut() {
   sessionStorage.removeItem("token");
-  Object.assign(state, { token: "", count: -1, orders: [], changes: null, read: [] });
-  for (const id of ["orders-table", "commands-table", "statement", "prices", "read-table"]) byId(id).replaceChildren();
-  byId("order-form").reset();
+  state.visit += 1;
+  state.token = "";
+  fresh();
   say("You are signed out.");
   show();
   byId("token").focus();
@@ -148,8 +139,7 @@ async function days() {
   const open = found.find((day) => day.state === "open") ?? found.at(-1);
   byId("days").value = state.day ?? open.day;
   await choose(byId("days").value);
-  byId("close-now").hidden = !demo;
-  byId("demo").hidden = !demo;
+  byId("demo-close").hidden = byId("demo").hidden = !demo;
   if (demo) {
     const { participants } = await json("/demo");
     byId("demo-names").replaceChildren(...Object.entries(participants).map(([name, token]) => {
@@ -161,69 +151,86 @@ async function days() {
 }
 
 async function choose(day) {
+  state.visit += 1;
   state.day = day;
   state.known = await json(`/days/${day}`);
-  state.count = -1;
   const periods = state.known.begins.map((_, at) => [at + 1, periodWords(at + 1)]);
   for (const id of ["period", "fill-from", "fill-to"]) options(byId(id), periods);
-  byId("fill-to").value = String(periods.length);
   byId("grid").replaceChildren(...periods.map(([number, words]) => {
     const input = element("input", { inputMode: "decimal", autocomplete: "off" });
     input.dataset.period = number;
+    input.setAttribute("aria-describedby", "grid-fault");
     return element("label", { textContent: words }, input);
   }));
-  byId("results").hidden = true;
+  fresh();
   showDay();
 }
 
-function left(seconds) {
-  const whole = Math.ceil(seconds);
-  if (whole >= 172_800) return `${Math.floor(whole / 86_400)} days`;
-  const parts = [Math.floor(whole / 3600), Math.floor(whole / 60) % 60, whole % 60];
-  return parts.map((part) => String(part).padStart(2, "0")).join(":");
-}
+const secondsLeft = () => (state.known.until ? Math.max(0, state.known.until - performance.now()) / 1000 : state.known.seconds_left);
 
 function showDay() {
   const day = state.known;
   const closes = new Date(day.closes).toLocaleString("en-GB", { timeZone: day.zone, dateStyle: "medium", timeStyle: "short" });
-  const when = day.state === "open" ? `It closes on ${closes} (${day.zone}).` : "It is closed.";
+  const when = isOpen() ? `It closes on ${closes} (${day.zone}).` : "It is closed.";
   byId("where").textContent = `Delivery day ${day.day}, ${day.periods} periods. ${when}`;
-  const words = day.state === "open" ? left(day.until ? (day.until - performance.now()) / 1000 : day.seconds_left) : day.state === "closed" ? "closed, results are coming" : "closed";
   figures([
-    ["time left", words, "left"],
+    ["time left", isOpen() ? left(secondsLeft()) : day.state === "closed" ? "closed, results are coming" : "closed", "left"],
     ["your orders in the book", String(state.orders.length)],
-    ["your commands", `${state.next - 1} of ${state.share ?? ""}`],
+    ["your commands", `${state.next - 1} of ${state.share}`],
     ["entries of all", String(day.entries)],
   ]);
-  byId("left").className = day.state === "open" && day.seconds_left < 60 ? "late" : "";
-  byId("entry").hidden = byId("upload").hidden = day.state !== "open";
-  byId("close-now").disabled = day.state !== "open";
+  byId("left").className = isOpen() && day.seconds_left < 60 ? "late" : "";
+  byId("entry").hidden = byId("upload").hidden = !isOpen();
+  byId("close-now").disabled = !isOpen();
+}
+
+function tick() {
+  if (!state.token || !state.known?.until || !isOpen() || !byId("left")) return;
+  byId("left").textContent = left(secondsLeft());
+  announce(secondsLeft());
+}
+
+// Tells how much time is left, when it becomes so much.
+function announce(seconds) {
+  for (const [mark, words] of TOLD) if (seconds <= mark && mark < state.told) byId("announced").textContent = `${words} left`;
+  state.told = seconds;
 }
 
 async function look() {
-  if (!state.token || state.busy) return;
-  state.busy = true;
+  const { visit } = state;
+  if (!state.token || state.looks === visit) return;
+  state.looks = visit;
   try {
     const before = state.known;
     const found = await json(`/days/${state.day}`);
     found.until = performance.now() + 1000 * found.seconds_left;
     state.known = found;
-    if (before.state === "open" && found.state !== "open") {
-      say("The day is closed.");
-      state.count = -1;
-    }
+    if (before.state === "open" && !isOpen()) end();
     await lookAtCommands();
     if (found.has_statement && byId("results").hidden) await showResults();
     showDay();
-    if (byId("message").dataset.unreached) say("");
-    delete byId("message").dataset.unreached;
+    if (state.isUnreached) say("");
   } catch (fault) {
     if (fault.fault === "Token") signOut();
-    say(`${fault.message}.`, "wrong");
-    byId("message").dataset.unreached = "yes";
+    if (fault.status !== 429) sayFault(fault, true); // after many requests, the next look comes soon enough
   } finally {
-    state.busy = false;
+    if (state.looks === visit) state.looks = null;
   }
+}
+
+// The day is closed: says so, with the orders that were being written.
+function end() {
+  const isWritten = ["name", "price", "volume", "group"].some((id) => byId(id).value) || cells().some((input) => input.value);
+  const unsent = [];
+  if (state.changes) unsent.push(`The change of ${state.changes} wasn't sent.`);
+  else if (isWritten) unsent.push(`Your unfinished order ${byId("name").value} wasn't sent.`);
+  if (state.read.length) unsent.push(`The ${counted(state.read.length, "command")} of your table ${state.read.length === 1 ? "wasn't" : "weren't"} sent.`);
+  state.unsent = unsent.map((words) => `\n${words}`).join("");
+  state.count = -1;
+  if (byId("sure").open) byId("sure").close("");
+  const isLost = byId("entry").contains(document.activeElement) || byId("upload").contains(document.activeElement);
+  say(`The day is closed.${state.unsent}`, state.unsent ? "wrong" : "right");
+  if (isLost) byId("orders-title").focus();
 }
 
 async function lookAtCommands() {
@@ -233,24 +240,25 @@ async function lookAtCommands() {
   const [{ orders }, all] = await Promise.all([json(own("orders")), json(own("commands"))]);
   Object.assign(state, { orders, next: all.next, count: all.next - 1 });
   showOrders();
-  const rows = all.commands.reverse().map(({ number, entry, record, reply }) => [String(number), replyWords(reply), record, String(entry)]);
-  const heads = [["number", "n"], ["reply", "why"], ["command", "given"], ["entry in the journal", "n"]];
+  const later = laterWords(all.commands);
+  const rows = all.commands.reverse().map(({ number, entry, record, reply }) => {
+    const command = commandOf(record);
+    const { what, order } = command;
+    return [String(number), what === "submit" ? "enter" : what, order, replyWords(reply, later.get(number)), ...orderCells(command), element("span", { title: record, textContent: entry })];
+  });
+  const heads = [["your command", "n"], ["does"], ["order"], ["reply", "why"], ...ORDER_HEADS, ["entry in the journal", "n"]];
   byId("commands-table").replaceChildren(rows.length ? table("Each command with the book's reply, the last one first", heads, rows) : "You have entered no command yet.");
 }
 
 function showOrders() {
-  const isOpen = state.known.state === "open";
-  const heads = [["order"], ...(isOpen ? [["change"]] : []), ["kind"], ["side"], ["limit, EUR/MWh", "n"], ["volume by period, MW", "given"], ["links"]];
+  const heads = [["order"], ...(isOpen() ? [["change"]] : []), ...ORDER_HEADS];
   const rows = state.orders.map((order) => {
-    const links = [order.parent && `parent ${order.parent}`, order.group && `group ${order.group}`].filter(Boolean).join(", ");
-    const amend = element("button", { type: "button", textContent: "Amend" });
-    const cancel = element("button", { type: "button", textContent: "Cancel" });
-    amend.setAttribute("aria-label", `Amend ${order.order}`);
-    cancel.setAttribute("aria-label", `Cancel ${order.order}`);
-    amend.addEventListener("click", () => change(order));
-    cancel.addEventListener("click", () => enter([{ what: "cancel", order: order.order }]));
-    const buttons = isOpen ? [element("span", {}, amend, cancel)] : [];
-    return [order.order, ...buttons, order.kind === "hour" ? "hourly" : "block", order.side, fixed(order.price, 2), runs(order.volumes), links];
+    const buttons = [["Amend", change], ["Cancel", cancel]].map(([words, does]) => {
+      const button = element("button", { type: "button", textContent: words, ariaLabel: `${words} ${order.order}` });
+      button.addEventListener("click", () => does(order));
+      return button;
+    });
+    return [order.order, ...(isOpen() ? [element("span", {}, ...buttons)] : []), ...orderCells(order)];
   });
   byId("orders-table").replaceChildren(rows.length ? table("Your orders, as the book has them", heads, rows) : "You have no order in the book.");
   const blocks = state.orders.filter((order) => order.kind === "block");
@@ -265,53 +273,77 @@ async function put(commands) {
   const number = state.next; // of all tries, also if a look finds the command entered in the meantime
   for (let time = 1; ; time += 1) {
     try {
-      const answer = await ask(`${own("commands")}/${number}`, { method: "PUT", body, headers: { "Content-Type": "application/json" } });
-      return (await answer.text()).trim().split("\n").map((line) => JSON.parse(line));
+      const text = await ask(`${own("commands")}/${number}`, { method: "PUT", body, headers: { "Content-Type": "application/json" } });
+      return text.trim().split("\n").map((line) => JSON.parse(line));
     } catch (fault) {
-      if (time === RETRIES || ![0, 429, 503].includes(fault.status)) throw fault;
+      if (time === RETRIES || fault.fault === "Left" || ![0, 429, 503].includes(fault.status)) throw fault;
       say(`${fault.message}; trying again`, "wrong");
       await new Promise((done) => setTimeout(done, 1000 * time));
     }
   }
 }
 
+// What became of commands, in words.
+function outcomeWords(commands, receipts) {
+  const refused = commands.map((command, at) => [command, receipts[at].reply]).filter(([, reply]) => reply !== "done");
+  const lines = refused.slice(0, MOST_REFUSED).map(([{ what, order }, reply]) => `${order} wasn't ${DONE[what]}: ${reasonOf(reply)}.`);
+  if (refused.length > MOST_REFUSED) lines.push(`${refused.length - MOST_REFUSED} more were refused: your commands below have the reasons.`);
+  if (refused.length) lines.push(`The book's ${refused.length === 1 ? "refusal is" : "refusals are"} on the disk, with a signed receipt.`);
+  const [{ what, order }] = commands;
+  const right = commands.length === 1 ? `${order} ${DONE[what]}` : `${counted(commands.length - refused.length, "command")} done`;
+  if (refused.length < commands.length) lines.unshift(`${right}, on the disk, with a signed receipt.`);
+  return [lines.join("\n"), refused.length ? "wrong" : "right"];
+}
+
 async function enter(commands) {
-  const buttons = document.querySelectorAll("#signed-in button");
-  for (const button of buttons) button.disabled = true;
+  const parts = document.querySelectorAll("#signed-in button, #days");
+  const { visit } = state;
+  for (const part of parts) part.disabled = true;
   try {
-    const receipts = await put(commands);
-    const refused = receipts.filter(({ reply }) => reply !== "done");
-    const [first] = refused;
-    const words = receipts.length === 1 ? "Entered" : `Entered ${receipts.length} commands`;
-    if (!refused.length) say(`${words}, on the disk, with a signed receipt.`);
-    else say(`${words}. The book refused ${receipts.length === 1 ? "it" : refused.length}: ${first.record}: ${REASONS[first.reply.split(",")[1]]}.`, "wrong");
-    return !refused.length;
+    const [words, kind] = outcomeWords(commands, await put(commands));
+    say(words, kind);
+    return kind === "right";
   } catch (fault) {
-    say(`${fault.message}.`, "wrong");
+    const [{ what, order }] = commands;
+    const [subject, does] = commands.length === 1 ? [order, DONE[what]] : [`the ${commands.length} commands`, "entered"];
+    const isKnown = ![0, 503].includes(fault.status);
+    const start = isKnown ? `${subject} ${commands.length === 1 ? "wasn't" : "weren't"} ${does}` : `It isn't known whether ${subject} ${commands.length === 1 ? "was" : "were"} ${does}`;
+    if (fault.fault !== "Left") say(`${start}: ${fault.message}.${isKnown ? "" : " Look at your commands before you try again."}`, "wrong");
     return false;
   } finally {
-    for (const button of buttons) button.disabled = false;
-    state.busy = false;
-    state.count = -1;
-    await look();
+    for (const part of parts) part.disabled = false;
+    if (visit === state.visit) {
+      Object.assign(state, { looks: null, count: -1 });
+      await look();
+    }
   }
 }
 
-function volumesOf(kind) {
-  if (kind === "hour") return [[Number(byId("period").value), scaled(byId("volume").value, 1, "Volume")]];
-  const filled = [...byId("grid").querySelectorAll("input")].filter((input) => input.value.trim());
-  if (!filled.length) throw new Fault(0, "Input", "Write a volume for at least one period");
-  return filled.map((input) => [Number(input.dataset.period), scaled(input.value, 1, `Period ${input.dataset.period}`)]);
+async function cancel({ order }) {
+  say("");
+  if (!(await sure(`Cancel ${order}? It leaves the book, and loses its place there.`, `Cancel ${order}`))) return;
+  await enter([{ what: "cancel", order }]);
+  if (state.changes === order) change(null);
+  if (state.token) byId("orders-title").focus();
 }
 
+const cells = () => [...byId("grid").querySelectorAll("input")];
 const kindChosen = () => document.querySelector("input[name=kind]:checked").value;
 
+// The command of the form; null if a field is wrong.
 function command() {
   const kind = kindChosen();
-  const made = { what: "submit", order: byId("name").value.trim(), price: scaled(byId("price").value, 2, "Limit"), volumes: volumesOf(kind) };
-  if (state.changes) return { ...made, what: "amend" };
-  const links = kind === "block" ? { parent: byId("parent").value, group: byId("group").value.trim() } : {};
-  return { ...made, kind, side: byId("side").value, ...links };
+  const filled = cells().filter((input) => input.value.trim());
+  const some = () => ({ fault: "Write a volume for at least one period." });
+  const grid = filled.length ? filled.map((input) => [input, volumeRule, `Period ${input.dataset.period}: `]) : [[cells()[0], some]];
+  for (const input of cells()) mark(input, "");
+  const fields = [[byId("name"), nameRule], [byId("price"), limitRule], ...(kind === "hour" ? [[byId("volume"), volumeRule]] : [[byId("group"), groupRule], ...grid])];
+  const values = valuesOf(fields);
+  if (!values) return null;
+  const [order, price, ...rest] = values;
+  const volumes = kind === "hour" ? [[Number(byId("period").value), rest[0]]] : filled.map((input, at) => [Number(input.dataset.period), rest[1 + at]]);
+  if (state.changes) return { what: "amend", order, price, volumes };
+  return { what: "submit", order, kind, side: byId("side").value, price, volumes, ...(kind === "block" ? { parent: byId("parent").value, group: rest[0] } : {}) };
 }
 
 function showKind() {
@@ -320,123 +352,201 @@ function showKind() {
   for (const part of document.querySelectorAll(".blocks")) part.hidden = kind !== "block";
 }
 
+function fill() {
+  say("");
+  const [from, to] = ["fill-from", "fill-to"].map((id) => Number(byId(id).value));
+  const later = () => (from <= to ? { value: to } : { fault: `Period ${from} is after period ${to}: nothing is filled in.` });
+  if (!valuesOf([[byId("fill-volume"), volumeRule], [byId("fill-to"), later]])) return;
+  for (const input of cells()) {
+    if (from <= input.dataset.period && input.dataset.period <= to) {
+      input.value = byId("fill-volume").value.trim();
+      mark(input, "");
+    }
+  }
+}
+
+// Makes the form one for a change of an order, or for a new one, which begins with the kind, side and periods of the last one.
 function change(order) {
   state.changes = order?.order ?? null;
-  byId("order-form").reset();
-  for (const input of byId("grid").querySelectorAll("input")) input.value = "";
+  for (const id of ["name", "price", "volume", "parent", "group", "fill-volume"]) byId(id).value = "";
+  for (const input of cells()) input.value = "";
+  for (const input of byId("order-form").querySelectorAll("[aria-invalid]")) mark(input, "");
   for (const part of [byId("name"), byId("side"), byId("parent"), byId("group"), byId("kinds")]) part.disabled = Boolean(order);
-  byId("keep").hidden = !order;
+  byId("keep").hidden = byId("fixed").hidden = !order;
   byId("entry-title").textContent = order ? `Amend ${order.order}` : "Enter an order";
   byId("enter").textContent = order ? "Amend the order" : "Enter the order";
-  if (order) {
-    document.querySelector(`input[name=kind][value=${order.kind}]`).checked = true;
-    Object.assign(byId("name"), { value: order.order });
-    byId("side").value = order.side;
-    byId("parent").value = order.parent;
-    byId("group").value = order.group;
-    byId("price").value = fixed(order.price, 2);
-    if (order.kind === "hour") {
-      byId("period").value = String(order.volumes[0][0]);
-      byId("volume").value = fixed(order.volumes[0][1], 1);
-    }
-    for (const [period, volume] of order.volumes) byId("grid").querySelector(`input[data-period="${period}"]`).value = fixed(volume, 1);
-  }
+  const { kind, side } = order ?? state.last;
+  document.querySelector(`input[name=kind][value=${kind}]`).checked = true;
+  byId("side").value = side;
+  if (order) fillWith(order);
   showKind();
-  if (order) byId("price").focus();
+  if (order) {
+    say("");
+    byId("price").focus();
+  }
 }
+
+function fillWith({ order, kind, price, volumes, parent, group }) {
+  byId("name").value = order;
+  byId("parent").value = parent;
+  byId("group").value = group;
+  byId("price").value = fixed(price, 2);
+  if (kind === "hour") {
+    byId("period").value = String(volumes[0][0]);
+    byId("volume").value = fixed(volumes[0][1], 1);
+  }
+  for (const [period, volume] of volumes) byId("grid").querySelector(`input[data-period="${period}"]`).value = fixed(volume, 1);
+}
+
+async function enterOrder(event) {
+  event.preventDefault();
+  say("");
+  const made = command();
+  if (!made) return say("Nothing was sent: see the marked field.", "wrong");
+  if (await enter([made])) {
+    if (made.what === "submit") state.last = { kind: made.kind, side: made.side };
+    change(null);
+    byId("name").focus();
+  } else if (state.token && isOpen()) {
+    byId(made.what === "submit" ? "name" : "price").focus();
+  }
+}
+
+// --- a table
+
+const TEMPLATE = [
+  ["participant", "order", "kind", "side", "price_eur_mwh", "periods", "volume_mw", "parent", "group"],
+  ["UNIT-8", "hour", "sell", "60.00", "8", "50", "", ""],
+  ["RUN", "block", "sell", "68.00", "9-12", "15", "", ""],
+];
+const templateRows = () => TEMPLATE.map((row, at) => (at ? [who() || "GAS", ...row] : row));
+const template = () => templateRows().map((row) => `${row.join(",")}\n`).join("");
 
 async function upload(event) {
   event.preventDefault();
+  say("");
+  state.read = [];
   byId("read").hidden = true;
+  const [file] = byId("file").files;
+  mark(byId("file"), file ? "" : "Choose a file.");
+  if (!file) return byId("file").focus();
   try {
-    const answer = await ask(own("tables"), { method: "POST", body: byId("file").files[0], headers: { "Content-Type": "application/octet-stream" } });
-    const { records, notes } = await answer.json();
-    state.read = records;
-    byId("read-table").replaceChildren(table("What the table says; nothing is entered yet", [["", "n"], ["command", "given"]], records.map((record, at) => [String(at + 1), record])));
-    byId("enter-all").textContent = `Enter ${records.length === 1 ? "1 command" : `${records.length} commands`}`;
+    const { records, notes } = await json(own("tables"), { method: "POST", body: file, headers: { "Content-Type": "application/octet-stream" } });
+    state.read = records.map(commandOf);
+    const rows = state.read.map((command, at) => [String(at + 1), command.what === "submit" ? "enter" : command.what, command.order, ...orderCells(command)]);
+    byId("read-table").replaceChildren(table("What the table says; nothing is entered yet", [["", "n"], ["does"], ["order"], ...ORDER_HEADS], rows));
+    byId("enter-all").textContent = `Enter ${counted(records.length, "command")}`;
     byId("read").hidden = false;
-    say([`The table was read. Look at it, then enter it.`, ...notes].join("\n"));
+    say(["The table was read. Look at it, then enter it.", ...notes].join("\n"));
     byId("enter-all").focus();
   } catch (fault) {
-    say(fault.message, "wrong");
+    if (fault.fault === "Left") return;
+    mark(byId("file"), fault.message);
+    byId("file").focus();
   }
 }
 
 async function enterAll() {
-  const commands = state.read.map((record) => {
-    const [what, , order, kind, side, price, volumes, parent, group] = record.split(",");
-    const pairs = () => volumes.split(";").map((pair) => pair.split(":").map(Number));
-    if (what === "cancel") return { what, order };
-    if (what === "amend") return { what, order, price: Number(price), volumes: pairs() };
-    return { what, order, kind, side, price: Number(price), volumes: pairs(), ...(kind === "block" ? { parent, group } : {}) };
-  });
+  const commands = state.read;
   drop();
   await enter(commands);
+  if (state.token) byId("commands-title").focus();
 }
 
 function drop() {
   state.read = [];
   byId("read").hidden = true;
+  byId("read-table").replaceChildren();
   byId("upload-form").reset();
+  mark(byId("file"), "");
 }
 
 // --- results
 
+const OUTCOMES = { "in full": "executed in full", "in part": "executed in part", not: "not executed" };
+
+function resultCells(row) {
+  const order = state.orders.find((one) => one.order === row.order);
+  const hours = state.known.periods > 25 ? 0.25 : 1;
+  const offered = (order.volumes.reduce((sum, [, volume]) => sum + volume, 0) * hours) / 10;
+  const average = row.executed_mwh ? ((order.side === "sell" ? 1 : -1) * row.amount_eur) / row.executed_mwh : null;
+  const [kind, side, limit] = orderCells(order);
+  const outcome = OUTCOMES[row.outcome] ?? row.outcome;
+  const energies = [offered, row.executed_mwh].map((value) => shown(value, 1, 3));
+  return [row.order, kind, side, limit, ...energies, average === null ? "" : shown(average, 2), shown(row.amount_eur, 2), outcome, row.why ?? ""];
+}
+
 async function showResults() {
-  const [statement, text] = await Promise.all([json(own("statement")), ask(`/days/${state.day}/prices`).then((answer) => answer.text())]);
-  const amount = (value) => (value === null ? "" : shown(value, 2));
-  const rows = statement.rows.map((row) => [
-    row.order, row.outcome ?? (row.reply === "done" ? "done" : `refused`), row.why ?? "", amount(row.amount_eur),
-    row.executed_mwh === null ? "" : shown(row.executed_mwh, 1), row.what, row.side ?? "", row.price_eur_mwh === null ? "" : shown(row.price_eur_mwh, 2),
-  ]);
-  const heads = [["order"], ["outcome", "outcome"], ["reason", "why"], ["is paid, EUR", "n"], ["executed, MWh", "n"], ["command"], ["side"], ["limit, EUR/MWh", "n"]];
-  const words = "Each of your commands: the result of its order and the reason; you pay an amount below 0";
-  byId("statement").replaceChildren(rows.length ? table(words, heads, rows) : "You had no command on this day.");
+  const [statement, text] = await Promise.all([json(own("statement")), ask(`/days/${state.day}/prices`)]);
+  const heads = [["order"], ["kind"], ["side"], ["limit, EUR/MWh", "n"], ["offered, MWh", "n"], ["executed, MWh", "n"], ["average price, EUR/MWh", "n"]];
+  heads.push(["is paid, EUR", "n"], ["outcome", "outcome"], ["reason", "why"]);
+  const rows = statement.rows.filter(({ outcome }) => outcome).map(resultCells);
+  byId("statement").replaceChildren(rows.length ? table("Your orders that were in the book at the close", heads, rows) : "You had no order in the book at the close.");
   const prices = text.split("\n").map((line) => line.split(",")).filter(([word]) => word === "period");
-  const cells = prices.map(([, number, price, volume]) => [number, state.known.begins[number - 1], Number(volume) ? shown(price / 100, 2) : "no trade", shown(volume / 10, 1)]);
-  byId("prices").replaceChildren(table("The price and the traded volume of each period", [["period", "n"], ["begins", "n"], ["price, EUR/MWh", "n"], ["volume, MW", "n"]], cells));
+  const cells = prices.map(([, number, price, volume]) => {
+    const words = shown(price / 100, 2);
+    return [number, state.known.begins[number - 1], Number(volume) ? words : element("span", { className: "nominal", textContent: `${words} (nominal)` }), shown(volume / 10, 1)];
+  });
+  byId("prices").replaceChildren(table("The price and the traded volume of each period", [["period", "n"], ["begins", "n"], ["price, EUR/MWh", "n"], ["volume, MW", "n"]], cells, false));
   byId("results").hidden = false;
-  say("The results are published.");
+  say(`The results are published.${state.unsent}`, state.unsent ? "wrong" : "right");
+}
+
+function save(text, type, name) {
+  const link = element("a", { href: URL.createObjectURL(new Blob([text], { type })), download: name });
+  link.click();
+  setTimeout(() => URL.revokeObjectURL(link.href), 1000);
 }
 
 async function download() {
   try {
-    const data = await (await ask(own("receipts"))).blob();
-    const link = element("a", { href: URL.createObjectURL(data), download: `${who()}-${state.day}.jsonl` });
-    link.click();
-    setTimeout(() => URL.revokeObjectURL(link.href), 1000);
+    save(await ask(own("receipts")), "application/jsonl", `${who()}-${state.day}.jsonl`);
   } catch (fault) {
-    say(`${fault.message}.`, "wrong");
+    sayFault(fault);
   }
+}
+
+async function closeNow() {
+  if (!(await sure("Close the day now? Nobody can enter orders afterwards, and it can't be undone.", "Close the day"))) return;
+  await ask(`/days/${state.day}/close`, { method: "POST" }).catch(sayFault);
+  await look();
+  byId("orders-title").focus();
 }
 
 // --- the page
 
+byId("price-help").textContent = limitRule.ends;
+for (const id of ["volume-help", "grid-help"]) byId(id).textContent = volumeRule.ends;
 byId("sign-in-form").addEventListener("submit", (event) => { event.preventDefault(); signIn(byId("token").value); });
 byId("sign-out").addEventListener("click", signOut);
 byId("receipts").addEventListener("click", download);
 byId("days").addEventListener("change", async () => { await choose(byId("days").value); await look(); });
-byId("close-now").addEventListener("click", async () => { await ask(`/days/${state.day}/close`, { method: "POST" }).catch((fault) => say(fault.message, "wrong")); await look(); });
+byId("close-now").addEventListener("click", closeNow);
+for (const id of ["yes", "no"]) byId(id).addEventListener("click", () => byId("sure").close(id));
 byId("kinds").addEventListener("change", showKind);
-byId("keep").addEventListener("click", () => change(null));
+byId("keep").addEventListener("click", () => { change(null); byId("orders-title").focus(); });
 for (const id of ["name", "group"]) byId(id).addEventListener("input", () => { byId(id).value = byId(id).value.toUpperCase(); });
-byId("fill").addEventListener("click", () => {
-  const [from, to] = ["fill-from", "fill-to"].map((id) => Number(byId(id).value));
-  for (const input of byId("grid").querySelectorAll("input")) if (from <= input.dataset.period && input.dataset.period <= to) input.value = byId("fill-volume").value;
+byId("order-form").addEventListener("input", ({ target }) => { if (target.hasAttribute("aria-invalid")) mark(target, ""); });
+byId("fill").addEventListener("click", fill);
+byId("fill-volume").addEventListener("keydown", (event) => {
+  if (event.key !== "Enter") return;
+  event.preventDefault(); // it doesn't enter the order
+  fill();
 });
-byId("clear").addEventListener("click", () => { for (const input of byId("grid").querySelectorAll("input")) input.value = ""; });
-byId("order-form").addEventListener("submit", async (event) => {
-  event.preventDefault();
-  try {
-    if (await enter([command()])) change(null);
-  } catch (fault) {
-    say(`${fault.message}.`, "wrong");
+byId("clear").addEventListener("click", () => {
+  say("");
+  for (const input of cells()) {
+    input.value = "";
+    mark(input, "");
   }
 });
+byId("order-form").addEventListener("submit", enterOrder);
+byId("template").addEventListener("click", () => save(template(), "text/csv", "orders.csv"));
 byId("upload-form").addEventListener("submit", upload);
+byId("file").addEventListener("change", () => mark(byId("file"), ""));
 byId("enter-all").addEventListener("click", enterAll);
-byId("drop").addEventListener("click", drop);
+byId("drop").addEventListener("click", () => { drop(); say(""); byId("file").focus(); });
 
 setInterval(look, LOOK);
-setInterval(() => { if (state.known?.until && state.known.state === "open" && byId("left")) byId("left").textContent = left(Math.max(0, state.known.until - performance.now()) / 1000); }, 500);
-days().then(() => { show(); return look(); }, (fault) => { show(); say(`${fault.message}.`, "wrong"); });
+setInterval(tick, 500);
+days().then(() => { show(); return look(); }, (fault) => { show(); sayFault(fault); });
