@@ -28,7 +28,7 @@ MOST_BYTES = {
     "README.md": 7_168,
     "ARCHITECTURE.md": 6_650,
     "ASSURANCE.md": 22_000,
-    "DECISIONS.md": 15_700,
+    "DECISIONS.md": 6_144,
     "DESK.md": 7_168,
     "MEASURED.md": 8_000,
     "OPERATING.md": 7_500,
