@@ -1,3 +1,7 @@
 mod Lists
 mod Readings
 mod Crashes
+mod Texts
+mod Runs
+mod Steps
+mod Desks

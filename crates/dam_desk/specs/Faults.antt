@@ -6,7 +6,7 @@ use Rattle.dam_results.specs.declared.journal.JournalFault.TheVariants as journa
 use Rattle.dam_store.specs.declared.fault.StoreFault.{StoreFault}
 use Rattle.dam_store.specs.declared.fault.StoreFault.TheVariants as store
 use Rattle.dam_desk.specs.declared.fault.DeskFault.{DeskFault}
-use Rattle.dam_desk.specs.declared.fault.DeskFault.TheVariants.{InUse, NotAFile, Database, Io, Store, NotAJournal, Respelled, Read, Write, Memory}
+use Rattle.dam_desk.specs.declared.fault.DeskFault.TheVariants.{NotAFile, Database, Store, NotAJournal, Respelled, Write, Memory}
 
 -- the fault of a desk whose store has that fault
 abbrev pub of_store : StoreFault → DeskFault

@@ -1,7 +1,10 @@
 //! A desk: a journal in a store, and the book that it makes.
-ghost use Rattle.std.specs.Prelude.{◌≡◌, ◌++◌, ℕ, List, true, false, IsTrue, IfErr, OnOk};
+ghost use Rattle.std.specs.Prelude.{◌≡◌, ◌++◌, [], ℕ, List, take, true, false, IsTrue, IfErr, OnOk, OnErr};
+ghost use Rattle.std.specs.Io.KnownBytes.{Appends};
 ghost use Rattle.dam_store.specs.Store.{disk_of, held, is_broken};
-ghost use Rattle.dam_desk.specs.Desk.{KeepsLines};
+ghost use Rattle.dam_desk.specs.Desk.{IsDesk, KeepsLines, MayLeave, Served, Takes, end_answer};
+ghost use Rattle.dam_desk.specs.Journal.{State, OpensTo, next};
+ghost use Rattle.dam_desk.specs.Lines.{kept};
 ghost use Rattle.dam_desk.specs.Faults.{is_write};
 
 use crate::answer::write_fault;
@@ -38,6 +41,13 @@ impl<D: Disk> Desk<D> {
             → KeepsLines (D.Disk.may_leave (disk_of self.new.store)) (held self.old.store) }
         ensures clean { D.Disk.is_clean (disk_of self.new.store)
             ≡ D.Disk.is_clean (disk_of self.old.store) }
+        ensures taken { (state : State) (begun : List ℕ) → IsDesk self.old state begun
+            → OnOk result (Takes self.new state (begun ++ bytes.now) []
+            (W.contents writer.old) (W.contents writer.new)) }
+        ensures faulty { (state : State) (begun : List ℕ) → IsDesk self.old state begun
+            → is_broken self.old.store ≡ false
+            → OnErr result (Served state (begun ++ bytes.now) []
+            (W.contents writer.old) (W.contents writer.new) (MayLeave self.new)) }
     {
         let _safe = self.store.is_broken(); // for the proof: what an open store has is safe
         self.intake.take(bytes)?;
@@ -47,7 +57,14 @@ impl<D: Disk> Desk<D> {
     }
 
     /// Answers the line in which the input ended, if it has.
-    pub(crate) fn end<W: Write>(&self, writer: &mut W) -> Result<(), DeskFault> {
+    pub(crate) fn end<W: Write>(&self, writer: &mut W) -> Result<(), DeskFault>
+        ensures ok { (begun : List ℕ) → self.now.intake.line ≡ kept begun
+            → OnOk result (Appends (W.contents writer.old) (W.contents writer.new)
+            (end_answer (next self.now.intake.answered) begun)) }
+        ensures err { (begun : List ℕ) → self.now.intake.line ≡ kept begun
+            → OnErr result ((count : ℕ) × Appends (W.contents writer.old) (W.contents writer.new)
+            (take count (end_answer (next self.now.intake.answered) begun))) }
+    {
         if self.intake.line.bytes().is_empty() {
             return Ok(());
         }
@@ -60,9 +77,12 @@ impl<D: Disk> Desk<D> {
 
     /// Whether no write to the file has failed, so that what the desk holds is safe.
     pub(crate) fn is_safe(&self) -> bool
-        ensures { is_broken self.now.store ≡ false
+        ensures keeps { is_broken self.now.store ≡ false
             → IsTrue (D.Disk.is_clean (disk_of self.now.store))
             → KeepsLines (D.Disk.may_leave (disk_of self.now.store)) (held self.now.store) }
+        ensures opens { (state : State) (begun : List ℕ) → IsDesk self.now state begun
+            → is_broken self.now.store ≡ false → (file : List ℕ) → MayLeave self.now file
+            → OpensTo state.journal file }
     {
         !self.store.is_broken()
     }

@@ -1,8 +1,11 @@
 //! Opens a desk.
-ghost use Rattle.std.specs.Prelude.{◌≡◌, ◌≤◌, false, IfOk};
+ghost use Rattle.std.specs.Prelude.{◌≡◌, ◌≤◌, false, IsTrue, IfOk};
 ghost use Rattle.dam_book.specs.Limits.{most_entries};
-ghost use Rattle.dam_store.specs.Store.{is_broken};
+ghost use Rattle.dam_store.specs.Journal.{text_of};
+ghost use Rattle.dam_store.specs.Store.{disk_of, held, is_broken};
+ghost use Rattle.dam_desk.specs.Desk.{IsOpened};
 ghost use Rattle.dam_desk.specs.inside.Day.{entered_of};
+ghost use Rattle.dam_desk.specs.inside.Intake.{IsReopened};
 
 use crate::day::Day;
 use crate::desk::Desk;
@@ -24,6 +27,9 @@ pub(crate) fn open<D: Disk + Drop>(
 ) -> Result<(Desk<D>, Vec<u8>), DeskFault>
     requires ready { is_broken opened.store ≡ false }
     ensures store { IfOk result (λ desk. desk.0.store ≡ opened.store) }
+    ensures desk { (IsTrue (D.Disk.is_clean (disk_of opened.store))
+        → opened.text.items ≡ text_of (held opened.store))
+        → IfOk result (λ desk. IsOpened desk.0 desk.1.items) }
 {
     let (day, replies) = reopen(alloc, seed, opened.text.as_slice())?;
     let intake = Intake {
@@ -46,7 +52,9 @@ pub(crate) fn reopen(
     seed: Seed,
     text: &[u8],
 ) -> Result<(Option<Day>, Vec<u8>), DeskFault>
-    ensures { IfOk result (λ reopened. entered_of reopened.0 ≤ most_entries) }
+    ensures few { IfOk result (λ reopened. entered_of reopened.0 ≤ most_entries) }
+    ensures journal { IfOk result
+        (λ reopened. IsReopened text.now reopened.0 reopened.1.items) }
 {
     if text.is_empty() {
         return Ok((None, Vec::new(alloc)));

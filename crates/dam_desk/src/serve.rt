@@ -1,6 +1,7 @@
-ghost use Rattle.std.specs.Prelude.{◌≡◌, false, IsTrue, OnOk};
+ghost use Rattle.std.specs.Prelude.{◌≡◌, ◌++◌, ℕ, List, false, IsTrue, IfSome, OnOk, OnErr};
 ghost use Rattle.dam_store.specs.Store.{disk_of, held, is_broken};
-ghost use Rattle.dam_desk.specs.Desk.{KeepsLines};
+ghost use Rattle.dam_desk.specs.Desk.{Finishes, IsDesk, IsGiven, KeepsLines, MayLeave, Served};
+ghost use Rattle.dam_desk.specs.Journal.{State};
 
 use crate::desk::Desk;
 use crate::fault::DeskFault;
@@ -23,6 +24,16 @@ pub(crate) fn serve<D: Disk, R: Read, W: Write>(
     // A crash at any moment leaves what the desk held, and maybe what was entered since.
     ensures crash { IsTrue (D.Disk.is_clean (disk_of desk.new.store))
         → KeepsLines (D.Disk.may_leave (disk_of desk.new.store)) (held desk.old.store) }
+    // At the end of the input, each line has its answer.
+    ensures done { (state : State) (begun : List ℕ) → IsDesk desk.old state begun
+        → OnOk result ((given : List ℕ) × IfSome (R.remaining reader.old) (λ bytes. bytes ≡ given)
+        × Finishes state (begun ++ given) replies.now
+        (W.contents writer.old) (W.contents writer.new) (MayLeave desk.new)) }
+    // If the desk ends before, what was answered is safe.
+    ensures faulty { (state : State) (begun : List ℕ) → IsDesk desk.old state begun
+        → OnErr result ((given : List ℕ) × IsGiven (R.remaining reader.old) given
+        × Served state (begun ++ given) replies.now
+        (W.contents writer.old) (W.contents writer.new) (MayLeave desk.new)) }
 {
     let _safe = desk.is_safe(); // for the proof: what an open store has is safe
     write_text(writer, replies)?;

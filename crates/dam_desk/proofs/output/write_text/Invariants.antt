@@ -1,5 +1,5 @@
 -- The writer took the first bytes so far; each turn but the last one gives it a byte or more.
-use Rattle.std.proofs.Common.{◌≡◌, ◌≤◌, ◌-◌, length, take}
+use Rattle.std.proofs.Common.{◌≤◌, ◌-◌, length, take}
 use Rattle.std.specs.Io.KnownBytes.{Appends}
 use Rattle.dam_desk.proofs.output.write_text.Given as goal
 

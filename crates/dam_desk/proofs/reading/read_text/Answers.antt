@@ -1,5 +1,5 @@
 -- The line is no day, and its text has a fault, or not one record.
-use Rattle.std.proofs.Common.{◌≡◌, ◌++◌, ◌∷◌, [], ◌-◌, List, ℕ, inl, inr, length, take, drop, MatchOption, refl, sym, ap, ◌∙◌, subst}
+use Rattle.std.proofs.Common.{◌++◌, ◌∷◌, [], List, ℕ, inl, inr, length, subst}
 use Rattle.dam_results.specs.Journal.{ReadsAs}
 use Rattle.dam_results.specs.Faults.{IsJournalFault}
 use Rattle.dam_desk.specs.Lines.{record_of}

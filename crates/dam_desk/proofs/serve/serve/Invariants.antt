@@ -1,7 +1,10 @@
--- What the desk held at first is kept.
-use Rattle.std.proofs.Common.{◌≡◌, ◌++◌, List, ℕ, false, IsTrue}
+-- What the desk held at first is kept, and what came in is answered.
+use Rattle.std.proofs.Common.{◌≡◌, ◌++◌, List, ℕ, false, IsTrue, length}
+use Rattle.std.specs.Io.KnownBytes.{Consumes}
 use Rattle.dam_store.specs.Store.{disk_of, held, is_broken}
-use Rattle.dam_desk.specs.Desk.{KeepsLines}
+use Rattle.dam_desk.specs.Desk.{IsDesk, KeepsLines, Takes}
+use Rattle.dam_desk.specs.Journal.{State}
+use Rattle.dam_desk.specs.declared.serve.TheConstants.{CHUNK}
 use Rattle.dam_desk.proofs.serve.serve.Given as goal
 
 abbrev pub invariant-loop : goal.invariant-loop
@@ -9,4 +12,8 @@ invariant-loop g l = record {
   ready : is_broken l.desk.store ≡ false;
   grown : IsTrue (g.D.Disk.is_clean (disk_of l.desk.store)) → (more : List (List ℕ)) × held l.desk.store ≡ held l.initial.desk.store ++ more;
   kept : IsTrue (g.D.Disk.is_clean (disk_of l.desk.store)) → KeepsLines (g.D.Disk.may_leave (disk_of l.desk.store)) (held l.initial.desk.store);
+  chunk : length l.chunk ≡ CHUNK;
+  taken : (state : State) (begun : List ℕ) → IsDesk l.initial.desk state begun → (given : List ℕ)
+      × Consumes (g.R.Read.remaining l.initial.reader) (g.R.Read.remaining l.reader) given
+      × Takes l.desk state (begun ++ given) l.replies (g.W.Write.contents l.fn.writer) (g.W.Write.contents l.writer);
 }

@@ -1,7 +1,6 @@
-use Rattle.std.proofs.Common.{◌≡◌, ◌++◌, ◌+◌, List, ℕ, OnOk, ◌∙◌, ◌-◌, min, length, ap}
+use Rattle.std.proofs.Common.{◌+◌, ℕ, ◌∙◌, ◌-◌, min, length, ap}
 use Rattle.std.proofs.lemmas.Result.{on_ok_weaker}
 use Rattle.dam_desk.specs.Limits.{most_line}
-use Rattle.dam_desk.specs.Lines.{kept}
 use Rattle.dam_desk.proofs.Lists.{more_kept, on_ok_then}
 use Rattle.dam_desk.proofs.line.Line.extend.Goals as goal
 

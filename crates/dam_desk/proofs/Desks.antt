@@ -1,0 +1,324 @@
+-- What a desk wrote, and what its file opens to.
+use Rattle.std.proofs.Common.{◌≡◌, ◌⊎◌, inl, inr, List, ℕ, suc, ◌+◌, [], ◌∷◌, ◌++◌, Option, Some, None, Result, Ok, Err, IfErr, IfSome, OnErr, IsTrue, false, length, take, refl, sym, ap, ◌∙◌, subst, append_assoc, append-nil, arith}
+use Rattle.std.specs.Io.KnownBytes.{Appends, Consumes, IsAtEnd}
+use Rattle.std.proofs.KnownBytes.{Appends-nil, Appends-trans, Consumes-trans, Consumes-whole}
+use Rattle.sqlite_disk.specs.declared.Disk.{Ghosts}
+use Rattle.dam_store.specs.Journal.{StandsForEither, has_byte, text_of}
+use Rattle.dam_store.specs.Store.{IsSafe, disk_of, held}
+use Rattle.dam_store.specs.declared.store.Store.{Store}
+use Rattle.dam_desk.specs.Journal.{Journal, State, AreLines, AreWhole, OpensTo, journal_text, next}
+use Rattle.dam_desk.specs.Desk.{Finishes, IsDesk, IsEnding, IsGiven, MayLeave, Served, Takes, end_answer}
+use Rattle.dam_desk.specs.Faults.{IsWritingFault}
+use Rattle.dam_desk.specs.declared.desk.Desk.{Desk}
+use Rattle.dam_desk.specs.declared.fault.DeskFault.{DeskFault}
+use Rattle.dam_desk.specs.declared.fault.DeskFault.TheVariants.{InUse, NotAFile, Database, Io, Store as Stores, NotAJournal, Respelled, Read, Write, Memory}
+use Rattle.dam_desk.specs.inside.Intake.{HasRead}
+use Rattle.dam_desk.specs.declared.state.Intake.{Intake}
+use Rattle.dam_desk.proofs.Runs.{answers_both}
+use Rattle.dam_desk.proofs.Texts.{all_both, text_more}
+
+-- nothing was taken
+pub served_none : (state : State) (given first : List ℕ) (old : Option (List ℕ)) (outcomes : List ℕ → Type 0)
+    → ((file : List ℕ) → outcomes file → OpensTo state.journal file) → Served state given first old old outcomes
+served_none state given first old outcomes opens = record {
+  safe = [];
+  others = [];
+  lines = record { rest = given; split = refl; whole = tt };
+  answers = [];
+  middle = state;
+  answered = (refl, refl);
+  later = [];
+  last = state;
+  unanswered = (refl, refl);
+  ending = [];
+  ends = inl refl;
+  count = 0;
+  written = Appends-nil old;
+  crash = λ file may. inl (opens file may);
+}
+
+-- the lines were read, and their records may be in the file
+pub served_pending : (intake : Intake) (state : State) (given : List ℕ) (old : Option (List ℕ)) (outcomes : List ℕ → Type 0)
+    → (read : HasRead intake state given []) → ((file : List ℕ) → outcomes file → OpensTo state.journal file ⊎ OpensTo read.last.journal file)
+    → Served state given [] old old outcomes
+served_pending intake state given old outcomes read opens = record {
+  safe = [];
+  others = read.lines;
+  lines = record { rest = read.begun ++ []; split = read.split; whole = read.whole };
+  answers = [];
+  middle = state;
+  answered = (refl, refl);
+  later = intake.answers.items;
+  last = read.last;
+  unanswered = read.answers;
+  ending = [];
+  ends = inl refl;
+  count = 0;
+  written = Appends-nil old;
+  crash = opens;
+}
+
+-- their records are safe, and some of the answers were written
+pub served_written : (intake : Intake) (state : State) (given : List ℕ) (old new : Option (List ℕ)) (outcomes : List ℕ → Type 0) (count : ℕ)
+    → (read : HasRead intake state given []) → Appends old new (take count intake.answers.items)
+    → ((file : List ℕ) → outcomes file → OpensTo read.last.journal file) → Served state given [] old new outcomes
+served_written intake state given old new outcomes count read written opens = record {
+  safe = read.lines;
+  others = [];
+  lines = record {
+    rest = read.begun ++ [];
+    split = read.split ∙ ap (λ (ls : List (List ℕ)). text_of ls ++ (read.begun ++ [])) (sym (append-nil read.lines));
+    whole = subst AreWhole (sym (append-nil read.lines)) read.whole;
+  };
+  answers = intake.answers.items;
+  middle = read.last;
+  answered = read.answers;
+  later = [];
+  last = read.last;
+  unanswered = (refl, refl);
+  ending = [];
+  ends = inl refl;
+  count = count;
+  written = subst (Appends old new) (ap (take count) (sym (append-nil intake.answers.items))) written;
+  crash = λ file may. inl (opens file may);
+}
+
+take_past : (front back : List ℕ) (count : ℕ) → take (length front + count) (front ++ back) ≡ front ++ take count back
+take_past [] back count = let same : 0 + count ≡ count = omega arith in ap (λ (k : ℕ). take k back) same
+take_past (b ∷ front) back count =
+    let more : suc (length front) + count ≡ suc (length front + count) = omega arith in
+    ap (λ (k : ℕ). take k (b ∷ (front ++ back))) more ∙ ap (λ (l : List ℕ). b ∷ l) (take_past front back count)
+
+-- the lines of two parts of the bytes
+split_more : (given bytes : List ℕ) (lines more : List (List ℕ)) (begun rest : List ℕ) → given ≡ text_of lines ++ begun
+    → begun ++ bytes ≡ text_of more ++ rest → given ++ bytes ≡ text_of (lines ++ more) ++ rest
+split_more given bytes lines more begun rest first then =
+    ap (λ (t : List ℕ). t ++ bytes) first ∙ append_assoc (text_of lines) begun bytes ∙ ap (λ (t : List ℕ). text_of lines ++ t) then
+    ∙ sym (append_assoc (text_of lines) (text_of more) rest) ∙ ap (λ (t : List ℕ). t ++ rest) (sym (text_more lines more))
+
+lines_both : (given bytes : List ℕ) (lines more : List (List ℕ)) (begun rest : List ℕ) → AreLines given lines begun
+    → AreLines (begun ++ bytes) more rest → AreLines (given ++ bytes) (lines ++ more) rest
+lines_both given bytes lines more begun rest first then = record {
+  split = split_more given bytes lines more begun rest first.split then.split;
+  whole = all_both (λ line. has_byte 10 line ≡ false) lines more first.whole then.whole;
+  unended = then.unended;
+}
+
+-- before any line
+pub takes_start : {D : Type 0} {g : Ghosts D} (desk : Desk D g) (state : State) (begun first : List ℕ) (old new : Option (List ℕ))
+    → IsDesk desk state begun → ((file : List ℕ) → MayLeave desk file → OpensTo state.journal file) → Appends old new first
+    → Takes desk state (begun ++ []) first old new
+takes_start desk state begun first old new is opens written = record {
+  lines = [];
+  begun = begun;
+  split = record { split = append-nil begun; whole = tt; unended = is.intake.unended };
+  answers = [];
+  last = state;
+  answered = (refl, refl);
+  written = subst (Appends old new) (sym (append-nil first)) written;
+  now = is;
+  safe = opens;
+}
+
+-- the next bytes
+pub takes_more : {D : Type 0} {g : Ghosts D} (desk later : Desk D g) (state : State) (given bytes first : List ℕ) (old mid new : Option (List ℕ))
+    → (taken : Takes desk state given first old mid) → Takes later taken.last (taken.begun ++ bytes) [] mid new
+    → Takes later state (given ++ bytes) first old new
+takes_more desk later state given bytes first old mid new taken then = record {
+  lines = taken.lines ++ then.lines;
+  begun = then.begun;
+  split = lines_both given bytes taken.lines then.lines taken.begun then.begun taken.split then.split;
+  answers = taken.answers ++ then.answers;
+  last = then.last;
+  answered = answers_both state taken.lines taken.answers taken.last then.lines then.answers then.last taken.answered then.answered;
+  written = subst (Appends old new) (append_assoc first taken.answers then.answers)
+      (Appends-trans old mid new (first ++ taken.answers) then.answers taken.written then.written);
+  now = then.now;
+  safe = then.safe;
+}
+
+ending_more : (given bytes : List ℕ) (lines more : List (List ℕ)) (begun : List ℕ) (state : State) (text : List ℕ) → AreLines given lines begun
+    → IsEnding (begun ++ bytes) more state text → IsEnding (given ++ bytes) (lines ++ more) state text
+ending_more given bytes lines more begun state text first (inl none) = inl none
+ending_more given bytes lines more begun state text first (inr end) =
+    inr (end.0, lines_both given bytes lines more begun end.0 first end.1, end.2)
+
+-- the next bytes, in which a fault ended the desk
+pub served_more : {D : Type 0} {g : Ghosts D} (desk : Desk D g) (state : State) (given bytes first : List ℕ) (old mid new : Option (List ℕ))
+    (outcomes : List ℕ → Type 0) → (taken : Takes desk state given first old mid)
+    → Served taken.last (taken.begun ++ bytes) [] mid new outcomes → Served state (given ++ bytes) first old new outcomes
+served_more desk state given bytes first old mid new outcomes taken then =
+    let front = first ++ taken.answers in
+    let back = then.answers ++ then.ending in
+    record {
+      safe = taken.lines ++ then.safe;
+      others = then.others;
+      lines = record {
+        rest = then.lines.rest;
+        split = split_more given bytes taken.lines (then.safe ++ then.others) taken.begun then.lines.rest taken.split.split then.lines.split
+            ∙ ap (λ (ls : List (List ℕ)). text_of ls ++ then.lines.rest) (sym (append_assoc taken.lines then.safe then.others));
+        whole = subst AreWhole (sym (append_assoc taken.lines then.safe then.others))
+            (all_both (λ line. has_byte 10 line ≡ false) taken.lines (then.safe ++ then.others) taken.split.whole then.lines.whole);
+      };
+      answers = taken.answers ++ then.answers;
+      middle = then.middle;
+      answered = answers_both state taken.lines taken.answers taken.last then.safe then.answers then.middle taken.answered then.answered;
+      later = then.later;
+      last = then.last;
+      unanswered = then.unanswered;
+      ending = then.ending;
+      ends = ending_more given bytes taken.lines then.safe taken.begun then.middle then.ending taken.split then.ends;
+      count = length front + then.count;
+      written = subst (Appends old new)
+          (sym (take_past front back then.count)
+          ∙ ap (take (length front + then.count)) (append_assoc first taken.answers back
+          ∙ ap (λ (t : List ℕ). first ++ t) (sym (append_assoc taken.answers then.answers then.ending))))
+          (Appends-trans old mid new front (take then.count back) taken.written then.written);
+      crash = then.crash;
+    }
+
+-- a fault of the input, or of the line in which it ended
+pub served_so_far : {D : Type 0} {g : Ghosts D} (desk : Desk D g) (state : State) (given first : List ℕ) (old mid new : Option (List ℕ))
+    (count : ℕ) → (taken : Takes desk state given first old mid) → (ending : List ℕ) → IsEnding given taken.lines taken.last ending
+    → Appends mid new (take count ending) → Served state given first old new (MayLeave desk)
+served_so_far desk state given first old mid new count taken ending ends written =
+    let front = first ++ taken.answers in
+    record {
+      safe = taken.lines;
+      others = [];
+      lines = record {
+        rest = taken.begun;
+        split = taken.split.split ∙ ap (λ (ls : List (List ℕ)). text_of ls ++ taken.begun) (sym (append-nil taken.lines));
+        whole = subst AreWhole (sym (append-nil taken.lines)) taken.split.whole;
+      };
+      answers = taken.answers;
+      middle = taken.last;
+      answered = taken.answered;
+      later = [];
+      last = taken.last;
+      unanswered = (refl, refl);
+      ending = ending;
+      ends = ends;
+      count = length front + count;
+      written = subst (Appends old new)
+          (sym (take_past front ending count) ∙ ap (take (length front + count)) (append_assoc first taken.answers ending))
+          (Appends-trans old mid new front (take count ending) taken.written written);
+      crash = λ file may. inl (taken.safe file may);
+    }
+
+-- a fault of the writer at the first text
+pub served_first : {D : Type 0} {g : Ghosts D} (desk : Desk D g) (state : State) (begun first : List ℕ) (old new : Option (List ℕ)) (count : ℕ)
+    → ((file : List ℕ) → MayLeave desk file → OpensTo state.journal file) → Appends old new (take count first)
+    → Served state (begun ++ []) first old new (MayLeave desk)
+served_first desk state begun first old new count opens written = record {
+  safe = [];
+  others = [];
+  lines = record { rest = begun ++ []; split = refl; whole = tt };
+  answers = [];
+  middle = state;
+  answered = (refl, refl);
+  later = [];
+  last = state;
+  unanswered = (refl, refl);
+  ending = [];
+  ends = inl refl;
+  count = count;
+  written = subst (Appends old new) (ap (take count) (sym (append-nil first))) written;
+  crash = λ file may. inl (opens file may);
+}
+
+-- the end of the input
+pub finishes : {D : Type 0} {g : Ghosts D} (desk : Desk D g) (state : State) (given first : List ℕ) (old mid new : Option (List ℕ))
+    → (taken : Takes desk state given first old mid) → Appends mid new (end_answer (next taken.last.answered) taken.begun)
+    → Finishes state given first old new (MayLeave desk)
+finishes desk state given first old mid new taken written =
+    let ending = end_answer (next taken.last.answered) taken.begun in
+    record {
+      lines = taken.lines;
+      begun = taken.begun;
+      split = taken.split;
+      answers = taken.answers;
+      last = taken.last;
+      answered = taken.answered;
+      written = subst (Appends old new) (append_assoc first taken.answers ending)
+          (Appends-trans old mid new (first ++ taken.answers) ending taken.written written);
+      safe = taken.safe;
+    }
+
+pub is_given : (old new : Option (List ℕ)) (given : List ℕ) → Consumes old new given → IsGiven old given
+is_given None new given consumes = tt
+is_given (Some bytes) None given consumes = absurd consumes
+is_given (Some bytes) (Some left) given consumes = (left, consumes)
+
+-- a fault of the writer comes after some of the text
+pub written_fault : (old new : Option (List ℕ)) (text : List ℕ) (fault : DeskFault) → IsWritingFault old new text fault
+    → (count : ℕ) × Appends old new (take count text)
+written_fault old new text (Write written) fault = (written, fault.1)
+written_fault old new text InUse fault = absurd fault
+written_fault old new text NotAFile fault = absurd fault
+written_fault old new text Database fault = absurd fault
+written_fault old new text (Io error) fault = absurd fault
+written_fault old new text (Stores why) fault = absurd fault
+written_fault old new text (NotAJournal why) fault = absurd fault
+written_fault old new text Respelled fault = absurd fault
+written_fault old new text Read fault = absurd fault
+written_fault old new text Memory fault = absurd fault
+
+pub written_part : {X : Type 0} (old new : Option (List ℕ)) (text : List ℕ) (r : Result X DeskFault) → IfErr r (IsWritingFault old new text)
+    → OnErr r ((count : ℕ) × Appends old new (take count text))
+written_part old new text (Ok x) fault = tt
+written_part old new text (Err why) fault = written_fault old new text why fault
+
+-- every file that a crash leaves stands for the store's lines, which are the journal's text
+pub opens_store : {D : Type 0} {g : Ghosts D} (store : Store D g) (journal : Option Journal)
+    → (IsTrue (g.is_clean (disk_of store)) → text_of (held store) ≡ journal_text journal)
+    → (IsTrue (g.is_clean (disk_of store)) → IsSafe store) → (file : List ℕ)
+    → IsTrue (g.is_clean (disk_of store)) × g.may_leave (disk_of store) file → OpensTo journal file
+opens_store store journal text safe file may = (held store, (safe may.0).crash file may.1, text may.0)
+
+opens_one : (lines batch : List (List ℕ)) (before after : Option Journal) (file : List ℕ) → text_of lines ≡ journal_text before
+    → text_of (lines ++ batch) ≡ journal_text after → StandsForEither lines batch file → OpensTo before file ⊎ OpensTo after file
+opens_one lines batch before after file old new (inl stands) = inl (lines, stands, old)
+opens_one lines batch before after file old new (inr stands) = inr (lines ++ batch, stands, new)
+
+-- the text of the lines with those of a batch
+pub with_batch : (lines batch : List (List ℕ)) (entered : List ℕ) (before after : Option Journal) → text_of lines ≡ journal_text before
+    → text_of batch ≡ entered → journal_text before ++ entered ≡ journal_text after → text_of (lines ++ batch) ≡ journal_text after
+with_batch lines batch entered before after old new is =
+    text_more lines batch ∙ ap (λ (t : List ℕ). t ++ text_of batch) old ∙ ap (λ (t : List ℕ). journal_text before ++ t) new ∙ is
+
+-- the store's lines are the old ones, and maybe those of the batch
+pub opens_either : {D : Type 0} {g : Ghosts D} (old new : Store D g) (batch : List (List ℕ)) (entered : List ℕ) (before after : Option Journal)
+    → g.is_clean (disk_of new) ≡ g.is_clean (disk_of old) → (IsTrue (g.is_clean (disk_of old)) → text_of (held old) ≡ journal_text before)
+    → text_of batch ≡ entered → journal_text before ++ entered ≡ journal_text after
+    → (IsTrue (g.is_clean (disk_of new)) → (file : List ℕ) → g.may_leave (disk_of new) file → StandsForEither (held old) batch file)
+    → (file : List ℕ) → IsTrue (g.is_clean (disk_of new)) × g.may_leave (disk_of new) file → OpensTo before file ⊎ OpensTo after file
+opens_either old new batch entered before after same text is grown stands file may =
+    let was = text (sym same ∙ may.0) in
+    opens_one (held old) batch before after file was (with_batch (held old) batch entered before after was is grown)
+    (stands may.0 file may.1)
+
+-- the store's lines have grown by the batch
+pub store_grown : {D : Type 0} {g : Ghosts D} (old new : Store D g) (batch : List (List ℕ)) (entered : List ℕ) (before after : Option Journal)
+    → g.is_clean (disk_of new) ≡ g.is_clean (disk_of old) → (IsTrue (g.is_clean (disk_of old)) → text_of (held old) ≡ journal_text before)
+    → text_of batch ≡ entered → journal_text before ++ entered ≡ journal_text after
+    → (IsTrue (g.is_clean (disk_of new)) → held new ≡ held old ++ batch)
+    → IsTrue (g.is_clean (disk_of new)) → text_of (held new) ≡ journal_text after
+store_grown old new batch entered before after same text is grown appended clean =
+    ap text_of (appended clean) ∙ with_batch (held old) batch entered before after (text (sym same ∙ clean)) is grown
+
+pub on_err_any : {X Y : Type 0} (r : Result X Y) (P : Type 0) → P → OnErr r P
+on_err_any (Ok x) P p = tt
+on_err_any (Err y) P p = p
+
+pub on_err_then : {X Y : Type 0} (r : Result X Y) (P Q : Type 0) → (P → Q) → OnErr r P → OnErr r Q
+on_err_then (Ok x) P Q then p = tt
+on_err_then (Err y) P Q then p = then p
+
+-- a read of no bytes at the end of the input
+pub all_given : (old mid new : Option (List ℕ)) (given buffer : List ℕ) (count : ℕ) → Consumes old mid given → Consumes mid new (take count buffer)
+    → count ≡ 0 → IsAtEnd new → IfSome old (λ bytes. bytes ≡ given)
+all_given old mid new given buffer count before last none ended =
+    Consumes-whole old new (given ++ take 0 buffer) (λ (bytes : List ℕ). bytes ≡ given)
+    (Consumes-trans old mid new given (take 0 buffer) before (subst (λ (n : ℕ). Consumes mid new (take n buffer)) none last)) ended
+    (append-nil given)

@@ -1,0 +1,183 @@
+-- One line of the input, answered.
+use Rattle.std.proofs.Common.{◌≡◌, ◌==◌, ◌≤◌, ◌+◌, ℕ, Bool, true, false, List, [], ◌∷◌, ◌++◌, Option, Some, None, length, refl, sym, ap, ◌∙◌, subst, arith, append_assoc, append-nil, length-append}
+use Rattle.std.proofs.lemmas.Bool.{cond-true, cond-false, eq-eqb, false_from_ne_true, eqb-true}
+use Rattle.std.specs.List.{flat_map}
+use Rattle.dam_book.specs.Book.{run, commands_of, empty_book, reply_to}
+use Rattle.dam_book.specs.declared.command.Command.{Command}
+use Rattle.dam_book.specs.declared.command.Entry.{Entry}
+use Rattle.dam_results.specs.Records.{day_row}
+use Rattle.dam_results.specs.Replies.{day_line, reply_line}
+use Rattle.dam_results.specs.Written.{command_line, row_line, written}
+use Rattle.dam_desk.specs.Answers.{fault_line}
+use Rattle.dam_desk.specs.Journal.{Journal, answer_to, day_of, journal_after, journal_text}
+use Rattle.dam_desk.specs.Room.{is_full}
+use Rattle.dam_desk.specs.inside.Day.{IsDayWith}
+use Rattle.dam_desk.specs.inside.Intake.{Answered, HasJournal, IsAt, entered_text, periods_of, records_text}
+use Rattle.dam_desk.specs.declared.day.Day.{Day}
+use Rattle.dam_desk.specs.declared.fault.LineFault.{LineFault}
+use Rattle.dam_desk.specs.declared.fault.LineFault.TheVariants.{OtherDay}
+use Rattle.dam_desk.specs.declared.reading.Said.{Said}
+use Rattle.dam_desk.specs.declared.reading.Said.TheVariants.{Day as Days, Command as Commands, Fault}
+use Rattle.dam_desk.specs.declared.state.Intake.{Intake}
+use Rattle.dam_desk.proofs.Texts.{commands_more}
+
+pub none_journal : (journal : Option Journal) → HasJournal None journal → journal ≡ None
+none_journal None has = refl
+none_journal (Some j) has = absurd has
+
+pub periods_same : (day : Option Day) (journal : Option Journal) → HasJournal day journal → periods_of day ≡ day_of journal
+periods_same None None has = refl
+periods_same None (Some j) has = absurd has
+periods_same (Some day) None has = absurd has
+periods_same (Some day) (Some j) has = ap Some has.same_day
+
+-- the journal of a desk with a day
+pub record IsOf (day : Day) (journal : Option Journal) : Type 0 where
+  pub of : Journal
+  pub is : journal ≡ Some of
+  pub has : IsDayWith day of.periods of.commands
+
+pub some_journal : (day : Day) (journal : Option Journal) → HasJournal (Some day) journal → IsOf day journal
+some_journal day None has = absurd has
+some_journal day (Some j) has = record { of = j; is = refl; has = has }
+
+pub fault_answer : (number : ℕ) (journal : Option Journal) (fault : LineFault) → answer_to number journal (Fault fault) ≡ fault_line number fault
+fault_answer number None fault = refl
+fault_answer number (Some j) fault = refl
+
+pub fault_after : (journal : Option Journal) (fault : LineFault) → journal_after journal (Fault fault) ≡ journal
+fault_after None fault = refl
+fault_after (Some j) fault = refl
+
+-- the same day, and the same records
+entered_same : (old new : Intake) → new.day ≡ old.day → new.begins ≡ old.begins → new.entries.items ≡ old.entries.items
+    → entered_text new ≡ entered_text old
+entered_same old new day begins entries =
+    ap (λ (d : Option Day). records_text d new.begins (commands_of new.entries.items)) day
+    ∙ ap (λ (b : Bool). records_text old.day b (commands_of new.entries.items)) begins
+    ∙ ap (λ (es : List Entry). records_text old.day old.begins (commands_of es)) entries
+
+-- a line that enters nothing, and its answer
+pub nothing_entered : (old new : Intake) (before : List ℕ) (journal : Option Journal) (said : Said) (answer : List ℕ)
+    → IsAt old before journal → new.day ≡ old.day → new.begins ≡ old.begins → new.entries.items ≡ old.entries.items
+    → new.answers.items ≡ old.answers.items ++ answer → answer_to old.answered journal said ≡ answer → journal_after journal said ≡ journal
+    → Answered old new before journal said
+nothing_entered old new before journal said answer at day begins entries text is after = record {
+  answer = text ∙ ap (λ (t : List ℕ). old.answers.items ++ t) (sym is);
+  at = subst (IsAt new before) (sym after) (record {
+    day = subst (λ (d : Option Day). HasJournal d journal) (sym day) at.day;
+    text = ap (λ (t : List ℕ). before ++ t) (entered_same old new day begins entries) ∙ at.text;
+  });
+}
+
+-- the day again, or another day
+pub same_day_answer : (number : ℕ) (journal : Option Journal) (day : Day) (periods : ℕ) → IsOf day journal → day.periods ≡ periods
+    → answer_to number journal (Days periods) ≡ day_line day.periods
+same_day_answer number journal day periods of same =
+    ap (λ (j : Option Journal). answer_to number j (Days periods)) of.is
+    ∙ cond-true (periods == of.of.periods) _ _ (eq-eqb periods of.of.periods (sym same ∙ of.has.same_day))
+    ∙ ap day_line (sym same)
+
+pub other_day_answer : (number : ℕ) (journal : Option Journal) (day : Day) (periods : ℕ) → IsOf day journal → ¬ (day.periods ≡ periods)
+    → answer_to number journal (Days periods) ≡ fault_line number OtherDay
+other_day_answer number journal day periods of other =
+    ap (λ (j : Option Journal). answer_to number j (Days periods)) of.is
+    ∙ cond-false (periods == of.of.periods) _ _
+    (false_from_ne_true _ (λ same. other (of.has.same_day ∙ sym (eqb-true periods of.of.periods same))))
+
+pub day_after : (journal : Option Journal) (day : Day) (periods : ℕ) → IsOf day journal → journal_after journal (Days periods) ≡ journal
+day_after journal day periods of = ap (λ (j : Option Journal). journal_after j (Days periods)) of.is ∙ sym of.is
+
+no_entries : (es : List Entry) → length es ≤ 0 → commands_of es ≡ []
+no_entries [] few = refl
+no_entries (e ∷ es) few = absurd (omega (arith, few))
+
+-- a new journal, with the record of its day
+pub day_begun : (old new : Intake) (before : List ℕ) (journal : Option Journal) (day : Day) → IsAt old before journal → old.day ≡ None
+    → length old.entries.items ≤ 0 → day.book ≡ empty_book day.periods → day.entered ≡ 0 → new.day ≡ Some day → new.begins ≡ true
+    → new.entries.items ≡ old.entries.items → new.answers.items ≡ old.answers.items ++ day_line day.periods
+    → Answered old new before journal (Days day.periods)
+day_begun old new before journal day at none few book entered now begins entries text =
+    let is : journal ≡ None = none_journal journal (subst (λ (d : Option Day). HasJournal d journal) none at.day) in
+    let empty : before ≡ [] = sym (append-nil before)
+    ∙ ap (λ (d : Option Day). before ++ records_text d old.begins (commands_of old.entries.items)) (sym none) ∙ at.text
+    ∙ ap journal_text is in
+    let records : entered_text new ≡ written day.periods [] =
+    ap (λ (d : Option Day). records_text d new.begins (commands_of new.entries.items)) now
+    ∙ ap (λ (b : Bool). records_text (Some day) b (commands_of new.entries.items)) begins
+    ∙ ap (written day.periods) (ap commands_of entries ∙ no_entries old.entries.items few) in
+    let after : journal_after journal (Days day.periods) ≡ Some (record { periods = day.periods; commands = [] }) = ap (λ (j : Option Journal). journal_after j (Days day.periods)) is in
+    record {
+      answer = text
+          ∙ ap (λ (j : Option Journal). old.answers.items ++ answer_to old.answered j (Days day.periods)) (sym is);
+      at = subst (IsAt new before) (sym after) (record {
+        day = subst (λ (d : Option Day). HasJournal d (Some (record { periods = day.periods; commands = [] }))) (sym now)
+            (record { same_day = refl; book = book; entered = entered });
+        text = ap (λ (t : List ℕ). t ++ entered_text new) empty ∙ records;
+      });
+    }
+
+pub written_more : (periods : ℕ) (commands more : List Command)
+    → written periods (commands ++ more) ≡ written periods commands ++ flat_map command_line more
+written_more periods commands more =
+    ap (λ (t : List ℕ). row_line (day_row periods) ++ t) (commands_more commands more)
+    ∙ sym (append_assoc (row_line (day_row periods)) (flat_map command_line commands) (flat_map command_line more))
+
+records_more : (old new : Day) (begins : Bool) (commands more : List Command) → new.periods ≡ old.periods
+    → records_text (Some new) begins (commands ++ more) ≡ records_text (Some old) begins commands ++ flat_map command_line more
+records_more old new true commands more same =
+    ap (λ (p : ℕ). written p (commands ++ more)) same ∙ written_more old.periods commands more
+records_more old new false commands more same = commands_more commands more
+
+-- a command that is entered, and the day before and after it
+pub record Enters (old new : Day) (command : Command) : Type 0 where
+  pub room : is_full old.entered command ≡ false
+  pub periods : new.periods ≡ old.periods
+  pub book : (cs : List Command) → old.book ≡ run old.periods cs → new.book ≡ run old.periods (cs ++ command ∷ [])
+  pub entered : new.entered ≡ old.entered + 1
+
+pub command_entered : (old new : Intake) (before : List ℕ) (journal : Option Journal) (day later : Day) (command : Command)
+    → IsAt old before journal → old.day ≡ Some day → new.day ≡ Some later → Enters day later command → new.begins ≡ old.begins
+    → commands_of new.entries.items ≡ commands_of old.entries.items ++ command ∷ []
+    → new.answers.items ≡ old.answers.items ++ reply_line (day.entered + 1) (reply_to day.book command)
+    → Answered old new before journal (Commands command)
+command_entered old new before journal day later command at was now enters begins entries text =
+    let of = some_journal day journal (subst (λ (d : Option Day). HasJournal d journal) was at.day) in
+    let j = of.of in
+    let more : Journal = record { periods = j.periods; commands = j.commands ++ command ∷ [] } in
+    let room : is_full (length j.commands) command ≡ false = ap (λ (n : ℕ). is_full n command) (sym of.has.entered) ∙ enters.room in
+    let after : journal_after journal (Commands command) ≡ Some more =
+    ap (λ (o : Option Journal). journal_after o (Commands command)) of.is
+    ∙ ap Some (cond-false (is_full (length j.commands) command) j more room) in
+    let answer : answer_to old.answered journal (Commands command) ≡ reply_line (day.entered + 1) (reply_to day.book command) =
+    ap (λ (o : Option Journal). answer_to old.answered o (Commands command)) of.is
+    ∙ cond-false (is_full (length j.commands) command) _ _ room
+    ∙ ap (λ (n : ℕ). reply_line (n + 1) (reply_to (run j.periods j.commands) command)) (sym of.has.entered)
+    ∙ ap (λ b. reply_line (day.entered + 1) (reply_to b command)) (sym of.has.book) in
+    let old_text : before ++ records_text (Some day) old.begins (commands_of old.entries.items) ≡ written j.periods j.commands =
+    ap (λ (d : Option Day). before ++ records_text d old.begins (commands_of old.entries.items)) (sym was) ∙ at.text
+    ∙ ap journal_text of.is in
+    let records : entered_text new ≡ records_text (Some day) old.begins (commands_of old.entries.items) ++ flat_map command_line (command ∷ []) =
+    ap (λ (d : Option Day). records_text d new.begins (commands_of new.entries.items)) now
+    ∙ ap (λ (b : Bool). records_text (Some later) b (commands_of new.entries.items)) begins
+    ∙ ap (records_text (Some later) old.begins) entries
+    ∙ records_more day later old.begins (commands_of old.entries.items) (command ∷ []) enters.periods in
+    record {
+      answer = text ∙ ap (λ (t : List ℕ). old.answers.items ++ t) (sym answer);
+      at = subst (IsAt new before) (sym after) (record {
+        day = subst (λ (d : Option Day). HasJournal d (Some more)) (sym now) (record {
+          same_day = enters.periods ∙ of.has.same_day;
+          book = enters.book j.commands (of.has.book ∙ ap (λ (p : ℕ). run p j.commands) (sym of.has.same_day))
+              ∙ ap (λ (p : ℕ). run p (j.commands ++ command ∷ [])) of.has.same_day;
+          entered = omega (arith, enters.entered, of.has.entered, length-append j.commands (command ∷ []));
+        });
+        text = ap (λ (t : List ℕ). before ++ t) records
+            ∙ sym (append_assoc before (records_text (Some day) old.begins (commands_of old.entries.items)) (flat_map command_line (command ∷ [])))
+            ∙ ap (λ (t : List ℕ). t ++ flat_map command_line (command ∷ [])) old_text
+            ∙ sym (written_more j.periods j.commands (command ∷ []));
+      });
+    }
+
+pub nothing_yet : (day : Option Day) (entries : List Entry) → entries ≡ [] → records_text day false (commands_of entries) ≡ []
+nothing_yet None entries none = refl
+nothing_yet (Some day) entries none = ap (λ (es : List Entry). flat_map command_line (commands_of es)) none

@@ -1,0 +1,18 @@
+-- The lines of the batch are those of its records.
+use Rattle.std.proofs.Common.{◌≡◌, ◌++◌, true, List, ℕ, Option, sym, ap, ◌∙◌}
+use Rattle.dam_book.specs.Book.{commands_of}
+use Rattle.dam_store.specs.Journal.{text_of}
+use Rattle.dam_desk.specs.inside.Intake.{records_text}
+use Rattle.dam_desk.specs.inside.Lines.{is_ended}
+use Rattle.dam_desk.specs.declared.day.Day.{Day}
+use Rattle.dam_desk.proofs.Texts.{ended_records}
+use Rattle.dam_desk.proofs.state.Intake.batch.Goals as goal
+
+pub returns : goal.returns
+returns c =
+    let begins = c.args.self.now.begins in
+    let commands = commands_of c.args.self.now.entries.items in
+    let ended : is_ended c.entered.result.now ≡ true = ap is_ended c.entered.ensures ∙ ended_records c.in-Some.day begins commands in
+    c.in_ok-push_lines.ensures ended
+    ∙ ap (λ (ls : List (List ℕ)). text_of ls ++ c.entered.result.now) c.in_ok-batch.ensures
+    ∙ c.entered.ensures ∙ ap (λ (d : Option Day). records_text d begins commands) (sym c.in-Some.is)

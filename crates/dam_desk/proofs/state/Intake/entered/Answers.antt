@@ -1,0 +1,27 @@
+-- The records of the batch are all, or those after the record of the day.
+use Rattle.std.proofs.Common.{Bool, Some, sym, ap, ◌∙◌}
+use Rattle.std.specs.List.{flat_map}
+use Rattle.dam_book.specs.Book.{commands_of}
+use Rattle.dam_results.specs.Records.{day_row}
+use Rattle.dam_results.specs.Written.{command_line, row_line}
+use Rattle.dam_desk.specs.inside.Intake.{records_text}
+use Rattle.dam_desk.proofs.Lists.{fits_before, left_after}
+use Rattle.dam_desk.proofs.state.Intake.entered.Goals as goal
+
+pub slice_bounds-result-count : goal.slice_bounds-result-count
+slice_bounds-result-count c = fits_before c.header.result.now c.args.records.now (row_line (day_row c.args.day.now.periods))
+    (flat_map command_line (commands_of c.args.self.now.entries.items)) c.header.ensures c.requires
+
+pub slice_bounds-result-start : goal.slice_bounds-result-start
+slice_bounds-result-start c = fits_before c.header.result.now c.args.records.now (row_line (day_row c.args.day.now.periods))
+    (flat_map command_line (commands_of c.args.self.now.entries.items)) c.header.ensures c.requires
+
+pub returns-then-self : goal.returns-then-self
+returns-then-self c = c.requires
+    ∙ ap (λ (b : Bool). records_text (Some c.args.day.now) b (commands_of c.args.self.now.entries.items)) (sym c.if-self.true)
+
+pub returns : goal.returns
+returns c =
+    left_after c.header.result.now c.args.records.now (row_line (day_row c.args.day.now.periods))
+    (flat_map command_line (commands_of c.args.self.now.entries.items)) c.header.ensures c.requires
+    ∙ ap (λ (b : Bool). records_text (Some c.args.day.now) b (commands_of c.args.self.now.entries.items)) (sym c.if-self.false)

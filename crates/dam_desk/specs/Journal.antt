@@ -1,0 +1,108 @@
+-- The journal of a desk: which answer a line of the input gets, and what it enters.
+use Rattle.std.specs.Prelude.{◌≡◌, ◌==◌, ◌+◌, ◌-◌, ◌^◌, ℕ, min, false, if◌then◌else◌, List, [], ◌∷◌, ◌++◌, length, Option, None, Some}
+use Rattle.std.specs.List.{AllByRecursion}
+use Rattle.dam_book.specs.Book.{reply_to, run}
+use Rattle.dam_book.specs.declared.command.Command.{Command}
+use Rattle.dam_results.specs.Journal.{ReadsAs}
+use Rattle.dam_results.specs.Replies.{day_line, reply_line, replies_to}
+use Rattle.dam_results.specs.Written.{written}
+use Rattle.dam_store.specs.Journal.{has_byte, text_of, StandsFor}
+use Rattle.dam_desk.specs.Answers.{fault_line}
+use Rattle.dam_desk.specs.Lines.{Says}
+use Rattle.dam_desk.specs.Room.{is_full}
+use Rattle.dam_desk.specs.declared.fault.LineFault.TheVariants.{OtherDay, JournalFull, NotDay}
+use Rattle.dam_desk.specs.declared.reading.Said.{Said}
+use Rattle.dam_desk.specs.declared.reading.Said.TheVariants.{Day, Command as Commands, Fault}
+
+-- a day, and the commands that were entered
+pub record Journal : Type 0 where
+  pub periods : ℕ
+  pub commands : List Command
+
+-- the periods of a journal, which a new file doesn't have yet
+abbrev pub day_of : Option Journal → Option ℕ
+day_of None = None
+day_of (Some journal) = Some journal.periods
+
+-- the text of the file's lines: the written journal
+abbrev pub journal_text : Option Journal → List ℕ
+journal_text None = []
+journal_text (Some journal) = written journal.periods journal.commands
+
+-- the text reads as the journal
+abbrev pub Reads : Option Journal → Type 0
+Reads None = Unit {0}
+Reads (Some journal) = ReadsAs (written journal.periods journal.commands) journal.periods journal.commands
+
+-- the text that `dam replay` prints for the journal
+abbrev pub replies_text : Option Journal → List ℕ
+replies_text None = []
+replies_text (Some journal) = replies_to journal.periods journal.commands
+
+-- the journal with one more command, if it has room for it
+abbrev pub with_command : Journal → Command → Journal
+with_command journal command =
+    if is_full (length journal.commands) command then journal
+    else record { periods = journal.periods; commands = journal.commands ++ command ∷ [] }
+
+-- the journal after a line that says this
+abbrev pub journal_after : Option Journal → Said → Option Journal
+journal_after None (Day periods) = Some (record { periods = periods; commands = [] })
+journal_after (Some journal) (Commands command) = Some (with_command journal command)
+journal_after journal said = journal
+
+-- the answer to a command of this journal, given in the line of this number
+abbrev pub command_answer : ℕ → Journal → Command → List ℕ
+command_answer number journal command =
+    if is_full (length journal.commands) command then fault_line number JournalFull
+    else reply_line (length journal.commands + 1) (reply_to (run journal.periods journal.commands) command)
+
+-- the answer to the line of this number, which says this in this journal
+abbrev pub answer_to : ℕ → Option Journal → Said → List ℕ
+answer_to number None (Day periods) = day_line periods
+answer_to number (Some journal) (Day periods) =
+    if periods == journal.periods then day_line periods else fault_line number OtherDay
+answer_to number None (Commands command) = fault_line number NotDay
+answer_to number (Some journal) (Commands command) = command_answer number journal command
+answer_to number journal (Fault fault) = fault_line number fault
+
+-- what a desk has answered: so many lines, which made this journal
+pub record State : Type 0 where
+  pub answered : ℕ
+  pub journal : Option Journal
+
+-- the number of the next line
+abbrev pub next : ℕ → ℕ
+next answered = min (answered + 1) (2 ^ 64 - 1)
+
+-- the state after a line that says this
+abbrev pub state_after : State → Said → State
+state_after state said = record { answered = next state.answered; journal = journal_after state.journal said }
+
+-- the text has one answer to each line, in order, and this is the state after them
+abbrev pub AreAnswers : State → List (List ℕ) → List ℕ → State → Type 0
+AreAnswers state [] text last = (text ≡ []) × (last ≡ state)
+AreAnswers state (line ∷ lines) text last =
+    (said : Said) × Says (day_of state.journal) line said
+    × (rest : List ℕ) × (text ≡ answer_to (next state.answered) state.journal said ++ rest)
+    × AreAnswers (state_after state said) lines rest last
+
+-- none of the lines has a line feed
+abbrev pub AreWhole : List (List ℕ) → Type 0
+AreWhole lines = AllByRecursion (λ line. has_byte 10 line ≡ false) lines
+
+-- the bytes are these lines, each with its line feed, and then the beginning of another line
+pub record AreLines (bytes : List ℕ) (lines : List (List ℕ)) (begun : List ℕ) : Type 0 where
+  pub split : bytes ≡ text_of lines ++ begun
+  pub whole : AreWhole lines
+  pub unended : has_byte 10 begun ≡ false
+
+-- these are the first lines of the bytes
+pub record FirstLines (bytes : List ℕ) (lines : List (List ℕ)) : Type 0 where
+  pub rest : List ℕ
+  pub split : bytes ≡ text_of lines ++ rest
+  pub whole : AreWhole lines
+
+-- the file opens to this journal
+abbrev pub OpensTo : Option Journal → List ℕ → Type 0
+OpensTo journal file = (lines : List (List ℕ)) × StandsFor lines file × (text_of lines ≡ journal_text journal)
