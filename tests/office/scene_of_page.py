@@ -86,6 +86,19 @@ async def shown(page, counts, pictures, name):
 
 # --- signing in and out
 
+# Loses the first answer to a page.
+UNREACHED = """{ const real = fetch; fetch = async (...words) => {
+  if (window.unreached) return real(...words); window.unreached = true; throw new TypeError('unreached'); }; }"""
+
+
+async def unreached(page, counts):
+    """A page that can't reach the office asks again."""
+    await page.call("Page.addScriptToEvaluateOnNewDocument", source=UNREACHED)
+    await page.call("Page.reload")
+    await page.until("window.unreached && document.getElementById('message')?.className === 'wrong'")
+    await page.until("!document.getElementById('sign-in').hidden")
+    counts.check("a page asks until the office answers", await text(page, "message") == "")
+
 
 async def sign_in(page, office, who):
     await page.until("!document.getElementById('sign-in').hidden")
@@ -124,8 +137,8 @@ LEFT = """[byId('entry-title').textContent, byId('enter').textContent,
   document.querySelectorAll('[aria-invalid]').length, byId('enter-all').checkVisibility()]"""
 NOTHING_LEFT = ["Enter an order", "Enter the order", "", "", "", "buy", "", False, True, True, True, True, 0, 0, False]
 # Lets each answer take a time.
-SLOW = """{ window.real = fetch; fetch = async (...words) => {
-  const answer = await real(...words); await new Promise((done) => setTimeout(done, 300)); return answer; }; }"""
+SLOW = """{ window.real = fetch; window.asked = ''; fetch = async (path, how) => {
+  const answer = await real(path, how); asked += path; await new Promise((done) => setTimeout(done, 500)); return answer; }; }"""
 
 
 async def leave(page, office, who, other, room, counts):
@@ -137,13 +150,14 @@ async def leave(page, office, who, other, room, counts):
     await click(page, "#enter")
     await page.run(SLOW)
     await page.run("Object.assign(state, { looks: null, count: -1 }); look(); undefined")
-    await page.run("new Promise((done) => setTimeout(done, 450))")  # the day has come, and its orders are asked for
+    await page.until("asked.includes('/orders/')")  # its answer is on the way
     await click(page, "#sign-out")
+    await page.run("new Promise((done) => setTimeout(done, 1000))")
+    counts.check("an answer that comes later is for nobody", await rows(page, "orders-table") == [])
+    await page.run("fetch = real; undefined")
     await sign_in(page, office, other)
     counts.check("nothing of a participant is left", await page.run(LEFT) == NOTHING_LEFT)
-    await page.run("new Promise((done) => setTimeout(done, 1500))")
-    counts.check("and nothing of it comes later", await rows(page, "orders-table") == await rows(page, "commands-table") == [])
-    await page.run("fetch = real; undefined")
+    counts.check("and it has no orders or commands", await rows(page, "orders-table") == await rows(page, "commands-table") == [])
     await click(page, "#sign-out")
     await sign_in(page, office, who)
     await page.until("document.querySelectorAll('#orders-table tbody tr').length")
@@ -301,6 +315,10 @@ async def faults(page, counts):
 LOSE = """{ const real = window.fetch; window.lost = false; window.fetch = async (path, how) => { const answer = await real(path, how);
   if (how?.method !== 'PUT' || window.lost) return answer; window.lost = true; throw new TypeError('lost'); }; }"""
 
+# Answers no command any more, and doesn't wait between the tries.
+NEVER = """{ window.real = fetch; window.timeout = setTimeout; setTimeout = (does) => timeout(does, 1);
+  fetch = async (path, how) => { if (how?.method === 'PUT') throw new TypeError('lost'); return real(path, how); }; }"""
+
 
 async def lose_an_answer(page, counts):
     """The page sends the command again under the same number, also if it has looked at its commands in the meantime."""
@@ -314,6 +332,14 @@ async def lose_an_answer(page, counts):
     await page.run("look()")
     await said(page, "ONCE entered, on the disk")
     counts.check("a command whose answer is lost is entered once", len(await rows(page, "commands-table")) == before + 1)
+    await page.run(NEVER)
+    await write(page, "name", "GONE")
+    await write(page, "price", "1")
+    await write(page, "volume", "1")
+    await page.key("Enter", 13)
+    await said(page, "It isn't known whether GONE was entered: the office can't be reached. Look at your commands")
+    counts.check("an order that may be lost stays in the form", await page.run("byId('name').value") == "GONE")
+    await page.run("fetch = real; setTimeout = timeout; change(null)")
 
 
 # --- tables
@@ -414,6 +440,7 @@ async def scene(office, counts, pictures, room):
     office.client(other).enter(office.day, f"submit,{other},FIRST,hour,sell,300000,24:1,,")  # so that entries and own numbers differ
     async with browser.opened(office.url) as page:
         await page.until("!document.getElementById('sign-in').hidden")
+        await unreached(page, counts)
         await shown(page, counts, pictures, "sign-in")
         await first_sign_in(page, office, who, counts)
         await enter_orders(page, who, counts)
@@ -455,6 +482,7 @@ async def demo_scene(url, counts, pictures):
         await click(page, "#close-now")
         await click(page, "#yes")
         await page.until("!document.getElementById('results').hidden")
+        counts.check("the focus is at the orders after the close", await focused(page) == "orders-title")
         (night,), prices = await rows(page, "statement"), await rows(page, "prices")
         counts.check(f"a block over a night has a price in the demo: {night}", night[5:7] == ["25.0", "48.00"] and night[8] == "accepted")
         counts.check("each period of the demo has trade", len(prices) == 24 and not any("nominal" in row[2] for row in prices))

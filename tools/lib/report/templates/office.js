@@ -152,8 +152,8 @@ async function days() {
 
 async function choose(day) {
   state.visit += 1;
-  state.day = day;
-  state.known = await json(`/days/${day}`);
+  const known = await json(`/days/${day}`);
+  Object.assign(state, { day, known });
   const periods = state.known.begins.map((_, at) => [at + 1, periodWords(at + 1)]);
   for (const id of ["period", "fill-from", "fill-to"]) options(byId(id), periods);
   byId("grid").replaceChildren(...periods.map(([number, words]) => {
@@ -198,7 +198,7 @@ function announce(seconds) {
 
 async function look() {
   const { visit } = state;
-  if (!state.token || state.looks === visit) return;
+  if (!state.token || !state.known || state.looks === visit) return;
   state.looks = visit;
   try {
     const before = state.known;
@@ -513,6 +513,20 @@ async function closeNow() {
   byId("orders-title").focus();
 }
 
+// Shows the days, again and again until the office answers.
+async function begin() {
+  try {
+    await days();
+    say("");
+  } catch (fault) {
+    sayFault(fault);
+    setTimeout(begin, LOOK);
+    return;
+  }
+  show();
+  await look();
+}
+
 // --- the page
 
 byId("price-help").textContent = limitRule.ends;
@@ -520,7 +534,7 @@ for (const id of ["volume-help", "grid-help"]) byId(id).textContent = volumeRule
 byId("sign-in-form").addEventListener("submit", (event) => { event.preventDefault(); signIn(byId("token").value); });
 byId("sign-out").addEventListener("click", signOut);
 byId("receipts").addEventListener("click", download);
-byId("days").addEventListener("change", async () => { await choose(byId("days").value); await look(); });
+byId("days").addEventListener("change", () => choose(byId("days").value).then(look, (fault) => { byId("days").value = state.day; sayFault(fault); }));
 byId("close-now").addEventListener("click", closeNow);
 for (const id of ["yes", "no"]) byId(id).addEventListener("click", () => byId("sure").close(id));
 byId("kinds").addEventListener("change", showKind);
@@ -549,4 +563,4 @@ byId("drop").addEventListener("click", () => { drop(); say(""); byId("file").foc
 
 setInterval(look, LOOK);
 setInterval(tick, 500);
-days().then(() => { show(); return look(); }, (fault) => { show(); sayFault(fault); });
+begin();
