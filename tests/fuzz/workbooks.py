@@ -11,6 +11,7 @@ import argparse
 import io
 import os
 import random
+import re
 import resource
 import sys
 import time
@@ -283,7 +284,67 @@ def cells_merged(drawn):
 
 def two_tables(drawn):
     drawn.after = '<sheetData><row r="9999"/></sheetData>'
-    return "two tables"
+    return "two elements 'sheetData'"
+
+
+def in_sheet(change):
+    """Changes the text of the sheet, and returns the words of the fault."""
+
+    def call(drawn):
+        content = drawn.sheet()
+        changed, words = change(drawn.rng, content)
+        drawn.changes["xl/worksheets/sheet1.xml"] = drawn.qualified(changed).encode()
+        return words
+
+    call.__name__ = change.__name__
+    return call
+
+
+def place_in(rng, content, marks):
+    """A place in a text before one of these marks."""
+    mark = rng.choice([mark for mark in marks if mark in content])
+    places = [found.start() for found in re.finditer(rf"(?<!CDATA\[){re.escape(mark)}", content)]
+    return rng.choice(places)
+
+
+@in_sheet
+def wrong_place(rng, content):
+    """A row or a cell in an element that is left out, or in another one."""
+    name = rng.choice(["row", "c"])
+    begin = re.search(rf"<{name}[ >]", content).start()
+    end = content.index(f"</{name}>", begin) + len(f"</{name}>")
+    around = rng.choice(["extLst", "rPh", "rPr", "sheetData", "x", "cols"])
+    return f"{content[:begin]}<{around}>{content[begin:end]}</{around}>{content[end:]}", "stands in"
+
+
+@in_sheet
+def behind_the_cells(rng, content):
+    """A row behind the table of cells, or beside it."""
+    row = '<row r="1048576"><c r="A1048576"><v>1</v></c></row>'
+    around = rng.choice(["", "sheetPr", "x", "extLst", "sheetData"])
+    row = f"<{around}>{row}</{around}>" if around else row
+    end = content.index("</sheetData>") + len("</sheetData>")
+    return f"{content[:end]}{row}{content[end:]}", ""
+
+
+@in_sheet
+def text_in_a_wrong_place(rng, content):
+    marks = ["<sheetData", "</row>", "</sheetData>", "<c ", "<v>", "<f>", "</c>", "<is>", "</is>", "<mergeCell", "<t>"]
+    at = place_in(rng, content, marks)
+    text = rng.choice(["G1", "&#160;", "0", "<![CDATA[<row>]]>"])
+    return f"{content[:at]}{text}{content[at:]}", "stands in"
+
+
+def cells_merged_backwards(drawn):
+    """From the last cell to the first one, or further."""
+    if len(drawn.expected()) < 2:
+        return cell_twice(drawn)
+    (first, _), *_, (last, cells) = drawn.expected()
+    ends = [f"A{last + drawn.rng.choice([0, 9])}", f"{letters(len(cells) + drawn.rng.choice([0, 9]))}{first}"]
+    if drawn.rng.random() < 0.5:
+        ends = [f"{letters(len(cells))}{last + drawn.rng.choice([0, 9])}", f"A{first}"]
+    drawn.after = f'<mergeCells><mergeCell ref="{":".join(ends)}"/></mergeCells>'
+    return "are merged"
 
 
 def cell_of_another_row(drawn):
@@ -352,7 +413,7 @@ def archive_cut(drawn):
 
 BREAKS = [
     rows_out_of_order, row_twice, row_far_away, cells_out_of_order, cell_twice, cell_far_away, cell_of_no_kind, cells_merged, two_tables,
-    cell_of_another_row, stranger_in_a_row, document_type, part_missing, part_twice, part_cut, sum_wrong, size_wrong, other_compression,
+    wrong_place, behind_the_cells, text_in_a_wrong_place, cells_merged_backwards, cell_of_another_row, stranger_in_a_row, document_type, part_missing, part_twice, part_cut, sum_wrong, size_wrong, other_compression,
     archive_cut,
 ]  # fmt: skip
 
@@ -441,12 +502,12 @@ FEW = {
     "a million empty rows": (None, lambda: of_sheet(OPEN, (b"<row/>" * 1_000 for _ in range(1_000)), order(1), CLOSE)),
     "a cell of 16 MB": ("more than 32,767 characters", lambda: of_sheet(OPEN, b"<row><c><v>", b"1" * 2**24, b"</v></c></row>", CLOSE)),
     "a tag of 16 MB": ("a tag has more than", lambda: of_sheet(OPEN, b"<row a='", (b"1" * 2**16 for _ in range(256)), b"'/>", CLOSE)),
-    "elements in one another": ("in one another", lambda: of_sheet(ROOT, b"<a>" * 2**20, CLOSE)),
-    "names": ("names of elements", lambda: of_sheet(ROOT, (b"<a%d/>" % number for number in range(10**6)), CLOSE)),
+    "elements in one another": ("in one another", lambda: of_sheet(ROOT, b"<extLst>", b"<a>" * 2**20, CLOSE)),
+    "names": ("names of elements", lambda: of_sheet(ROOT, b"<cols>", (b"<a%d/>" % number for number in range(10**6)), CLOSE)),
     "namespaces": ("namespaces", lambda: of_sheet(OPEN, (b"<row%s/>" % declared(4_000) for _ in range(50)), CLOSE)),
-    "long names": ("the name of an element has more than", lambda: of_sheet(ROOT, long_names(b"<%s/>"), CLOSE)),
-    "long names of attributes": ("the name of an element has more than", lambda: of_sheet(ROOT, long_names(b"<a %s=''/>"), CLOSE)),
-    "long namespaces": ("the name of an element has more than", lambda: of_sheet(ROOT, long_names(b"<a xmlns='%s'/>"), CLOSE)),
+    "long names": ("the name of an element has more than", lambda: of_sheet(ROOT, b"<cols>", long_names(b"<%s/>"), CLOSE)),
+    "long names of attributes": ("the name of an element has more than", lambda: of_sheet(ROOT, b"<cols>", long_names(b"<a %s=''/>"), CLOSE)),
+    "long namespaces": ("the name of an element has more than", lambda: of_sheet(ROOT, b"<cols>", long_names(b"<a xmlns='%s'/>"), CLOSE)),
     "first rows": (None, lambda: of_sheets([[b"<row>", b"<c t='str'><v>%s</v></c>" % (b"x" * 32_000) * 124, b"</row>"]] * 23)),
     "parts": ("more than 10,000 parts", lambda: archive({str(number): b"" for number in range(12_000)})),
     "a text of empty lines": ("at most 1,048,576 lines", lambda: TEXT + b"\n" * 4_900_000),

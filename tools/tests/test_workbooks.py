@@ -39,7 +39,9 @@ def book(*pieces):
 READ = "of 2 sheets, 'orders' was read"
 
 
-class Faults(unittest.TestCase):
+class Read(unittest.TestCase):
+    """Reads workbooks of two sheets."""
+
     def fault(self, data):
         status, out, err = tool("table", "--journal", "-", data=data)
         self.assertEqual((status, out), (command.NO_INPUT, b""), err)
@@ -50,6 +52,8 @@ class Faults(unittest.TestCase):
         self.assertEqual((status, err), (0, f"table: standard input: {READ}\n"))
         return [(fields[2], fields[8]) for fields in csv.reader(out.decode().splitlines()[1:])]
 
+
+class Faults(Read):
     def test_the_stated_size_isnt_believed(self):
         """A sheet that states fewer rows, or fewer columns, still has all of its orders, with their groups."""
         rows = [order(2, "K1", ("I2", "G1")), order(3, "K2", ("I3", "G1")), order(4, "K3", ("I4", "G1"))]
@@ -70,7 +74,7 @@ class Faults(unittest.TestCase):
             ([b'<row r="2"><c r="H2"><v>1,5</v></c></row>'], "cell H2: '1,5' isn't a number"),
             ([b'<row r="2"><c r="H2" t="s"><v>7</v></c></row>'], "cell H2: it has no string '7'"),
             ([b'<row r="2"><c r="H2" t="q"><v>7</v></c></row>'], "cell H2: '7' isn't of its type, 'q'"),
-            ([b'<row r="2"><c r="H2"><v>7</v><v>8</v></c></row>'], "cell H2: it has two values"),
+            ([b'<row r="2"><c r="H2"><v>7</v><v>8</v></c></row>'], "cell H2: two elements 'v' stand in 'c'"),
             ([row(at, (f"ALL{at}", "1")) for at in range(2, 400)], f"cell ALL301: {LIMITED}"),
         ):
             if said is None:
@@ -81,12 +85,13 @@ class Faults(unittest.TestCase):
     def test_merged_cells_of_the_table(self):
         """Of the merged cells of a column only the first has the group: the other orders would be in none."""
         rows = [order(2, "K1", ("I2", "G1")), order(3, "K2")]
-        for ref in ("I2:I3", "A1:I1", "$A$3:$B$3"):
+        for ref in ("I2:I3", "I9:I2", "I9:A2", "A9:I2", "I2:A1", "A1:I1", "$A$3:$B$3"):
             close = made.CLOSE.replace(b"</worksheet>", f'<mergeCells><mergeCell ref="{ref}"/></mergeCells></worksheet>'.encode())
             said = f"sheet 'orders': the cells {ref} are merged, but each row of a table has its own"
             self.assertEqual(self.fault(made.of_sheet(made.OPEN, *rows, close)), said)
-        close = close.replace(b"$A$3:$B$3", b"K1:L9")
-        self.assertEqual(self.orders(made.of_sheet(made.OPEN, *rows, close)), [("K1", "G1"), ("K2", "")])
+        for ref in (b"K1:L9", b"L9:K1", b"A9:C4", b"K9:L1"):
+            others = close.replace(b"$A$3:$B$3", ref)
+            self.assertEqual(self.orders(made.of_sheet(made.OPEN, *rows, others)), [("K1", "G1"), ("K2", "")])
 
     def test_a_table_has_no_more_rows_than_a_journal(self):
         said = f"a table has at most {order_table.MOST_ROWS:,} rows after its first"
@@ -180,6 +185,113 @@ class Faults(unittest.TestCase):
         for other in (b"<worksheet", made.OPEN + b"<row r='0'/>" + made.CLOSE, made.OPEN + made.CLOSE + b"x"):
             data = made.of_sheet(made.OPEN, order(2, "K1"), made.CLOSE, **{"xl/worksheets/other.xml": other})
             self.assertEqual(self.orders(data), [("K1", "")])
+
+
+class Places(Read):
+    """An element or text that isn't in its place by the schema is a fault: nothing in it is lost."""
+
+    ROWS = order(2, "K1"), order(3, "K2")
+    SHEET = "sheet 'orders', "
+
+    def changed(self, old, new, **parts):
+        """A workbook of two orders, in which a part of its sheet is another one."""
+        cells = b"".join([made.OPEN, *self.ROWS, made.CLOSE])
+        self.assertEqual(cells.count(old), 1, old)
+        return made.of_sheet(cells.replace(old, new), **parts)
+
+    def test_elements_in_a_wrong_place(self):
+        row, cell, end, mc = self.ROWS[1], b'<c r="I2" t="str"><v>G1</v></c>', b"</sheetData>", b'xmlns:m="other"'
+        before = b"t=\"str\"><v>K1</v></c>"
+        for old, new, said in (
+            (row, b"<extLst>" + row + b"</extLst>", "sheet 'orders', after row 2: an element 'extLst' stands in 'sheetData'"),
+            (row, b"<rPh>" + row + b"</rPh>", "sheet 'orders', after row 2: an element 'rPh' stands in 'sheetData'"),
+            (row + end, end + row, "sheet 'orders': an element 'row' stands in 'worksheet'"),
+            (row + end, end + b"<m:A " + mc + b">" + row + b"</m:A>", "sheet 'orders': an element 'row' stands in 'other A'"),
+            (end, end + b"<m:A " + mc + b"><sheetData/></m:A>", "sheet 'orders': an element 'sheetData' stands in 'other A'"),
+            (end, end + b"<cols><mergeCells/></cols>", "sheet 'orders': an element 'mergeCells' stands in 'cols'"),
+            (end, end + b"<sheetData/>", "sheet 'orders': two elements 'sheetData' stand in 'worksheet'"),
+            (end, end + b"<extLst/><cols/>", "sheet 'orders': an element 'cols' stands after the extensions of 'worksheet'"),
+            (end, end + b"<extLst/><mergeCells/>", "sheet 'orders': an element 'mergeCells' of 'worksheet' stands after 'extLst', "
+                                                   "but should stand before it"),
+            (row, b"<extLst/></row>" + row[:-6], None),
+            (before, b"t='str'><v>K1</v><extLst><v>5</v></extLst></c>", "cell B2: an element 'v' stands in 'extLst'"),
+            (before, b"t='str'><extLst><v>5</v></extLst><v>K1</v></c>", "cell B2: an element 'v' stands in 'extLst'"),
+            (before, b"t='str'><v>K1</v><f>A1</f></c>", "cell B2: an element 'f' of 'c' stands after 'v', but should stand before it"),
+            (before, b"t='str'><rPr/><v>K1</v></c>", "cell B2: an element 'rPr' stands in 'c'"),
+            (before, before + b"<c xmlns=''><v>1</v></c>", "cell B2: an element 'c' stands in 'row'"),
+            (b"</row>" + row, b"<extLst>" + cell + b"</extLst></row>" + row, "cell G2: an element 'c' stands in 'extLst'"),
+            (b"</row>" + row, b"<extLst/>" + cell + b"</row>" + row, "cell G2: an element 'c' of 'row' stands after 'extLst', "
+                                                                     "but should stand before it"),
+        ):  # fmt: skip
+            if said is None:
+                said = "sheet 'orders', after row 2: an element 'extLst' stands in 'sheetData'"
+            found = self.fault(self.changed(old, new))
+            self.assertEqual(found, said if said.startswith("sheet") else self.SHEET + said, (old, new))
+
+    def test_texts_in_a_wrong_place(self):
+        row, end = self.ROWS[1], b"</row>" + self.ROWS[1]
+        other = "the text 'G1' stands in "
+        spoken, both = b"<is><rPh><t>G1</t></rPh></is>", b"<is><t>G</t><r><t>1</t></r></is>"
+        for old, new, said in (
+            (end, b"<c r='I2'>G1</c>" + end, f"cell I2: {other}'c'"),
+            (end, b"<c r='I2' t='inlineStr'><is>\n G1</is></c>" + end, f"cell I2: {other}'is'"),
+            (end, b"<c r='I2' t='inlineStr'><is><r>G1<t/></r></is></c>" + end, f"cell I2: {other}'r'"),
+            (end, b"<c r='I2'/><![CDATA[G1]]>" + end, f"cell I2: {other}'row'"),
+            (end, b"</row>\xc2\xa0" + row, "after row 2: the text '\\xa0' stands in 'sheetData'"),
+            (row, b"G1" + row, f"after row 2: {other}'sheetData'"),
+            (end, b"<c r='I2' t='s'><v/></c>" + end, "cell I2: it has no string ''"),
+            (end, b"<c r='I2' t='b'><v/></c>" + end, "cell I2: '' isn't of its type, 'b'"),
+            (end, b"<c r='I2' t='inlineStr'>" + spoken + b"</c>" + end, "cell I2: its only text is how it is pronounced (rPh)"),
+            (end, b"<c r='I2' t='inlineStr'>" + both + b"</c>" + end, "cell I2: it has two texts: a whole one, and one in runs"),
+        ):  # fmt: skip
+            self.assertEqual(self.fault(self.changed(old, new)), self.SHEET + said, (old, new))
+        said = "sheet 'orders': the text 'x' stands in 'worksheet'"
+        self.assertEqual(self.fault(self.changed(b"</sheetData>", b"</sheetData>x")), said)
+
+    def test_shared_strings_in_a_wrong_place(self):
+        cant, end = "line 1: the Excel workbook can't be read: ", b"</row>" + self.ROWS[1]
+        for item, said in (
+            ("<si>G1</si>", "string 0 of its cells: the text 'G1' stands in 'si'"),
+            ("<si><rPh><t>G1</t></rPh></si>", "string 0 of its cells: its only text is how it is pronounced (rPh)"),
+            ("<si><t/><t>G1</t></si>", "string 0 of its cells: two elements 't' stand in 'si'"),
+            ("<si><r><t/><t>G1</t></r></si>", "string 0 of its cells: two elements 't' stand in 'r'"),
+            ("<si><rPr><t>G1</t></rPr></si>", "string 0 of its cells: an element 'rPr' stands in 'si'"),
+            ("<si><t>G</t></si><extLst><si/></extLst>", "string 0 of its cells: an element 'si' stands in 'extLst'"),
+        ):
+            strings = f'<sst xmlns="{made.MAIN[0]}">{item}</sst>'.encode()
+            data = self.changed(end, b"<c r='I2' t='s'><v>0</v></c>" + end, **{made.SHARED: strings})
+            self.assertEqual(self.fault(data), cant + said, item)
+
+    def test_parts_of_the_workbook_in_a_wrong_place(self):
+        cant = "line 1: the Excel workbook can't be read: "
+        listed = '<workbook xmlns="{0}" xmlns:r="{1}">{2}</workbook>'
+        sheets = '<sheets><sheet name="orders" r:id="r1"/></sheets>'
+        for content, said in (
+            (f'<o:A xmlns:o="other">{sheets}</o:A>{sheets}', "an element 'sheets' stands in 'other A'"),
+            (f"{sheets}{sheets}", "two elements 'sheets' stand in 'workbook'"),
+            (f"{sheets}<workbookPr/>", "an element 'workbookPr' of 'workbook' stands after 'sheets', but should stand before it"),
+            (f"{sheets}<calcPr/><calcPr fullCalcOnLoad='1'/>", "two elements 'calcPr' stand in 'workbook'"),
+            (f"{sheets}<sheet/>", "an element 'sheet' stands in 'workbook'"),
+            (f"{sheets}<formats/>", "an element 'formats' stands in 'workbook'"),
+        ):
+            found = {"xl/workbook.xml": listed.format(made.MAIN[0], made.OFFICE[0], content).encode()}
+            self.assertEqual(self.fault(made.of_sheet(made.OPEN, made.CLOSE, **found)), cant + said, content)
+        for styles in ("<dxfs><cellXfs/></dxfs>", "<cellXfs/><cellXfs/>", "<cellXfs/>x", "<cellXfs><b><xf/></b></cellXfs>"):
+            found = {"xl/styles.xml": f'<styleSheet xmlns="{made.MAIN[0]}">{styles}</styleSheet>'.encode()}
+            self.assertIn(cant, self.fault(made.of_sheet(made.OPEN, made.CLOSE, **found)), styles)
+
+    def test_right_places(self):
+        """Extensions at the ends, further elements of Excel, and those of other namespaces, as Excel writes them."""
+        office = 'xmlns:mc="http://schemas.openxmlformats.org/markup-compatibility/2006" xmlns:x="urn:x"'
+        choice = "<mc:Choice Requires='x14'><controls><control>a</control></controls></mc:Choice>"
+        known = f"<phoneticPr/><dataValidations><f1>1</f1></dataValidations><mc:AlternateContent {office}>{choice}</mc:AlternateContent>"
+        ends = f"</sheetData><autoFilter/>{known}<extLst><ext {office}><x:f>A1</x:f>text</ext></extLst>"
+        spoken = "<is><t>G1</t><rPh sb='0' eb='1'><t>no</t></rPh><phoneticPr/></is>"
+        cells = f"<c r='I2' t='inlineStr'>{spoken}<extLst/></c><extLst><ext>a</ext></extLst></row>\n "
+        row = self.ROWS[0].replace(b"</row>", cells.encode())
+        data = made.of_sheet(made.OPEN.replace(b"<sheetData>", b"<sheetPr/>\n<cols><col/></cols><sheetData>"), row,
+                             made.CLOSE.replace(b"</sheetData>", ends.encode()))  # fmt: skip
+        self.assertEqual(self.orders(data), [("K1", "G1")])
 
 
 class Unlike(unittest.TestCase):

@@ -1,7 +1,8 @@
 """Excel workbooks, read strictly and in bounded memory.
 
-No row, column or cell is lost: a sheet that could be read in two ways is a fault. openpyxl, which writes the tools' workbooks, believes the
-size that a sheet states, drops cells out of order, and keeps all strings and empty rows. So workbooks are read by zipfile and expat."""
+No row, column or cell is lost: a sheet that could be read in two ways is a fault, and so is an element or text that isn't in its place
+by the schema of workbooks (ECMA-376). openpyxl, which writes the tools' workbooks, believes the size that a sheet states, drops cells out
+of order, and keeps all strings and empty rows. So workbooks are read by zipfile and expat."""
 
 import datetime
 import functools
@@ -11,6 +12,7 @@ import math
 import posixpath
 import re
 import zipfile
+from typing import NamedTuple
 from xml.parsers import expat
 
 from ..base import text
@@ -175,20 +177,34 @@ def unzipped(call):
         raise broken(text.safe(str(fault) or type(fault).__name__)) from None
 
 
+BLANK = " \t\r\n"  # the characters that may stand between elements
+EXTENSIONS, LEFT_OUT = "extLst", {"extLst", "rPr", "phoneticPr"}  # elements that are left out, with everything in them
+ANY_OTHERS = "*"
+
+
+class Place(NamedTuple):
+    """The place of an element in another one."""
+
+    rank: int  # among those that may stand there
+    repeats: bool  # whether several may
+
+
 class Part:
-    """A part, as expat reads it. The known elements go to the methods open_NAME and close_NAME. In an element of `STRICT` no others may
-    stand, except the ones of `LEFT_OUT`; elsewhere they are left out, with everything in them."""
+    """A part, as expat reads it: each element in its place by the schema. The known ones go to the methods open_NAME and close_NAME. The
+    others are left out, with everything in them, in which no known element may stand."""
 
     NAMESPACES, ROOT = SPREADSHEET, ""
-    KNOWN = {}  # those that may stand in an element
-    STRICT = ()
-    LEFT_OUT = {"extLst", "rPr", "rPh", "phoneticPr"}
+    PLACES = {}  # for each known element, the ones that may stand in it, in their order; several if a * follows the name
+    BETWEEN = {}  # others that may stand between these, in any order, with those of other namespaces; never after the extensions
+    ELSEWHERE = set()  # the known ones that have another meaning in elements that are left out
 
     def __init__(self):
         self.prefix = ""  # of the known names: the namespace
-        self.within, self.left_out = [""], 0
-        names = set().union(*self.KNOWN.values())
-        self.opening, self.closing = ({name: getattr(self, f"{when}_{name}", None) for name in names} for when in ("open", "close"))
+        self.within, self.ranks = [""], [-1]  # the elements around this place, and the rank of the last one in each
+        self.left_out, self.outside = 0, ""  # how deep it is in an element that is left out, and the name of that
+        self.places, self.known = places_of(type(self))
+        self.opening, self.closing = ({name: getattr(self, f"{when}_{name}", None) for name in self.known} for when in ("open", "close"))
+        self.kept = {f"{space} {name}" for space in self.NAMESPACES for name in self.known - self.ELSEWHERE}
         self.taken, self.length = [], 0
 
     def read(self, package, chunks):
@@ -198,6 +214,7 @@ class Part:
         parser.XmlDeclHandler, parser.StartDoctypeDeclHandler = self.refuse_encoding, self.refuse_type
         parser.StartNamespaceDeclHandler = self.declared
         parser.StartElementHandler, parser.EndElementHandler = self.opened, self.closed
+        parser.CharacterDataHandler = self.refuse_text
         fed = seen = characters = 0
         try:
             for chunk in chunks:
@@ -233,28 +250,63 @@ class Part:
         if self.package.elements > MOST_ELEMENTS:
             raise too_many(MOST_ELEMENTS, "elements: delete the rows and columns that the table doesn't need")
         if self.left_out:
-            self.left_out += 1
-            if self.left_out > DEEPEST:
-                raise broken(f"more than {DEEPEST} elements stand in one another")
+            self.leave_out(name)
             return
         if not self.prefix:
             self.begin(name)
-        within = self.within[-1]
-        name = name.removeprefix(self.prefix)
-        if name in self.KNOWN.get(within, ()):
-            self.within.append(name)
-            if call := self.opening[name]:
-                call(attributes)
-        elif within in self.STRICT and name not in self.LEFT_OUT:
-            raise self.wrong(f"an element {text.quoted(name)} stands in {text.quoted(within)}")
+        within, is_own = self.within[-1], name.startswith(self.prefix)
+        local = name[len(self.prefix) :] if is_own else name
+        place = self.places[within].get(local) if is_own else None
+        if place is None:
+            self.refuse_stranger(within, local if is_own else ANY_OTHERS, local)
         else:
-            self.left_out = 1
+            self.follow(within, local, place)
+        if place is None or local in LEFT_OUT:
+            self.left_out, self.outside = 1, local
+            self.parser.CharacterDataHandler = None
+            return
+        self.within.append(local)
+        self.ranks.append(-1)
+        if call := self.opening[local]:
+            call(attributes)
+
+    def leave_out(self, name):
+        """An element in one that is left out."""
+        self.left_out += 1
+        if self.left_out > DEEPEST:
+            raise broken(f"more than {DEEPEST} elements stand in one another")
+        if name in self.kept:
+            raise self.wrong(f"an element {text.quoted(name.rpartition(' ')[2])} stands in {text.quoted(self.outside)}")
+
+    def refuse_stranger(self, within, kind, name):
+        """Refuses an element that isn't a known one, unless it may stand here."""
+        if kind not in self.BETWEEN.get(within, ()):
+            raise self.wrong(f"an element {text.quoted(name)} stands in {text.quoted(within)}")
+        if EXTENSIONS in self.places[within] and self.ranks[-1] == self.places[within][EXTENSIONS].rank:
+            raise self.wrong(f"an element {text.quoted(name)} stands after the extensions of {text.quoted(within)}")
+
+    def follow(self, within, name, place):
+        """Refuses an element that should stand once, or before the one that it follows."""
+        if place.rank < self.ranks[-1]:
+            last = next(other for other, each in self.places[within].items() if each.rank == self.ranks[-1])
+            raise self.wrong(f"an element {name!r} of {within!r} stands after {last!r}, but should stand before it")
+        if place.rank == self.ranks[-1] and not place.repeats:
+            raise self.wrong(f"two elements {name!r} stand in {within!r}")
+        self.ranks[-1] = place.rank
 
     def closed(self, name):
         if self.left_out:
             self.left_out -= 1
-        elif call := self.closing[self.within.pop()]:
+            if not self.left_out:
+                self.parser.CharacterDataHandler = self.refuse_text
+            return
+        self.ranks.pop()
+        if call := self.closing[self.within.pop()]:
             call()
+
+    def refuse_text(self, words):
+        if words := words.strip(BLANK):
+            raise self.wrong(f"the text {text.quoted(words)} stands in {text.quoted(self.within[-1])}")
 
     def begin(self, name):
         """The first element, which says the namespace."""
@@ -276,8 +328,13 @@ class Part:
             raise self.wrong(f"it has more than {LONGEST_CELL:,} characters")
         self.taken.append(words)
 
-    def leave(self):
+    def skip(self):
+        """From now on leaves out the text of an element."""
         self.parser.CharacterDataHandler = None
+
+    def leave(self):
+        """From now on there should be no text."""
+        self.parser.CharacterDataHandler = self.refuse_text
 
     def content(self):
         """The text that was kept, which is kept no longer."""
@@ -286,11 +343,21 @@ class Part:
         return found
 
 
+@functools.lru_cache(None)
+def places_of(kind):
+    """The places of a kind of parts, and its known elements."""
+    places, known = {}, set()
+    for within, names in kind.PLACES.items():
+        places[within] = {name.rstrip("*"): Place(rank, name.endswith("*")) for rank, name in enumerate(names.split())}
+        known.update(places[within])
+    return {**{name: {} for name in known}, **places}, known - LEFT_OUT
+
+
 class Relations(Part):
     """The parts that belong to another one: the kind and the name of each by its identifier."""
 
     NAMESPACES, ROOT = PACKAGING, "Relationships"
-    KNOWN = {"": {ROOT}, ROOT: {"Relationship"}}
+    PLACES = {"": ROOT, ROOT: "Relationship*"}
 
     def __init__(self, owner):
         super().__init__()
@@ -326,8 +393,10 @@ class Book(Part):
     """The sheets of a workbook, and the parts that they share."""
 
     ROOT = "workbook"
-    KNOWN = {"": {ROOT}, ROOT: {"workbookPr", "sheets", "calcPr"}, "sheets": {"sheet"}}
-    STRICT = {"sheets"}
+    PLACES = {"": ROOT, ROOT: "workbookPr sheets calcPr extLst", "sheets": "sheet*"}
+    BETWEEN = {ROOT: {ANY_OTHERS, *(
+        "fileVersion fileSharing workbookProtection bookViews functionGroups externalReferences definedNames oleSize customWorkbookViews"
+        " pivotCaches smartTagPr smartTagTypes webPublishing fileRecoveryPr webPublishObjects").split()}}  # fmt: skip
 
     def __init__(self, package):
         super().__init__()
@@ -414,7 +483,12 @@ class Styles(Part):
     """For each format of cells how it shows a number: as a `Date`, `Formatted`, or as it is (`str`)."""
 
     ROOT = "styleSheet"
-    KNOWN = {"": {ROOT}, ROOT: {"numFmts", "cellXfs"}, "numFmts": {"numFmt"}, "cellXfs": {"xf"}}
+    PLACES = {"": ROOT, ROOT: "numFmts cellXfs extLst", "numFmts": "numFmt*", "cellXfs": "xf*"}
+    BETWEEN = {
+        ROOT: {ANY_OTHERS, *"fonts fills borders cellStyleXfs cellStyles dxfs tableStyles colors".split()},
+        "xf": {ANY_OTHERS, "alignment", "protection", EXTENSIONS},
+    }
+    ELSEWHERE = {"numFmt", "xf"}
 
     def __init__(self):
         super().__init__()
@@ -440,12 +514,48 @@ class Styles(Part):
         return [self.shown.get(number, Formatted) for number in self.formats]
 
 
-class Strings(Part):
+class Texts(Part):
+    """A part with texts: each is whole, or in runs that have formats. How it is pronounced (`rPh`) may follow, and is left out."""
+
+    TEXT, RUN, PRONOUNCED = "t r* rPh* phoneticPr", "rPr t", "t"
+
+    is_whole = is_pronounced = False
+    is_taken = True
+
+    def begin_text(self, is_taken=True):
+        self.is_whole = self.is_pronounced = False
+        self.is_taken = is_taken
+
+    def open_t(self, _):
+        around = self.within[-2]
+        self.is_whole = self.is_whole or around not in ("r", "rPh")
+        if self.is_taken and around != "rPh":
+            self.take()
+        else:
+            self.skip()
+
+    def open_r(self, _):
+        if self.is_whole:
+            raise self.wrong("it has two texts: a whole one, and one in runs")
+
+    def open_rPh(self, _):
+        self.is_pronounced = True
+
+    def close_t(self):
+        self.leave()
+
+    def whole_text(self):
+        words = self.content()
+        if self.is_pronounced and not words:
+            raise self.wrong("its only text is how it is pronounced (rPh)")
+        return words
+
+
+class Strings(Texts):
     """The shared strings that are needed, by their numbers."""
 
     ROOT = "sst"
-    KNOWN = {"": {ROOT}, ROOT: {"si"}, "si": {"t", "r"}, "r": {"t"}}
-    STRICT = {ROOT, "si", "r", "t"}
+    PLACES = {"": ROOT, ROOT: "si* extLst", "si": Texts.TEXT, "r": Texts.RUN, "rPh": Texts.PRONOUNCED}
 
     def __init__(self, needed):
         super().__init__()
@@ -453,17 +563,11 @@ class Strings(Part):
 
     def open_si(self, _):
         self.number += 1
-
-    def open_t(self, _):
-        if self.number in self.needed:
-            self.take()
-
-    def close_t(self):
-        self.leave()
+        self.begin_text(self.number in self.needed)
 
     def close_si(self):
-        if self.number in self.needed:
-            words = unescaped(self.content())
+        if self.is_taken:
+            words = unescaped(self.whole_text())
             self.characters += len(words)
             if self.characters > MOST_CHARACTERS:
                 raise too_many(MOST_CHARACTERS, "characters in its cells")
@@ -473,21 +577,26 @@ class Strings(Part):
         return broken(f"string {self.number} of its cells: {words}")
 
 
-class Sheet(Part):
+class Sheet(Texts):
     """The cells of a sheet. Rows and cells have to increase, so that none takes the place of another."""
 
     ROOT = "worksheet"
-    KNOWN = {
-        "": {ROOT},
-        ROOT: {"sheetData", "mergeCells"},
-        "sheetData": {"row"},
-        "row": {"c"},
-        "c": {"v", "f", "is"},
-        "is": {"t", "r"},
-        "r": {"t"},
-        "mergeCells": {"mergeCell"},
+    PLACES = {
+        "": ROOT,
+        ROOT: "sheetData mergeCells extLst",
+        "sheetData": "row*",
+        "row": "c* extLst",
+        "c": "f v is extLst",
+        "is": Texts.TEXT,
+        "r": Texts.RUN,
+        "rPh": Texts.PRONOUNCED,
+        "mergeCells": "mergeCell*",
     }
-    STRICT = {"sheetData", "row", "c", "v", "f", "is", "r", "t", "mergeCells"}
+    BETWEEN = {ROOT: {ANY_OTHERS, *(
+        "sheetPr dimension sheetViews sheetFormatPr cols sheetCalcPr sheetProtection protectedRanges scenarios autoFilter sortState"
+        " dataConsolidate customSheetViews phoneticPr conditionalFormatting dataValidations hyperlinks printOptions pageMargins pageSetup"
+        " headerFooter rowBreaks colBreaks customProperties cellWatches ignoredErrors smartTags drawing legacyDrawing legacyDrawingHF"
+        " drawingHF picture oleObjects controls webPublishItems tableParts").split()}}  # fmt: skip
 
     def __init__(self, name, part, book, most):
         super().__init__()
@@ -501,11 +610,11 @@ class Sheet(Part):
     def wrong(self, words):
         column = name_of(self.column) if self.column else ""
         place = f", {'cell' if column else 'row'} {column}{self.row}" if self.row and self.cells is not None else ""
+        if self.row and self.cells is None and self.within[-1] == "sheetData":
+            place = f", after row {self.row}"
         return Wrong(f"{self.place}{place}: {words}")
 
     def open_sheetData(self, _):
-        if self.has_data:
-            raise self.wrong("it has two tables of cells")
         self.has_data = True
 
     def open_row(self, attributes):
@@ -552,6 +661,7 @@ class Sheet(Part):
 
     def open_is(self, _):
         self.refuse_value(self.kind != "inlineStr")
+        self.begin_text()
 
     def refuse_value(self, is_other):
         if self.value is not None:
@@ -560,22 +670,14 @@ class Sheet(Part):
             raise self.wrong(f"its value isn't of its type, {text.quoted(self.kind)}")
 
     def open_f(self, _):
-        if self.formula is not None:
-            raise self.wrong("it has two formulas")
         self.take()
-
-    def open_t(self, _):
-        self.take()
-
-    def close_t(self):
-        self.leave()
 
     def close_v(self):
         self.leave()
         self.value = self.content()
 
     def close_is(self):
-        self.value = self.content()
+        self.value = self.whole_text()
 
     def close_f(self):
         self.leave()
@@ -606,7 +708,7 @@ class Sheet(Part):
         value, kind = self.value, self.kind
         if self.formula is not None and (value is None or value == "" and kind != "str" or not self.book.is_computed):
             return Uncomputed(f"={self.formula}")
-        if not value:
+        if value is None or value == "" and kind in ("n", "str", "inlineStr"):
             return ""
         if kind == "n":
             return self.number(value.strip())
@@ -616,7 +718,7 @@ class Sheet(Part):
             return int(value)
         if kind in ("str", "inlineStr"):
             return unescaped(value)
-        if kind == "e":
+        if kind == "e" and value:
             return value
         if kind == "b" and value in TRUTHS:
             return Truth(TRUTHS[value])
@@ -667,7 +769,8 @@ class Sheet(Part):
             return
         width = max(len(cells) for _, cells in self.rows) if self.width is None else self.width
         self.width = width
-        is_apart = int(found[4]) < self.rows[0][0] or int(found[2]) > self.rows[-1][0] or number_of(found[1]) > width
+        (top, bottom), left = sorted((int(found[2]), int(found[4]))), min(number_of(found[1]), number_of(found[3]))
+        is_apart = bottom < self.rows[0][0] or top > self.rows[-1][0] or left > width
         if not is_apart and (found[1], found[2]) != (found[3], found[4]):
             raise self.wrong(f"the cells {ref} are merged, but each row of a table has its own")
 
