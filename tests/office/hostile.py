@@ -3,10 +3,12 @@
 import contextlib
 import gzip
 import json
+import os
 import re
 import socket
 import ssl
 import subprocess
+import threading
 import time
 from pathlib import Path
 
@@ -166,6 +168,40 @@ def check_slow(office, counts):
                 answers.append(one.recv(65_536))
         counts.check("slow ones end", time.monotonic() - began < SECONDS and all(status(one) in (400, None) for one in answers))
     counts.check("half a body enters nothing", office.client(who).next(office.day) == 1)
+
+
+def check_tables(office, counts):
+    """A participant has one table read at a time, and another one's isn't kept waiting."""
+    rows = "".join(f"{{who}},A{number},hour,buy,1,1-2,1\n" for number in range(3_000)).replace("1-2", "1")
+    answers, tables = [], {who: ("participant,order,kind,side,price_eur_mwh,periods,volume_mw\n" + rows).format(who=who) for who in office.who[:2]}
+
+    def send(who):
+        answers.append((who, office.get(f"/days/{office.day}/tables/{who}", office.bearer(who), "POST", tables[who])[0]))
+
+    who, other = office.who[:2]
+    threads = [threading.Thread(target=send, args=[one]) for one in (who, who, who, other)]
+    for thread in threads:
+        thread.start()
+        time.sleep(0.05)
+    for thread in threads:
+        thread.join()
+    counts.check(f"one table of a participant is read at a time: {answers}", sorted(code for one, code in answers if one == who) == [200, 429, 429])
+    counts.check("and another's in the meantime", (other, 200) in answers)
+
+
+def check_silent(office, counts):
+    """More connections than the office takes, which never begin TLS: it neither ends nor misses the close."""
+    with contextlib.ExitStack() as stack:
+        for _ in range(1_700):
+            with contextlib.suppress(OSError):
+                stack.enter_context(contextlib.closing(socket.create_connection(("127.0.0.1", office.port), timeout=SECONDS)))
+        (office.files / "close-now").touch()
+        until = time.monotonic() + SECONDS
+        while not (office.files / "results.txt").exists() and time.monotonic() < until:
+            time.sleep(0.1)
+        counts.check("silent connections don't stop the close", (office.files / "results.txt").exists() and office.process.poll() is None)
+        files = len(os.listdir(f"/proc/{office.process.pid}/fd"))
+        counts.check(f"and those that are too many are ended: {files} files", files < 1_100)
 
 
 def check_many(office, counts, most):

@@ -48,6 +48,7 @@ def strangers(args, counts):
         hostile.check_messages(office, counts)
         hostile.check_slow(office, counts)
         hostile.check_paths(office, counts)
+        hostile.check_tables(office, counts)
         hostile.check_many(office, counts, 10_000 if args.all else 1_300)
         hostile.check_tokens(office, counts)
         who = office.who[0]
@@ -66,6 +67,7 @@ def tls(args, counts):
                 office.is_ready = lambda: office.process.poll() is None and b'"serving"' in office.log.read_bytes()
                 office.start()
             hostile.check_tls(office, cert, counts)
+            hostile.check_silent(office, counts)
 
 
 def disk(args, counts):

@@ -442,6 +442,21 @@ class Requests(unittest.TestCase):
         with self.assertRaisesRegex(requests.Wrong, "BadField in record 2001 field 3"):
             requests.commands_of(body, requests.RECORDS, "GAS")
 
+    def test_few_faults_of_a_long_body_are_looked_for(self):
+        for body, words in ((b"a\r" * 8_191, "FieldCount in record 1$"), (b"a\n" * 21, "FieldCount in record 1$"), (b"a\n", "line 1")):
+            with self.subTest(body=body[:80]), self.assertRaisesRegex(requests.Wrong, words):
+                requests.commands_of(body, requests.RECORDS, "GAS")
+
+    def test_sums_of_all_orders_are_published_with_the_journal(self):
+        with tempfile.TemporaryDirectory() as room:
+            files = folder.DayFolder(room)
+            day = {"periods": 24, "hourly_surplus_eur": "1.00", "block_surplus_eur": "2.00"}
+            for name, text in ((folder.RESULTS, ""), (folder.STATEMENT, json.dumps({"day": day, "rows": []}))):
+                files.file(name).write_text(text)
+            self.assertEqual(clearing.Published(files).statement("GAS")["day"], {"periods": 24})
+            files.file(folder.OPEN_JOURNAL).touch()
+            self.assertEqual(clearing.Published(files).statement("GAS")["day"], day)
+
     def test_tables(self):
         table = b"participant,order,kind,side,price_eur_mwh,periods,volume_mw\nGAS,A,hour,buy,12.50,8,30\n"
         self.assertEqual(requests.table_records(table, "GAS", 24), (["submit,GAS,A,hour,buy,1250,8:300,,"], []))
@@ -637,6 +652,8 @@ class Tokens(Office):
         self.assertEqual([buckets.take("a") > 0 for _ in range(2)], [False, True])
         self.assertEqual(buckets.take("c", 1_000), 0)
         self.assertGreater(buckets.take("c"), 900)
+        buckets.charge("c", 1_000)
+        self.assertGreater(buckets.take("c"), 1_900, "what is charged is owed, also in debt")
         with mock.patch.object(guards, "MOST_BUCKETS", 5):
             for number in range(100):
                 now[0] += 10_000

@@ -21,6 +21,8 @@ BLOCK = rf"(?P<who>[A-Z]{{1,{rules.LONGEST_PARTICIPANT}}}),[A-Z0-9-]{{1,{rules.L
 LOSER = re.compile(rf"{BLOCK} would lose [0-9.,]+ EUR(?: together with its accepted descendants)?")
 SAME = re.compile(rf", but {BLOCK} offers the same and stands earlier in the book")
 MOST_FAULT = 1_000  # bytes of what it says of a fault
+# Of all participants' orders. From these, one could compute the limit of another who alone has accepted blocks.
+SUMS = ("hourly_surplus_eur", "block_surplus_eur")
 
 
 class Failed(Exception):
@@ -63,10 +65,11 @@ class Published:
             self.rows = found["day"], rows
         if self.rows is None:
             return None
-        rows = self.rows[1].get(who, [])
+        day, rows = self.rows[0], self.rows[1].get(who, [])
         if not self.has_journal:
             rows = [{**row, "why": own_words(row["why"], who)} for row in rows]
-        return {"day": self.rows[0], "rows": rows}
+            day = {name: value for name, value in day.items() if name not in SUMS}
+        return {"day": day, "rows": rows}
 
 
 def own_words(why, who):

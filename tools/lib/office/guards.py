@@ -9,6 +9,7 @@ MOST_CONNECTIONS = 1_000
 IDLE_SECONDS = 15  # for the head of a request to come whole
 BUSY_SECONDS = 60  # for a request, from its head to the last byte of its answer
 LOOK_SECONDS = 1
+ACCEPT_PAUSE = 0.1  # seconds until the next try, if a connection can't be accepted
 MOST_AHEAD = 100  # requests that a connection may send before the answers
 MOST_BUCKETS = 10_000
 TEXTS = {"Content-Type": "text/plain", "X-Content-Type-Options": "nosniff", "Cache-Control": "no-store", "Server": "dam-office"}
@@ -25,6 +26,10 @@ class Buckets:
         tokens, at = self.held.get(name, (self.most, self.now()))
         return min(self.most, tokens + (self.now() - at) * self.rate)
 
+    def charge(self, name, count):
+        """Takes tokens, also if there aren't as many: the bucket is in debt then."""
+        self.held[name] = self.left(name) - count, self.now()
+
     def take(self, name, count=1):
         """Takes tokens, if there is one; the bucket may be in debt afterwards. Returns the seconds until it isn't, or 0."""
         if len(self.held) >= MOST_BUCKETS:
@@ -32,7 +37,7 @@ class Buckets:
         left = self.left(name)
         if left < 1:
             return (1 - left) / self.rate
-        self.held[name] = left - count, self.now()
+        self.charge(name, count)
         return 0
 
 
@@ -74,7 +79,7 @@ class Server(web.Server):
 
     def connection_made(self, handler, transport):
         super().connection_made(handler, transport)
-        if len(self._connections) > MOST_CONNECTIONS:
+        if len(self._connections) > MOST_CONNECTIONS:  # more than the listener lets through
             self.counts.add("connections_refused_total")
             transport.abort()
         else:
@@ -104,6 +109,46 @@ class Server(web.Server):
         with contextlib.suppress(asyncio.CancelledError):
             await self.watcher
         await super().shutdown(timeout)
+
+
+class Listener:
+    """Accepts connections, at most so many at a time. One counts from the moment that it is accepted, before its TLS handshake."""
+
+    def __init__(self, server, listening, tls, counts):
+        self.server, self.socket, self.tls, self.counts = server, listening, tls, counts
+        self.handshakes = set()
+        self.task = asyncio.create_task(self.run())
+
+    async def run(self):
+        loop = asyncio.get_running_loop()
+        while True:
+            try:
+                connection, _ = await loop.sock_accept(self.socket)
+            except OSError:  # too many open files, or it is gone already
+                await asyncio.sleep(ACCEPT_PAUSE)
+                continue
+            if len(self.server.connections) + len(self.handshakes) >= MOST_CONNECTIONS:
+                self.counts.add("connections_refused_total")
+                connection.close()
+                continue
+            task = loop.create_task(self.hand_over(connection))
+            self.handshakes.add(task)
+            task.add_done_callback(self.handshakes.discard)
+
+    async def hand_over(self, connection):
+        loop, seconds = asyncio.get_running_loop(), IDLE_SECONDS if self.tls else None
+        try:
+            await loop.connect_accepted_socket(self.server, connection, ssl=self.tls, ssl_handshake_timeout=seconds)
+        except OSError:  # of which faults of TLS and late handshakes are kinds
+            connection.close()
+
+    async def close(self):
+        self.task.cancel()
+        for task in [self.task, *self.handshakes]:
+            task.cancel()
+            with contextlib.suppress(asyncio.CancelledError):
+                await task
+        self.socket.close()
 
 
 class Runner(web.AppRunner):

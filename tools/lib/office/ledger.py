@@ -2,9 +2,12 @@
 
 import asyncio
 import collections
+import concurrent.futures
 
 from ..journal import book, journal
 from ..seal import heads, sealing, signing
+
+SIGNING = concurrent.futures.ThreadPoolExecutor(2, "signing")  # of its own, so that no long request delays an acknowledgement
 
 
 class Contradiction(Exception):
@@ -82,7 +85,7 @@ class Ledger:
         """Signs the heads of the entries after `begin` up to `end`, while the next ones are entered."""
         seal = self.seal
         unsigned = [heads.Head(seal.day, seal.periods, size, seal.tree.root(size)) for size in range(begin + 1, end + 1)]
-        self.heads.update(zip(range(begin + 1, end + 1), await asyncio.to_thread(self.sign, unsigned)))
+        self.heads.update(zip(range(begin + 1, end + 1), await asyncio.get_running_loop().run_in_executor(SIGNING, self.sign, unsigned)))
 
     def head(self, size=None):
         """The signed head of the first entries, or of all."""

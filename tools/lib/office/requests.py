@@ -15,7 +15,7 @@ FIELDS = {  # of a command in JSON, by its kind: those that it must have, and th
     "amend": ({"order", "price", "volumes"}, set()),
     "cancel": ({"order"}, set()),
 }
-MOST_LINTED = 1 << 14  # bytes
+MOST_LINTED, MOST_LINES = 1 << 12, 20  # bytes and lines of a body of which all faults are named
 RECORD = re.compile("record ([0-9]+)")
 DAY = b"day,%d,,,,,,,\n" % rules.GREATEST_PERIOD  # before records; the desk's book knows the day's periods
 
@@ -46,7 +46,7 @@ def commands_of(body, kind, who):
 
 def in_words(body, fault):
     """The faults of a body in words. Of a long one, the first as it is named, counted from the first of its records."""
-    if len(body) <= MOST_LINTED:
+    if len(body) <= MOST_LINTED and len(body.splitlines()) <= MOST_LINES:
         return lint.in_few_words(body, rules.GREATEST_PERIOD)
     return " " + RECORD.sub(lambda found: f"record {int(found[1]) - 1}", str(fault).removeprefix("input: "))
 

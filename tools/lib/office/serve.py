@@ -8,6 +8,7 @@ import os
 import resource
 import shutil
 import signal
+import socket
 import ssl
 import subprocess
 from typing import NamedTuple
@@ -22,6 +23,7 @@ from .web import Web
 
 LOOK_SECONDS = 1  # between two looks for days that were added
 STOP_SECONDS = 3  # that open requests get at the end
+BACKLOG = 128  # connections that wait to be accepted
 KEEP_SECONDS = 10  # that a connection stays open without a request
 DESK_BUILT = engine.TOP / "crates" / "dam_desk" / "out" / "dam_desk"
 
@@ -78,7 +80,10 @@ class Office:
 
     async def run(self):
         while True:
-            self.look()
+            try:
+                self.look()
+            except OSError as fault:  # such as too many open files: the days that are served go on
+                self.log.write("no look for days", fault=fault.strerror)
             await asyncio.sleep(LOOK_SECONDS)
 
     async def stop(self):
@@ -114,6 +119,16 @@ def more_files():
         resource.setrlimit(resource.RLIMIT_NOFILE, (most, hard))
 
 
+def bound(host, port):
+    """A socket that listens at an address."""
+    try:
+        found = socket.create_server((host, port), family=socket.AF_INET6 if ":" in host else socket.AF_INET, backlog=BACKLOG)
+    except OSError as fault:
+        raise command.Stop(f"can't listen at {host} port {port}: {fault.strerror}") from None
+    found.setblocking(False)
+    return found
+
+
 async def serve(office, host, port, tls=None, behind_proxy=False, demo=None, started=None):
     """Serves until it is stopped. `started` gets the port once it listens."""
     logging.getLogger("aiohttp").addHandler(logging.NullHandler())
@@ -121,17 +136,13 @@ async def serve(office, host, port, tls=None, behind_proxy=False, demo=None, sta
     application = Web(office, tls is not None, behind_proxy, demo).application()
     runner = guards.Runner(application, office.counts, keepalive_timeout=KEEP_SECONDS)
     days = asyncio.create_task(office.run())
-    stopped = asyncio.Event()
+    stopped, listener = asyncio.Event(), None
     for number in (signal.SIGTERM, signal.SIGINT):
         asyncio.get_running_loop().add_signal_handler(number, stopped.set)
     try:
         await runner.setup()
-        site = web.TCPSite(runner, host, port, ssl_context=tls, shutdown_timeout=STOP_SECONDS)
-        try:
-            await site.start()
-        except OSError as fault:
-            raise command.Stop(f"can't listen at {host} port {port}: {fault.strerror}") from None
-        port = runner.addresses[0][1]
+        listener = guards.Listener(runner.server, bound(host, port), tls, office.counts)
+        port = listener.socket.getsockname()[1]
         office.log.write("serving", host=host, port=port, tls=tls is not None)
         waits = asyncio.create_task(stopped.wait())
         if started:
@@ -148,6 +159,10 @@ async def serve(office, host, port, tls=None, behind_proxy=False, demo=None, sta
         days.cancel()
         with contextlib.suppress(asyncio.CancelledError):
             await days
+        if listener:
+            await listener.close()
+            await runner.shutdown()
+            await runner.server.shutdown(STOP_SECONDS)
         await runner.cleanup()
         await office.stop()
         office.log.write("stopped")

@@ -29,6 +29,7 @@ READS_A_SECOND, MOST_READS = 50, 200  # of a participant
 GUESSES_A_SECOND, MOST_GUESSES = 1, 20  # wrong tokens of an address
 RECEIPTS_AT_ONCE = 8  # that are made before others get a turn
 RECEIPTS_OF_READ, COMMANDS_OF_READ, ORDERS_OF_READ, READS_OF_TABLE = 20, 200, 100, 100  # how much of an answer counts as one read
+TABLES_AT_ONCE, TABLE_SECONDS = 2, 1  # that are read, each of another participant; seconds until one may send the next
 JSONL = "application/jsonl"
 HEADERS = {
     "Content-Security-Policy": "default-src 'none'; script-src 'self'; style-src 'self'; connect-src 'self'; img-src 'self'; "
@@ -87,7 +88,8 @@ class Web:
         self.files["/openapi.json"] = OPENAPI.read_text(encoding="utf-8"), "application/json"
         self.files["/key"] = office.public_key, "application/x-pem-file"
         self.demo = demo
-        self.tables = asyncio.Semaphore(1)  # tables are read one at a time
+        self.tables = asyncio.Semaphore(TABLES_AT_ONCE)
+        self.reading = set()  # the participants whose table is read, or waits for it
 
     def page(self, name):
         known = {"reasons": book.REASONS, "rules": {name.lower(): getattr(rules, name) for name in RULES}}
@@ -210,7 +212,7 @@ class Web:
 
     async def put(self, request):
         gate, who = self.asked(request, self.commands)
-        self.commands.take(who, self.length(request) // BYTES_OF_COMMAND)  # before it is read, so that not many are at once
+        self.commands.charge(who, self.length(request) // BYTES_OF_COMMAND)  # before it is read, so that not many are at once
         body = await self.body(request)
         began = time.monotonic()
         commands = await self.read(body, kind_of(request), who)
@@ -251,20 +253,20 @@ class Web:
     async def own_receipts(self, request):
         """All receipts of a participant, under the newest head."""
         gate, who = self.asked(request)
-        self.reads.take(who, gate.ledger.count(who) // RECEIPTS_OF_READ)
+        self.reads.charge(who, gate.ledger.count(who) // RECEIPTS_OF_READ)
         return await self.receipts(gate, list(gate.ledger.own.get(who, ())), gate.ledger.head())
 
     async def own_commands(self, request):
         gate, who = self.asked(request)
         since = query_number(request, "since")
-        self.reads.take(who, max(0, gate.ledger.count(who) - since) // COMMANDS_OF_READ)
+        self.reads.charge(who, max(0, gate.ledger.count(who) - since) // COMMANDS_OF_READ)
         names = ("number", "entry", "record", "reply")
         found = [dict(zip(names, one)) for one in gate.ledger.entries(who)[since:]]
         return web.json_response({"next": gate.ledger.count(who) + 1, "share": gate.ledger.share(who), "commands": found})
 
     async def own_orders(self, request):
         gate, who = self.asked(request)
-        self.reads.take(who, gate.ledger.count(who) // ORDERS_OF_READ)
+        self.reads.charge(who, gate.ledger.count(who) // ORDERS_OF_READ)
         found = []
         for place, (name, order) in enumerate(gate.ledger.orders(who), 1):
             found.append(json.dumps({"order": name, **order._asdict()}))
@@ -276,14 +278,22 @@ class Web:
         """The records that a table makes. They aren't entered: the participant sees them first."""
         gate, who = self.asked(request, count=READS_OF_TABLE)
         self.length(request)
-        body = await self.body(request)
-        async with self.tables:
-            records, notes = await tables.read(body, who, gate.terms.periods)
+        if who in self.reading:
+            raise Refused("TooFast", "your table before this one is still being read", seconds=TABLE_SECONDS)
+        self.reading.add(who)
+        try:
+            body = await self.body(request)
+            async with self.tables:
+                if request.transport is None:  # the client is gone
+                    raise ConnectionResetError
+                records, notes = await tables.read(body, who, gate.terms.periods)
+        finally:
+            self.reading.discard(who)
         return web.json_response({"records": records, "notes": notes})
 
     async def statement(self, request):
         gate, who = self.asked(request)
-        self.reads.take(who, gate.ledger.count(who) // COMMANDS_OF_READ)
+        self.reads.charge(who, gate.ledger.count(who) // COMMANDS_OF_READ)
         found = gate.published.statement(who)
         if found is None:
             raise Refused("NotFound", "the statement isn't published yet")
