@@ -274,11 +274,10 @@ async def faults(page, counts):
         await page.key("Enter", 13)
         is_marked, told = await page.run(MARKED % name)
         counts.check(f"{name} {words or 'empty'} is told at its field: {told}", is_marked == "true" and fault in told)
+    counts.check("the message says so too", "Nothing was sent" in await text(page, "message"))
     await write(page, "name", "NEW")
-    counts.check(
-        "a fault goes when its field is changed",
-        await page.run("byId('name-fault').textContent + byId('name').ariaInvalid") in ("", "null"),
-    )
+    gone = await page.run("[byId('name-fault').textContent, byId('message').textContent, byId('name').ariaInvalid]")
+    counts.check(f"a fault goes when its field is changed: {gone}", gone == ["", "", None])
     await click(page, "input[value=block]")
     for name, words, fault in (("group", "G_1", "1 to 12 of the characters"), ("fill-volume", "0", "from 0.1 to 9,999.9 MW")):
         await write(page, name, words)
@@ -340,6 +339,11 @@ async def lose_an_answer(page, counts):
     await said(page, "It isn't known whether GONE was entered: the office can't be reached. Look at your commands")
     counts.check("an order that may be lost stays in the form", await page.run("byId('name').value") == "GONE")
     await page.run("fetch = real; setTimeout = timeout; change(null)")
+    twice = "(async (one) => await enter([one]) && await enter([one]))({ what: 'amend', order: 'ONCE', price: 100, volumes: [[1, 10]] })"
+    counts.check("commands can follow at once", await page.run(twice))
+    await page.run("enter([{ what: 'cancel', order: 'a' }])")
+    counts.check("a command that the office refuses is named", (await text(page, "message")).startswith("a wasn't cancelled: "))
+    await until_rows(page, "commands-table", before + 3)
 
 
 # --- tables

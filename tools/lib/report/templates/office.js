@@ -22,14 +22,15 @@ function who() {
   return state.token.split(".")[0];
 }
 
-function say(words, kind = "right", isUnreached = false) {
+// Says it until something else is said, or until what it is `about` is over: a look that failed, or fields that are marked.
+function say(words, kind = "right", about = "") {
   byId("message").textContent = words;
   byId("message").className = words ? kind : "";
-  state.isUnreached = isUnreached;
+  state.about = about;
 }
 
-function sayFault(fault, isUnreached = false) {
-  if (fault.fault !== "Left") say(`${fault.message}.`, "wrong", isUnreached);
+function sayFault(fault, about = "") {
+  if (fault.fault !== "Left") say(`${fault.message}.`, "wrong", about);
 }
 
 // An answer in text. What comes after another participant has signed in, or after another day was chosen, is for nobody.
@@ -209,10 +210,10 @@ async function look() {
     await lookAtCommands();
     if (found.has_statement && byId("results").hidden) await showResults();
     showDay();
-    if (state.isUnreached) say("");
+    if (state.about === "look") say("");
   } catch (fault) {
     if (fault.fault === "Token") signOut();
-    if (fault.status !== 429) sayFault(fault, true); // after many requests, the next look comes soon enough
+    if (fault.status !== 429) sayFault(fault, "look"); // after many requests, the next look comes soon enough
   } finally {
     if (state.looks === visit) state.looks = null;
   }
@@ -238,7 +239,7 @@ async function lookAtCommands() {
   state.share = share;
   if (next - 1 === state.count) return;
   const [{ orders }, all] = await Promise.all([json(own("orders")), json(own("commands"))]);
-  Object.assign(state, { orders, next: all.next, count: all.next - 1 });
+  Object.assign(state, { orders, next: Math.max(state.next, all.next), count: all.next - 1 });
   showOrders();
   const later = laterWords(all.commands);
   const rows = all.commands.reverse().map(({ number, entry, record, reply }) => {
@@ -274,7 +275,9 @@ async function put(commands) {
   for (let time = 1; ; time += 1) {
     try {
       const text = await ask(`${own("commands")}/${number}`, { method: "PUT", body, headers: { "Content-Type": "application/json" } });
-      return text.trim().split("\n").map((line) => JSON.parse(line));
+      const receipts = text.trim().split("\n").map((line) => JSON.parse(line));
+      state.next = Math.max(state.next, number + receipts.length);
+      return receipts;
     } catch (fault) {
       if (time === RETRIES || fault.fault === "Left" || ![0, 429, 503].includes(fault.status)) throw fault;
       say(`${fault.message}; trying again`, "wrong");
@@ -295,35 +298,42 @@ function outcomeWords(commands, receipts) {
   return [lines.join("\n"), refused.length ? "wrong" : "right"];
 }
 
+// Of commands that the office refuses, or of which no answer came.
+function failureWords(commands, { status, message }) {
+  const [{ what, order }] = commands;
+  const [subject, was, does] = commands.length === 1 ? [order, "was", DONE[what]] : [`The ${commands.length} commands`, "were", "entered"];
+  if (![0, 503].includes(status)) return `${subject} ${was}n't ${does}: ${message}.`;
+  return `It isn't known whether ${subject.replace("The ", "the ")} ${was} ${does}: ${message}. Look at your commands before you try again.`;
+}
+
+// Enters commands, and looks again. Only if it isn't known what became of them, the look is waited for.
 async function enter(commands) {
   const parts = document.querySelectorAll("#signed-in button, #days");
   const { visit } = state;
+  const again = async () => {
+    if (visit !== state.visit) return;
+    Object.assign(state, { looks: null, count: -1 });
+    await look();
+  };
   for (const part of parts) part.disabled = true;
   try {
     const [words, kind] = outcomeWords(commands, await put(commands));
     say(words, kind);
+    again();
     return kind === "right";
   } catch (fault) {
-    const [{ what, order }] = commands;
-    const [subject, does] = commands.length === 1 ? [order, DONE[what]] : [`the ${commands.length} commands`, "entered"];
-    const isKnown = ![0, 503].includes(fault.status);
-    const start = isKnown ? `${subject} ${commands.length === 1 ? "wasn't" : "weren't"} ${does}` : `It isn't known whether ${subject} ${commands.length === 1 ? "was" : "were"} ${does}`;
-    if (fault.fault !== "Left") say(`${start}: ${fault.message}.${isKnown ? "" : " Look at your commands before you try again."}`, "wrong");
+    if (fault.fault !== "Left") say(failureWords(commands, fault), "wrong");
+    await again();
     return false;
   } finally {
     for (const part of parts) part.disabled = false;
-    if (visit === state.visit) {
-      Object.assign(state, { looks: null, count: -1 });
-      await look();
-    }
   }
 }
 
 async function cancel({ order }) {
   say("");
   if (!(await sure(`Cancel ${order}? It leaves the book, and loses its place there.`, `Cancel ${order}`))) return;
-  await enter([{ what: "cancel", order }]);
-  if (state.changes === order) change(null);
+  if (await enter([{ what: "cancel", order }]) && state.changes === order) change(null);
   if (state.token) byId("orders-title").focus();
 }
 
@@ -402,7 +412,7 @@ async function enterOrder(event) {
   event.preventDefault();
   say("");
   const made = command();
-  if (!made) return say("Nothing was sent: see the marked field.", "wrong");
+  if (!made) return say("Nothing was sent: see the marked field.", "wrong", "fields");
   if (await enter([made])) {
     if (made.what === "submit") state.last = { kind: made.kind, side: made.side };
     change(null);
@@ -540,7 +550,10 @@ for (const id of ["yes", "no"]) byId(id).addEventListener("click", () => byId("s
 byId("kinds").addEventListener("change", showKind);
 byId("keep").addEventListener("click", () => { change(null); byId("orders-title").focus(); });
 for (const id of ["name", "group"]) byId(id).addEventListener("input", () => { byId(id).value = byId(id).value.toUpperCase(); });
-byId("order-form").addEventListener("input", ({ target }) => { if (target.hasAttribute("aria-invalid")) mark(target, ""); });
+byId("order-form").addEventListener("input", ({ target, currentTarget }) => {
+  if (target.hasAttribute("aria-invalid")) mark(target, "");
+  if (state.about === "fields" && !currentTarget.querySelector("[aria-invalid]")) say("");
+});
 byId("fill").addEventListener("click", fill);
 byId("fill-volume").addEventListener("keydown", (event) => {
   if (event.key !== "Enter") return;
