@@ -95,8 +95,8 @@ def write(path, data, mode=0o644):
 def script(tool):
     """A tool as a command of Debian's Python, which has the packages that it needs."""
     first, rest = (made_of.TOP / "tools" / tool).read_bytes().split(b"\n", 1)
-    assert first == b"#!/usr/bin/env python3", first
-    return b"#!/usr/bin/python3\n" + rest
+    assert first == b"#!/usr/bin/env -S python3 -I", first
+    return b"#!/usr/bin/python3 -I\n" + rest
 
 
 def compressed(data):

@@ -8,7 +8,7 @@ import unittest
 from pathlib import Path
 from unittest import mock
 
-from support import AUCTION, AUCTION_RESULTS, TOOLS, tool
+from support import AUCTION, AUCTION_RESULTS, TOOLS, TOP, tool
 
 from lib.base import place
 from lib.tool import command
@@ -40,6 +40,22 @@ class Isolation(unittest.TestCase):
             self.assertEqual((status, err), (0, ""), name)
             self.assertEqual(self.ran(name, *words, "--help", **STRANGE), (0, right, b""), name)
         self.assertEqual(self.ran(name, "--help", options=["-I", "-OO"]), (0, right, b""))
+
+    def test_a_path_of_modules_is_ignored(self):
+        """An empty entry of PYTHONPATH is the working folder, whose sitecustomize Python would run before the tool."""
+        for name in ("sitecustomize", "usercustomize", "cryptography", "re", "os", "pathlib"):
+            self.folder.joinpath(f"{name}.py").write_text(STRANGER)
+        for name, source in (("a.csv", AUCTION), ("a.txt", AUCTION_RESULTS)):
+            self.folder.joinpath(name).write_bytes(source.read_bytes())
+        tools = [[name, "--version"] for name in place.TOOLS]
+        for path, lines in ((":/opt/x", tools), ("/opt/x:", tools[:1]), (".", tools[:1]), (str(self.folder), [["prove", "--help"]])):
+            environment = {**os.environ, "PYTHONPATH": path, "PYTHONINSPECT": "1", "PYTHONHOME": "/nowhere"}
+            for name, *words in (*lines, ["audit", "--days", ".", "--json"]):
+                ran = subprocess.run([TOOLS / name, *words], cwd=self.folder, capture_output=True, env=environment, timeout=300)
+                self.assertEqual((ran.returncode, ran.stderr), (0, b""), (path, name))
+                self.assertFalse(self.folder.joinpath("ran").exists(), (path, name))
+        subprocess.run([TOP / "dam", "--proved", "--version"], cwd=self.folder, capture_output=True, env={**os.environ, "PYTHONPATH": ":"})
+        self.assertFalse(self.folder.joinpath("ran").exists())
 
     def test_the_scripts_of_the_launcher_start_too(self):
         self.assertEqual(self.ran("prove", "--help", **STRANGE)[::2], (0, b""))

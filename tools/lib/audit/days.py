@@ -3,7 +3,6 @@
 import json
 import os
 import subprocess
-import sys
 import threading
 from pathlib import Path
 from typing import NamedTuple
@@ -138,7 +137,7 @@ def audited(pair, options, running):
 def ran(pair, options, running):
     """The status of the process of a day, its output and its lines on standard error. Until it ends, it is among the `running`."""
     files = [file_name(path) for path in (pair.journal, pair.results) if path is not None]
-    words = [sys.executable, os.fspath(TOOL), "--json", *options, "--", *files]
+    words = [*command.this_python(), os.fspath(TOOL), "--json", *options, "--", *files]
     process = subprocess.Popen(words, stdin=subprocess.DEVNULL, stdout=subprocess.PIPE, stderr=subprocess.PIPE)
     with running.holds(process):
         out, err = process.communicate()

@@ -347,6 +347,11 @@ def is_debians():
     return os.path.realpath(sys.executable) == os.path.realpath(DEBIAN_PYTHON)
 
 
+def this_python():
+    """The words that start this Python for another tool: isolated, if it is."""
+    return [sys.executable, *(["-I"] if sys.flags.isolated else [])]
+
+
 def elsewhere(*modules):
     """Whether Debian's Python is a different one and has the modules. With -c alone it would also find those of the working folder."""
     if is_debians():
