@@ -3,6 +3,7 @@
 import asyncio
 import contextlib
 import json
+import resource
 import signal
 import subprocess
 import sys
@@ -99,6 +100,102 @@ def disk(args, counts):
                 )
 
 
+def full_office(args, counts):
+    """A disk that is full for the office too: it is unavailable until there is room, without a command that shows it; and while the files
+    of a closed day can't be made."""
+    with served(args.dam, args.desk) as office:
+        office.start()
+        who = office.who[0]
+        record = f"submit,{who},%s,block,buy,1,{';'.join(f'{period}:1' for period in range(1, 25))},,"
+        office.client(who).enter(office.day, *(record % f"A-{number}" for number in range(40)))
+        fill(office, 4_096)  # the desk inherits it at its next start
+        office.kill("desk")
+        answer = office.get(f"/days/{office.day}/commands/{who}/41", office.bearer(who), "PUT", record % "B")
+        counts.check(f"a full disk is answered by 503: {answer[2]}", answer[0] == 503)
+        found = [office.get("/healthz")[0] for _ in range(40) if time.sleep(0.1) is None]
+        counts.check(f"and the office is unavailable as long as the disk is full: {found}", set(found) == {503})
+        counts.check("and says so in its counts", f'ready{{day="{office.day}"}} 0'.encode() in office.get("/metrics")[2])
+        fill(office, resource.RLIM_INFINITY)
+        office.kill("desk")  # which has the limit
+        counts.check("with room it is available again, without a command", until(office.is_ready))
+        fill(office, 4_096)
+        began = subprocess.Popen([*TOOL, "close", office.folder], env=office.environment, stdout=subprocess.PIPE, stderr=subprocess.PIPE)
+        counts.check("and not while a closed day has no files", until(lambda: office.get("/healthz")[0] == 503))
+        state = json.loads(office.tool("status", office.folder, "--json").stdout)["days"][0]["state"]
+        counts.check(f"both name the same state: {state}", state == json.loads(office.get(f"/days/{office.day}")[2])["state"] != "open")
+        time.sleep(2.5)
+        fill(office, resource.RLIM_INFINITY)
+        out, err = began.communicate(timeout=60)
+        counts.check(f"close says that it waits: {err}", b"has no head yet" in err and b"has its results" in out)
+        counts.check("and the office is available once they are there", until(office.is_ready))
+
+
+def fill(office, size):
+    """Lets the office write no file beyond this size."""
+    resource.prlimit(office.process.pid, resource.RLIMIT_FSIZE, (size, resource.RLIM_INFINITY))
+
+
+def until(holds, seconds=20):
+    """Whether something holds within these seconds."""
+    end = time.monotonic() + seconds
+    while not (found := holds()) and time.monotonic() < end:
+        time.sleep(0.02)
+    return bool(found)
+
+
+def desk_ends(args, counts):
+    """A desk that ends while no command comes, and whose file can't be opened for some time."""
+    with tempfile.TemporaryDirectory() as room:
+        unreadable, wrapped = Path(room, "unreadable"), Path(room, "desk")
+        wrapped.write_text(f'#!/bin/sh\n[ ! -e {unreadable} ] || {{ echo unreadable >&2; exit 4; }}\nexec {args.desk} "$@"\n')
+        wrapped.chmod(0o755)
+        with served(args.dam, wrapped) as office:
+            office.start()
+            (first,) = office.desks()
+            office.kill("desk")
+            counts.check("an idle desk that ends is opened again", until(lambda: office.desks() not in ([], [first]) and office.is_ready()))
+            unreadable.touch()
+            office.kill("desk")
+            counts.check("without one the office is unavailable", until(lambda: office.get("/healthz")[0] == 503, 5))
+            unreadable.unlink()
+            counts.check("until it opens again", until(office.is_ready))
+            office.stop()
+            events = [json.loads(line)["event"] for line in office.log.read_text().splitlines()]
+            counts.check(f"an office that is ended says so: {events}", events[-1] == "ended" and "stopped" not in events)
+
+
+def rolled_back(args, counts):
+    """A desk's file that is put back by an entry while no office runs, and one that is lost."""
+    with served(args.dam, args.desk) as office:
+        office.start()
+        who, desk, signed = office.who[0], office.files / "desk", office.files / "signed-head.json"
+        client = office.client(who)
+        client.enter(office.day, f"cancel,{who},A,,,,,,")
+        earlier = desk.read_bytes()
+        client.enter(office.day, f"cancel,{who},B,,,,,,")
+        counts.check("the newest head is soon in its file", until(lambda: signed.exists() and json.loads(signed.read_bytes())["size"] == 2))
+        office.kill("office", "desk")
+        later = desk.read_bytes()
+        for lost in (earlier, None):
+            for _ in range(2):
+                desk.unlink() if lost is None else desk.write_bytes(lost)
+                started = office.started()
+                said = office.log.read_text()
+                counts.check(f"a journal without signed entries isn't served: {said[-300:]}", not started and "LostEntries" in said)
+                counts.check("and no head of it is signed", office.get(f"/days/{office.day}/head")[0] == 503)
+                office.stop()
+                office.log.write_text("")
+        desk.write_bytes(later)
+        office.start()
+        counts.check("with its file back the day goes on", office.client(who).enter(office.day, f"cancel,{who},C,,,,,,")[0]["number"] == 3)
+        office.stop()
+        counts.check("an orderly end has the newest head", json.loads(signed.read_bytes())["size"] == 3)
+        desk.write_bytes(earlier)
+        signed.unlink()
+        office.start()
+        counts.check("and without the head's file a shorter journal is served", len(office.client(who).commands(office.day)) == 1)
+
+
 def kills(args, counts):
     """SIGKILL of the office, its desk and both, in the middle of a load, after which clients send again."""
     count, rounds = (ALL_KILLS, 5) if args.all else (KILLS, 1)
@@ -175,7 +272,7 @@ def week(args, counts):
         office.tool("close", office.folder, first)
         state = json.loads(office.tool("status", office.folder, "--json").stdout)
         counts.check(
-            "one day is closed, and the other open", [day["state"] for day in state["days"]] == ["published", "open"] and state["served"]
+            "one day is closed, and the other open", [day["state"] for day in state["days"]] == ["results", "open"] and state["served"]
         )
         office.stop()
         office.start()

@@ -61,14 +61,26 @@ class Served:
     def start(self):
         """Serves the office, and returns the seconds until the day takes commands."""
         began = time.monotonic()
-        with self.log.open("ab") as log:
-            words = [*TOOL, "serve", self.folder, "--port", str(self.port), *self.words]
-            self.process = subprocess.Popen(words, env=self.environment, stdout=subprocess.DEVNULL, stderr=log)
+        self.begin()
         while not self.is_ready():
             if self.process.poll() is not None or time.monotonic() - began > START_SECONDS:
                 raise RuntimeError(f"the office doesn't start: {self.log.read_text()[-2_000:]}")
             time.sleep(STEP)
         return time.monotonic() - began
+
+    def begin(self):
+        with self.log.open("ab") as log:
+            words = [*TOOL, "serve", self.folder, "--port", str(self.port), *self.words]
+            self.process = subprocess.Popen(words, env=self.environment, stdout=subprocess.DEVNULL, stderr=log)
+
+    def started(self):
+        """Serves the office, and returns whether the day takes commands, or its log says that it is stopped."""
+        self.begin()
+        while not (self.is_ready() or b'"stopped"' in self.log.read_bytes()):
+            if self.process.poll() is not None:
+                raise RuntimeError(f"the office doesn't start: {self.log.read_text()[-2_000:]}")
+            time.sleep(STEP)
+        return self.is_ready()
 
     def is_ready(self):
         try:

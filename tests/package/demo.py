@@ -46,7 +46,7 @@ def outcome(office, day, log):
     while time.monotonic() < until:
         if office.days()[0]["has_statement"]:
             return [office.prices(day)[7], office.statement(day)[0]["executed_mwh"]]
-        if "not published" in text_of(log):
+        if "not made" in text_of(log):
             break
         time.sleep(STEP)
     return [None, None]

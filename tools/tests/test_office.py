@@ -4,6 +4,7 @@ import argparse
 import asyncio
 import contextlib
 import datetime
+import errno
 import http.server
 import io
 import json
@@ -33,7 +34,7 @@ try:
     from cryptography.exceptions import InvalidSignature
 
     from lib.seal import sealing, signing
-    from lib.office import clearing, demo, folder, gate, guards, observed, operate, requests, setup, tokens
+    from lib.office import clearing, demo, folder, gate, guards, newest, observed, operate, requests, setup, tokens
     from lib.office import serve as serving
     from lib.office import tables as reader
     from lib.office.desk import Desk, Ended
@@ -53,6 +54,7 @@ class Disk:
 
     def __init__(self):
         self.records, self.ends, self.openings = [], [], 0
+        self.desk = None  # the one that was opened last
 
 
 class DeskInMemory:
@@ -61,6 +63,7 @@ class DeskInMemory:
 
     def __init__(self, disk, periods):
         self.disk, self.book = disk, book.Book(periods)
+        self.end = asyncio.Event()
         self.replies = [self.reply(record) for record in disk.records]
         disk.openings += 1
 
@@ -79,6 +82,12 @@ class DeskInMemory:
         if kept is not None:
             raise Ended("as planned")
 
+    async def ended(self):
+        await self.end.wait()
+
+    async def why(self):
+        return Ended("as planned")
+
     async def close(self):
         await asyncio.sleep(0)
 
@@ -89,7 +98,7 @@ def late(*_):
 
 def opener(disk):
     async def opened(program, path, periods):
-        desk = DeskInMemory(disk, periods)
+        desk = disk.desk = DeskInMemory(disk, periods)
         return desk, list(disk.records), desk.replies
 
     return mock.patch.object(Desk, "opened", opened)
@@ -110,10 +119,11 @@ class Office(unittest.IsolatedAsyncioTestCase):
         room = tempfile.TemporaryDirectory()
         self.addCleanup(room.cleanup)
         self.office = folder.Folder(Path(room.name, "office"))
-        for name in ("FIRST_PAUSE", "LONGEST_PAUSE", "TICK"):
+        for name in ("FIRST_PAUSE", "LONGEST_PAUSE", "TICK", "ROOM_PAUSE"):
             patch = mock.patch.object(gate, name, 0.001)
             patch.start()
             self.addCleanup(patch.stop)
+        self.publish = clearing.publish
         patch = mock.patch.object(clearing, "publish", published)
         patch.start()
         self.addCleanup(patch.stop)
@@ -138,6 +148,10 @@ class Office(unittest.IsolatedAsyncioTestCase):
             task.cancel()
             with contextlib.suppress(asyncio.CancelledError):
                 await task
+
+    async def until(self, holds):
+        while not holds():
+            await asyncio.sleep(0.001)
 
     def verify(self, given, receipt):
         """A receipt is right under its own head, and that head is of the journal."""
@@ -258,6 +272,47 @@ class Crashes(Office):
                 with self.assertRaises(gate.Refused):
                     given.submit("GAS", 3, commands("cancel,GAS,C,,,,,,"))
 
+    async def test_an_idle_desk_that_ends_is_opened_again(self):
+        self.make()
+        disk, log = Disk(), io.StringIO()
+        with opener(disk):
+            async with self.running(self.gate(log=observed.Log(log))) as given:
+                await given.submit("GAS", 1, commands("cancel,GAS,A,,,,,,"))
+                self.assertTrue(given.is_right)
+                with mock.patch.object(Desk, "opened", side_effect=Ended("unreadable")):
+                    disk.desk.end.set()
+                    await self.until(lambda: "unreadable" in log.getvalue())
+                    self.assertFalse(given.is_right)
+                await self.until(lambda: given.is_right)
+                self.assertEqual(await given.submit("GAS", 2, commands("cancel,GAS,B,,,,,,")), [2])
+        self.assertGreater(disk.openings, 1)
+
+    async def test_a_day_is_right_again_once_a_batch_is_entered_or_there_is_room(self):
+        full = [OSError(errno.ENOSPC, "full")]
+
+        def need_room(_):
+            for fault in full:
+                raise fault
+
+        for enters in (True, False):
+            self.setUp()
+            self.make()
+            disk = Disk()
+            disk.ends = [(0, 0)] * gate.MOST_ENDS
+            with opener(disk), mock.patch.object(folder.DayFolder, "need_room", need_room):
+                async with self.running(self.gate()) as given:
+                    with self.assertRaises(gate.Refused):
+                        await given.submit("GAS", 1, commands("cancel,GAS,A,,,,,,"))
+                    await given.is_ready.wait()
+                    await asyncio.sleep(0.02)
+                    self.assertFalse(given.is_right)
+                    if enters:
+                        await given.submit("GAS", 1, commands("cancel,GAS,A,,,,,,"))
+                        self.assertTrue(given.is_right)
+                    else:
+                        full.clear()
+                        await self.until(lambda: given.is_right)
+
     async def test_a_batch_at_which_the_desk_always_ends_is_answered(self):
         self.make()
         disk = Disk()
@@ -269,6 +324,100 @@ class Crashes(Office):
                 self.assertEqual(caught.exception.fault, "Unavailable")
                 await given.submit("GAS", 1, commands("cancel,GAS,A,,,,,,"))
         self.assertEqual(disk.records, ["cancel,GAS,A,,,,,,"])
+
+
+class SignedHeads(Office):
+    """The newest signed head is in a file, and a journal that doesn't have its entries isn't served."""
+
+    RECORDS = tuple(f"cancel,GAS,{name},,,,,," for name in "ABC")
+
+    async def entered(self, disk):
+        self.make()
+        with opener(disk):
+            async with self.running(self.gate()) as given:
+                await given.submit("GAS", 1, commands(*self.RECORDS))
+        return given.files.file(folder.SIGNED)
+
+    async def started(self, disk):
+        """The fault of a start, after which the same records are in the desk's file as before."""
+        records = list(disk.records)
+        with opener(disk):
+            given = self.gate()
+            task = asyncio.create_task(given.run())
+            await self.until(lambda: given.fault or given.is_ready.is_set())
+            if given.fault:
+                with self.assertRaises(gate.Refused):
+                    given.submit("GAS", 9, commands("cancel,GAS,Z,,,,,,"))
+            task.cancel()
+            await asyncio.gather(task, return_exceptions=True)
+        self.assertEqual(disk.records, records)
+        return given.fault
+
+    async def test_a_start_without_entries_that_were_signed_stops_until_they_are_back(self):
+        disk = Disk()
+        path = await self.entered(disk)
+        kept, before = path.read_bytes(), list(disk.records)
+        self.assertEqual(heads.parsed(kept, heads.head_read)[0].size, 3)
+        other = [*before[:1], "cancel,GAS,OTHER,,,,,,", *before[2:]]
+        for records, fault in (([], "LostEntries"), (before[:2], "LostEntries"), (other, "OtherEntries"), (before, None)):
+            disk.records[:] = records
+            for _ in range(2):  # it stays so at each start
+                found = await self.started(disk)
+                self.assertEqual(found and found.partition(":")[0], fault)
+            self.assertEqual(path.read_bytes(), kept)
+        disk.records[:] = before[:2]
+        path.unlink()  # the operator knows
+        self.assertIsNone(await self.started(disk))
+
+    async def test_a_file_that_a_crash_cut_is_left_aside(self):
+        disk = Disk()
+        path = await self.entered(disk)
+        whole = path.read_bytes()
+        disk.records.pop()
+        for data in (b"", whole[:-40], bytes(len(whole)), whole.replace(b'"size":3', b'"size":4')):
+            path.write_bytes(data)
+            self.assertIsNone(await self.started(disk))
+        path.write_bytes(whole)
+        self.assertIn("LostEntries", await self.started(disk))
+
+    async def test_the_last_head_is_held_too(self):
+        disk = Disk()
+        path = await self.entered(disk)
+        os.rename(path, path.with_name(folder.HEAD))
+        disk.records.pop()
+        self.assertIn(folder.HEAD, await self.started(disk))
+
+    async def test_the_file_is_soon_the_newest_head_and_never_an_older_one(self):
+        self.make()
+        with opener(Disk()), mock.patch.object(newest, "PAUSE", 0.01):
+            async with self.running(self.gate()) as given:
+                for number, record in enumerate(self.RECORDS, 1):
+                    await given.submit("GAS", number, commands(record))
+                    await self.until(lambda: given.newest.written is not None and given.newest.written.size == number)
+                    found = newest.read(given.files.file(folder.SIGNED), self.key)
+                    self.assertEqual((found, found.root), (given.ledger.head(), given.ledger.seal.tree.root(number)))
+                given.newest.note(given.ledger.head(1))
+                self.assertEqual(given.newest.head.size, 3)
+
+    async def test_the_file_is_written_seldom_and_its_faults_are_logged_once(self):
+        self.make()
+        log = io.StringIO()
+        with opener(Disk()):
+            async with self.running(self.gate(log=observed.Log(log))) as given:
+                given.files.file(f".{folder.SIGNED}").mkdir()
+                with mock.patch.object(newest, "PAUSE", 0.001), mock.patch.object(os, "replace", wraps=os.replace) as replaced:
+                    await given.submit("GAS", 1, commands(self.RECORDS[0]))
+                    await asyncio.sleep(0.05)
+                    self.assertEqual((log.getvalue().count("signed head not kept"), replaced.call_count), (1, 0))
+                    given.files.file(f".{folder.SIGNED}").rmdir()
+                    await self.until(lambda: given.newest.written is not None)
+                with mock.patch.object(newest, "PAUSE", 60), mock.patch.object(os, "replace", wraps=os.replace) as replaced:
+                    await self.until(given.newest.task.done)
+                    for number, record in enumerate(self.RECORDS[1:], 2):
+                        await given.submit("GAS", number, commands(record))
+                    await asyncio.sleep(0.05)
+                    self.assertLessEqual(replaced.call_count, 1)
+        self.assertEqual(newest.read(given.files.file(folder.SIGNED), self.key).size, 3)  # at an orderly end
 
 
 class Numbers(Office):
@@ -330,7 +479,7 @@ class Closing(Office):
                 given.submit("GAS", 2, commands("cancel,GAS,B,,,,,,"))
             self.assertEqual(await asyncio.gather(*waiting), [[1], [2], [3]])
             await task
-            self.assertEqual(given.state, "published")
+            self.assertEqual(given.state, "results")
             self.assertEqual(await given.submit("GAS", 1, commands("cancel,GAS,A,,,,,,")), [2])  # sent again, after the close
         self.assertEqual(disk.records, [*(f"cancel,{who},A,,,,,," for who in NAMES), "close,,,,,,,,"])
         with opener(disk):  # and not after a start with a clock that is set back either
@@ -350,7 +499,7 @@ class Closing(Office):
             with self.assertRaises(gate.Refused):
                 given.submit("GAS", 1, commands("cancel,GAS,A,,,,,,"))
             await given.run()
-        self.assertEqual((disk.records, given.state), (["close,,,,,,,,"], "published"))
+        self.assertEqual((disk.records, given.state), (["close,,,,,,,,"], "results"))
 
     async def test_a_published_day_is_that_of_its_head(self):
         self.make()
@@ -370,6 +519,87 @@ class Closing(Office):
         again = self.gate()
         await again.run()
         self.assertIn("isn't of the journal", again.fault or "")
+
+    async def test_a_day_whose_files_cant_be_made_isnt_right(self):
+        self.make()
+        step, faults = clearing.sign, [OSError(errno.ENOSPC, "full")] * 2
+
+        async def sign(given):
+            if faults:
+                raise faults.pop()
+            await step(given)
+            rights.append(given.is_right)
+
+        async def made(given):
+            rights.append(given.is_right)
+
+        rights, log = [], io.StringIO()
+        with opener(Disk()), mock.patch.object(clearing, "publish", self.publish), mock.patch.multiple(
+            clearing, FIRST_PAUSE=0.001, sign=sign, clear=made, state=made
+        ):
+            given = self.gate(log=observed.Log(log))
+            task = asyncio.create_task(given.run())
+            await given.is_ready.wait()
+            given.close()
+            await task
+        self.assertEqual((rights, given.is_right), ([False, True, True], True))
+        self.assertEqual([one.get("file") for one in map(json.loads, log.getvalue().splitlines()) if one["event"] == "not made"], ["head.json"] * 2)
+
+    async def test_the_states_of_a_day(self):
+        """The office and the command status, which has the files alone, have the same words."""
+        self.make()
+        disk = Disk()
+
+        def states():
+            given.files.file(folder.DESK).touch()
+            with mock.patch.object(operate, "shown", mock.Mock()), mock.patch.object(operate.asyncio, "run", lambda _: ["day", *disk.records]):
+                return given.state, operate.state_of(given.files, "dam-desk")["state"]
+
+        with opener(disk), mock.patch.object(clearing, "publish", self.held):
+            given = self.gate()
+            task = asyncio.create_task(given.run())
+            await given.is_ready.wait()
+            self.assertEqual(states(), ("open", "open"))
+            operate.request(given.files, folder.CLOSE_NOW)
+            given.close()
+            self.assertEqual(states(), ("closing", "closing"))
+            await self.until(lambda: given.ledger.is_closed)
+            self.assertEqual(states(), ("closed", "closed"))
+            given.files.file(folder.RESULTS).write_bytes(b"")
+            self.assertEqual(states(), ("results", "results"))
+            self.assertIn("published", operate.publish(None, DAY, given.files))
+            self.assertEqual(states(), ("published", "published"))
+            task.cancel()
+            await asyncio.gather(task, return_exceptions=True)
+
+    async def held(self, _):
+        await asyncio.Event().wait()
+
+    def test_a_close_says_why_it_waits(self):
+        self.make()
+        files = self.office.days()[DAY]
+        for served, room, words in (
+            (False, None, []),
+            (True, None, [f"{DAY} has no head yet: the office's log says why"]),
+            (True, OSError(errno.ENOSPC, "No space left on device"), ["No space left on device"]),
+        ):
+            said = []
+            with (
+                mock.patch.multiple(operate, CLOSE_SECONDS=0.2, TELL_SECONDS=0.02, STEP=0.001),
+                mock.patch.object(self.office, "is_served", lambda: served),
+                mock.patch.object(files, "need_room", mock.Mock(side_effect=room)),
+                mock.patch.object(command, "tell", lambda _, line: said.append(line)),
+            ):
+                if served:
+                    with self.assertRaises(command.Stop) as caught:
+                        operate.close(self.office, DAY, files)
+                    self.assertEqual(caught.exception.status, command.UNDECIDED)
+                else:
+                    self.assertIn("once the office is served", operate.close(self.office, DAY, files))
+            self.assertEqual(len(said), len(words))
+            for line, part in zip(said, words):
+                self.assertIn(part, line)
+        self.assertTrue(files.has(folder.CLOSE_NOW))  # the request stays
 
     async def test_the_operator_closes_early(self):
         self.make()

@@ -92,17 +92,19 @@ def load(files, ledger):
 async def publish(gate):
     """Makes the files of a closed day, each once; a step that fails is tried again."""
     began, pause = time.monotonic(), FIRST_PAUSE
-    for step in (sign, clear, state):
+    for step, name in ((sign, folder.HEAD), (clear, folder.RESULTS), (state, folder.STATEMENT)):
         while True:
             try:
                 await step(gate)
                 break
             except (Failed, OSError) as fault:
-                gate.log_event("not published", step=step.__name__, fault=str(fault))
+                gate.trouble = str(fault)
+                gate.log_event("not made", file=name, fault=str(fault))
                 gate.counts.add("publish_faults_total")
                 await asyncio.sleep(pause)
                 pause = min(2 * pause, LONGEST_PAUSE)
-        gate.log_event("published", step=step.__name__, seconds=round(time.monotonic() - began, 3))
+        gate.trouble = None
+        gate.log_event("made", file=name, seconds=round(time.monotonic() - began, 3))
 
 
 async def sign(gate):

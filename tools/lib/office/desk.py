@@ -87,6 +87,10 @@ class Desk:
             raise await self.why() from None
         return data.removesuffix(OPENED).decode("ascii").splitlines()
 
+    async def ended(self):
+        """Waits until the desk has ended."""
+        await self.process.wait()
+
     async def why(self):
         err = await self.process.stderr.read(MOST_FAULT)
         status = await self.process.wait()

@@ -5,6 +5,7 @@ import datetime
 import fcntl
 import json
 import os
+import tempfile
 from pathlib import Path
 from typing import NamedTuple
 
@@ -15,9 +16,12 @@ from ..tool import command
 KEY, PUBLIC, PARTICIPANTS, LOCK, DAYS = "operator.pem", "operator.pem.pub", "participants.json", "lock", "days"
 TERMS, SALTS, DESK = "terms.json", "salts.json", "desk"  # of a day; the last one is the desk's file
 HEAD, JOURNAL, REPLIES, RESULTS, STATEMENT = "head.json", "journal.csv", "replies.txt", "results.txt", "statement.json"
+SIGNED = "signed-head.json"  # the newest head, while a day is open; HEAD is the last one
 CLOSE_NOW, OPEN_JOURNAL = "close-now", "publish-journal"  # the operator's requests
+OPEN, CLOSING, CLOSED, RESULTS_THERE, PUBLISHED = STATES = "open", "closing", "closed", "results", "published"  # of a day
 MOST_COMMANDS = rules.MOST_RECORDS - 2  # of all participants: the day and the close are records too
 PRIVATE = 0o077  # the bits of a mode that no file of an office has
+ROOM = 1 << 17  # bytes: more than the desk writes at once
 
 
 class Terms(NamedTuple):
@@ -39,9 +43,12 @@ def terms_read(data):
 
 
 def put(path, data):
-    """Writes a file that is whole, and on the disk, or not there."""
-    replacing.write(path, data)
-    sync(Path(path).parent)
+    """Writes a file that is whole, and on the disk, or not there. A fault names the file."""
+    try:
+        replacing.write(path, data)
+        sync(Path(path).parent)
+    except OSError as fault:
+        raise OSError(fault.errno, fault.strerror, str(path)) from None
 
 
 def sync(folder):
@@ -70,6 +77,13 @@ class DayFolder:
 
     def read(self, name):
         return self.file(name).read_bytes()
+
+    def need_room(self):
+        """Ends with an OSError unless the disk takes a batch of the desk now."""
+        with tempfile.TemporaryFile(dir=self.path) as file:
+            file.write(bytes(ROOM))
+            file.flush()
+            os.fsync(file.fileno())
 
     def terms(self):
         return terms_read(self.read(TERMS))

@@ -5,7 +5,7 @@ import contextlib
 import dataclasses
 import time
 
-from . import clearing, folder
+from . import clearing, folder, newest
 from .desk import Desk, Ended
 from ..journal.journal import Close, command_line
 from .ledger import Contradiction, Ledger
@@ -13,6 +13,7 @@ from .ledger import Contradiction, Ledger
 MOST_BATCH = 1_000  # records that the desk gets at once
 TICK = 0.1  # seconds between two looks at the clock
 FIRST_PAUSE, LONGEST_PAUSE = 0.1, 2.0  # seconds before a desk is started again
+ROOM_PAUSE = 1.0  # seconds between two looks whether a full disk has room
 STOPPED = "the day is stopped: ask the operator"
 MOST_ENDS = 5  # of the desk at one batch, without an entry of it
 
@@ -56,17 +57,25 @@ class Gate:
         self.waiting, self.wake = [], asyncio.Event()
         self.entering = []  # the batch at the desk
         self.answering = set()  # the tasks that answer batches
-        self.desk, self.fault = None, None  # the fault that stops the day
+        self.desk, self.watching = None, None  # the desk, and the task that watches it
+        self.fault = None  # the fault that stops the day
+        self.trouble = None  # why a batch wasn't entered, or a file not made, which passes
         self.is_ready, self.is_closing = asyncio.Event(), False
         self.published = clearing.Published(files)
+        self.newest = newest.Newest(files.file(folder.SIGNED), self.log_event)
 
     @property
     def state(self):
         if self.published.has_results:
-            return "published"
-        if self.ledger.is_closed or not self.is_open():
-            return "closed"
-        return "open"
+            return folder.PUBLISHED if self.published.has_journal else folder.RESULTS_THERE
+        if self.ledger.is_closed:
+            return folder.CLOSED
+        return folder.OPEN if self.is_open() else folder.CLOSING
+
+    @property
+    def is_right(self):
+        """Whether the day takes commands, or after its close has the files that it should."""
+        return self.is_ready.is_set() and self.trouble is None
 
     def is_open(self):
         """Whether a command that arrives now is in time."""
@@ -159,6 +168,7 @@ class Gate:
             self.ledger.enter(*next(entries), reply)
             self.counts.add("entries_total", '{reply="%s"}' % reply.partition(",")[0])
         self.counts.add("batches_total")
+        self.trouble = None
         answering = asyncio.create_task(self.answer(begin, self.ledger.size, list(dict.fromkeys(one for _, one in batch))))
         self.answering.add(answering)
         answering.add_done_callback(self.answering.discard)
@@ -166,6 +176,7 @@ class Gate:
     async def answer(self, begin, end, entered):
         """Answers the requests of a batch, with the heads of their receipts signed."""
         await self.ledger.sign_ahead(begin, end)
+        self.newest.note(self.ledger.head(end))
         for one in entered:
             if one.who is None:
                 one.done.cancel()
@@ -178,6 +189,7 @@ class Gate:
         try:
             if self.published.is_whole:
                 await asyncio.to_thread(clearing.load, self.files, self.ledger)
+                self.check_signed()
             else:
                 await self.keep()
                 await self.leave_desk()
@@ -189,6 +201,7 @@ class Gate:
             self.stop(f"a defect of the office: {type(fault).__name__}: {ascii(str(fault))[:200]}")
         finally:
             closer.cancel()
+            self.newest.end()
             await self.leave_desk()
 
     def stop(self, fault):
@@ -207,9 +220,7 @@ class Gate:
             try:
                 await self.open()
                 while not self.ledger.is_closed:
-                    if not self.waiting:
-                        self.wake.clear()
-                        await self.wake.wait()
+                    await self.wait_for_commands()
                     self.entering = self.batch()
                     if self.entering:
                         await self.commit(self.entering)
@@ -217,15 +228,43 @@ class Gate:
                     self.entering = []
             except (Ended, OSError, asyncio.TimeoutError) as fault:
                 self.is_ready.clear()
+                words = str(fault) or type(fault).__name__
+                self.trouble = words if self.entering else self.trouble
                 await self.leave_desk()
                 self.counts.add("desk_ends_total")
-                self.log_event("desk ended", fault=str(fault) or type(fault).__name__, entries=self.ledger.size)
+                self.log_event("desk ended", fault=words, entries=self.ledger.size)
                 ends = ends + 1 if self.ledger.size == size else 0
                 self.put_back(ends)
                 await asyncio.sleep(pause)
                 pause = min(2 * pause, LONGEST_PAUSE)
         for one in self.waiting:
             fail(one.done, Refused("Closed", "the day is closed, and this command isn't in its journal"))
+
+    async def wait_for_commands(self):
+        """Waits until a command waits. Ends as the desk does if it ends, also while none waits."""
+        while not (self.waiting or self.watching.done()):
+            self.wake.clear()
+            await self.wake.wait()
+        if self.watching.done():
+            self.watching.result()
+            raise await self.desk.why()
+
+    async def watch(self, desk):
+        """Wakes the writer once the desk has ended. After a batch wasn't entered, looks whether the disk has room again, unless a command
+        shows it."""
+        while True:
+            try:
+                await asyncio.wait_for(desk.ended(), ROOM_PAUSE if self.trouble else None)
+                break
+            except asyncio.TimeoutError:
+                if not (self.waiting or self.entering):
+                    await self.look_for_room()
+        self.wake.set()
+
+    async def look_for_room(self):
+        with contextlib.suppress(OSError):
+            await asyncio.to_thread(self.files.need_room)
+            self.trouble = None
 
     def put_back(self, ends):
         """The requests at which the desk ended wait again: at its next opening the desk shows which commands it entered. If it ends each
@@ -241,12 +280,23 @@ class Gate:
         began = time.monotonic()
         path = str(self.files.file(folder.DESK))
         self.desk, records, replies = await Desk.opened(self.programs.desk, path, self.terms.periods)
+        self.watching = asyncio.create_task(self.watch(self.desk))
         self.ledger.take(records, replies)
+        self.check_signed()
         self.is_ready.set()
         self.log_event("desk opened", entries=self.ledger.size, seconds=round(time.monotonic() - began, 3))
 
+    def check_signed(self):
+        """Ends with a contradiction unless the journal has the entries of the heads that the folder has: one that was cut or replaced while
+        no office had it in memory is seen here."""
+        for name in (folder.SIGNED, folder.HEAD):
+            if head := newest.read(self.files.file(name), self.ledger.seal.key):
+                self.ledger.check(head, name)
+
     async def leave_desk(self):
         desk, self.desk = self.desk, None
+        if self.watching:
+            self.watching.cancel()
         if desk:
             with contextlib.suppress(OSError):
                 await desk.close()

@@ -56,6 +56,13 @@ class Ledger:
         for entry in list(zip(commands, records, replies))[len(held) :]:
             self.enter(*entry)
 
+    def check(self, head, where):
+        """Ends with a contradiction unless the journal begins with the entries of a head that was signed, which a file has."""
+        if head.size > self.size:
+            raise Contradiction(f"LostEntries: the desk's journal has {self.size} entries, and the signed head in {where} {head.size}")
+        if self.seal.tree.root(head.size) != head.root or (head.day, head.periods) != (self.seal.day, self.seal.periods):
+            raise Contradiction(f"OtherEntries: the desk's journal doesn't begin with the {head.size} entries of the signed head in {where}")
+
     def count(self, who):
         """How many commands of a participant are entered."""
         return len(self.own[who]) if who in self.own else 0

@@ -10,7 +10,7 @@ from ..tool import command
 from . import folder, tokens
 from .desk import Ended, shown
 
-CLOSE_SECONDS, STEP = 60, 0.05  # to wait for the results of a close
+CLOSE_SECONDS, TELL_SECONDS, STEP = 60, 2, 0.05  # to wait for the results of a close, and until it says why it waits
 
 
 def state_of(files, desk):
@@ -23,7 +23,10 @@ def state_of(files, desk):
     except (Ended, OSError) as fault:
         raise command.Stop(f"the journal of {terms.day} can't be read: {fault}") from None
     is_closed = bool(records) and records[-1].startswith("close,")
-    state = "published" if has(folder.RESULTS) else "closed" if is_closed else "open" if left > 0 else "late"
+    state = folder.OPEN if left > 0 and not has(folder.CLOSE_NOW) else folder.CLOSING
+    state = folder.CLOSED if is_closed else state
+    if has(folder.RESULTS):
+        state = folder.PUBLISHED if has(folder.OPEN_JOURNAL) else folder.RESULTS_THERE
     counts = dict.fromkeys(terms.shares, 0)
     for record in records:
         who = record.split(",")[1]
@@ -68,20 +71,37 @@ def close(office, day, files):
     request(files, folder.CLOSE_NOW)
     if not office.is_served() and not files.has(folder.RESULTS):
         return f"{day} will be closed once the office is served"
-    until = time.monotonic() + CLOSE_SECONDS
+    began, told, tell_at = time.monotonic(), None, TELL_SECONDS
     while not files.has(folder.RESULTS):
-        if time.monotonic() > until:
+        waited = time.monotonic() - began
+        if waited > CLOSE_SECONDS:
             raise command.Stop(f"{day} has no results after {CLOSE_SECONDS} s: see the office's log", command.UNDECIDED)
+        if waited > tell_at:
+            tell_at += TELL_SECONDS
+            words = why_waiting(day, files)
+            if words != told:
+                command.tell("office", words)
+            told = words
         time.sleep(STEP)
-    return f"{day} is closed, and its results are published"
+    return f"{day} is closed, and has its results"
+
+
+def why_waiting(day, files):
+    """For what a close waits, as far as the folder shows it."""
+    missing = "results" if files.has(folder.HEAD) else "head"
+    try:
+        files.need_room()
+    except OSError as fault:
+        return f"{day} has no {missing} yet: {command.shown(files.path)} can't be written: {fault.strerror}"
+    return f"{day} has no {missing} yet: the office's log says why"
 
 
 def publish(office, day, files):
     """Publishes the journal and the replies of a day that has results."""
     if not files.has(folder.RESULTS):
-        raise command.Stop(f"{day} has no results yet, and its journal isn't published before them")
+        raise command.Stop(f"{day} has no results yet, and is published after them")
     request(files, folder.OPEN_JOURNAL)
-    return f"the journal and the replies of {day} are published"
+    return f"the journal, the results and the replies of {day} are published"
 
 
 def change_token(office, who, call):

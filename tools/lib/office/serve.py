@@ -165,4 +165,4 @@ async def serve(office, host, port, tls=None, behind_proxy=False, demo=None, sta
             await runner.server.shutdown(STOP_SECONDS)
         await runner.cleanup()
         await office.stop()
-        office.log.write("stopped")
+        office.log.write("ended")

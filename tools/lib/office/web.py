@@ -296,7 +296,7 @@ class Web:
         self.reads.charge(who, gate.ledger.count(who) // COMMANDS_OF_READ)
         found = gate.published.statement(who)
         if found is None:
-            raise Refused("NotFound", "the statement isn't published yet")
+            raise Refused("NotFound", "there is no statement yet")
         return web.json_response(found)
 
     # --- what all may see
@@ -317,7 +317,7 @@ class Web:
             "periods": terms.periods,
             "closes": terms.closes.isoformat(),
             "zone": terms.zone,
-            "seconds_left": round(max(0, closes - now), 3) if state == "open" else 0,
+            "seconds_left": round(max(0, closes - now), 3) if state == folder.OPEN else 0,
             "state": state,
             "entries": gate.ledger.size,
             "has_statement": gate.published.is_whole,
@@ -334,7 +334,10 @@ class Web:
 
     async def head(self, request):
         """The newest head; with `since` the proof that it goes on from the head of so many entries."""
-        ledger = self.gate(request).ledger
+        gate = self.gate(request)
+        if gate.fault:  # its journal may be another than that of earlier heads
+            raise Refused("Unavailable", STOPPED)
+        ledger = gate.ledger
         if "since" not in request.query:
             return jsonl([ledger.head()])
         since = query_number(request, "since")
@@ -346,19 +349,19 @@ class Web:
         """The results without the orders: the day, the welfare, and each period's price and volume."""
         gate = self.gate(request)
         if not gate.published.has_results:
-            raise Refused("NotFound", "the results aren't published yet")
+            raise Refused("NotFound", "there are no results yet")
         return web.Response(text=gate.published.prices(gate.terms.periods), content_type="text/plain")
 
     async def published(self, request):
         """The texts that have the orders of all: only if the operator publishes the journal."""
         gate, name = self.gate(request), request.path.rpartition("/")[2]
         if not gate.published.has_journal:
-            raise Refused("NotFound", "the operator hasn't published the journal")
+            raise Refused("NotFound", "the operator hasn't published the day; its prices are under prices")
         files = {"results": folder.RESULTS, "journal": folder.JOURNAL, "replies": folder.REPLIES}
         return web.FileResponse(gate.files.file(files[name]), headers={"Content-Type": "text/plain; charset=utf-8"})
 
     async def health(self, request):
-        is_right = all(gate.is_ready.is_set() for gate in self.office.gates.values())
+        is_right = all(gate.is_right for gate in self.office.gates.values())
         return web.json_response({"status": "ok" if is_right else "unavailable"}, status=200 if is_right else 503)
 
     async def metrics(self, request):
@@ -366,7 +369,7 @@ class Web:
         for name, gate in self.office.gates.items():
             label = f'{{day="{name}"}}'
             gauges += [(f"entries{label}", gate.ledger.size), (f"waiting{label}", len(gate.waiting))]
-            gauges += [(f"ready{label}", int(gate.is_ready.is_set())), (f"open{label}", int(gate.is_open()))]
+            gauges += [(f"ready{label}", int(gate.is_right)), (f"open{label}", int(gate.is_open()))]
         return web.Response(text=self.counts.text(gauges), content_type="text/plain")
 
     # --- the demo

@@ -175,7 +175,7 @@ function showDay() {
   const when = isOpen() ? `It closes on ${closes} (${day.zone}).` : "It is closed.";
   byId("where").textContent = `Delivery day ${day.day}, ${day.periods} periods. ${when}`;
   figures([
-    ["time left", isOpen() ? left(secondsLeft()) : day.state === "closed" ? "closed, results are coming" : "closed", "left"],
+    ["time left", isOpen() ? left(secondsLeft()) : ["closing", "closed"].includes(day.state) ? "closed, results are coming" : "closed", "left"],
     ["your orders in the book", String(state.orders.length)],
     ["your commands", `${state.next - 1} of ${state.share}`],
     ["entries of all", String(day.entries)],

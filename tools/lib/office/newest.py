@@ -1,0 +1,62 @@
+"""The newest head that a day has signed, in a file of its folder. A start compares the journal with it, and so sees one that has lost
+entries since, or has others. The file is written without a sync, at most every PAUSE seconds, so that no command waits for it."""
+
+import asyncio
+import os
+import threading
+
+from ..seal import heads, signing
+
+PAUSE = 0.2  # seconds
+
+
+def read(path, key):
+    """The head in a file that this key has signed. None without the file, or if it isn't whole: a crash may leave it so."""
+    try:
+        head, _ = heads.parsed(path.read_bytes(), heads.head_read)
+    except (FileNotFoundError, heads.Wrong):
+        return None
+    return head if signing.is_signed(key.public_key(), head) else None
+
+
+class Newest:
+    """The file. `note` is called from the event loop alone."""
+
+    def __init__(self, path, log):
+        self.path, self.log = path, log
+        self.head, self.written = None, None
+        self.is_failing, self.lock, self.task = False, threading.Lock(), None
+
+    def note(self, head):
+        """Notes a head; the file has it within `PAUSE` seconds."""
+        if self.head is None or head.size > self.head.size:
+            self.head = head
+            if self.task is None or self.task.done():
+                self.task = asyncio.create_task(self.keep())
+
+    async def keep(self):
+        while self.head is not self.written:
+            await asyncio.to_thread(self.write)
+            await asyncio.sleep(PAUSE)
+
+    def end(self):
+        """Writes the newest head now."""
+        if self.task is not None:
+            self.task.cancel()
+        self.write()
+
+    def write(self):
+        """Replaces the file, if there is a newer head. A file that can't be written keeps the old one, and is logged once."""
+        with self.lock:
+            head = self.head
+            if head is self.written:
+                return
+            made = self.path.with_name(f".{self.path.name}")
+            try:
+                made.write_bytes(heads.line(head))
+                os.replace(made, self.path)
+                self.written, self.is_failing = head, False
+            except OSError as fault:
+                if not self.is_failing:
+                    self.log("signed head not kept", fault=str(fault))
+                self.is_failing = True
