@@ -8,7 +8,9 @@ import tempfile
 from pathlib import Path
 
 import browser
-from served import TOOL, free_port, served
+from served import TOOL, day_of, free_port, served
+
+from lib.base import clock, rules
 
 WIDTHS = 390, 1_280
 # How many controls have no name.
@@ -462,6 +464,42 @@ async def scene(office, counts, pictures, room):
         counts.check(f"no script fails, and the policy refuses nothing: {found}", not found)
 
 
+async def length_scene(page, office, periods, counts):
+    """A day of another length: a block over all of it, by the page and in its results."""
+    who = office.who[0]
+    await page.call("Page.navigate", url=office.url)
+    await page.until(f"location.port === '{office.port}' && document.readyState === 'complete'")
+    await page.look(WIDTHS[0], "light")
+    await sign_in(page, office, who)
+    await click(page, "input[value=block]")
+    await write(page, "name", "ABCDEFGHIJ-9")
+    await write(page, "price", "4000")
+    await write(page, "fill-volume", "9999.9")
+    await page.key("Enter", 13)
+    await click(page, "#enter")
+    await until_rows(page, "orders-table", 1)
+    first = (await rows(page, "commands-table"))[0]
+    counts.check(f"a block over {periods} periods: {first}", first[6:8] == ["4000.00", f"1-{periods}: 9999.9"])
+    fits = await page.run("document.documentElement.scrollWidth") <= WIDTHS[0] and await page.run(SCROLLED) == 0
+    counts.check(f"a day of {periods} periods fits into {WIDTHS[0]}", fits)
+    await asyncio.to_thread(office.close_day)
+    await page.until("!document.getElementById('results').hidden")
+    (row,), prices = await rows(page, "statement"), await rows(page, "prices")
+    energy = f"{9_999.9 * periods * float(rules.DAYS[periods]):,.1f}"
+    counts.check(f"{energy} MWh of {periods} periods: {row}", row[4:6] == [energy, "0.0"] and row[8] == "paradoxically rejected")
+    counts.check(f"the prices of {periods} periods", [one[1] for one in prices] == [clock.begins(periods, at + 1) for at in range(periods)])
+
+
+async def lengths_scene(args, counts):
+    async with browser.opened("data:text/html,") as page:
+        for periods in sorted(set(rules.DAYS) - {24}):
+            with served(args.dam, args.desk, periods=periods, day=day_of(periods)) as office:
+                office.start()
+                await length_scene(page, office, periods, counts)
+        found = [fault for fault in page.faults if "CONNECTION_REFUSED" not in fault]  # of an office that has ended
+        counts.check(f"no script fails at a day of another length: {found}", not found)
+
+
 async def demo_scene(url, counts, pictures):
     """A block over a night has a price in the demo, and closing the demo asks first."""
     async with browser.opened(url) as page:
@@ -508,4 +546,5 @@ def check(args, counts):
     with served(args.dam, args.desk) as office, tempfile.TemporaryDirectory() as room:
         office.start()
         asyncio.run(scene(office, counts, args.pictures, room))
+    asyncio.run(lengths_scene(args, counts))
     demo(args, counts)

@@ -14,7 +14,7 @@ from pathlib import Path
 import browser
 import hostile
 import loads
-from served import TOOL, TOP, OfficeFault, free_port, served
+from served import TOOL, TOP, OfficeFault, day_of, free_port, served
 
 from dam_tools.office import Asked, Office
 from lib.base import rules
@@ -348,12 +348,7 @@ def routes(args, counts):
     import described
 
     for periods in sorted(rules.DAYS):
-        with served(
-            args.dam,
-            args.desk,
-            periods=periods,
-            day={23: "2099-03-29", 92: "2099-03-29", 25: "2099-10-25", 100: "2099-10-25"}.get(periods, "2099-11-29"),
-        ) as office:
+        with served(args.dam, args.desk, periods=periods, day=day_of(periods)) as office:
             office.start()
             described.check(office, counts, periods)
 

@@ -18,6 +18,7 @@ sys.path[:0] = [str(TOP / "tools"), str(TOP / "tests")]
 from dam_tools.office import AsyncOffice, Office, OfficeFault
 
 DAY, CLOSE = "2099-11-29", "2099-11-28T12:00"
+CLOCKS_CHANGE = {23: "2099-03-29", 92: "2099-03-29", 25: "2099-10-25", 100: "2099-10-25"}
 START_SECONDS, STEP = 60, 0.02
 TOOL = [sys.executable, "-I", "-B", str(TOP / "tools" / "office")]
 
@@ -26,6 +27,11 @@ def free_port():
     with contextlib.closing(socket.socket()) as found:
         found.bind(("127.0.0.1", 0))
         return found.getsockname()[1]
+
+
+def day_of(periods):
+    """A day of so many periods."""
+    return CLOCKS_CHANGE.get(periods, DAY)
 
 
 def names(count):
@@ -155,4 +161,4 @@ def served(*words, **how):
         office.room.cleanup()
 
 
-__all__ = ["DAY", "OfficeFault", "Served", "served"]
+__all__ = ["DAY", "OfficeFault", "Served", "day_of", "served"]
