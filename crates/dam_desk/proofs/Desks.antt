@@ -6,7 +6,7 @@ use Rattle.sqlite_disk.specs.declared.Disk.{Ghosts}
 use Rattle.dam_store.specs.Journal.{StandsForEither, has_byte, text_of}
 use Rattle.dam_store.specs.Store.{IsSafe, disk_of, held}
 use Rattle.dam_store.specs.declared.store.Store.{Store}
-use Rattle.dam_desk.specs.Journal.{Journal, State, AreLines, AreWhole, OpensTo, journal_text, next}
+use Rattle.dam_desk.specs.Journal.{Journal, State, AreLines, AreWhole, OpensTo, Reads, journal_text, next}
 use Rattle.dam_desk.specs.Desk.{Finishes, IsDesk, IsEnding, IsGiven, MayLeave, Served, Takes, end_answer}
 use Rattle.dam_desk.specs.Faults.{IsWritingFault}
 use Rattle.dam_desk.specs.declared.desk.Desk.{Desk}
@@ -270,16 +270,16 @@ written_part old new text (Ok x) fault = tt
 written_part old new text (Err why) fault = written_fault old new text why fault
 
 -- every file that a crash leaves stands for the store's lines, which are the journal's text
-pub opens_store : {D : Type 0} {g : Ghosts D} (store : Store D g) (journal : Option Journal)
+pub opens_store : {D : Type 0} {g : Ghosts D} (store : Store D g) (journal : Option Journal) → Reads journal
     → (IsTrue (g.is_clean (disk_of store)) → text_of (held store) ≡ journal_text journal)
     → (IsTrue (g.is_clean (disk_of store)) → IsSafe store) → (file : List ℕ)
     → IsTrue (g.is_clean (disk_of store)) × g.may_leave (disk_of store) file → OpensTo journal file
-opens_store store journal text safe file may = (held store, (safe may.0).crash file may.1, text may.0)
+opens_store store journal reads text safe file may = (held store, (safe may.0).crash file may.1, text may.0, reads)
 
-opens_one : (lines batch : List (List ℕ)) (before after : Option Journal) (file : List ℕ) → text_of lines ≡ journal_text before
+opens_one : (lines batch : List (List ℕ)) (before after : Option Journal) (file : List ℕ) → Reads before → Reads after → text_of lines ≡ journal_text before
     → text_of (lines ++ batch) ≡ journal_text after → StandsForEither lines batch file → OpensTo before file ⊎ OpensTo after file
-opens_one lines batch before after file old new (inl stands) = inl (lines, stands, old)
-opens_one lines batch before after file old new (inr stands) = inr (lines ++ batch, stands, new)
+opens_one lines batch before after file reads also old new (inl stands) = inl (lines, stands, old, reads)
+opens_one lines batch before after file reads also old new (inr stands) = inr (lines ++ batch, stands, new, also)
 
 -- the text of the lines with those of a batch
 pub with_batch : (lines batch : List (List ℕ)) (entered : List ℕ) (before after : Option Journal) → text_of lines ≡ journal_text before
@@ -289,13 +289,14 @@ with_batch lines batch entered before after old new is =
 
 -- the store's lines are the old ones, and maybe those of the batch
 pub opens_either : {D : Type 0} {g : Ghosts D} (old new : Store D g) (batch : List (List ℕ)) (entered : List ℕ) (before after : Option Journal)
+    → Reads before → Reads after
     → g.is_clean (disk_of new) ≡ g.is_clean (disk_of old) → (IsTrue (g.is_clean (disk_of old)) → text_of (held old) ≡ journal_text before)
     → text_of batch ≡ entered → journal_text before ++ entered ≡ journal_text after
     → (IsTrue (g.is_clean (disk_of new)) → (file : List ℕ) → g.may_leave (disk_of new) file → StandsForEither (held old) batch file)
     → (file : List ℕ) → IsTrue (g.is_clean (disk_of new)) × g.may_leave (disk_of new) file → OpensTo before file ⊎ OpensTo after file
-opens_either old new batch entered before after same text is grown stands file may =
+opens_either old new batch entered before after reads also same text is grown stands file may =
     let was = text (sym same ∙ may.0) in
-    opens_one (held old) batch before after file was (with_batch (held old) batch entered before after was is grown)
+    opens_one (held old) batch before after file reads also was (with_batch (held old) batch entered before after was is grown)
     (stands may.0 file may.1)
 
 -- the store's lines have grown by the batch

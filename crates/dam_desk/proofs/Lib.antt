@@ -4,4 +4,5 @@ mod Crashes
 mod Texts
 mod Runs
 mod Steps
+mod Growth
 mod Desks

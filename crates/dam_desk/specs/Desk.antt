@@ -18,15 +18,15 @@ KeepsLines outcomes lines = (file : List ℕ) → outcomes file → (more : List
 abbrev pub MayLeave : {D : Type 0} {g : Ghosts D} → Desk D g → List ℕ → Type 0
 MayLeave {D} {g} desk file = IsTrue (g.is_clean (disk_of desk.store)) × g.may_leave (disk_of desk.store) file
 
--- the desk has this state and this beginning of a line, and the file has the state's journal
+-- the desk has this state and this beginning of a line, and the file has the state's journal, which reads as it
 pub record IsDesk {D : Type 0} {g : Ghosts D} (desk : Desk D g) (state : State) (begun : List ℕ) : Type 0 where
   pub intake : IsIn desk.intake state begun
+  pub reads : Reads state.journal
   pub file : IsTrue (g.is_clean (disk_of desk.store)) → text_of (held desk.store) ≡ journal_text state.journal
 
 -- a desk that was opened and has answered nothing, and the replies to its journal, as `dam replay` prints them
 pub record IsOpened {D : Type 0} {g : Ghosts D} (desk : Desk D g) (replies : List ℕ) : Type 0 where
   pub journal : Option Journal
-  pub reads : Reads journal
   pub fresh : IsDesk desk (record { answered = 0; journal = journal }) []
   pub same_replies : replies ≡ replies_text journal
 

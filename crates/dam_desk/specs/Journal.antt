@@ -103,6 +103,6 @@ pub record FirstLines (bytes : List ℕ) (lines : List (List ℕ)) : Type 0 wher
   pub split : bytes ≡ text_of lines ++ rest
   pub whole : AreWhole lines
 
--- the file opens to this journal
+-- the file opens to this journal: its lines are the written journal, and read as it
 abbrev pub OpensTo : Option Journal → List ℕ → Type 0
-OpensTo journal file = (lines : List (List ℕ)) × StandsFor lines file × (text_of lines ≡ journal_text journal)
+OpensTo journal file = (lines : List (List ℕ)) × StandsFor lines file × (text_of lines ≡ journal_text journal) × Reads journal

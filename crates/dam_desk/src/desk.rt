@@ -9,6 +9,7 @@ ghost use Rattle.dam_desk.specs.Faults.{is_write};
 
 use crate::answer::write_fault;
 use crate::fault::{DeskFault, LineFault};
+use crate::laws::journals_grow;
 use crate::output::write_text;
 use crate::state::Intake;
 use dam_store::Store;
@@ -49,6 +50,7 @@ impl<D: Disk> Desk<D> {
             → OnErr result (Served state (begun ++ bytes.now) []
             (W.contents writer.old) (W.contents writer.new) (MayLeave self.new)) }
     {
+        journals_grow();
         let _safe = self.store.is_broken(); // for the proof: what an open store has is safe
         self.intake.take(bytes)?;
         let batch = self.intake.batch()?;

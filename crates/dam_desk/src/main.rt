@@ -7,6 +7,7 @@ mod desk;
 mod fault;
 mod held;
 mod intake;
+mod laws;
 mod limits;
 mod line;
 mod lines;

@@ -15,12 +15,12 @@ returns-in_err-append-clause-crash g c ready clean file left = either_keeps (hel
 pub returns-in_err-take-clause-faulty : goal.returns-in_err-take-clause-faulty
 returns-in_err-take-clause-faulty g c state begun is ready =
     on_err_any c.from_residual.result _ (served_none state (begun ++ c.args.bytes.now) [] (g.W.Write.contents c.args.writer.now) _
-    (opens_store c.args.self.now.store state.journal is.file (c.is_broken-safe.ensures.safe ready)))
+    (opens_store c.args.self.now.store state.journal is.reads is.file (c.is_broken-safe.ensures.safe ready)))
 
 pub returns-in_err-batch-clause-faulty : goal.returns-in_err-batch-clause-faulty
 returns-in_err-batch-clause-faulty g c state begun is ready =
     on_err_any c.from_residual-in_err-batch.result _ (served_none state (begun ++ c.args.bytes.now) [] (g.W.Write.contents c.args.writer.now) _
-    (opens_store c.args.self.now.store state.journal is.file (c.is_broken-safe.ensures.safe ready)))
+    (opens_store c.args.self.now.store state.journal is.reads is.file (c.is_broken-safe.ensures.safe ready)))
 
 pub returns-in_err-append-clause-faulty : goal.returns-in_err-append-clause-faulty
 returns-in_err-append-clause-faulty g c state begun is ready =
@@ -28,11 +28,13 @@ returns-in_err-append-clause-faulty g c state begun is ready =
     on_err_any c.from_residual-in_err-append.result _
     (served_pending c.take.new.self state (begun ++ c.args.bytes.now) (g.W.Write.contents c.args.writer.now) _ read
     (opens_either c.args.self.now.store c.append.new.self c.in_ok-batch.batch (entered_text c.take.new.self) state.journal read.last.journal
+    is.reads (c.journals_grow.ensures.reads state read.last read.lines c.take.new.self.answers.items is.reads read.answers)
     c.append.ensures.clean is.file c.in_ok-batch.ensures read.text (c.append.ensures.crash ready)))
 
 pub returns-clause-taken : goal.returns-clause-taken
 returns-clause-taken g c state begun is =
     let read = c.in_ok-take.ensures state begun is.intake in
+    let reads = c.journals_grow.ensures.reads state read.last read.lines c.take.new.self.answers.items is.reads read.answers in
     let text = store_grown c.args.self.now.store c.append.new.self c.in_ok-batch.batch (entered_text c.take.new.self) state.journal read.last.journal
     c.append.ensures.clean is.file c.in_ok-batch.ensures read.text c.in_ok-append.ensures.acknowledged in
     on_ok_weaker c.write_text.result (λ written. record {
@@ -47,8 +49,8 @@ returns-clause-taken g c state begun is =
       last = read.last;
       answered = read.answers;
       written = subst (Appends (g.W.Write.contents c.args.writer.now) (g.W.Write.contents c.write_text.new.writer)) c.as_slice.ensures.value written;
-      now = record { intake = read.now; file = text };
-      safe = opens_store c.append.new.self read.last.journal text c.in_ok-append.ensures.safe;
+      now = record { intake = read.now; reads = reads; file = text };
+      safe = opens_store c.append.new.self read.last.journal reads text c.in_ok-append.ensures.safe;
     }) c.write_text.ensures.done
 
 pub returns-clause-faulty : goal.returns-clause-faulty
@@ -56,10 +58,11 @@ returns-clause-faulty g c state begun is ready =
     let read = c.in_ok-take.ensures state begun is.intake in
     let old = g.W.Write.contents c.args.writer.now in
     let new = g.W.Write.contents c.write_text.new.writer in
+    let reads = c.journals_grow.ensures.reads state read.last read.lines c.take.new.self.answers.items is.reads read.answers in
     let text = store_grown c.args.self.now.store c.append.new.self c.in_ok-batch.batch (entered_text c.take.new.self) state.journal read.last.journal
     c.append.ensures.clean is.file c.in_ok-batch.ensures read.text c.in_ok-append.ensures.acknowledged in
     on_err_then c.write_text.result ((count : ℕ) × Appends old new (take count c.as_slice.result.now)) _ (λ part.
     served_written c.take.new.self state (begun ++ c.args.bytes.now) old new _ part.0 read
     (subst (λ (t : List ℕ). Appends old new (take part.0 t)) c.as_slice.ensures.value part.1)
-    (opens_store c.append.new.self read.last.journal text c.in_ok-append.ensures.safe))
+    (opens_store c.append.new.self read.last.journal reads text c.in_ok-append.ensures.safe))
     (written_part old new c.as_slice.result.now c.write_text.result c.write_text.ensures.fault)
