@@ -406,7 +406,7 @@ async def results(page, office, who, other, counts):
     await page.until("!document.getElementById('results').hidden")
     counts.check(
         "an unfinished order isn't lost without a word",
-        await text(page, "message") == "The results are published.\nYour unfinished order LATE wasn't sent.",
+        await text(page, "message") == "The results are there.\nYour unfinished order LATE wasn't sent.",
     )
     statement, prices, commands = [await rows(page, name) for name in ("statement", "prices", "commands-table")]
     found = {row[0]: row[1:] for row in statement}
@@ -423,6 +423,11 @@ async def results(page, office, who, other, counts):
     counts.check(f"also one without trade: {prices[8]}", prices[8] == ["9", "08:00", "1,750.00 (nominal)", "0.0"])
     counts.check("nothing of another's", f"{other}," not in await page.run("document.body.textContent"))
     counts.check("orders can't be entered any more", await page.run("document.getElementById('entry').hidden"))
+    counts.check("the journal isn't offered", await page.run("byId('journal').hidden") and "hasn't" in await text(page, "no-journal"))
+    await asyncio.to_thread(office.tool, "publish", office.folder)
+    await page.until("byId('no-journal').hidden && byId('journal').checkVisibility()")
+    offered = await page.run("fetch(byId('journal').href).then((answer) => answer.text())")
+    counts.check("until it is published", offered.startswith("day,24,") and offered.endswith("close,,,,,,,,\n"))
 
 
 async def sign_in_again(page, office, who, counts):

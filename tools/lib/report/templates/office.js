@@ -183,6 +183,9 @@ function showDay() {
   byId("left").className = isOpen() && day.seconds_left < 60 ? "late" : "";
   byId("entry").hidden = byId("upload").hidden = !isOpen();
   byId("close-now").disabled = !isOpen();
+  byId("no-journal").hidden = day.has_journal;
+  byId("journal").hidden = !day.has_journal;
+  byId("journal").href = `/days/${day.day}/journal`;
 }
 
 function tick() {
@@ -499,7 +502,7 @@ async function showResults() {
   });
   byId("prices").replaceChildren(table("The price and the traded volume of each period", [["period", "n"], ["begins", "n"], ["price, EUR/MWh", "n"], ["volume, MW", "n"]], cells, false));
   byId("results").hidden = false;
-  say(`The results are published.${state.unsent}`, state.unsent ? "wrong" : "right");
+  say(`The results are there.${state.unsent}`, state.unsent ? "wrong" : "right");
 }
 
 function save(text, type, name) {
