@@ -4,23 +4,27 @@ import itertools
 import json
 import random
 import unittest
+from collections import Counter
 from pathlib import Path
 from unittest import mock
 
 from signed import DAY, NEEDS_CRYPTOGRAPHY, InFolder, lines_of
 from support import TOP
 
-from lib.seal import heads
+from lib.seal import heads, merkle
 
 try:
     from lib.receipts import receipts
+    from lib.receipts.contradictions import Signed, unsigned
+    from lib.receipts.findings import Place
     from lib.seal import sealing, signing
-    from lib.receipts.contradictions import unsigned
 except ImportError:  # without python3-cryptography
     pass
 
 KEYS = ["--key", "key.pem.pub"]
 TREES = "the operator signed two trees of 2026-11-28 with"
+HASHES = "the operator signed two hashes of"
+TWICE = "two journals, or one journal twice"
 ENTRY = "submit,TOWN,K{},hour,buy,{},8:10,,"
 
 
@@ -117,7 +121,7 @@ class Contradictions(InFolder):
             links = receipts.Links([], self.key.public_key(), [])
             for signature in (head.signature, bytes(64)):
                 self.assertTrue(links.add_head("file", head._replace(signature=signature), []))
-        self.assertEqual((links.signed.findings, links.signed.heads()), ([], [unsigned(head)]))
+        self.assertEqual((links.signed.contradictions(), links.signed.heads()), ([], [unsigned(head)]))
 
     def test_one_number_with_two_entries(self):
         """No journal has both, whether their heads are connected or not."""
@@ -128,10 +132,13 @@ class Contradictions(InFolder):
         said = f"the operator signed entry 1 of 2026-11-28 as {other}; and as {first}, in ab.jsonl line 1"
         self.assertEqual(lines[2:], [f"ab.jsonl line 2: {said}: two journals, or one journal twice"])
         self.assertEqual(last, "wrong: 2 receipts undecided; 1 contradiction; the head of 2026-11-28 with 18 entries")
-        # Receipts of equal entries that were given after the fork are no contradiction; those of a journal that was sealed twice are.
+        # Equal entries after the fork are no contradiction, unless the receipts show the fork; two entries of a journal sealed twice are one.
         path = self.lines("same.jsonl", "A", 2)
-        self.lines("same.jsonl", "B2", 2)
+        self.lines("same.jsonl", "C", 2)
         self.told(4, "verify", path, "--head", "C.head", *KEYS)
+        self.lines("fork.jsonl", "A", 2)
+        lines, _ = self.told(1, "verify", self.lines("fork.jsonl", "B2", 2), "--head", "C.head", *KEYS)
+        self.assertEqual(lines[-1], f"fork.jsonl line 2: {HASHES} entry 1 of 2026-11-28: {TWICE}; the other one is in fork.jsonl line 1")
         seal, signed = grown(self.key, [100] * 7, (7,))
         Path("again.jsonl").write_bytes(lines_of(seal, signed[7])[1])
         lines, _ = self.told(1, "verify", path, "again.jsonl", "--head", "C.head", *KEYS)
@@ -202,11 +209,11 @@ class Contradictions(InFolder):
             for old, new in every:
                 self.assertEqual(links.leads(signed[old], signed[new]), (old, new) in proved, (chosen, old, new))
 
-    def test_an_extension_that_proves_nothing(self):
+    def test_an_extension_that_connects_nothing(self):
         """Anyone can make one of two right heads: the operator isn't at fault, and the rest is as it is without it."""
         extension, _ = heads.parsed(Path("C.extension").read_bytes(), heads.extension_read)
         Path("no.extension").write_bytes(heads.line(extension._replace(path=extension.path[::-1])))
-        said = "no.extension: it proves nothing: its path doesn't lead from the earlier head to the later one"
+        said = "no.extension: it doesn't connect its heads: its path doesn't lead from the earlier one to the later one"
         lines, last = self.told(4, "verify", "A.receipts", "--head", "C.head", "--extension", "no.extension", *KEYS)
         self.assertEqual((lines[0], len(lines)), (said, 7))
         self.assertEqual(last, "undecided: 6 receipts undecided; 1 extension undecided; the head of 2026-11-28 with 18 entries")
@@ -228,9 +235,9 @@ class Contradictions(InFolder):
             _, signed = grown(new, [101] * 6, (6,), day=day)
             Path("new.head").write_bytes(heads.line(signed[6]))
             lines, _ = self.told(status, "heads", "A.head", "new.head", *KEYS, "--key", "new.pem.pub")
-            self.assertEqual(any(TREES in line for line in lines), status == 1)
-            said = "new.head: the operator signed 2026-11-28 with new.pem.pub, and with key.pem.pub, in A.head"
-            self.assertEqual(said in lines, status == 1)
+            # Each key signs a journal of its own, and one may be a stranger's: nothing else is told.
+            said = [line for line in lines if "signed by" not in line and "the last with" not in line]
+            self.assertEqual(said, ["new.head: two keys signed 2026-11-28: new.pem.pub, and key.pem.pub in A.head"] if status else [])
             self.assertIn("A.head: the head of 2026-11-28 with 6 entries, signed by key.pem.pub", lines)
             self.assertIn(f"new.head: the head of {day} with 6 entries, signed by new.pem.pub", lines)
         Path("key again.pub").write_bytes(Path("key.pem.pub").read_bytes())
@@ -248,9 +255,9 @@ class Contradictions(InFolder):
         mixed = extension._replace(new=signing.signed(new, extension.new))
         Path("again.head").write_bytes(heads.line(mixed.new))
         Path("mixed.extension").write_bytes(heads.line(mixed))
-        said = "the operator signed 2026-11-28 with {}, and with {}, in {}"
+        said = "two keys signed 2026-11-28: {}, and {} in {}"
         other, own = said.format("new.pem.pub", "key.pem.pub", "{}"), said.format("key.pem.pub", "new.pem.pub", "{}")
-        refused = "mixed.extension: it proves nothing: its heads are signed with two keys, key.pem.pub and new.pem.pub"
+        refused = "mixed.extension: it doesn't connect its heads: they are signed with two keys, key.pem.pub and new.pem.pub"
         self.assertIn(f"again.head: {other.format('B.head')}", self.told(1, "heads", "B.head", "again.head", *keys)[0])
         self.assertIn(f"B.head: {own.format('again.head')}", self.told(1, "heads", "again.head", "B.head", *keys)[0])
         lines, _ = self.told(1, "heads", "A.head", "again.head", "--extension", "mixed.extension", *keys)
@@ -264,6 +271,137 @@ class Contradictions(InFolder):
         lines, _ = self.told(4, "heads", "A.head", "--extension", "mixed.extension", *keys)
         self.assertEqual(lines[0], refused)
 
+    def forked(self):
+        """Files of two journals, left and right, that differ in entry 7: heads, receipts, and extensions between any two sizes."""
+        salts = sealing.new_salts(DAY)
+        for name, prices in (("left", [100] * 18), ("right", fork([100] * 18, 7))):
+            seal, signed = grown(self.key, prices, range(1, 19), salts)
+            for size, head in signed.items():
+                Path(f"{name}{size}.head").write_bytes(heads.line(head))
+                Path(f"{name}{size}.receipts").write_bytes(b"".join(lines_of(seal, head)))
+                for old in range(1, size + 1):
+                    Path(f"{name}{old}-{size}.extension").write_bytes(heads.line(seal.extension(signed[old], head)))
+
+    def test_two_hashes_of_the_same_entries(self):
+        """Heads of other sizes, extensions and receipts of equal entries show a fork by the hashes that they have in common."""
+        self.forked()
+
+        def receipts_of(*every):
+            name = f"{'-'.join(f'{source}.{number}' for source, number in every)}.jsonl"
+            for source, number in every:
+                self.lines(name, source, number)
+            return name
+
+        head = "--head", "right18.head"
+        eight, two, late, far = (receipts_of(("left9", one), ("right18", other)) for one, other in ((8, 8), (2, 2), (9, 1), (9, 18)))
+        small = receipts_of(("left7", 7), ("right8", 8))
+        for words, place, entries, other in (
+            (["heads", "left6.head", "left6-9.extension", "right6-18.extension"], "right6-18.extension", "entries 7 to 8", "left6-9.extension"),
+            (["verify", eight, *head], f"{eight} line 2", "entry 7", f"{eight} line 1"),
+            (["verify", two, *head], f"{two} line 2", "entries 5 to 8", f"{two} line 1"),
+            (["verify", two, *head, "left6-9.extension"], f"{two} line 2", "entries 5 to 8", "left6-9.extension"),
+            (["verify", late, *head], f"{late} line 2", "entries 1 to 8", f"{late} line 1"),
+            (["verify", small, "--head", "right8.head"], f"{small} line 2", "entry 7", f"{small} line 1"),
+            # A head, whose root another file has or computes.
+            (["heads", "left8.head", "right6-18.extension"], "left8.head", "entries 1 to 8", "right6-18.extension"),
+            (["heads", "left8.head", "right15-16.extension"], "left8.head", "entries 1 to 8", "right15-16.extension"),
+            # The hashes of its parts make another root.
+            (["heads", "right10.head", "left11-13.extension"], "left11-13.extension", "entries 1 to 10", "right10.head"),
+            (["heads", "right10.head", "left8-9.extension", "left11-13.extension"], "right10.head", "entries 1 to 10", None),
+        ):
+            with self.subTest(words):
+                words = [word for one in words for word in (["--extension", one] if one.endswith(".extension") else [one])]
+                lines, last = self.told(1, *words, *KEYS)
+                self.assertTrue(last.startswith("wrong: "))
+                told = [line for line in lines if HASHES in line or TREES in line]
+                self.assertEqual(len(told), 1, lines)
+                where = f"is in {other}" if other else "follows from left8-9.extension, left11-13.extension"
+                self.assertEqual(told, [f"{place}: {HASHES} {entries} of 2026-11-28: {TWICE}; the other one {where}"])
+        for words in (
+            ["heads", "left9.head", "right18.head"],
+            ["heads", "left7.head", "--extension", "right16-18.extension"],
+            ["verify", far, *head],
+        ):
+            with self.subTest(words):
+                lines, last = self.told(4, *words, *KEYS)
+                self.assertTrue(last.startswith("undecided: "))
+
+    def test_an_extension_from_the_entries_of_another_head(self):
+        """Its path leads to the later head alone. No one can make such a path to heads of one journal, so it proves the fork."""
+        self.forked()
+        left, right = (heads.parsed(Path(f"{name}7-18.extension").read_bytes(), heads.extension_read)[0] for name in ("left", "right"))
+        Path("mixed.extension").write_bytes(heads.line(right._replace(old=left.old)))
+        lines, _ = self.told(1, "heads", "left7.head", "--extension", "mixed.extension", *KEYS)
+        said = f"mixed.extension: {HASHES} entries 1 to 7 of 2026-11-28: {TWICE}; the other one is in mixed.extension"
+        self.assertEqual([line for line in lines if HASHES in line], [said])
+        Path("mixed.extension").write_bytes(heads.line(left._replace(new=right.new)))  # the earlier head's: anyone can make one
+        self.told(4, "heads", "left7.head", "--extension", "mixed.extension", *KEYS)
+
+    def test_any_files_of_two_journals(self):
+        """A contradiction is found exactly if two hashes of the same entries are shown, or follow from all that is shown."""
+        chance, salts, most = random.Random("subtrees"), sealing.new_salts(DAY), 16
+        found = Counter()
+        for _ in range(1_500):
+            at = chance.randrange(1, most + 1)
+            seals = [grown(self.key, prices, range(1, most + 1), salts) for prices in ([100] * most, fork([100] * most, at))]
+            signed, facts = Signed(), set()
+            for number in range(chance.randrange(2, 5)):
+                (seal, ends), place = chance.choice(seals), Place(f"file {number}")
+                size = chance.randrange(1, most + 1)
+                old, head = chance.randrange(1, size + 1), ends[size]
+                tree = seal.tree
+                signed.add_head(head, place, "")
+                facts.add(((0, size), head.root))
+                kind = chance.choice(("head", "receipt", "extension"))
+                if kind == "receipt":
+                    signed.add_entry(seal.receipt(old, head), place, "")
+                    facts |= {((old - 1, old), tree.hashed(old - 1, old)), *facts_of(tree, merkle.inclusion_parts(old - 1, size))}
+                elif kind == "extension":
+                    signed.add_head(ends[old], place, "")
+                    signed.add_extension(seal.extension(ends[old], head), place, "")
+                    facts |= {((0, old), ends[old].root), *(facts_of(tree, merkle.consistency_parts(old, size)) if old < size else ())}
+            is_shown = bool(signed.contradictions())
+            self.assertEqual(is_shown, is_contradicted(facts, most))
+            found[is_shown] += 1
+        self.assertGreater(min(found.values()), 200)
+
+    def test_a_file_that_is_none_hides_nothing(self):
+        """It is named, the others are judged, and the status is 1 if they prove a fault."""
+        Path("bad.json").write_bytes(b"garbage\n")
+        self.run_tool(0, "keys", "new.pem")
+        bad = ["bad.json: it isn't {}: it isn't JSON in ASCII", "none.json: it can't be read: No such file or directory"]
+        for name in ("bad.json", "none.json"):
+            for place in range(3):
+                files = ["A.head", "A2.head"]
+                files.insert(place, name)
+                lines, last = self.told(1, "heads", *files, *KEYS)
+                self.assertIn(f"A2.head: {TREES} 6 entries: {TWICE}; the other one is in A.head", lines)
+                self.assertIn(bad[name == "none.json"].format("a head"), lines)
+                self.assertEqual(last, "wrong: 2 heads of 1 day")
+            lines, last = self.told(1, "heads", "A.head", "A2.head", "--extension", name, *KEYS)
+            self.assertIn(bad[name == "none.json"].format("an extension"), lines)
+            self.assertEqual(self.told(3, "heads", "A.head", name, *KEYS)[1], "unread: 1 head of 1 day")
+            made = json.loads(self.run_tool(3, "heads", "A.head", name, *KEYS, "--json"))
+            self.assertEqual(([head and head["size"] for head in made["heads"]], made["keys"]), ([6, None], ["key.pem.pub", None]))
+            words = ["verify", "A.receipts", "A2.receipts", "--head", "A.head", *KEYS]
+            lines, last = self.told(1, *words, "--extension", name)
+            self.assertEqual(lines[0], bad[name == "none.json"].format("an extension"))
+            lines, last = self.told(1, words[0], "none.jsonl", *words[1:])
+            self.assertEqual(lines[0], "none.jsonl: it can't be read: No such file or directory")
+            self.assertIn("1 file unread", last)
+
+    def test_why_an_extension_connects_nothing(self):
+        extension, _ = heads.parsed(Path("C.extension").read_bytes(), heads.extension_read)
+        other, periods = (signing.signed(self.key, extension.new._replace(**more)) for more in ({"day": "2026-11-29"}, {"periods": 25}))
+        for changed, status, said in (
+            (extension._replace(old=extension.new, new=extension.old), 4, "the first one has 18 entries, and the second one 6"),
+            (extension._replace(new=other), 4, "they are of two days, 2026-11-28 and 2026-11-29"),
+            (extension._replace(new=periods), 1, "they have 24 and 25 periods"),
+        ):
+            Path("no.extension").write_bytes(heads.line(changed))
+            lines, _ = self.told(status, "heads", "A.head", "--extension", "no.extension", *KEYS)
+            self.assertEqual(lines[0], f"no.extension: it doesn't connect its heads: {said}")
+
     def test_receipts_that_the_published_head_contradicts(self):
         """They are the operator's own: they count as receipts of the commands that were sent, and aren't called wrong."""
         for name, first in (("mine", 100), ("other", 101)):
@@ -275,7 +413,7 @@ class Contradictions(InFolder):
         entries = [f"entry {number} of the head of 2026-11-28 with 6 entries: {ENTRY.format(number, 100)}, done" for number in range(1, 7)]
         said = [f"A.receipts line {number}: {entry}; the published head contradicts it: {trees}" for number, entry in enumerate(entries, 1)]
         self.assertEqual(lines, [*said, f"A.receipts line 1: {trees}; the other one is in A2.head"])
-        self.assertEqual(last, "wrong: 6 receipts contrary to the published head; 1 contradiction; as sent: 6 commands; the head of 2026-11-28 with 6 entries")
+        self.assertEqual(last, "wrong: 6 receipts contrary to the published head; 1 contradiction; with a receipt: 6 commands; the head of 2026-11-28 with 6 entries")
         made = json.loads(self.run_tool(1, "verify", "A.receipts", "--head", "A2.head", *own, *KEYS, "--json"))
         self.assertEqual((made["verdict"], {one["verdict"] for one in made["receipts"]}), ("wrong", {"contrary", "wrong"}))
         # Together with receipts under the published head, which may be of the same commands, or of the others.
@@ -283,7 +421,7 @@ class Contradictions(InFolder):
         self.lines("one.jsonl", "A", 1)
         for files, name in ((["A.receipts", "A2.receipts"], "mine"), (["A.receipts", "A2.receipts"], "other"), (["some.jsonl", "one.jsonl"], "mine")):
             _, last = self.told(1, "verify", *files, "--head", "A2.head", "--sent", f"{name}.csv", "--participant", "TOWN", *KEYS)
-            self.assertIn("; as sent: 6 commands; ", last)
+            self.assertIn("; with a receipt: 6 commands; ", last)
         lines, last = self.told(1, "verify", "one.jsonl", "--head", "A2.head", *own, *KEYS)
         self.assertEqual([line.split(": ")[1] for line in lines[2:]], [f"sent record {number} is missing in the receipts" for number in range(2, 7)])
         # Those of another participant don't count.
@@ -294,7 +432,7 @@ class Contradictions(InFolder):
         self.lines("late.jsonl", "B", *range(1, 8))
         Path("late.csv").write_text("".join(f"{ENTRY.format(number, 100)}\n" for number in range(1, 8)))
         _, last = self.told(1, "verify", "late.jsonl", "--head", "A.head", "--extension", "B.extension", "--sent", "late.csv", *own[2:], *KEYS)
-        words = "wrong: 6 receipts right; 1 receipt contrary to the published head; as sent: 7 commands; the head of 2026-11-28 with 6 entries"
+        words = "wrong: 6 receipts right; 1 receipt contrary to the published head; with a receipt: 7 commands; the head of 2026-11-28 with 6 entries"
         self.assertEqual(last, words)
 
     def test_the_guides_words_of_evidence(self):
@@ -308,13 +446,14 @@ class Contradictions(InFolder):
         lines, _ = self.told(1, "verify", "A.receipts", "A2.receipts", "again.jsonl", "--head", "A.head", *KEYS)
         for name in ("periods", "keys"):
             lines += self.told(1, "heads", "A.head", f"{name}.head", *KEYS, "--key", "new.pem.pub")[0]
+        lines += self.told(1, "verify", self.lines("two.jsonl", "A", 2), self.lines("more.jsonl", "B2", 2), "--head", "C.head", *KEYS)[0]
         said = "\n".join(lines)
         page = " ".join((TOP / "docs" / "GUIDE.md").read_text().split())
-        for words in ("the published head contradicts it", "the operator signed", "; and with another salt"):
+        for words in ("the published head contradicts it", "the operator signed", "; and with another salt", "two keys signed"):
             self.assertIn(f"`{words}`", page)
             self.assertIn(words, said)
-        self.assertIn("`the operator signed` with two trees, periods, keys, or entries of one number (`as ..; and as ..`", page)
-        for words in ("two trees of", r"\S+ with 96 periods, and with 24,", r"\S+ with new.pem.pub, and with key.pem.pub,", "entry 1 of .* as .*; and as "):
+        self.assertIn("`the operator signed` with two trees, hashes, periods, or entries of one number (`as ..; and as ..`", page)
+        for words in ("two trees of", "two hashes of entry 1 of", r"\S+ with 96 periods, and with 24,", "entry 1 of .* as .*; and as "):
             self.assertRegex(said, f"the operator signed {words}")
 
     def test_lines_that_are_no_receipts(self):
@@ -407,7 +546,24 @@ class Contradictions(InFolder):
                 self.assertEqual(last.startswith("wrong: 1 receipt with an impossible reply; "), status == 1)
                 Path("mine.csv").write_text(f"{record}\n")
                 _, last = self.told(status, "verify", "own.jsonl", "--head", "own.head", "--sent", "mine.csv", "--participant", "TOWN", *KEYS)
-                self.assertIn("; as sent: 1 command", last)
+                self.assertIn(f"; {'with a receipt' if status else 'as sent'}: 1 command", last)
+
+
+def facts_of(tree, parts):
+    return {((begin, end), tree.hashed(begin, end)) for begin, end in parts}
+
+
+def is_contradicted(facts, most):
+    """Whether the hashes of some entries, and all that follow from them, give any entries two: by all subtrees of all trees."""
+    parts = [(begin, end) for begin, end in itertools.combinations(range(most + 1), 2) if end - begin > 1]
+    found = {}
+    for part, hashed in facts:
+        found.setdefault(part, set()).add(hashed)
+    for begin, end in sorted(parts, key=lambda part: part[1] - part[0]):
+        middle = begin + merkle.split(end - begin)
+        for left, right in itertools.product(found.get((begin, middle), ()), found.get((middle, end), ())):
+            found.setdefault((begin, end), set()).add(merkle.node_hash(left, right))
+    return any(len(hashes) > 1 for hashes in found.values())
 
 
 def closed(pairs):

@@ -132,6 +132,45 @@ class Merkle(unittest.TestCase):
                         merkle.is_consistent(old, self.roots[old], size, tree.root(size), tree.consistency(old, size))
                     )
 
+    def test_each_hash_that_a_proof_shows(self):
+        """It is the root of these leaves, and the neighbour of a right half is shown with what both make."""
+        for size in range(1, 70):
+            for place in range(size):
+                self.check_shown(merkle.shown_by_inclusion(LEAVES[place], place, size, self.tree.inclusion(place, size)), size)
+            for old in range(1, size):
+                path = self.tree.consistency(old, size)
+                shown = merkle.shown_by_consistency(old, self.roots[old], size, self.roots[size], path)
+                self.check_shown(shown, size)
+                self.assertEqual(shown[0, old], self.roots[old])
+                unbound = merkle.shown_by_consistency(old, LEAVES[0], size, LEAVES[0], path)
+                self.assertEqual(unbound, {} if old & (old - 1) else {(0, old): LEAVES[0]})  # a subtree of both is the old root itself
+                self.assertEqual(merkle.shown_by_consistency(old, self.roots[old], size, self.roots[size], path[:-1]), {})
+                self.assertEqual(merkle.shown_by_consistency(size, self.roots[size], old, self.roots[old], path), {})
+
+    def check_shown(self, shown, size):
+        self.assertEqual(shown[0, size], self.roots[size])
+        for (begin, end), hashed in shown.items():
+            self.assertEqual(hashed, root_by_definition(LEAVES[begin:end]))
+            count = end - begin
+            if count & (count - 1) == 0 and begin // count % 2:
+                self.assertLessEqual({(begin - count, begin), (begin - count, end)}, set(shown))
+
+    def test_a_path_to_one_of_two_roots(self):
+        """It shows the subtrees of that tree alone, among them the beginning with the old size, unless that is a subtree of the new one."""
+        for size in range(2, 40):
+            for old in range(1, size):
+                path, wrong = self.tree.consistency(old, size), merkle.leaf_hash(b"wrong")
+                is_whole = old & (old - 1) == 0
+                shown = merkle.shown_by_consistency(old, wrong, size, self.roots[size], path)
+                self.assertEqual(shown.get((0, old)), wrong if is_whole else self.roots[old])
+                self.assertEqual((0, size) in shown, not is_whole)
+                shown = merkle.shown_by_consistency(old, self.roots[old], size, wrong, path)
+                self.assertEqual(shown[0, old], self.roots[old])
+                self.assertNotIn((0, size), shown)
+                for (begin, end), hashed in shown.items():
+                    self.assertLessEqual(end, old)
+                    self.assertEqual(hashed, root_by_definition(LEAVES[begin:end]))
+
 
 if __name__ == "__main__":
     unittest.main()

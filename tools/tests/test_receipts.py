@@ -138,12 +138,66 @@ class Receipts(unittest.TestCase):
             with self.subTest(data[:80]):
                 self.assertIn(verdict_of(data, head, self.public), (receipts.UNREAD, receipts.WRONG))
 
+    def test_what_a_strangers_text_can_say(self):
+        """Messages quote at most 20 characters of it: it can't pass for a message of the tool."""
+        seal = sealed_of(AUCTION.read_bytes(), key=self.key)
+        value, said = json.loads(lines_of(seal)[0]), "the published head contradicts it: the operator signed entry 1 as a; and as b: the operator's fault, proved"
+        with_member, without = {**value, said: 1}, {other: value[other] for other in value if other != "salt"}
+        changed = [with_member, {**without, said: 1}, *({**value, name: said} for name in value), *({**value, name: {said: 1}} for name in value)]
+        changed += [{**value, "path": [said]}, {**value, "number": [said]}, {**value, "head": {**value["head"], said: 1}}]
+        changed += [{**value, "head": {**value["head"], name: made}} for name in value["head"] for made in (said, [said], {said: said}, 10**200)]
+        for made in changed:
+            with self.subTest(made):
+                with self.assertRaises(heads.Wrong) as caught:
+                    heads.parsed(json.dumps(made).encode(), heads.receipt_read)
+                self.assertNotIn(said[:21], str(caught.exception))
+                self.assertLess(len(str(caught.exception)), 150)
+        with self.assertRaisesRegex(heads.Wrong, "^a dam-receipt-1 has no member 'the published head c..' \\(107 characters\\)$"):
+            heads.parsed(json.dumps(with_member).encode(), heads.receipt_read)
+        with self.assertRaisesRegex(heads.Wrong, "^it lacks the member salt$"):
+            heads.parsed(json.dumps({**without, said: 1}).encode(), heads.receipt_read)
+
+    def test_each_base64(self):
+        """With exactly its padding, on each Python: bits that say nothing are another writing of the same bytes."""
+        for count in (heads.HASH_BYTES, heads.SIGNATURE_BYTES):
+            data = bytes(range(count))
+            word = heads.packed(data)
+            last = word.rstrip("=")[-1]
+            bits = word.replace(f"{last}=", f"{chr(ord(last) + 1)}=")
+            self.assertEqual([heads.bytes_read(one, count) for one in (word, bits)], [data, data])
+            self.assertNotEqual(word, bits)
+            wrong = [f"{word}=", word[:-1], f" {word}", f"{word}\n", word.replace(word[4], "-"), word[:-4], f"{word[:-1]}A", None, 1, [word]]
+            for other in wrong:
+                with self.subTest(other), self.assertRaises(heads.Wrong):
+                    heads.bytes_read(other, count)
+
     def test_another_writing_of_a_right_receipt(self):
         seal = sealed_of(AUCTION.read_bytes(), key=self.key)
         head = seal.head()
         line = heads.line(seal.receipt(1, head))
-        for data in (line.removesuffix(b"\n"), line.replace(b"\n", b"\r\n"), line.replace(b",", b", ", 1), b" " + line):
-            self.assertEqual(verdict_of(data, head, self.public), receipts.ENCODING)
+        value = json.loads(line)
+        salt = value["salt"].encode()
+        digits = b"ABCDEFGHIJKLMNOPQRSTUVWXYZabcdefghijklmnopqrstuvwxyz0123456789+/"
+        bits = salt[:-2] + digits[digits.index(salt[-2]) + 1 :][:1] + b"="
+        other_order = json.dumps({name: value[name] for name in reversed(value)}, separators=(",", ":")).encode() + b"\n"
+        written = [line.removesuffix(b"\n"), line.replace(b"\n", b"\r\n"), line.replace(b",", b", ", 1), b" " + line, line.replace(salt, bits)]
+        for data in (*written, other_order, line.replace(b'"submit', b'"\\u0073ubmit')):
+            with self.subTest(data):
+                self.assertEqual(verdict_of(data, head, self.public), receipts.ENCODING)
+        unread = [b"\xef\xbb\xbf" + line, line + b"\n", line.replace(b'"number":1', b'"number":1.0'), line.replace(salt, salt + b"=")]
+        unread += [line.replace(b"{", b'{"more":1,', 1), line.replace(b"{", b'{"number":1,', 1), line.replace(salt, salt[:-1])]
+        for data in (*unread, line.replace(b"\n", b" " * heads.LONGEST_LINE + b"\n")):
+            with self.subTest(data):
+                self.assertEqual(verdict_of(data, head, self.public), receipts.UNREAD)
+
+    def test_the_first_of_several_statuses(self):
+        order = (receipts.WRONG, receipts.UNREAD, receipts.UNDECIDED, receipts.ENCODING, receipts.RIGHT)
+        self.assertEqual([receipts.STATUSES[verdict] for verdict in order], [1, 3, 4, 6, 0])
+        page = (TOP / "docs" / "FORMATS.md").read_text()
+        self.assertIn("The status of `verify` and `heads` is the first of 1, 3, 4, 6 and 0 that applies.", page)
+        for at, first in enumerate(order):
+            for others in (order[at:], order[: at - 1 : -1] if at else order[::-1]):
+                self.assertEqual(receipts.verdict([receipts.Finding("file", 1, verdict, "") for verdict in others]), first)
 
     def test_entries_left_out_repeated_moved_or_changed(self):
         """Each receipt of a journal, compared with the head of a journal that differs: one of them isn't right."""
@@ -374,7 +428,7 @@ class Receipts(unittest.TestCase):
         with self.assertRaises(heads.Wrong):
             heads.parsed(heads.line(head._replace(root=merkle.leaf_hash(b""))), heads.head_read)
 
-    def test_extensions_that_prove_nothing(self):
+    def test_extensions_that_connect_nothing(self):
         """One with another path, of other heads, or between two days or lengths of a day: anyone can make one of right heads, so it isn't a
         fault of the operator. A head of another key is wrong."""
         seal = sealed_of(AUCTION.read_bytes(), key=self.key)
@@ -399,7 +453,7 @@ class Receipts(unittest.TestCase):
                     self.assertFalse(links.earlier)
                     (finding,) = findings
                     self.assertEqual(finding.verdict, receipts.WRONG if changed in foreign else receipts.UNDECIDED)
-                    self.assertIn("isn't signed by this key" if changed in foreign else "proves nothing", str(finding))
+                    self.assertIn("isn't signed by this key" if changed in foreign else "doesn't connect its heads", str(finding))
                     self.assertTrue(changed in foreign or not links.leads(early, last))
 
     def test_the_empty_journal_is_the_beginning_of_those_of_its_day(self):
@@ -472,7 +526,7 @@ class Command(InFolder):
         self.assertIn(f"is missing in the receipts: {lines[place].decode().strip()}", out)
         # A receipt under an earlier head is one too.
         out = self.verify(4, "sealed/receipts/STAD.jsonl", "--sent", "mine.csv", "--participant", "STAD", head="less/head.json")
-        self.assertRegex(out, r"undecided: \d+ receipts undecided; ")
+        self.assertRegex(out, r"undecided: \d+ receipts undecided; with a receipt: \d+ commands; ")
 
     def test_receipts_of_other_commands_than_the_sent(self):
         """An operator that swaps a participant's commands, adds one in its name, or refuses one; receipts of others; one command twice."""
@@ -546,7 +600,7 @@ class Command(InFolder):
     def test_files_of_many_lines(self):
         self.seal()
         Path("many.jsonl").write_bytes(b"\n" * 2_000_000)
-        self.assertIn("more than 10,000 lines", self.verify(3, "many.jsonl"))
+        self.assertIn("many.jsonl: it isn't read: it has more than 10,000 lines\n", self.verify(3, "many.jsonl"))
         Path("many.jsonl").write_bytes(b"{}\n" * 9_000)
         *named, more, last = self.verify(3, "many.jsonl").splitlines()
         self.assertEqual(len(named), receipts.MOST_UNREAD)

@@ -80,6 +80,11 @@ def head_of(path, data, key, odd, day=None):
     return head
 
 
+def unread(path, fault):
+    """The finding on a file that can't be read, or isn't of its kind."""
+    return Finding(path, None, UNREAD, f"it {str(fault).removeprefix(command.shown(path)).strip()}")
+
+
 class Links:
     """What is given of an operator: all that it signed, and the extensions, which show that a head's journal begins with another's. `findings`
     gets those on the extensions."""
@@ -88,21 +93,42 @@ class Links:
         self.key, self.signed = key, Signed()
         later = defaultdict(set)  # of each head, those that begin with it
         for path in paths:
-            extension = read_one(path, heads.extension_read, "an extension", findings)
+            if (extension := self.read(path, heads.extension_read, "an extension", findings)) is None:
+                continue
             if not all([self.add_head(path, end, findings, EXTENSION) for end in (extension.old, extension.new)]):
                 continue
-            if fault := self.extension_fault(extension):
-                findings.append(Finding(path, None, UNDECIDED, f"it proves nothing: {fault}", about=EXTENSION))
+            if fault := self.heads_fault(extension) or self.path_fault(path, extension):
+                findings.append(Finding(path, None, UNDECIDED, f"it doesn't connect its heads: {fault}", about=EXTENSION))
             else:
                 later[unsigned(extension.old)].add(unsigned(extension.new))
         self.earlier = longest(later)
 
-    def extension_fault(self, extension):
-        """Why an extension of two signed heads proves nothing; None if it does. Anyone can make one, so it is nobody's fault."""
-        one, other = (signing.signer(self.key, end) for end in (extension.old, extension.new))
+    def read(self, path, read, name, findings):
+        """The value in a file of one line. If there is none, `findings` gets that, and the other files are judged."""
+        try:
+            return read_one(path, read, name, findings)
+        except command.Stop as fault:
+            findings.append(unread(path, fault))
+            return None
+
+    def heads_fault(self, extension):
+        """Why no extension connects two signed heads; None if one may."""
+        old, new = extension.old, extension.new
+        one, other = (signing.signer(self.key, end) for end in (old, new))
         if one != other:
-            return f"its heads are signed with two keys, {command.shown(one)} and {command.shown(other)}"
-        return None if extension.is_right() else "its path doesn't lead from the earlier head to the later one"
+            return f"they are signed with two keys, {command.shown(one)} and {command.shown(other)}"
+        if old.day != new.day:
+            return f"they are of two days, {old.day} and {new.day}"
+        if old.periods != new.periods:
+            return f"they have {old.periods} and {new.periods} periods"
+        if old.size > new.size:
+            return f"the first one has {text.counted(old.size, 'entry', 'entries')}, and the second one {new.size}"
+        return None
+
+    def path_fault(self, path, extension):
+        """Why the path of an extension doesn't connect its heads; None if it does. Anyone can make another path, so it is nobody's fault."""
+        self.signed.add_extension(extension, Place(path), signing.signer(self.key, extension.old))
+        return None if extension.is_right() else "its path doesn't lead from the earlier one to the later one"
 
     def add_head(self, path, head, findings, about=HEAD):
         """Whether a key signed a head. If none did, `findings` gets that."""
@@ -184,7 +210,7 @@ def judge(receipt, head, key, links, place=Place("the receipt")):
     root = merkle.root_of_inclusion(receipt.leaf(), receipt.number - 1, receipt.head.size, receipt.path)
     if root != receipt.head.root:
         return WRONG, f"it isn't {entry}: its record, reply, salt or path was changed, or belongs to another entry"
-    links.signed.add_entry(receipt, place)
+    links.signed.add_entry(receipt, place, signer)
     shown = f"{entry}: {receipt.record}, {receipt.reply}"
     if head is None:
         return RIGHT, shown
@@ -208,8 +234,14 @@ def reply_fault(receipt):
 
 
 def judged(path, head, key, links, who=None):
-    """The findings on the receipts of a file, one in each line. A line that is none is named. If a participant is named, all are its own."""
-    return judged_bytes(path, command.read_bytes(path), head, key, links, who)
+    """The findings on the receipts of a file, one in each line. A line that is none is named, and so is a file that can't be read. If a
+    participant is named, all are its own."""
+    try:
+        data = command.read_bytes(path)
+    except command.Stop as fault:
+        yield unread(path, fault)
+        return
+    yield from judged_bytes(path, data, head, key, links, who)
 
 
 def judged_bytes(path, data, head, key, links, who=None):
@@ -217,7 +249,7 @@ def judged_bytes(path, data, head, key, links, who=None):
     try:
         lines = heads.lines_of(data)
     except heads.Wrong as fault:
-        yield Finding(path, None, UNREAD, f"it has no receipts: {fault}")
+        yield Finding(path, None, UNREAD, f"it isn't read: {fault}")
         return
     if not lines:
         yield Finding(path, None, UNREAD, EMPTY)
@@ -287,12 +319,14 @@ def counted(findings):
 
 def summary(findings, unlike, head, as_sent=None):
     """The last line about receipts, and about the differences from the commands that were sent; `as_sent` is their number, if there are
-    none. Several receipts of an entry count once."""
+    none. These commands are as they were sent in the published journal only if the receipts are right. Several receipts of an entry count
+    once."""
     found, refused = verdict([*findings, *unlike]), len(refusals(findings))
     count, more = counted(findings)
     others = [f"{more} more of the same entries"] if more else []
     others += [f"{text.counted(len(unlike), 'difference')} from the commands that were sent"] if unlike else []
-    others += [f"as sent: {text.counted(as_sent, 'command')}"] if as_sent is not None else []
+    sent_words = "as sent" if found in (RIGHT, ENCODING) else "with a receipt"
+    others += [f"{sent_words}: {text.counted(as_sent, 'command')}"] if as_sent is not None else []
     refusal = f", {refused} of them refused" if refused else ""
     if found == RIGHT:
         return "; ".join([f"right: {text.counted(count[RECEIPT, RIGHT], 'receipt')} of {head}{refusal}", *others])

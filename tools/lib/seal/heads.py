@@ -4,7 +4,6 @@ A head is the signed root of the tree over a journal's entries. A receipt shows 
 that the tree of a head begins with the tree of an earlier one. docs/FORMATS.md has the formats to the byte."""
 
 import base64
-import binascii
 import hmac
 import json
 import re
@@ -23,6 +22,7 @@ HASH_BYTES, SIGNATURE_BYTES = 32, 64
 MOST_ENTRIES = rules.MOST_RECORDS - 1
 LONGEST_PATH = MOST_ENTRIES.bit_length()  # hashes of an inclusion proof
 LONGEST_PROOF = LONGEST_PATH + 1  # and of a consistency proof
+MOST_SAID = 20  # characters of a stranger's text in a message
 LONGEST_LINE = 16_384  # bytes; no head, receipt or extension has as many
 
 
@@ -145,18 +145,18 @@ def command_of(record):
 
 
 def bytes_read(word, count):
-    """The bytes that a word is in base64."""
-    try:
-        data = base64.b64decode(word, validate=True) if isinstance(word, str) else b""
-    except (binascii.Error, ValueError):
-        data = b""
-    if len(data) != count:
-        raise Wrong(f"{said(word)} should be {count} bytes in base64")
-    return data
+    """The bytes that a word is in base64, with its padding."""
+    digits = -(-count * 8 // 6)
+    if isinstance(word, str) and re.fullmatch(f"[A-Za-z0-9+/]{{{digits}}}={{{-digits % 4}}}", word):
+        return base64.b64decode(word)
+    raise Wrong(f"{said(word)} should be {count} bytes in base64")
 
 
 def said(value):
-    return text.quoted(value) if isinstance(value, str) else text.safe(json.dumps(value))
+    """A value of a stranger in a message: too short to pass for a message of its own."""
+    if isinstance(value, str):
+        return text.quoted(value, MOST_SAID)
+    return text.safe(json.dumps(value), MOST_SAID) if value is None or isinstance(value, (int, float)) else f"a {type(value).__name__}"
 
 
 def number_read(value, least, most, name):
@@ -171,7 +171,8 @@ def members(value, kind, names):
         raise Wrong(f"it isn't an object with the format {kind}")
     found = [name for name in value if name != "format"]
     if sorted(found) != sorted(names):
-        raise Wrong(f"a {kind} has the members {', '.join(names)}, and this one has {text.safe(', '.join(found)) or 'none'}")
+        lacking, others = ([name for name in one if name not in other] for one, other in ((names, found), (found, names)))
+        raise Wrong(f"it lacks the member {lacking[0]}" if lacking else f"a {kind} has no member {said(others[0])}")
     return [value[name] for name in names]
 
 

@@ -64,32 +64,43 @@ class Tree:
 
     def inclusion(self, place, size=None):
         """The inclusion proof of the leaf at a place, from 0, in the tree of the first `size` leaves."""
-        begin, end, path = 0, len(self) if size is None else size, []
-        while end - begin > 1:
-            middle = begin + split(end - begin)
-            if place < middle:
-                path.append(self.hashed(middle, end))
-                end = middle
-            else:
-                path.append(self.hashed(begin, middle))
-                begin = middle
-        return path[::-1]
+        return [self.hashed(*part) for part in inclusion_parts(place, len(self) if size is None else size)]
 
     def consistency(self, old, size=None):
         """The proof that the tree of the first `size` leaves begins with the tree of the first `old` ones."""
-        begin, end, path = 0, len(self) if size is None else size, []
-        if not 0 < old < end:
+        size = len(self) if size is None else size
+        if not 0 < old < size:
             return []
-        is_whole = True  # whether the part of the old tree is the old tree, whose root the reader has
-        while old < end:
-            middle = begin + split(end - begin)
-            if old <= middle:
-                path.append(self.hashed(middle, end))
-                end = middle
-            else:
-                path.append(self.hashed(begin, middle))
-                begin, is_whole = middle, False
-        return ([] if is_whole else [self.hashed(begin, end)]) + path[::-1]
+        whole, *others = consistency_parts(old, size)
+        return [self.hashed(*part) for part in ([] if whole == (0, old) else [whole]) + others]  # the reader has the old root
+
+
+def inclusion_parts(place, size):
+    """The subtrees whose hashes an inclusion proof has, each from its first leaf to the one after its last."""
+    begin, end, parts = 0, size, []
+    while end - begin > 1:
+        middle = begin + split(end - begin)
+        if place < middle:
+            parts.append((middle, end))
+            end = middle
+        else:
+            parts.append((begin, middle))
+            begin = middle
+    return parts[::-1]
+
+
+def consistency_parts(old, size):
+    """The subtrees whose hashes a consistency proof has. The first one is of both trees: if it is the whole old tree, the proof omits it."""
+    begin, end, parts = 0, size, []
+    while old < end:
+        middle = begin + split(end - begin)
+        if old <= middle:
+            parts.append((middle, end))
+            end = middle
+        else:
+            parts.append((begin, middle))
+            begin = middle
+    return [(begin, end), *parts[::-1]]
 
 
 def root_of_inclusion(leaf, place, size, path):
@@ -135,3 +146,37 @@ def is_consistent(old, old_root, size, root, path):
             after = node_hash(after, hashed)
         node, last = node // 2, last // 2
     return last == 0 and before == old_root and after == root
+
+
+def joined(first, hashed, parts):
+    """The hashes of subtrees, each with its first leaf and the one after its last: of one, of its neighbours from below, and of all that
+    they make. The last one is of the whole tree."""
+    (begin, end), shown = first, {first: hashed}
+    for (left, right), other in parts:
+        shown[left, right] = other
+        hashed = node_hash(other, hashed) if right == begin else node_hash(hashed, other)
+        begin, end = min(begin, left), max(end, right)
+        shown[begin, end] = hashed
+    return shown
+
+
+def shown_by_inclusion(leaf, place, size, path):
+    """The hashes of subtrees that a right inclusion proof shows, from the leaf to the root."""
+    return joined((place, place + 1), leaf, zip(inclusion_parts(place, size), path))
+
+
+def shown_by_consistency(old, old_root, size, root, path):
+    """The hashes of subtrees that a consistency proof shows of a tree with a root, or of an older one. Its path may lead to one of the two
+    roots alone: then it shows that tree's subtrees, among them the beginning with the older one's size."""
+    if not 0 < old < size:
+        return {}
+    first, *others = consistency_parts(old, size)
+    path = [old_root, *path] if first == (0, old) else path
+    if len(path) != 1 + len(others):
+        return {}
+    parts = list(zip(others, path[1:]))
+    before = joined(first, path[0], [(part, hashed) for part, hashed in parts if part[0] < first[0]])
+    after = joined(first, path[0], parts)
+    if after[0, size] == root:
+        return {**before, **after}
+    return before if before[0, old] == old_root else {}
