@@ -75,8 +75,30 @@ class Days(unittest.TestCase):
         status, out, _ = self.audit()
         found = [line.split()[:2] for line in out.splitlines()[1:4]]
         self.assertEqual((status, found), (command.NO_INPUT, [["A", "right"], ["B", "unread"], ["C", "unread"]]))
-        (self.folder / "A.csv").write_bytes(DATA)
-        self.assertIn("have one name: rename one of them", self.audit()[2])
+        for name, others in (("A.csv", ["unread", "unread", "unread"]), ("C.txt", ["unread", "unread", "unread"])):
+            (self.folder / name).write_bytes(DATA)
+            status, out, err = self.audit()
+            self.assertEqual((status, err, [line.split()[1] for line in out.splitlines()[1:4]]), (command.NO_INPUT, "", others))
+        self.assertEqual([out.count(f"{self.folder}/{name} have one name: rename one of them") for name in ("A.csv", "C.txt")], [1, 1])
+        self.write(D=(DATA, TEXT))
+        status, out, _ = self.audit()
+        self.assertEqual((status, out.splitlines()[4].split()[:2]), (command.NO_INPUT, ["D", "right"]))
+
+    def test_a_file_that_would_wait(self):
+        """Some files of the system have no end, and a read of them waits for more."""
+        self.write(a=(DATA, TEXT))
+        (self.folder / "b.csv").symlink_to("/proc/kmsg")
+        (self.folder / "b.txt").write_bytes(TEXT)
+        status, out, err = self.audit()
+        found = [line.split()[1] for line in out.splitlines()[1:3]]
+        self.assertEqual((status, err, found), (command.NO_INPUT, "", ["right", "unread"]))
+        reading, writing = os.pipe()
+        self.addCleanup(os.close, reading)
+        self.addCleanup(os.close, writing)
+        os.write(writing, b"x" * 9)
+        words = f"{reading} can't be read: {os.strerror(errno.EAGAIN)}$"
+        with unittest.mock.patch.object(command.stat, "S_ISREG", return_value=True), self.assertRaisesRegex(command.Stop, words):
+            command.read_bytes(f"/proc/self/fd/{reading}")
 
     def test_the_status_is_that_of_the_worst(self):
         self.write(a=(DATA, TEXT))

@@ -47,16 +47,17 @@ def pairs_of(place):
 
 
 def named_pairs(folder):
-    """Each journal of a folder with the results of the same name; results without a journal too. A suffix may have capital letters."""
-    found = {}
+    """Each journal of a folder with the results of the same name; results without a journal too. A suffix may have capital letters, but a
+    day of which two files have one name isn't read."""
+    found, alike = {}, {}
     for path in sorted(folder.iterdir()):
         key = path.stem, path.suffix.lower()
-        if key[1] in (JOURNAL, RESULTS):
-            if key in found:
-                raise command.Stop(f"{command.shown(found[key])} and {command.shown(path)} have one name: rename one of them")
-            found[key] = path
+        if key[1] in (JOURNAL, RESULTS) and found.setdefault(key, path) is not path:
+            said = f"{command.shown(found[key])} and {command.shown(path)} have one name: rename one of them"
+            alike.setdefault(path.stem, said)
     names = sorted({stem for stem, _ in found})
-    return [pair_of(name, *(found.get((name, suffix), folder / f"{name}{suffix}") for suffix in (JOURNAL, RESULTS))) for name in names]
+    pairs = (pair_of(name, *(found.get((name, suffix), folder / f"{name}{suffix}") for suffix in (JOURNAL, RESULTS))) for name in names)
+    return [pair._replace(unread=alike[pair.name]) if pair.name in alike else pair for pair in pairs]
 
 
 def pair_of(name, journal, published):

@@ -173,13 +173,18 @@ def bytes_of(stream):
 def read_bytes(path):
     """The bytes of a file; `-` is standard input. A file that has more than any text of a day may have no end, and isn't read on."""
     try:
-        with contextlib.nullcontext(bytes_of(sys.stdin)) if path == "-" else open(path, "rb") as file:
+        with contextlib.nullcontext(bytes_of(sys.stdin)) if path == "-" else open(path, "rb", opener=without_waiting) as file:
             data = first_bytes(file, MOST_BYTES + 1)
     except OSError as fault:
         raise Stop(f"{shown(path)} can't be read: {fault.strerror}") from None
     if len(data) > MOST_BYTES:
         raise Stop(f"{shown(path)} has more than {MOST_BYTES:,} bytes")
     return data
+
+
+def without_waiting(path, flags):
+    """Opens a file so that no read of it waits: of the files of the system, such as /proc/kmsg, some never end. A pipe may wait."""
+    return os.open(path, flags | (os.O_NONBLOCK if stat.S_ISREG(os.stat(path).st_mode) else 0))
 
 
 def unread_file(path):
@@ -196,9 +201,11 @@ def unread_file(path):
 
 
 def first_bytes(file, most):
-    """At most this many bytes of an open file. Memory is taken as they come."""
+    """At most this many bytes of an open file. Memory is taken as they come. A file that would wait for more is a fault."""
     parts = []
-    while most > 0 and (part := file.read(min(most, PART))):
+    while most > 0 and (part := file.read(min(most, PART))) != b"":
+        if part is None:
+            raise BlockingIOError(errno.EAGAIN, os.strerror(errno.EAGAIN))
         parts.append(part)
         most -= len(part)
     return b"".join(parts)
