@@ -49,6 +49,7 @@ class Audit(Audited):
                     out = self.audit(1, "other.csv", "--receipts", "sealed/receipts")
                     self.assertIn("not as signed", out)
                     self.assertRegex(out, r"receipts/\w+\.jsonl line \d+: the operator signed entry")
+                    self.assertNotIn("proved", out)  # anyone can make such a copy of the journal
 
     def test_the_audit_of_changed_receipts(self):
         self.seal()
@@ -69,7 +70,7 @@ class Audit(Audited):
         other = sealed_of(SUNNY.read_bytes(), key=signing.private(Path("key.pem").read_bytes()))
         path.write_bytes(b"".join(lines_of(other)[:1]))
         out = self.audit(1, "day.csv", "--receipts", path)
-        self.assertIn("the operator signed entry 1 as", out)
+        self.assertRegex(out, r"the operator signed entry 1 as .*: the operator's fault, proved\n")
         self.assertIn("not as signed: 2 differences", out)
         # The same, changed: its head is the operator's all the same.
         path.write_bytes(lines_of(other)[0].replace(b'"reply":"done"', b'"reply":"refused,Closed"'))
@@ -86,7 +87,17 @@ class Audit(Audited):
         self.run_tool(0, "extend", "a", "day.csv", "replies.txt", "--key", "key.pem", "-o", "sealed")
         self.assertIn("begins with 1 earlier head", self.audit(0, "day.csv", "--earlier", "a/head.json"))
         self.seal("b", "a.csv", "a.txt")  # other salts, so another tree
-        self.assertIn("b/head.json", self.audit(1, "day.csv", "--earlier", "a/head.json", "--earlier", "b/head.json"))
+        out = self.audit(1, "day.csv", "--earlier", "a/head.json", "--earlier", "b/head.json")
+        words = "the first 4 entries of the journal, with the book's replies and these salts, aren't the entries that the operator signed"
+        self.assertIn(f"b/head.json: the head of 2026-11-28 with 4 entries: {words}: the operator's fault, proved\n", out)
+        key = signing.private(Path("key.pem").read_bytes())
+        Path("c.json").write_bytes(heads.line(signing.signed(key, heads.Head(DAY, 96, 4, bytes(heads.HASH_BYTES)))))
+        said = "c.json: the head of 2026-11-28 with 4 entries: the journal's day has 24 periods, and the head's 96"
+        self.assertIn(f"{said}: the operator's fault, proved\n", self.audit(1, "day.csv", "--earlier", "c.json"))
+        # Of a copy of the journal that isn't the head's, nothing is proved.
+        Path("other.csv").write_bytes(Path("day.csv").read_bytes().replace(b",30000,1:3600,", b",30000,1:3601,"))
+        for name in ("b/head.json", "c.json"):
+            self.assertNotIn("proved", self.audit(1, "other.csv", "--earlier", name))
 
     def test_sent_commands_with_receipts(self):
         """Two commands without an entry, with a receipt and without one: in a journal that the operator signed, and in a copy of another
@@ -136,8 +147,9 @@ class Audit(Audited):
         with open("receipts.jsonl", "ab") as file:
             file.write(lines_of(other)[0])
         proved = [line for line in self.audit(1, "a.csv", *words).splitlines() if line.endswith(": the operator's fault, proved")]
-        self.assertEqual(len(proved), 1)
-        self.assertIn("the operator signed it as entry 1 of the head of", proved[0])
+        sent, receipt = proved
+        self.assertIn("the operator signed it as entry 1 of the head of", sent)
+        self.assertTrue(receipt.startswith(f"receipts.jsonl line {len(own) + 1}: the operator signed entry 1 as {own[-1].decode().strip()}, "))
         self.assertGreater(number, middle)
 
     def test_salts_that_are_not_the_journals(self):

@@ -11,6 +11,7 @@ from . import receipts
 from ..results.faults import Fault
 
 NOT_OWN = "not the operator's"
+PROVED = ": the operator's fault, proved"
 
 
 class UnderHead:
@@ -42,10 +43,14 @@ class UnderHead:
         operator signed two."""
         return self.is_of_head and receipt.number <= self.head.size
 
+    def proved(self, receipt):
+        """The end of a line about a receipt whose entry the journal lacks."""
+        return PROVED if self.proves(receipt) else ""
+
     def beginning_fault(self, head):
         """Why the journal doesn't begin with a head's entries; None if it does."""
         if head.periods != self.periods:
-            return f"the journal's day has {self.periods} periods, and the head's {head.periods}"
+            return f"the journal's day has {self.periods} periods, and the head's {head.periods}{PROVED if self.is_of_head else ''}"
         if head.size > len(self.tree):
             count = text.counted(len(self.tree), "entry", "entries")
             return f"the journal has {count}, and the operator signed {head.size}"
@@ -58,7 +63,7 @@ class UnderHead:
         its salt from them."""
         words = f"the first {text.counted(head.size, 'entry', 'entries')} of the journal, with the book's replies"
         if self.is_of_head:
-            return f"{words} and these salts, aren't the entries that the operator signed"
+            return f"{words} and these salts, aren't the entries that the operator signed{PROVED}"
         own = [finding for finding in self.findings if receipts.unsigned(finding.receipt.head) == receipts.unsigned(head)]
         if not own:
             return f"{words}, aren't the entries that the operator signed, or the salts aren't this journal's"
@@ -132,14 +137,14 @@ class UnderHead:
         if receipt is None:
             return "; no receipt proves that the operator had it"
         words = f"; the operator signed it as entry {receipt.number} of {receipt.head}"
-        return f"{words}: the operator's fault, proved" if self.proves(receipt) else words
+        return words + self.proved(receipt)
 
     def receipt_faults(self):
         """The faults of receipts, and of the heads that they are under."""
         for finding in self.findings:
             receipt, name = finding.receipt, receipts.Place(finding.file, finding.line)
             if fault := self.receipt_fault(receipt):
-                yield Fault(f"{name}: {fault}", "receipt", receipt.number + 1)
+                yield Fault(f"{name}: {fault}{self.proved(receipt)}", "receipt", receipt.number + 1)
         for head, name in self.under.items():
             if head != receipts.unsigned(self.head) and (fault := self.beginning_fault(head)):
                 yield Fault(f"{name}: {head}: {fault}", "head")
