@@ -644,8 +644,8 @@ class Requests(unittest.TestCase):
         for body, kind, words in (
             (b"", requests.RECORDS, "no command"),
             (b"x", "text/html", "type of the content"),
-            (b"close,,,,,,,,", requests.RECORDS, "command 1 is a close"),
-            (b"cancel,GAS,A,,,,,,\ncancel,OIL,A,,,,,,", requests.RECORDS, "command 2 isn't yours"),
+            (b"close,,,,,,,,", requests.RECORDS, r"command 1 of the request \(number 7\) is a close"),
+            (b"cancel,GAS,A,,,,,,\ncancel,OIL,A,,,,,,", requests.RECORDS, r"command 2 of the request \(number 8\) isn't yours"),
             (b"cancel,GAS,a,,,,,,", requests.RECORDS, "line 1, order"),
             (b"day,24,,,,,,,", requests.RECORDS, "no records of a journal"),
             (b"\xff", requests.RECORDS, "no records of a journal"),
@@ -653,19 +653,19 @@ class Requests(unittest.TestCase):
             (b"[" * 100_000, requests.JSON, "isn't JSON"),
             (b"1", requests.JSON, "command 1"),
             (b'{"what":"cancel","order":"A","order":"B"}', requests.JSON, "two members of one name"),
-            (json.dumps([right, {**right, "price": 1.5}]).encode(), requests.JSON, "command 2: price"),
-            (json.dumps({**right, "price": True}).encode(), requests.JSON, "command 1: price"),
-            (json.dumps({**right, "order": "A,OIL"}).encode(), requests.JSON, "command 1: order"),
-            (json.dumps({**right, "order": "A\nclose"}).encode(), requests.JSON, "command 1: order"),
-            (json.dumps({**right, "volumes": {}}).encode(), requests.JSON, "command 1: volumes"),
-            (json.dumps({**right, "volumes": [[1]]}).encode(), requests.JSON, "command 1: volumes"),
+            (json.dumps([right, {**right, "price": 1.5}]).encode(), requests.JSON, r"command 2 of the request \(number 8\): price"),
+            (json.dumps({**right, "price": True}).encode(), requests.JSON, r"command 1 .*\(number 7\): price"),
+            (json.dumps({**right, "order": "A,OIL"}).encode(), requests.JSON, r"\(number 7\): order"),
+            (json.dumps({**right, "order": "A\nclose"}).encode(), requests.JSON, r"\(number 7\): order"),
+            (json.dumps({**right, "volumes": {}}).encode(), requests.JSON, r"\(number 7\): volumes"),
+            (json.dumps({**right, "volumes": [[1]]}).encode(), requests.JSON, r"\(number 7\): volumes"),
             (json.dumps({**right, "participant": "OIL"}).encode(), requests.JSON, "has the members"),
             (json.dumps({**right, "what": "close"}).encode(), requests.JSON, "submit, amend or cancel"),
             (json.dumps({**right, "what": []}).encode(), requests.JSON, "submit, amend or cancel"),
         ):
             with self.subTest(body=body[:80]):
                 with self.assertRaisesRegex(requests.Wrong, words):
-                    requests.commands_of(body, kind, "GAS")
+                    requests.commands_of(body, kind, "GAS", 7)
 
     def test_a_long_body_is_a_fault_with_its_place(self):
         body = b"cancel,GAS,A,,,,,,\n" * 2_000 + b"cancel,GAS,a,,,,,,\n"
@@ -947,6 +947,11 @@ class Setup(Office):
             with self.subTest(text=text), self.assertRaises(command.Stop):
                 self.participants(text)
 
+    def test_a_table_without_the_column_is_named(self):
+        for text in ("GAS\nWIND\n", "name,commands\nGAS,1\n", "", "Participant\nGAS\n"):
+            with self.subTest(text=text), self.assertRaisesRegex(command.Stop, "no column participant"):
+                self.participants(text)
+
     def test_a_day_is_added_with_its_new_participants_alone(self):
         later = "2099-11-28", "2099-11-29"
         self.participants("participant\nA\nGAS\n")
@@ -985,7 +990,79 @@ class Setup(Office):
         status, out, _ = tool("office", "renew", self.office.path, "GAS")
         self.assertTrue(tokens.Register(self.office.file(folder.PARTICIPANTS)).knows("GAS", out.decode().strip()))
         self.assertEqual(tool("office", "publish", self.office.path)[0], command.NO_INPUT)
+        self.assertEqual(tool("office", "revoke", self.office.path, "GAS")[0], 0)
+        words[1] = "2099-11-29"
+        status, out, _ = tool("office", "init", self.office.path, *words)
+        self.assertEqual((status, out.decode().splitlines()[-1]), (0, "GAS has no token, which was revoked: renew gives it a new one"))
+        words[1] = "2099-11-30"
+        made = json.loads(tool("office", "init", self.office.path, *words, "--json")[1])
+        self.assertEqual((made["revoked"], made["tokens"]), (["GAS"], {}))
         self.assertEqual(tool("office", "status", self.office.path, "--desk", "true")[0], 0)
+
+    def test_a_fault_of_the_disk_names_the_file(self):
+        self.addCleanup(os.umask, os.umask(0o077))
+        self.make()
+        room = self.office.path.parent
+        self.participants("participant\nGAS\n")
+        tokens.Register(self.office.file(folder.PARTICIPANTS)).add(["GAS"])
+        words = ["--day", "2099-11-28", "--close", "12:00", "--participants", room / "p.csv"]
+        day = self.office.file(folder.DAYS) / DAY
+        for path, asked in (
+            (day / folder.TERMS, ["status", self.office.path, "--desk", "true"]),
+            (self.office.file(f"{folder.PARTICIPANTS}.lock"), ["renew", self.office.path, "GAS"]),
+            (self.office.file(f"{folder.PARTICIPANTS}.lock"), ["init", self.office.path, *words]),
+        ):
+            with contextlib.suppress(FileNotFoundError):
+                path.unlink()
+            path.mkdir()  # which no user can read as a file
+            with self.subTest(path=path.name, asked=asked[0]):
+                status, out, err = tool("office", *asked)
+                self.assertEqual((status, out), (command.NO_INPUT, b""))
+                self.assertIn(f"{path} can't be used: Is a directory", err)
+            path.rmdir()
+
+    def test_a_fault_of_a_write_names_the_file(self):
+        full = OSError(errno.ENOSPC, "No space left on device")
+        for fault in (full, OSError(errno.ENOSPC, full.strerror, ".dam-0123")):
+            with mock.patch.object(folder.replacing, "write", side_effect=fault), self.assertRaises(OSError) as caught:
+                self.make()
+            self.assertRegex(caught.exception.filename, "operator.pem")
+            self.assertEqual(command.end_of(caught.exception)[0], command.NO_INPUT)
+            self.assertIn(f"{caught.exception.filename} can't be used: No space", command.end_of(caught.exception)[1])
+        with mock.patch.object(os, "fsync", side_effect=full), self.assertRaises(OSError) as caught:
+            folder.sync(self.office.path)
+        self.assertEqual(caught.exception.filename, str(self.office.path))
+        with mock.patch.object(os, "fsync", side_effect=full), self.assertRaises(OSError) as caught:
+            folder.DayFolder(self.office.path).need_room()
+        self.assertEqual(caught.exception.filename, str(self.office.path))
+
+    async def test_a_day_that_cant_be_read_is_named_and_the_others_are_served(self):
+        self.make()
+        later = "2026-11-30"
+        setup.make_day(self.office, folder.Terms(later, 24, FUTURE, "UTC", dict.fromkeys(NAMES, 10)))
+        salts = self.office.days()[DAY].file(folder.SALTS)
+        kept = salts.read_bytes()
+        salts.unlink()
+        salts.mkdir()
+        log = io.StringIO()
+        with opener(Disk()), mock.patch.object(serving, "LOOK_SECONDS", 0.001):
+            served = serving.Office(self.office, serving.Programs("dam", "dam-desk"), observed.Log(log))
+            task = asyncio.create_task(served.run())
+            await self.until(lambda: later in served.gates)
+            await served.gates[later].is_ready.wait()
+            await asyncio.sleep(0.02)
+            self.assertFalse(served.is_right)
+            said = [one for one in map(json.loads, log.getvalue().splitlines()) if one["event"] == "not served"]
+            self.assertEqual([one["day"] for one in said], [DAY])
+            self.assertIn(str(salts), said[0]["fault"])
+            salts.rmdir()
+            salts.write_bytes(kept)
+            await self.until(lambda: DAY in served.gates)
+            await served.gates[DAY].is_ready.wait()
+            await self.until(lambda: served.is_right)
+            task.cancel()
+            await asyncio.gather(task, return_exceptions=True)
+            await served.stop()
 
 
 if __name__ == "__main__":

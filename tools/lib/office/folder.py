@@ -43,10 +43,17 @@ def terms_read(data):
 
 
 def put(path, data):
-    """Writes a file that is whole, and on the disk, or not there. A fault names the file."""
-    try:
+    """Writes a file that is whole, and on the disk, or not there."""
+    with named(path):
         replacing.write(path, data)
-        sync(Path(path).parent)
+    sync(Path(path).parent)
+
+
+@contextlib.contextmanager
+def named(path):
+    """Lets a fault of the system name this file: one of a write names none, or one that is to take its place."""
+    try:
+        yield
     except OSError as fault:
         raise OSError(fault.errno, fault.strerror, str(path)) from None
 
@@ -54,7 +61,8 @@ def put(path, data):
 def sync(folder):
     number = os.open(folder, os.O_RDONLY | os.O_DIRECTORY)
     try:
-        os.fsync(number)
+        with named(folder):
+            os.fsync(number)
     finally:
         os.close(number)
 
@@ -80,7 +88,7 @@ class DayFolder:
 
     def need_room(self):
         """Ends with an OSError unless the disk takes a batch of the desk now."""
-        with tempfile.TemporaryFile(dir=self.path) as file:
+        with named(self.path), tempfile.TemporaryFile(dir=self.path) as file:
             file.write(bytes(ROOM))
             file.flush()
             os.fsync(file.fileno())

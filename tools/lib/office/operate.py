@@ -45,11 +45,9 @@ def state_of(files, desk):
 
 def status(office, desk):
     """The days of an office, and whether it is served."""
-    digests = tokens.Register(office.file(folder.PARTICIPANTS))
-    digests.read()
-    revoked = [who for who, digest in digests.digests.items() if digest is None]
+    register = tokens.Register(office.file(folder.PARTICIPANTS))
     days = [state_of(files, desk) for files in office.days().values()]
-    return {"served": office.is_served(), "participants": len(digests.digests), "revoked": revoked, "days": days}
+    return {"served": office.is_served(), "participants": len(register.names()), "revoked": register.revoked(), "days": days}
 
 
 def status_lines(found):

@@ -24,10 +24,10 @@ class Wrong(Exception):
     """The body has no commands of this participant: the fault in words, by its place."""
 
 
-def commands_of(body, kind, who):
-    """The commands of a body."""
+def commands_of(body, kind, who, first=1):
+    """The commands of a body, of which the first one has this number."""
     if kind == JSON:
-        body = json_records(body, who)
+        body = json_records(body, who, first)
     elif kind != RECORDS:
         raise Wrong(f"the type of the content should be {RECORDS} or {JSON}")
     try:
@@ -38,10 +38,15 @@ def commands_of(body, kind, who):
         raise Wrong("there is no command")
     for place, command in enumerate(commands, 1):
         if isinstance(command, journal.Close):
-            raise Wrong(f"command {place} is a close, which only the office enters")
+            raise Wrong(f"{named(place, first)} is a close, which only the office enters")
         if command.who != who:
-            raise Wrong(f"command {place} isn't yours: its participant should be {who}")
+            raise Wrong(f"{named(place, first)} isn't yours: its participant should be {who}")
     return commands
+
+
+def named(place, first):
+    """A command by its place in a request and by its number, which may differ."""
+    return f"command {place} of the request (number {first + place - 1})"
 
 
 def in_words(body, fault):
@@ -59,7 +64,7 @@ def members(pairs):
     return found
 
 
-def json_records(body, who):
+def json_records(body, who, first):
     """The records of a command in JSON, or of a list of commands."""
     try:
         value = json.loads(body, object_pairs_hook=members)
@@ -70,44 +75,44 @@ def json_records(body, who):
     commands = value if isinstance(value, list) else [value]
     if len(commands) > MOST_COMMANDS:
         raise Wrong(f"there are more than {MOST_COMMANDS:,} commands")
-    return "".join(f"{json_record(found, who, place)}\n" for place, found in enumerate(commands, 1)).encode()
+    return "".join(f"{json_record(found, who, named(place, first))}\n" for place, found in enumerate(commands, 1)).encode()
 
 
-def json_record(value, who, place):
+def json_record(value, who, command):
     """The record of a command in JSON. Whether its fields are right is seen when the record is read."""
     kind = value.get("what") if isinstance(value, dict) else None
     if not isinstance(kind, str) or kind not in FIELDS:
-        raise Wrong(f"command {place} should be an object whose member what is submit, amend or cancel")
+        raise Wrong(f"{command} should be an object whose member what is submit, amend or cancel")
     needed, further = FIELDS[kind]
     given = set(value) - {"what"}
     if not needed <= given <= needed | further:
-        raise Wrong(f"command {place}: {kind} has the members {', '.join(['what', *sorted(needed | further)])}")
-    words = {name: word(value[name], place, name) for name in given - {"price", "volumes"}}
-    price = number(value["price"], place, "price") if "price" in given else ""
-    volumes = volumes_of(value["volumes"], place) if "volumes" in given else ""
+        raise Wrong(f"{command}: {kind} has the members {', '.join(['what', *sorted(needed | further)])}")
+    words = {name: word(value[name], command, name) for name in given - {"price", "volumes"}}
+    price = number(value["price"], command, "price") if "price" in given else ""
+    volumes = volumes_of(value["volumes"], command) if "volumes" in given else ""
     of = words.get
     return ",".join([kind, who, of("order"), of("kind", ""), of("side", ""), price, volumes, of("parent", ""), of("group", "")])
 
 
-def word(value, place, name):
+def word(value, command, name):
     if not isinstance(value, str) or not value.isascii() or not all(mark.isalnum() or mark == "-" for mark in value):
-        raise Wrong(f"command {place}: {name} should be a text of letters, digits and -")
+        raise Wrong(f"{command}: {name} should be a text of letters, digits and -")
     return value
 
 
-def number(value, place, name):
+def number(value, command, name):
     if type(value) is not int or abs(value) > rules.GREATEST_PRICE:
-        raise Wrong(f"command {place}: {name} should be an integer, prices in cents per MWh, volumes in tenths of a MW")
+        raise Wrong(f"{command}: {name} should be an integer, prices in cents per MWh, volumes in tenths of a MW")
     return str(value)
 
 
-def volumes_of(value, place):
+def volumes_of(value, command):
     """Pairs of a period and a volume."""
     if not isinstance(value, list) or not 0 < len(value) <= rules.GREATEST_PERIOD:
-        raise Wrong(f"command {place}: volumes should be a list of 1 to {rules.GREATEST_PERIOD} pairs [period, volume]")
+        raise Wrong(f"{command}: volumes should be a list of 1 to {rules.GREATEST_PERIOD} pairs [period, volume]")
     if not all(isinstance(pair, list) and len(pair) == 2 for pair in value):
-        raise Wrong(f"command {place}: volumes should be a list of pairs [period, volume]")
-    return ";".join(":".join(number(part, place, "a volume") for part in pair) for pair in value)
+        raise Wrong(f"{command}: volumes should be a list of pairs [period, volume]")
+    return ";".join(":".join(number(part, command, "a volume") for part in pair) for pair in value)
 
 
 def table_records(data, who, periods):

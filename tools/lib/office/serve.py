@@ -70,20 +70,37 @@ class Office:
         self.register = tokens.Register(files.file(folder.PARTICIPANTS))
         self.register.read()
         self.gates, self.tasks = {}, []
+        self.missed = {}  # by the name of a day, why it isn't served; by None, why the days aren't known
 
     def look(self):
-        """Takes up the days that aren't yet; those that are open come first."""
+        """Takes up the days that aren't yet; those that are open come first. Returns the faults of those that can't be."""
+        missed = {}
         new = [(files.has(folder.STATEMENT), name, files) for name, files in self.files.days().items() if name not in self.gates]
         for _, name, files in sorted(new, key=lambda one: one[:2]):
-            self.gates[name] = Gate(files, self.key, self.programs, self.clock, self.log, self.counts)
-            self.tasks.append(asyncio.create_task(self.gates[name].run()))
+            try:
+                self.gates[name] = Gate(files, self.key, self.programs, self.clock, self.log, self.counts)
+                self.tasks.append(asyncio.create_task(self.gates[name].run()))
+            except OSError as fault:
+                missed[name] = str(fault)
+        return missed
+
+    def note(self, missed):
+        """Logs why days aren't served, once for each reason. They are tried again, and the others go on."""
+        for name, fault in missed.items():
+            if self.missed.get(name) != fault:
+                self.log.write("not served", day=name, fault=fault)
+        self.missed = missed
+
+    @property
+    def is_right(self):
+        return not self.missed and all(gate.is_right for gate in self.gates.values())
 
     async def run(self):
         while True:
             try:
-                self.look()
+                self.note(self.look())
             except OSError as fault:  # such as too many open files: the days that are served go on
-                self.log.write("no look for days", fault=fault.strerror)
+                self.note({None: str(fault)})
             await asyncio.sleep(LOOK_SECONDS)
 
     async def stop(self):

@@ -8,7 +8,7 @@ import shutil
 import tempfile
 import zoneinfo
 
-from ..base import replacing, rules, text
+from ..base import rules, text
 from ..seal import heads, sealing, signing
 from ..sheets import shapes
 from ..tool import command
@@ -68,9 +68,12 @@ def terms_of(args, shares, now=None):
 def participants_read(path):
     """The participants of a table with the column participant, and how many commands each may enter, if a column commands says it."""
     try:
-        rows = list(csv.DictReader(command.read_bytes(path).decode("ascii").splitlines(), strict=True))
+        table = csv.DictReader(command.read_bytes(path).decode("ascii").splitlines(), strict=True)
+        rows, columns = list(table), table.fieldnames or ()
     except (UnicodeDecodeError, csv.Error) as fault:
         raise command.Stop(f"{command.shown(path)} isn't a table in ASCII: {fault}") from None
+    if "participant" not in columns:
+        raise command.Stop(f"{command.shown(path)} has no column participant: name it in the first line")
     found = {}
     for line, row in enumerate(rows, 2):
         who = (row.get("participant") or "").strip()
@@ -82,7 +85,7 @@ def participants_read(path):
             raise command.Stop(f"{command.shown(path)} line {line}: commands {text.quoted(share)} should be a number")
         found[who] = int(share) if share else None
     if not 0 < len(found) <= folder.MOST_COMMANDS:
-        raise command.Stop(f"{command.shown(path)} has no participant: its first line should be participant")
+        raise command.Stop(f"{command.shown(path)} has no participant, or more than {folder.MOST_COMMANDS:,}")
     return found
 
 
@@ -102,7 +105,7 @@ def make_office(office):
         if any(os.scandir(office.path)):
             raise command.Stop(f"{command.shown(office.path)} isn't empty, and isn't the folder of an office")
         key = signing.made()
-        replacing.write(office.file(folder.PUBLIC), signing.public_text(key))
+        folder.put(office.file(folder.PUBLIC), signing.public_text(key))
         folder.put(office.file(folder.KEY), signing.private_text(key))
     if not office.file(folder.PARTICIPANTS).exists():
         folder.put(office.file(folder.PARTICIPANTS), folder.as_json({}))

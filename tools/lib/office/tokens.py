@@ -44,6 +44,10 @@ class Register:
         self.read()
         return list(self.digests)
 
+    def revoked(self):
+        self.read()
+        return [who for who, digest in self.digests.items() if digest is None]
+
     def renew(self, who):
         """Gives the participant a new token in place of any earlier one, and returns it."""
         token = made(who)

@@ -215,17 +215,18 @@ class Web:
         self.commands.charge(who, self.length(request) // BYTES_OF_COMMAND)  # before it is read, so that not many are at once
         body = await self.body(request)
         began = time.monotonic()
-        commands = await self.read(body, kind_of(request), who)
-        entries = await self.entered(gate, who, int(request.match_info["number"]), commands)
+        first = int(request.match_info["number"])
+        commands = await self.read(body, kind_of(request), who, first)
+        entries = await self.entered(gate, who, first, commands)
         answer = await self.receipts(gate, entries)
         self.counts.took(time.monotonic() - began)
         return answer
 
-    async def read(self, body, kind, who):
+    async def read(self, body, kind, who, first):
         """The commands of a body. A long one is read in a thread, so that others get their turns."""
         if len(body) < LONG_BODY:
-            return requests.commands_of(body, kind, who)
-        return await asyncio.to_thread(requests.commands_of, body, kind, who)
+            return requests.commands_of(body, kind, who, first)
+        return await asyncio.to_thread(requests.commands_of, body, kind, who, first)
 
     async def entered(self, gate, who, first, commands):
         """The numbers of the entries of commands, once they are on the disk."""
@@ -361,7 +362,7 @@ class Web:
         return web.FileResponse(gate.files.file(files[name]), headers={"Content-Type": "text/plain; charset=utf-8"})
 
     async def health(self, request):
-        is_right = all(gate.is_right for gate in self.office.gates.values())
+        is_right = self.office.is_right
         return web.json_response({"status": "ok" if is_right else "unavailable"}, status=200 if is_right else 503)
 
     async def metrics(self, request):

@@ -76,7 +76,8 @@ def end_of(fault):
     if isinstance(fault, KeyboardInterrupt):
         return INTERRUPTED, "interrupted"
     if isinstance(fault, OSError) and not ending.is_memory(fault) and not ending.is_files(fault):
-        return NO_INPUT, f"a device failed: {fault.strerror}"
+        where = "a device failed" if fault.filename is None else f"{shown(os.fsdecode(fault.filename))} can't be used"
+        return NO_INPUT, f"{where}: {fault.strerror}"
     return FAILED, ending.words(fault)
 
 
