@@ -399,6 +399,20 @@ class SignedHeads(Office):
                 given.newest.note(given.ledger.head(1))
                 self.assertEqual(given.newest.head.size, 3)
 
+    async def test_an_orderly_end_has_the_head_of_a_batch_that_is_still_signed(self):
+        self.make()
+        sign = Ledger.sign_ahead
+
+        async def slow(*args):
+            await asyncio.sleep(0.05)
+            await sign(*args)
+
+        with opener(Disk()), mock.patch.object(Ledger, "sign_ahead", slow):
+            async with self.running(self.gate()) as given:
+                given.submit("GAS", 1, commands(*self.RECORDS))
+                await self.until(lambda: given.ledger.size == 3)
+        self.assertEqual(newest.read(given.files.file(folder.SIGNED), self.key).size, 3)
+
     async def test_the_file_is_written_seldom_and_its_faults_are_logged_once(self):
         self.make()
         log = io.StringIO()

@@ -201,6 +201,7 @@ class Gate:
             self.stop(f"a defect of the office: {type(fault).__name__}: {ascii(str(fault))[:200]}")
         finally:
             closer.cancel()
+            await asyncio.gather(*self.answering, return_exceptions=True)
             self.newest.end()
             await self.leave_desk()
 
