@@ -26,7 +26,7 @@ day = dam_tools.clear(text)
 print(json.dumps([*dam_tools.where(), day.said.welfare, day.wrong]))
 """
 SECONDS = 1_800
-ENTRIES = 14  # of the demo: twelve that are there, one that demo.py enters, and the close
+ENTRIES = 94  # the orders of the demo, GAS's own one and the close
 
 
 def demo(counts, told, at, clears):
