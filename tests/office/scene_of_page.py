@@ -261,7 +261,7 @@ MARKED = """(() => { const one = byId('%s'); return [document.activeElement === 
   one.getAttribute('aria-describedby').split(' ').map((id) => byId(id).textContent).join(' ')]; })()"""
 
 
-async def faults(page, counts):
+async def faults(page, counts, pictures):
     """A wrong field is told in the trader's units at the field, and nothing is sent."""
     before = len(await rows(page, "commands-table"))
     counts.check("right values are right", await page.run(RIGHT) == "400000 -50000 1250 1 99999 - ABCDEFGHIJ-9 ")
@@ -273,7 +273,8 @@ async def faults(page, counts):
     for name, words, fault in WRONG:
         for field, right in (("name", "NEW"), ("price", "1"), ("volume", "1"), (name, words)):
             await write(page, field, right)
-        await page.key("Enter", 13)
+        await focus(page, "side")
+        await click(page, "#enter")
         is_marked, told = await page.run(MARKED % name)
         counts.check(f"{name} {words or 'empty'} is told at its field: {told}", is_marked == "true" and fault in told)
     counts.check("the message says so too", "Nothing was sent" in await text(page, "message"))
@@ -302,6 +303,10 @@ async def faults(page, counts):
     await choose(page, "fill-to", 8)
     await click(page, "#fill")
     counts.check("periods the wrong way round", "Period 9 is after period 8" in await text(page, "fill-fault"))
+    for name in ("name", "price"):
+        await write(page, name, "x_x")
+    await click(page, "#enter")
+    await shown(page, counts, pictures, "faults")
     await page.look(390, "light", 600)
     await click(page, "input[value=hour]")
     await write(page, "volume", "0")
@@ -456,7 +461,7 @@ async def scene(office, counts, pictures, room):
         await first_sign_in(page, office, who, counts)
         await enter_orders(page, who, counts)
         await change_orders(page, counts)
-        await faults(page, counts)
+        await faults(page, counts, pictures)
         await leave(page, office, who, office.who[2], room, counts)
         await upload(page, who, room, counts)
         await lose_an_answer(page, counts)
@@ -492,6 +497,7 @@ async def length_scene(page, office, periods, counts):
     (row,), prices = await rows(page, "statement"), await rows(page, "prices")
     energy = f"{9_999.9 * periods * float(rules.DAYS[periods]):,.1f}"
     counts.check(f"{energy} MWh of {periods} periods: {row}", row[4:6] == [energy, "0.0"] and row[8] == "paradoxically rejected")
+    counts.check("its reason says how much is missing", row[9].endswith("period 1 wouldn't balance: 9999.9 MW would have no seller"))
     counts.check(f"the prices of {periods} periods", [one[1] for one in prices] == [clock.begins(periods, at + 1) for at in range(periods)])
 
 

@@ -7,7 +7,7 @@ import unittest
 from support import AUCTION, TOP, day_of, journal_of, printed, problem, results_of
 
 from lib.journal import book, journal
-from lib.results import decisions, selection
+from lib.results import decisions, period, selection
 from lib.sheets import tables
 from plain import Plain
 
@@ -157,7 +157,7 @@ class Hand(unittest.TestCase):
         why = "would gain 59.00 EUR at the prices, but A,K1 offers the same and stands earlier in the book"
         self.assertEqual(told(data, {0})[1], (decisions.PARADOX, why))
         other = data.replace(b"submit,B,K1,block,sell,100", b"submit,B,K1,block,sell,101")
-        self.assertIn("with it period 8 wouldn't balance", told(other, {0})[1][1])
+        self.assertIn("with it period 8 wouldn't balance: 1.0 MW would have no buyer", told(other, {0})[1][1])
 
     def test_codes(self):
         """Each is in the page of the tables, and each of a block that results can have is found."""
@@ -202,8 +202,28 @@ class Hand(unittest.TestCase):
             "submit,A,K3,block,sell,100,1:30,,",
         )
         found = told(data, ())
-        self.assertIn("with it period 1 wouldn't balance", found[2][1])
+        self.assertTrue(found[2][1].endswith("with it period 1 wouldn't balance: 2.0 MW would have no buyer"))
         self.assertEqual(found[2][0], decisions.PARADOX)
+        data = journal_of("submit,A,S1,hour,sell,1,1:3,,", "submit,A,S2,hour,sell,1,2:7,,", "submit,A,K,block,buy,9,1:3;2:10,,")
+        self.assertTrue(told(data, ())[0][1].endswith("with it period 2 wouldn't balance: 0.3 MW would have no seller"))
+
+    def test_the_volume_that_finds_no_other_side(self):
+        """With so much less of the block in the period, and not with a tenth more, the period balances."""
+        found = 0
+        for data, _, best in drawn(300):
+            day = problem(data)
+            for place, decision in enumerate(decisions.decisions(day, best, selection.outcome(day, best))):
+                if decision.code != decisions.UNBALANCED:
+                    continue
+                words = r"period ([0-9]+) wouldn't balance: ([0-9.]+) MW would have no (buyer|seller)$"
+                number, volume, side = re.search(words, decision.why).groups()
+                tenths, orders = round(float(volume) * 10), day.orders[int(number)]
+                net = sum(dict(selection.signed(day.blocks[at].order)).get(int(number), 0) for at in decision.other.accepted)
+                ends = [net - less if side == "buyer" else net + less for less in (tenths, tenths - 1)]
+                is_balanced = [period.clear(orders, end) is not None for end in ends]
+                self.assertEqual(is_balanced, [True, False])
+                found += 1
+        self.assertGreater(found, 10)
 
 
 def drawn(count):

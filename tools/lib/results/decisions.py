@@ -195,7 +195,7 @@ class Judge:
     def consequence(self, place, other):
         """The welfare of another selection, and who would lose in it."""
         if other.unbalanced is not None:
-            return f"period {other.unbalanced} wouldn't balance"
+            return f"period {other.unbalanced} wouldn't balance: {self.unmatched(other)}"
         worth = self.worth(other)
         if other.losers:
             more = self.outcome.welfare is not None and other.welfare > self.outcome.welfare
@@ -205,6 +205,15 @@ class Judge:
             above = selection.ranks_above(*flags)
             return worth + (", and it ranks above" if above else ", and of equal selections the one with the earlier block is taken")
         return worth
+
+    def unmatched(self, other):
+        """The volume of the accepted blocks that the period's hourly orders of the other side can't match."""
+        number, net = other.unbalanced, 0
+        for place in other.accepted:
+            net += dict(selection.signed(self.problem.blocks[place].order)).get(number, 0)
+        side, word = ("buy", "buyer") if net > 0 else ("sell", "seller")
+        volume = abs(net) - sum(quantity for one, _, quantity in self.problem.orders[number] if one == side)
+        return f"{text.tenths(volume)} MW would have no {word}"
 
     def worth(self, other):
         if self.outcome.welfare is None:

@@ -415,7 +415,7 @@ async function enterOrder(event) {
   event.preventDefault();
   say("");
   const made = command();
-  if (!made) return say("Nothing was sent: see the marked field.", "wrong", "fields");
+  if (!made) return say("Nothing was sent: look at the marked fields.", "wrong", "fields");
   if (await enter([made])) {
     if (made.what === "submit") state.last = { kind: made.kind, side: made.side };
     change(null);
