@@ -499,7 +499,7 @@ class Command(InFolder):
         self.run_tool(0, "extend", "a", "b.csv", "b.txt", "--key", "key.pem", "-o", "b")
         self.run_tool(0, "extend", "b", "c.csv", "c.txt", "--key", "key.pem", "-o", "c")
         early = sorted(Path("a/receipts").iterdir())
-        self.assertIn("isn't shown", self.verify(4, *early, head="c/head.json"))
+        self.assertIn("no extension shows that the head of 2026-11-28 with", self.verify(4, *early, head="c/head.json"))
         links = ["--extension", "b/extension.json", "--extension", "c/extension.json"]
         self.verify(0, *early, *links, head="c/head.json")
         self.run_tool(0, "heads", "a/head.json", "c/head.json", "b/head.json", *links, "--key", "key.pem.pub")
@@ -518,7 +518,7 @@ class Command(InFolder):
         Path("less.csv").write_bytes(b"".join(lines[:place] + lines[place + 1 :]))
         Path("less.txt").write_bytes(replies_of(Path("less.csv").read_bytes()))
         self.seal("less", "less.csv", "less.txt")
-        self.assertIn("isn't shown", self.verify(4, "sealed/receipts/STAD.jsonl", head="less/head.json"))
+        self.assertIn("no extension shows that the head of 2026-11-28 with", self.verify(4, "sealed/receipts/STAD.jsonl", head="less/head.json"))
         sent = b"".join(line for line in lines if line.split(b",")[1] == b"STAD")
         Path("mine.csv").write_bytes(sent)
         self.verify(0, "sealed/receipts/STAD.jsonl", "--sent", "mine.csv", "--participant", "STAD")

@@ -152,7 +152,7 @@ class Links:
             return WRONG, roots_differ(one)
         if self.leads(one, other):
             return RIGHT, f"{other} begins with {one}"
-        return UNDECIDED, f"whether {other} begins with {one} isn't shown: the operator has to give an extension"
+        return UNDECIDED, f"no extension shows that {other} begins with {one}: the operator has to give one"
 
     def leads(self, one, other):
         """Whether the extensions show that a head's journal begins with an earlier one. Each journal begins with the empty one."""
