@@ -1,9 +1,10 @@
 #!/bin/sh
-# day.sh FOLDER: clears FOLDER/day.csv; results.txt is there if it may be published
+# day.sh FOLDER: clears day.csv, of day.desk if it is there; results.txt is there if it may be published
 cd "$1" && exec 9> lock || exit 10
 flock -n 9 || { echo "$1: another run has the lock" >&2; exit 75; }
 rm -rf new.* results.txt replies.txt
 new=$(mktemp -d new.XXXXXX) || exit 10
+[ ! -e day.desk ] || dam-desk --journal day.desk > day.csv || { echo "desk: $?"; exit 10; }
 dam-lint day.csv  # status 1: refused commands; 7: faults
 dam replay < day.csv > "$new/replies.txt" || { echo "replay: $?"; exit 10; }
 ( ulimit -v 262144; exec timeout 600 dam clear < day.csv > "$new/results.txt" ) || { echo "clear: $?"; exit 10; }

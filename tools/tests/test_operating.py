@@ -74,6 +74,18 @@ class Day(unittest.TestCase):
             self.assertEqual(Path(self.day, "results.txt").read_bytes(), AUCTION_RESULTS.read_bytes())
             self.assertEqual(Path(self.day, "replies.txt").read_bytes(), replies)
 
+    def test_a_day_of_a_desk(self):
+        """Its journal is taken from the desk's file; if that can't be read, there are no results."""
+        Path(self.day, "day.desk").write_bytes(AUCTION.read_bytes())
+        Path(self.day, "day.csv").unlink()
+        self.script("dam-desk", 'test "$1" = --journal && cat "$2"')
+        status, out, _ = self.run_once()
+        self.assertEqual((status, self.names()), (0, ["day.csv", "day.desk", "replies.txt", "results.txt"]), out)
+        self.assertEqual(Path(self.day, "day.csv").read_bytes(), AUCTION.read_bytes())
+        self.script("dam-desk", "exit 4")
+        self.assertEqual(self.run_once()[:2], (10, ["desk: 4"]))
+        self.assertNotIn("results.txt", self.names())
+
     def test_two_runs_at_once(self):
         """The second one ends, says why, and spoils nothing of the first."""
         go = self.bin / "go"
