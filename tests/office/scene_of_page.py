@@ -497,7 +497,7 @@ async def length_scene(page, office, periods, counts):
     (row,), prices = await rows(page, "statement"), await rows(page, "prices")
     energy = f"{9_999.9 * periods * float(rules.DAYS[periods]):,.1f}"
     counts.check(f"{energy} MWh of {periods} periods: {row}", row[4:6] == [energy, "0.0"] and row[8] == "paradoxically rejected")
-    counts.check("its reason says how much is missing", row[9].endswith("period 1 wouldn't balance: 9999.9 MW would have no seller"))
+    counts.check("its reason says what is missing, and not how much", row[9].endswith("period 1 wouldn't balance: too few sellers"))
     counts.check(f"the prices of {periods} periods", [one[1] for one in prices] == [clock.begins(periods, at + 1) for at in range(periods)])
 
 

@@ -744,6 +744,8 @@ class Requests(unittest.TestCase):
         same = "would gain nothing at the prices, but GAS,LONG offers the same and stands earlier in the book"
         self.assertNotIn("GAS", clearing.own_words(same, "OIL"))
         self.assertEqual(clearing.own_words(same, "GAS"), same)
+        short = "with it period 8 wouldn't balance: 1,002.0 MW would have no buyer"
+        self.assertEqual(clearing.own_words(short, "GAS"), "with it period 8 wouldn't balance: too few buyers")
 
 
 class Answers(http.server.BaseHTTPRequestHandler):

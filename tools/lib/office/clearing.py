@@ -20,6 +20,8 @@ MOST_SECONDS = 600  # that a program may take
 BLOCK = rf"(?P<who>[A-Z]{{1,{rules.LONGEST_PARTICIPANT}}}),[A-Z0-9-]{{1,{rules.LONGEST_NAME}}}"
 LOSER = re.compile(rf"{BLOCK} would lose [0-9.,]+ EUR(?: together with its accepted descendants)?")
 SAME = re.compile(rf", but {BLOCK} offers the same and stands earlier in the book")
+# A volume that tells how much others offer.
+MISSING = re.compile(r"[0-9.,]+ MW would have no (buyer|seller)")
 MOST_FAULT = 1_000  # bytes of what it says of a fault
 # Of all participants' orders. From these, one could compute the limit of another who alone has accepted blocks.
 SUMS = ("hourly_surplus_eur", "block_surplus_eur")
@@ -73,9 +75,10 @@ class Published:
 
 
 def own_words(why, who):
-    """A reason without the orders of others."""
+    """A reason without the orders of others, and without their volumes."""
     if why is None:
         return None
+    why = MISSING.sub(r"too few \1s", why)
     why = SAME.sub(lambda found: found[0] if found["who"] == who else ", but an equal block stands earlier in the book", why)
     return LOSER.sub(lambda found: found[0] if found["who"] == who else "another participant's block would lose", why)
 
