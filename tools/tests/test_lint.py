@@ -3,6 +3,8 @@
 import hashlib
 import json
 import random
+import time
+import tracemalloc
 import unittest
 import unittest.mock
 
@@ -301,6 +303,73 @@ class CommandLine(unittest.TestCase):
         self.assertEqual((status, lines[0]), (command.NO_INPUT, said))
         self.assertIn("  line 2, price: '12.50': it should be whole cents", lines[1])
         self.assertEqual((len(lines), lines[-1]), (7, "  and 2 more: see tools/lint"))
+
+
+class Long(unittest.TestCase):
+    """Long lines and long texts take little memory and time, and their first fault is that of the program."""
+
+    DAY, SIZE = b"day,24,,,,,,,\n", 2_000_000
+    MOST_TIMES, MOST_SECONDS = 14, 4
+
+    def measured(self, call, data):
+        """The result of a call, which takes little more memory than the text."""
+        tracemalloc.start()
+        began = time.process_time()
+        try:
+            found = call(data)
+        finally:
+            seconds, most = time.process_time() - began, tracemalloc.get_traced_memory()[1]
+            tracemalloc.stop()
+        self.assertLess(most, self.MOST_TIMES * len(data))
+        self.assertLess(seconds, self.MOST_SECONDS)
+        return found
+
+    def first(self, data):
+        try:
+            return journal.read_journal(data)
+        except journal.Fault as fault:
+            return str(fault)
+
+    def test_each_long_line(self):
+        size, many = self.SIZE, "far more than a command has: remove it"
+        submit, count = b"submit,A,K,block,buy,1,%s,,\n", "input: FieldCount in record 2"
+        for line, first in (
+            (b"," * size, count),
+            (b";" * size, count),
+            (b"A" * 70_000 + b"," * size, count),
+            (b'"A",' * (size // 4), count),
+            (b'"A"",' * (size // 5), count),
+            (b'"' * size, count),
+            (b'""A,' * (size // 4) + b'"', count),
+            (b" " * size, count),
+            (submit % (b"1:1;" * (size // 4)), "input: BadField in record 2 field 7"),
+            (b"submit,A,%s,,,,,,\n" % (b"A" * size), "input: BadField in record 2 field 3"),
+        ):
+            with self.subTest(line[:30]):
+                self.assertEqual(self.measured(self.first, self.DAY + line), first)
+                found = self.measured(lambda data: told(data, "replay"), self.DAY + line)
+                self.assertEqual(found, [f"line 2: the line has {len(line.strip(bytes([10]))):,} bytes, {many}"])
+                self.measured(lambda data: told(data, "replay"), line + b"\n" + self.DAY)
+
+    def test_the_lines_after_a_long_one(self):
+        found = told(GOOD.replace(HOUR, b"," * 70_000 + b"\r\n" + HOUR.replace(b"1200", b"12.5")))
+        self.assertEqual(found[0], "line 2: the line has 70,000 bytes, far more than a command has: remove it")
+        self.assertEqual((len(found), found[1][:14]), (2, "line 3, price:"))
+
+    def test_many_lines_and_volumes(self):
+        accents = self.DAY + b"\xc3\xa9\n" * (self.SIZE // 3)
+        self.assertIn("aren't ASCII either", "".join(self.measured(told, accents)))
+        for lines in (b'""\n' * (self.SIZE // 3), b"\n" * self.SIZE, b'"A\n' * (self.SIZE // 3), b"a,\n" * (self.SIZE // 3)):
+            self.measured(told, self.DAY + lines)
+        for count in (rules.GREATEST_PERIOD, rules.GREATEST_PERIOD + 1, 15_000):
+            found = told(self.DAY + b"submit,A,K,block,buy,1,%s1:1,,\n" % (b"1:1;" * (count - 1)), "replay")[0]
+            self.assertEqual(f"it has {count:,} pairs, and a day has at most 100 periods" in found, count > rules.GREATEST_PERIOD)
+
+    def test_a_text_that_is_too_long(self):
+        data = self.DAY + b"," * rules.MOST_BYTES
+        self.assertEqual(self.measured(self.first, data), "input: TooLong")
+        said = f"line 1: the text has {len(data):,} bytes, but a journal has at most {rules.MOST_BYTES:,}: split the day"
+        self.assertEqual(self.measured(told, data), [said])
 
 
 if __name__ == "__main__":

@@ -7,8 +7,10 @@ from fractions import Fraction
 from . import rules
 
 MARK = b"\xef\xbb\xbf"  # a byte order mark
-LINE_END = re.compile(rb"\r\n|\r|\n")
 LINE = re.compile(r"[^\r\n]+[\r\n]*|[\r\n]+")
+LONG_LINE = 65_536  # characters; a line of a journal has fewer than 2,000
+MANY_FIELDS = 10  # more than a record has
+FIELDS = re.compile(rf'(?:(?:"[^"]*(?:""[^"]*)*"(?!")[^,]*|[^",][^,]*)?,){{{MANY_FIELDS}}}')
 SURROGATE = re.compile("[\ud800-\udfff]")  # no character: it stands for a byte that isn't UTF-8
 NO_NUL = "\u0100"  # no byte: stands for the byte 0, which `csv` doesn't read before Python 3.11
 # No number of a journal or of results has more digits than 18.
@@ -27,7 +29,8 @@ def records(text):
 
 def placed_records(text, comma=b","):
     """The same, each with its offset in the text; also of a text whose fields are separated by something other than commas. A field whose
-    quote isn't closed goes to the end of the text; the text after a closing quote belongs to the field."""
+    quote isn't closed goes to the end of the text; the text after a closing quote belongs to the field. Of a long line with far too many
+    fields, separated by commas, only the first ones are read."""
     begin, taken = 0, []
     for fields in csv.reader(noted(csv_lines(text), taken), delimiter=comma.decode()):
         if fields:
@@ -37,10 +40,24 @@ def placed_records(text, comma=b","):
 
 
 def noted(texts, taken):
-    """The texts, of which the length is noted as soon as one is taken."""
+    """The texts, of which the length is noted as soon as one is taken. A long one that begins a record is cut."""
     for text in texts:
+        is_first = not taken
         taken.append(len(text))
-        yield text
+        yield first_fields(text) if is_first and len(text) > LONG_LINE else text
+
+
+def first_fields(line):
+    """A long line without the fields after the first ones, if it has more."""
+    if '"' not in line:
+        return ",".join(line.split(",", MANY_FIELDS + 1)[: MANY_FIELDS + 1])
+    found = FIELDS.match(line, 0, LONG_LINE)
+    return found[0] if found else line
+
+
+def count_lines(text, begin, end):
+    """How many lines end in a part of a text: with a line feed, a carriage return, or both."""
+    return text.count(b"\n", begin, end) + text.count(b"\r", begin, end) - text.count(b"\r\n", begin, end)
 
 
 def csv_lines(text):
@@ -54,6 +71,9 @@ def open_quote(text, comma=b","):
     """Where a quote begins that isn't closed on its line; None if there is none."""
     begin = 0
     for line in csv_lines(text):
+        if '"' not in line:
+            begin += len(line)
+            continue
         reader = csv.reader([line, ""], delimiter=comma.decode())
         fields = next(reader)
         if reader.line_num == 2:  # an open quote took in the second text; in its field, each quote is doubled
@@ -81,6 +101,8 @@ def volume(text):
 def volumes(text):
     """Pairs `period:volume`, separated by `;`, by increasing period. None for any other text."""
     pairs = []
+    if text.count(b";") >= rules.GREATEST_PERIOD:
+        return None
     for pair in text.split(b";"):
         period, colon, quantity = pair.partition(b":")
         period = number(period, 1, rules.GREATEST_PERIOD)

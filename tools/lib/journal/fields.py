@@ -102,6 +102,8 @@ def read_volumes(found):
         return text.volumes(found.encode()), None
     if not found:
         return None, "it should be period:volume, such as 8:450, or several, such as 8:450;9:450"
+    if (count := found.count(";") + 1) > rules.GREATEST_PERIOD:
+        return None, f"it has {count:,} pairs, and a day has at most {rules.GREATEST_PERIOD} periods"
     pairs, wrong = [], []
     for part in found.split(";"):
         pair, fault = read_pair(part) if part.strip() else (None, "a pair between `;` is missing, or there is one `;` too many")

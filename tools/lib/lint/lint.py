@@ -3,6 +3,7 @@
 Breaches of the format are reported for each record, and then the record is taken for the one that was probably meant, so
 that the commands after it are judged as well, also those that the book would refuse."""
 
+import itertools
 import re
 from typing import NamedTuple
 
@@ -25,6 +26,7 @@ OTHERS = {
     kinds.REPLIES: f"these seem to be replies of `dam replay`, which aren't a journal: {AUDIT} --replies reads them with their journal",
     **{kind: f"this is {kind}: {advice}" for kind, advice in kinds.ADVICE.items()},
 }
+LINE = re.compile(rb"[^\r\n]+")
 BYTE_ORDER_MARKS = {b"\xef\xbb\xbf": "utf-8-sig", b"\xff\xfe": "utf-16", b"\xfe\xff": "utf-16"}
 
 
@@ -61,13 +63,16 @@ class Lint:
         if other:
             self.tell(1, other)
             return self.found
+        if len(self.data) > rules.MOST_BYTES:
+            self.tell(1, f"the text has {len(self.data):,} bytes, but a journal has at most {rules.MOST_BYTES:,}: split the day")
+            return self.found
         data, comma = self.readable(self.data)
         self.has_semicolons = comma == b";"
         if self.periods and first_word(data, comma) != "day":
             self.held = book.Book(self.periods)
         line, behind, number = 1, 0, 0
         for number, (at, record) in enumerate(text.placed_records(data, comma), 1):
-            line += len(text.LINE_END.findall(data, behind, at))
+            line += text.count_lines(data, behind, at)
             if self.bar:
                 self.bar.step(at - behind)
             behind = at
@@ -85,8 +90,6 @@ class Lint:
 
     def readable(self, data):
         """The text with the faults put right that concern all of it, and the separator of its fields."""
-        if len(data) > rules.MOST_BYTES:
-            self.tell(1, f"the text has {len(data):,} bytes, but a journal has at most {rules.MOST_BYTES:,}: split the day")
         for mark, encoding in BYTE_ORDER_MARKS.items():
             if data.startswith(mark):
                 name, tool = "a byte order mark", ""
@@ -95,9 +98,24 @@ class Lint:
                 self.tell(1, f"the text begins with {name}: save it as plain CSV, in ASCII or UTF-8 without the mark{tool}")
                 data = data.decode(encoding, errors="replace").encode()
                 break
+        data = self.short_lines(self.first_lines(data))
         self.characters(data)
         comma = self.comma(data)
         return self.closed_quotes(data, comma), comma
+
+    def first_lines(self, data):
+        """The text without the lines after those that a journal may have, and the first of them."""
+        further = next(itertools.islice(LINE.finditer(data), rules.MOST_RECORDS + 1, None), None)
+        return data[: further.start()] if further else data
+
+    def short_lines(self, data):
+        """The text without the long lines, which aren't looked at: each is empty."""
+        places = [found.span() for found in LINE.finditer(data) if found.end() - found.start() > text.LONG_LINE]
+        for begin, end in reversed(places):
+            line = text.count_lines(data, 0, begin) + 1
+            self.tell(line, f"the line has {end - begin:,} bytes, far more than a command has: remove it")
+            data = data[:begin] + data[end:]
+        return data
 
     def comma(self, data):
         """The separator of the fields, by the first line."""
@@ -114,7 +132,7 @@ class Lint:
             at = text.open_quote(data, comma)
             if at is None:
                 break
-            line = len(text.LINE_END.findall(data, 0, at)) + 1
+            line = text.count_lines(data, 0, at) + 1
             self.tell(line, "a quote begins a field and isn't closed on its line: remove it, or close it")
             data = data[:at] + data[at + 1 :]
         return data
@@ -122,10 +140,10 @@ class Lint:
     def characters(self, data):
         """Reports the first character of each line that isn't ASCII, and if there are many such lines, how many."""
         lines, line, behind = {}, 1, 0
-        for found in re.finditer(rb"[\x80-\xff]+", data):
-            line += len(text.LINE_END.findall(data, behind, found.start()))
+        for found in re.finditer(rb"([\x80-\xff]+)[^\r\n]*", data):
+            line += text.count_lines(data, behind, found.start())
             behind = found.start()
-            lines.setdefault(line, found[0].decode(errors="replace"))
+            lines[line] = found[1].decode(errors="replace")
         allowed = "a journal has no accented letters, and no long dashes or special spaces"
         for at in list(lines)[:MOST_LINES]:
             self.tell(at, f"{text.quoted(lines[at])} isn't ASCII: {allowed}")

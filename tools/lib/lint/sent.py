@@ -12,7 +12,8 @@ from . import lint
 from ..results.faults import Fault
 
 JOURNAL, BOOK = "the journal", "the book at the end"
-WORDS = re.compile(rb'[\s"]*(?:day|submit|amend|cancel|close)\b', re.IGNORECASE)
+SPACES = b' \t\r\n\f\v"'
+WORDS = re.compile(rb"(?:day|submit|amend|cancel|close)\b", re.IGNORECASE)
 
 
 class Wrong(Exception):
@@ -68,7 +69,7 @@ def read_sent(data, who, periods, has_none):
     """The commands of a participant in a list: records as in a journal, with the records `day` and `close` or without them, or a table
     of orders. Those of others are left out. A list with those of others alone is wrong, except a table if the participant `has_none` in the
     book at the end, having cancelled them."""
-    is_table = not WORDS.match(data.removeprefix(text.MARK))
+    is_table = not WORDS.match(data.removeprefix(text.MARK).lstrip(SPACES))
     if is_table:
         own, notes, others = read_table(data, periods, who)
     else:

@@ -30,6 +30,7 @@ ADVICE = {
     ZIP: "unzip FILE unpacks it",
     WEB_PAGE: "get the file itself, in place of the page that shows or links it",
 }
+HEAD = 65_536  # bytes, in which the kind of a text shows
 COLUMNS = {b"participant", b"order", b"periods", b"volume_mw"}  # some that each table of orders has
 
 REPLY = re.compile(rb"\d+,(?:done|refused,)")
@@ -54,9 +55,10 @@ def kind_of(data):
     for signature, kind in SIGNATURES.items():
         if data.startswith(signature):
             return kind_of_archive(data) if kind == EXCEL else kind
-    if PAGE.match(data.removeprefix(text.MARK)):
+    head = data[:HEAD].removeprefix(text.MARK)
+    if PAGE.match(head):
         return WEB_PAGE
-    first, second = (data.removeprefix(text.MARK).split(b"\n", 2) + [b"", b""])[:2]
+    first, second = (head.split(b"\n", 2) + [b"", b""])[:2]
     if COLUMNS <= {cell.strip(b' \r"') for cell in re.split(rb"[,;\t]", first.lower())}:
         return ORDERS
     if not first.startswith(b"day,"):
