@@ -26,3 +26,4 @@ pub mod MakingClasses
 pub mod PricesByClass
 pub mod Rivalry
 pub mod Losing
+pub mod Limiting

@@ -5,4 +5,5 @@ pub mod Sums
 pub mod ClassCurves
 pub mod Prices
 pub mod Open
+pub mod Limits
 pub mod inside

@@ -12,6 +12,8 @@
 //! }
 //! let rivals = curves.are_rivals(0, 1); // if true, no eligible selection accepts both
 //! let none = curves.rules_out(Selection::none().with(0), Selection::none().with(1)); // if true, none accepts 0 but not 1
+//! let limits = curves.limits(); // that every eligible selection keeps
+//! let room = limits.room_after(&limits.room(), 0, true); // None if no eligible selection accepts block 0
 //!
 //! let relaxed = Relaxed::build(alloc, &problem)?;
 //! let relaxed_welfare = relaxed.bound(Selection::none().with(0), 1); // block 0 accepted, the others open
@@ -40,6 +42,8 @@ mod classes;
 mod families;
 pub mod laws;
 mod levels;
+mod limit_making;
+mod limits;
 mod losses;
 mod numbers;
 mod price_bound;
@@ -47,5 +51,6 @@ mod relaxed;
 mod rivals;
 
 pub use class_curves::ClassCurves;
+pub use limits::{Limit, Limits, MOST_LIMITS, Room};
 pub use price_bound::PriceBound;
 pub use relaxed::Relaxed;

@@ -104,6 +104,29 @@ some_there curves curve ps least most net w is e low high = (
     none : None ≡ joint_welfare ps net → ⊥
     none k = absurd cc
 
+-- between the ends of segments one of them holds
+holds_within : (f : ℤ → Option ℤ) (s : Segment) (ls : List Segment) (bottom net : ℤ) → AreSegments f (s ∷ ls) bottom → bottom ≤ℤ net
+    → net ≤ℤ s.most → (w : ℤ) × (f net ≡ Some w)
+holds_within f s [] bottom net are low high = (segment_at s net, are.0.each net low high)
+holds_within f s (t ∷ ls) bottom net are low high =
+    by_lt_z t.most net (λ more. (segment_at s net, are.0.each net (omega (arith, ints, more)) high))
+    (λ less. holds_within f t ls bottom net are.1 low less)
+
+pub welfare_there : (curves : CurvesState) (curve : Curve) (ps : List (List Step)) (least most net : ℤ) → IsCurveAt curves curve ps least most
+    → curve.bottom ≤ℤ net → net ≤ℤ curve.top → (w : ℤ) × (joint_welfare ps net ≡ Some w)
+welfare_there curves curve ps least most net is low high = elim (cases_lt 0 curve.count) [
+  | inl some ↦
+      (let ends = is.ends some in let long = count_is curves.segments curve is.within in
+      among (segments_at curves.segments curve) is.is_curve.are_segments (omega (arith, some, long)) (omega (arith, ints, low, ends.0))
+      (omega (arith, ints, high, ends.1)))
+  | inr none ↦ (let apart = is.none (omega (arith, none)) in absurd (omega (arith, ints, low, high, apart)))
+]
+  where
+    among : (ls : List Segment) → AreSegments (joint_welfare ps) ls (bottom_of ls) → 0 < length ls → bottom_of ls ≤ℤ net
+        → net ≤ℤ end_of ls (pos 0) → (w : ℤ) × (joint_welfare ps net ≡ Some w)
+    among [] are some under over = absurd (omega (arith, some))
+    among (s ∷ ls) are some under over = holds_within (joint_welfare ps) s ls (bottom_of (s ∷ ls)) net are under over
+
 pub ordered_there : (curves : CurvesState) (curve : Curve) (ps : List (List Step)) (least most : ℤ) → IsCurveAt curves curve ps least most
     → 0 < curve.count → curve.bottom ≤ℤ curve.top
 ordered_there curves curve ps least most is some =

@@ -45,7 +45,7 @@ or_right false b e = e
 same_place : (place : ℕ) → (place == place) ≡ true
 same_place place = grind (arith, nat_tests)
 
-among_first : (place : ℕ) (places : List ℕ) → is_among place (place ∷ places) ≡ true
+pub among_first : (place : ℕ) (places : List ℕ) → is_among place (place ∷ places) ≡ true
 among_first place places = ap (λ (b : Bool). b || is_among place places) (same_place place)
 
 free_from : (taken : List Bool) (order : List ℕ) → AreDistinct order
@@ -62,7 +62,7 @@ free_from taken (place ∷ order) distinct h =
 
 -- ---- the node
 
-not_among_before : (depth count : ℕ) (order : List ℕ) (place : ℕ) → IsOrder depth count order → place < depth → is_among place order ≡ false
+pub not_among_before : (depth count : ℕ) (order : List ℕ) (place : ℕ) → IsOrder depth count order → place < depth → is_among place order ≡ false
 not_among_before depth count order place is less = elim (is_among place order) as (λ b. is_among place order ≡ b → b ≡ false) [
   | true ↦ λ e. (let within = is.within place e in let from = within.0 in absurd (omega (arith, from, less)))
   | false ↦ λ e. refl

@@ -10,6 +10,7 @@ pub mod Rule
 pub mod Shares
 pub mod Opens
 pub mod FirstNode
+pub mod Rooms
 pub mod OneAnswer
 pub mod Sets
 pub mod RulingOut

@@ -10,6 +10,9 @@ use Rattle.dam_blocks.specs.Selection.{accepts, empty_selection, are_of_one_grou
 use Rattle.dam_blocks.specs.Family.{descends}
 use Rattle.dam_blocks.specs.Eligible.{IsEligible}
 use Rattle.dam_bound.specs.Relaxed.{without_rows}
+use Rattle.dam_bound.specs.Limits.{AreLimits}
+use Rattle.dam_bound.specs.declared.limits.Limit.{Limit}
+use Rattle.dam_bound.specs.declared.limits.Limits.{Limits}
 use Rattle.dam_search.specs.declared.conflicts.Conflicts.{Conflicts}
 use Rattle.dam_bound.specs.Open.{IsOpen, IsBetween}
 use Rattle.dam_search.proofs.Opens.{accepts_taken, accepts_none_rejected}
@@ -62,14 +65,15 @@ nothing_accepted j n found e on =
 
 pub no_conflicts : (problem : ProblemState) (conflicts : Conflicts) → conflicts.needs ≡ replicate most_blocks empty_selection
     → conflicts.needed_by ≡ replicate most_blocks empty_selection → conflicts.excludes ≡ replicate most_blocks empty_selection
-    → AreConflicts problem conflicts
-no_conflicts problem conflicts e f h = record {
+    → AreLimits problem conflicts.limits.limits → AreConflicts problem conflicts
+no_conflicts problem conflicts e f h limits = record {
   needs = λ place places at selection w eligible on j among.
       absurd (nothing_accepted j place places (ap (λ (rs : List (List Bool)). slice_get rs place) (sym e) ∙ at) among);
   needed_by = λ place places at selection w eligible j among on.
       absurd (nothing_accepted j place places (ap (λ (rs : List (List Bool)). slice_get rs place) (sym f) ∙ at) among);
   excludes = λ place places at selection w eligible on j among.
       absurd (nothing_accepted j place places (ap (λ (rs : List (List Bool)). slice_get rs place) (sym h) ∙ at) among);
+  limits = limits;
 }
 
 -- ---- the rows of one block more
@@ -170,8 +174,9 @@ pub conflicts_more : ConflictLaws → (problem : ProblemState) (blocks : List Bl
     → IsSetOf (length blocks) (λ at. descends blocks place at) descendants
     → Excludes problem place others
     → after.needs ≡ slice_set before.needs place ancestors → after.needed_by ≡ slice_set before.needed_by place descendants
-    → after.excludes ≡ slice_set before.excludes place others → AreConflicts problem before → AreConflicts problem after
-conflicts_more laws problem blocks before after place ancestors descendants others is same a d o e f h are = record {
+    → after.excludes ≡ slice_set before.excludes place others → after.limits ≡ before.limits
+    → AreConflicts problem before → AreConflicts problem after
+conflicts_more laws problem blocks before after place ancestors descendants others is same a d o e f h kept are = record {
   needs = one_row_more (Needs problem) before.needs after.needs place ancestors e
       (needs_ancestors laws problem place ancestors is
       (subst (λ (bs : List Block). IsSetOf (length bs) (λ at. descends bs at place) ancestors) same a)) are.needs;
@@ -179,6 +184,7 @@ conflicts_more laws problem blocks before after place ancestors descendants othe
       (needed_by_descendants laws problem place descendants is
       (subst (λ (bs : List Block). IsSetOf (length bs) (λ at. descends bs place at) descendants) same d)) are.needed_by;
   excludes = one_row_more (Excludes problem) before.excludes after.excludes place others h o are.excludes;
+  limits = subst (λ (l : Limits). AreLimits problem l.limits) (sym kept) are.limits;
 }
 
 -- ---- what a row forbids
@@ -201,6 +207,21 @@ pub needed_by_one : (problem : ProblemState) (conflicts : Conflicts) (place j : 
     → IsEligible problem selection w → AcceptsAll taken selection → accepts selection place ≡ true
 needed_by_one problem conflicts place j places taken selection w are at among on_too eligible all =
     are.needed_by place places at selection w eligible j among (all j on_too)
+
+-- ---- limits
+-- limits of the problem without its rows are those of the problem
+pub limits_with_rows : (problem priced : ProblemState) (limits : List Limit) → priced ≡ without_rows problem → AreLimits priced limits
+    → AreLimits problem limits
+limits_with_rows problem priced limits same are = record {
+  many = are.many;
+  each = λ k l.
+      (let is = are.each k l in record {
+        long = is.long;
+        small = is.small;
+        room_is = is.room_is;
+        keeps = λ sel w e. is.keeps sel w (subst (λ (p : ProblemState). IsEligible p sel w) (sym same) (with_rows_eligible problem sel w e));
+      });
+}
 
 -- ---- nodes without an eligible selection, by prices
 pub ruled_out : (problem priced : ProblemState) (taken rejected selection : List Bool) (left : List ℕ) (w : ℤ) → priced ≡ without_rows problem

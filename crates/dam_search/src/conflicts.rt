@@ -10,10 +10,11 @@ ghost use Rattle.dam_search.specs.inside.Conflicts.{AcceptsAll, AcceptsNone, Are
 use crate::prices::Prices;
 use dam_blocks::{Block, Problem, Selection, are_of_one_group, descends};
 use dam_book::MOST_BLOCKS;
+use dam_bound::Limits;
 use std::alloc::Allocator;
 
-/// Which decisions on blocks rule each other out, by links, by exclusive groups and by prices. A search asks for them at
-/// each of its nodes, so they are made once, as sets of places.
+/// Which decisions on blocks rule each other out, by links, by exclusive groups, by prices and by net volumes. A search asks
+/// for them at each of its nodes, so they are made once, as sets of places and as limits.
 #[derive(Drop)]
 pub(crate) struct Conflicts {
     /// For each block those that it descends from. It can't be accepted without them.
@@ -22,10 +23,12 @@ pub(crate) struct Conflicts {
     needed_by: [Selection; MOST_BLOCKS],
     /// For each block the others of its exclusive group, and its rivals by prices. They can't be accepted beside it.
     excludes: [Selection; MOST_BLOCKS],
+    /// Limits on the net volumes of eligible selections.
+    pub(crate) limits: Limits,
 }
 
 impl Conflicts {
-    /// The conflicts of a problem's blocks. The prices tell which blocks are rivals.
+    /// The conflicts of a problem's blocks. The prices tell which blocks are rivals, and the limits.
     pub(crate) fn of<A: Allocator, P: Prices>(problem: &Problem<A>, prices: &P) -> Conflicts
         requires { P.problem prices.now ≡ without_rows problem.now }
         ensures { AreConflicts problem.now result }
@@ -36,6 +39,7 @@ impl Conflicts {
             needs: [Selection::none(); MOST_BLOCKS],
             needed_by: [Selection::none(); MOST_BLOCKS],
             excludes: [Selection::none(); MOST_BLOCKS],
+            limits: prices.limits(),
         };
         for place in 0..blocks.len() {
             conflicts.needs[place] = ancestors_of(blocks, place);

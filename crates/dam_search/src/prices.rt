@@ -3,11 +3,12 @@ ghost use Rattle.dam_book.specs.Limits.{most_blocks};
 ghost use Rattle.dam_blocks.specs.Problem.{ProblemState};
 ghost use Rattle.dam_blocks.specs.Selection.{accepts};
 ghost use Rattle.dam_blocks.specs.Eligible.{selection_welfare, ArePrices, HasNoLoss, IsEligible};
+ghost use Rattle.dam_bound.specs.Limits.{AreLimits};
 ghost use Rattle.dam_bound.specs.Open.{IsBetween};
 ghost use Rattle.dam_bound.specs.Prices.{IsPriceBound};
 
 use dam_blocks::Selection;
-use dam_bound::{ClassCurves, PriceBound};
+use dam_bound::{ClassCurves, Limits, PriceBound};
 use std::alloc::Allocator;
 
 /// The hourly orders and blocks of a problem, as a walk by prices asks for them.
@@ -50,6 +51,10 @@ pub trait Prices {
         ensures { result ≡ true → (selection : List Bool) (w : ℤ)
             → IsEligible (problem self.now) selection w
             → accepts selection sell ≡ true → accepts selection buy ≡ false };
+
+    /// Limits that every eligible selection keeps.
+    fn limits(&self) -> Limits
+        ensures { AreLimits (problem self.now) result.limits };
 }
 
 impl<A: Allocator, B: Allocator> Prices for ClassCurves<'_, A, B> {
@@ -73,5 +78,9 @@ impl<A: Allocator, B: Allocator> Prices for ClassCurves<'_, A, B> {
 
     fn are_rivals(&self, sell: usize, buy: usize) -> bool {
         self.are_rivals(sell, buy)
+    }
+
+    fn limits(&self) -> Limits {
+        self.limits()
     }
 }

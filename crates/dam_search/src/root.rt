@@ -1,13 +1,17 @@
-//! The bound with which the exploration of a piece begins.
+//! The bound and the room with which the exploration of a piece begins.
 
-ghost use Rattle.std.specs.Prelude.{◌≡◌, ◌<◌, ◌≤◌, length, All};
+ghost use Rattle.std.specs.Prelude.{◌≡◌, ◌<◌, ◌≤◌, ℤ, List, Bool, None, not, nat_lt, length, All, IfSome};
 ghost use Rattle.dam_book.specs.Limits.{most_blocks};
+ghost use Rattle.dam_blocks.specs.Eligible.{IsEligible};
+ghost use Rattle.dam_blocks.specs.Problem.{ProblemState};
+ghost use Rattle.dam_bound.specs.Limits.{AreLimits, AreRooms, HasRoom};
 ghost use Rattle.dam_bound.specs.Prices.{most_of, IsPriceBound};
+ghost use Rattle.dam_search.specs.inside.PriceWalk.{AgreesUnder};
 
 use crate::first::all_places;
 use crate::prices::Prices;
 use dam_blocks::Selection;
-use dam_bound::PriceBound;
+use dam_bound::{Limits, PriceBound, Room};
 
 /// Writes a bound by prices, and returns its bound of the selections that accept `taken`, any of the places of `order`, and
 /// nothing else. `taken` are decisions on the first `depth` blocks.
@@ -45,4 +49,27 @@ pub(crate) fn bound_of_piece<P: Prices>(
         }
     }
     most
+}
+
+/// The room that the decisions of `taken` on the first `depth` blocks leave; `None` only if no eligible selection has them.
+pub(crate) fn room_of_piece(limits: &Limits, taken: Selection, depth: usize) -> Option<Room>
+    requires depth { depth ≤ most_blocks }
+    requires limits { (problem : ProblemState) × AreLimits problem limits.now.limits }
+    ensures none { result ≡ None → (problem : ProblemState) (selection : List Bool) (w : ℤ)
+        → AreLimits problem limits.now.limits → IsEligible problem selection w
+        → AgreesUnder depth taken selection → ⊥ }
+    ensures rooms { IfSome result (λ room. AreRooms room.rooms) }
+    ensures some { IfSome result (λ room. (problem : ProblemState) (selection : List Bool) (w : ℤ)
+        → AreLimits problem limits.now.limits → IsEligible problem selection w
+        → AgreesUnder depth taken selection
+        → HasRoom limits.now.limits selection (λ place. not (nat_lt place depth)) room.rooms) }
+{
+    let mut room = limits.room();
+    for at in 0..depth {
+        let Some(next) = limits.room_after(&room, at, taken.has(at)) else {
+            return None;
+        };
+        room = next;
+    }
+    Some(room)
 }

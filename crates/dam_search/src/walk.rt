@@ -9,7 +9,7 @@ ghost use Rattle.dam_bound.specs.Relaxed.{without_rows};
 ghost use Rattle.dam_bound.specs.Open.{IsOpen};
 ghost use Rattle.dam_search.specs.Piece.{IsMatched, Rises, welfare_found, IsSound};
 ghost use Rattle.dam_search.specs.inside.Conflicts.{AcceptsAll, AcceptsNone, AreConflicts};
-ghost use Rattle.dam_search.specs.inside.PriceWalk.{IsNode, IsBounded, IsReady, IsWalkedOpen, IsOrder, with_if};
+ghost use Rattle.dam_search.specs.inside.PriceWalk.{IsNode, IsBounded, IsReady, IsRoom, IsWalkedOpen, IsOrder, with_if};
 
 use crate::answer::PieceAnswer;
 use crate::conflicts::Conflicts;
@@ -17,10 +17,10 @@ use crate::incumbent::Incumbent;
 use crate::node::Node;
 use crate::piece::{Progress, equals, surpasses};
 use crate::prices::Prices;
-use crate::root::bound_of_piece;
+use crate::root::{bound_of_piece, room_of_piece};
 use crate::space::kept;
 use dam_blocks::{Best, Problem, Selection, admissible, ranks_above};
-use dam_bound::PriceBound;
+use dam_bound::{PriceBound, Room};
 use std::alloc::Allocator;
 
 /// How many places must be left for a node to get prices of its own.
@@ -156,12 +156,15 @@ impl<A: Allocator, P: Prices> PriceWalk<'_, A, P> {
         &self,
         node: &Node,
         prices: &PriceBound,
+        room: &Room,
         incumbent: &mut I,
         found: &mut Progress,
     )
         requires node { IsNode node.now.taken node.now.rejected node.now.left.now }
         requires bounded { IsBounded (P.problem self.now.prices.now) prices.now
             node.now.taken node.now.left.now node.now.bound }
+        requires room { IsRoom self.now.problem.now self.now.conflicts.now.limits.limits
+            node.now.taken node.now.left.now room.now }
         requires ready { IsReady
             (I.greatest_read incumbent.old) (I.greatest_offer incumbent.old) found.old }
         ensures walked { IsWalkedOpen self.now.problem.now node.now.taken node.now.left.now
@@ -177,13 +180,13 @@ impl<A: Allocator, P: Prices> PriceWalk<'_, A, P> {
             return;
         }
         if node.left.len() < EXAMINED {
-            self.branch(node, prices, incumbent, found);
+            self.branch(node, prices, room, incumbent, found);
             return;
         }
         if self.prices.rules_out(node.taken, node.rejected) {
             return;
         }
-        self.examine(node, prices, incumbent, found);
+        self.examine(node, prices, room, incumbent, found);
     }
 
     /// Explores a node with prices of its own, if they give it a lesser bound.
@@ -195,12 +198,15 @@ impl<A: Allocator, P: Prices> PriceWalk<'_, A, P> {
         &self,
         node: &Node,
         prices: &PriceBound,
+        room: &Room,
         incumbent: &mut I,
         found: &mut Progress,
     )
         requires node { IsNode node.now.taken node.now.rejected node.now.left.now }
         requires bounded { IsBounded (P.problem self.now.prices.now) prices.now
             node.now.taken node.now.left.now node.now.bound }
+        requires room { IsRoom self.now.problem.now self.now.conflicts.now.limits.limits
+            node.now.taken node.now.left.now room.now }
         requires reached { (pos found.old.read ≤ℤ node.now.bound) × (found.old.read < 2 ^ 63) }
         requires ready { IsReady
             (I.greatest_read incumbent.old) (I.greatest_offer incumbent.old) found.old }
@@ -215,7 +221,7 @@ impl<A: Allocator, P: Prices> PriceWalk<'_, A, P> {
         self.prices.bound_by_prices(node.taken, node.left, &mut own);
         let bound = own.most(node.taken, node.left);
         if bound >= node.bound {
-            self.branch(node, prices, incumbent, found);
+            self.branch(node, prices, room, incumbent, found);
             return;
         }
         let node = Node {
@@ -227,7 +233,7 @@ impl<A: Allocator, P: Prices> PriceWalk<'_, A, P> {
         if is_passed(&node, found) {
             return;
         }
-        self.branch(&node, &own, incumbent, found);
+        self.branch(&node, &own, room, incumbent, found);
     }
 
     /// Explores both decisions on the next place, first the one that the sign of the block's gain is for. If no place
@@ -237,12 +243,15 @@ impl<A: Allocator, P: Prices> PriceWalk<'_, A, P> {
         &self,
         node: &Node,
         prices: &PriceBound,
+        room: &Room,
         incumbent: &mut I,
         found: &mut Progress,
     )
         requires node { IsNode node.now.taken node.now.rejected node.now.left.now }
         requires bounded { IsBounded (P.problem self.now.prices.now) prices.now
             node.now.taken node.now.left.now node.now.bound }
+        requires room { IsRoom self.now.problem.now self.now.conflicts.now.limits.limits
+            node.now.taken node.now.left.now room.now }
         requires reached { (pos found.old.read ≤ℤ node.now.bound) × (found.old.read < 2 ^ 63) }
         requires ready { IsReady
             (I.greatest_read incumbent.old) (I.greatest_offer incumbent.old) found.old }
@@ -259,12 +268,12 @@ impl<A: Allocator, P: Prices> PriceWalk<'_, A, P> {
         };
         let place = usize::from(*place);
         let accept = prices.gains[place] >= 0;
-        self.decide(node, place, left, accept, prices, incumbent, found);
-        self.decide(node, place, left, !accept, prices, incumbent, found);
+        self.decide(node, place, left, accept, prices, room, incumbent, found);
+        self.decide(node, place, left, !accept, prices, room, incumbent, found);
     }
 
-    /// Explores the node with this decision on the block at `place`, unless no eligible selection has it. `left` are
-    /// the places that are left then.
+    /// Explores the node with this decision on the block at `place`, unless no eligible selection has it, by the conflicts
+    /// or by the room that it leaves. `left` are the places that are left then.
     #[cycle(visit)]
     fn decide<I: Incumbent>(
         &self,
@@ -273,6 +282,7 @@ impl<A: Allocator, P: Prices> PriceWalk<'_, A, P> {
         left: &[u8],
         accept: bool,
         prices: &PriceBound,
+        room: &Room,
         incumbent: &mut I,
         found: &mut Progress,
     )
@@ -280,6 +290,8 @@ impl<A: Allocator, P: Prices> PriceWalk<'_, A, P> {
         requires node { IsNode node.now.taken node.now.rejected node.now.left.now }
         requires bounded { IsBounded (P.problem self.now.prices.now) prices.now
             node.now.taken node.now.left.now node.now.bound }
+        requires room { IsRoom self.now.problem.now self.now.conflicts.now.limits.limits
+            node.now.taken node.now.left.now room.now }
         requires reached { pos 0 ≤ℤ node.now.bound }
         requires ready { IsReady
             (I.greatest_read incumbent.old) (I.greatest_offer incumbent.old) found.old }
@@ -293,8 +305,12 @@ impl<A: Allocator, P: Prices> PriceWalk<'_, A, P> {
         if self.forbids(node, place, accept) {
             return;
         }
+        let limits = &self.conflicts.limits;
+        let Some(room) = limits.room_after(room, place, accept) else {
+            return;
+        };
         let next = node.decided(place, left, accept, prices.gains[place]);
-        self.visit(&next, prices, incumbent, found);
+        self.visit(&next, prices, &room, incumbent, found);
     }
 }
 
@@ -355,6 +371,15 @@ pub(crate) fn explore_by_prices<A: Allocator, P: Prices, I: Incumbent>(
             done: true,
         };
     }
+    let Some(room) = room_of_piece(&conflicts.limits, taken, depth) else {
+        return PieceAnswer {
+            piece,
+            best: None,
+            read: 0,
+            visited: 0,
+            done: true,
+        };
+    };
     let mut bound = PriceBound::empty();
     let most = bound_of_piece(prices, taken, order, depth, &mut bound);
     let node = Node {
@@ -373,7 +398,7 @@ pub(crate) fn explore_by_prices<A: Allocator, P: Prices, I: Incumbent>(
         prices,
         conflicts,
     };
-    walk.visit(&node, &bound, incumbent, &mut found);
+    walk.visit(&node, &bound, &room, incumbent, &mut found);
     PieceAnswer {
         piece,
         best: found.best,

@@ -10,6 +10,9 @@ use Rattle.dam_blocks.specs.Problem.{ProblemState}
 use Rattle.dam_blocks.specs.Selection.{accepts}
 use Rattle.dam_blocks.specs.Eligible.{IsEligible}
 use Rattle.dam_bound.specs.declared.price_bound.PriceBound.{PriceBound}
+use Rattle.dam_bound.specs.declared.limits.Limit.{Limit}
+use Rattle.dam_bound.specs.declared.limits.Room.{Room}
+use Rattle.dam_bound.specs.Limits.{AreRooms, HasRoom}
 use Rattle.dam_bound.specs.Open.{is_among, IsOpen, AreFree}
 use Rattle.dam_bound.specs.Prices.{most_of, IsPriceBound}
 use Rattle.dam_search.specs.declared.piece.Progress.{Progress}
@@ -31,6 +34,17 @@ pub record IsBounded (problem : ProblemState) (prices : PriceBound) (taken : Lis
     (bound : ℤ) : Type 0 where
   pub is_price_bound : IsPriceBound problem prices
   pub most : most_of prices taken left ≤ℤ bound
+
+-- what the decisions of each eligible open selection take on the places that are left is no more than the room
+pub record IsRoom (problem : ProblemState) (limits : List Limit) (taken : List Bool) (left : List ℕ) (room : Room)
+    : Type 0 where
+  pub rooms : AreRooms room.rooms
+  pub has : (selection : List Bool) (w : ℤ) → IsOpen taken left selection → IsEligible problem selection w
+      → HasRoom limits selection (λ place. is_among place left) room.rooms
+
+-- the selection decides on the first places as the other one does
+abbrev pub AgreesUnder : ℕ → List Bool → List Bool → Type 0
+AgreesUnder depth taken selection = (place : ℕ) → place < depth → accepts selection place ≡ accepts taken place
 
 -- the places with this one too, if it is so decided
 abbrev pub with_if : Bool → List Bool → ℕ → List Bool

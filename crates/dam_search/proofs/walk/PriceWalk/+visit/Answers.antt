@@ -3,9 +3,10 @@ use Rattle.std.proofs.Common.{◌≡◌, ℕ, ℤ, pos, List, ◌∷◌, length,
 use Rattle.std.proofs.lemmas.Int.{ints, to_z-of_z}
 use mir.Syntax.{w64}
 use mir.Val.{SFits}
-use Rattle.dam_search.specs.inside.PriceWalk.{IsNode, IsBounded, IsWalkedOpen, with_if, bound_after}
+use Rattle.dam_search.specs.inside.PriceWalk.{IsNode, IsBounded, IsRoom, IsWalkedOpen, with_if, bound_after}
 use Rattle.dam_search.proofs.Opens.{all_within, accepts_taken, accepts_none_rejected, node_after, bounded_after, open_any, open_here, not_both}
 use Rattle.dam_search.proofs.Opens.{walked_nothing, walked_over, walked_both, node_is, bounded_is, under_bound}
+use Rattle.dam_search.proofs.Rooms.{no_room, room_after_is}
 use Rattle.dam_search.proofs.RulingOut.{ruled_out}
 use Rattle.dam_search.proofs.walk.PriceWalk.+visit.Goals as goal
 
@@ -45,6 +46,22 @@ decide-returns-then-forbids-clause-walked g t c =
     (accepts_none_rejected node.taken node.rejected (place ∷ left) sel is any) in
     absurd (not_both _ accept here other)))
 
+pub decide-room_after-requires-clause-place : goal.decide-room_after-requires-clause-place
+decide-room_after-requires-clause-place g t c =
+    let node = c.args.node.now in
+    (subst (λ (xs : List ℕ). IsNode node.taken node.rejected xs) c.requires.split c.requires.node).free.0
+
+pub decide-returns-in_default-clause-walked : goal.decide-returns-in_default-clause-walked
+decide-returns-in_default-clause-walked g t c =
+    let problem = c.args.self.now.problem.now in let node = c.args.node.now in
+    let limits = c.args.self.now.conflicts.now.limits.limits in
+    let accept = c.args.accept in let place = c.args.place in let left = c.args.left.now in
+    let is = subst (λ (xs : List ℕ). IsNode node.taken node.rejected xs) c.requires.split c.requires.node in
+    let room = subst (λ (xs : List ℕ). IsRoom problem limits node.taken xs c.args.room.now) c.requires.split c.requires.room in
+    walked_nothing problem (with_if accept node.taken place) left _ _ c.args.found.now c.requires.ready
+    (λ sel w opened e. absurd (no_room problem limits accept node.taken node.rejected place left c.args.room.now sel w is room
+    (c.room_after.ensures.none c.in_default.is) opened e))
+
 pub decide-visit-requires : goal.decide-visit-requires
 decide-visit-requires g t c κs within =
     let node = c.args.node.now in let next = c.decided-next.result in let relaxed = g.P.Prices.problem c.args.self.now.prices.now in
@@ -64,6 +81,11 @@ decide-visit-requires g t c κs within =
     bounded_is relaxed c.args.prices.now _ next.taken left next.left.now _ next.bound ensured.taken ensured.left bound
     (bounded_after accept relaxed c.args.prices.now node.taken node.rejected place left node.bound is bounded) in
     let long = ap (λ (xs : List ℕ). length xs) ensured.left in
+    let limits = c.args.self.now.conflicts.now.limits.limits in
+    let had = subst (λ (xs : List ℕ). IsRoom c.args.self.now.problem.now limits node.taken xs c.args.room.now) c.requires.split c.requires.room in
+    let room' : IsRoom c.args.self.now.problem.now limits next.taken next.left.now c.in-Some.room =
+    room_after_is c.args.self.now.problem.now limits accept node.taken node.rejected next.taken place left next.left.now c.args.room.now c.in-Some.room
+    ensured.taken ensured.left is c.in-Some.ensures.rooms c.in-Some.ensures.some had in
     search rules
 
 -- ---- prices of its own

@@ -1,0 +1,72 @@
+-- Limits that every eligible selection keeps, and the room that decisions leave under them.
+use Rattle.std.specs.Prelude.{◌≡◌, ℕ, zero, suc, ◌*◌, ◌<◌, ◌≤◌, ℤ, pos, neg_ℤ, ◌+ℤ◌, ◌≤ℤ◌, Bool, true, false, if◌then◌else◌, List, [], length, replicate, slice_index_or}
+use Rattle.std.specs.Int.{int_max}
+use Rattle.dam_book.specs.Limits.{most_blocks, greatest_volume}
+use Rattle.dam_blocks.specs.Problem.{ProblemState}
+use Rattle.dam_blocks.specs.Magnitude.{IsWithin}
+use Rattle.dam_blocks.specs.Selection.{accepts}
+use Rattle.dam_blocks.specs.Eligible.{IsEligible}
+use Rattle.dam_bound.specs.declared.limits.Limit.{Limit}
+
+-- how many limits there are
+abbrev pub most_limits : ℕ
+most_limits = 32
+
+-- how much room a decision on a block with this number takes
+abbrev pub room_taken : Bool → ℤ → ℤ
+room_taken true net = int_max net (pos 0)
+room_taken false net = int_max (neg_ℤ net) (pos 0)
+
+-- the number if the place counts, else 0
+abbrev pub if_open : Bool → ℤ → ℤ
+if_open true z = z
+if_open false z = pos 0
+
+-- what the decisions of a selection take on the first n places that are open
+abbrev pub taken_under : List ℤ → List Bool → (ℕ → Bool) → ℕ → ℤ
+taken_under nets selection free zero = pos 0
+taken_under nets selection free (suc n) =
+    taken_under nets selection free n +ℤ if_open (free n) (room_taken (accepts selection n) (slice_index_or nets n (pos 0)))
+
+-- every place is open
+abbrev pub every_place : ℕ → Bool
+every_place place = true
+
+-- the size of the room under a limit
+abbrev pub greatest_room : ℕ
+greatest_room = most_blocks * greatest_volume
+
+-- a limit that every eligible selection keeps
+pub record IsLimit (problem : ProblemState) (limit : Limit) : Type 0 where
+  pub long : length limit.nets ≡ most_blocks
+  pub small : (place : ℕ) (d : ℤ) → place < most_blocks → IsWithin greatest_volume (slice_index_or limit.nets place d)
+  pub room_is : IsWithin greatest_room limit.room
+  pub keeps : (selection : List Bool) (w : ℤ) → IsEligible problem selection w
+      → taken_under limit.nets selection every_place most_blocks ≤ℤ limit.room
+
+-- the limit that allows everything
+abbrev pub no_limit : Limit
+no_limit = record { nets = replicate most_blocks (pos 0); room = pos 0 }
+
+-- the limit at the place
+abbrev pub limit_in : List Limit → ℕ → Limit
+limit_in limits k = slice_index_or limits k (record { nets = []; room = pos 0 })
+
+-- the limits of the problem
+pub record AreLimits (problem : ProblemState) (limits : List Limit) : Type 0 where
+  pub many : length limits ≡ most_limits
+  pub each : (k : ℕ) → k < most_limits → IsLimit problem (limit_in limits k)
+
+-- a number for each limit, of this size at most
+pub record AreSmall (greatest : ℕ) (rooms : List ℤ) : Type 0 where
+  pub many : length rooms ≡ most_limits
+  pub small : (k : ℕ) (d : ℤ) → k < most_limits → IsWithin greatest (slice_index_or rooms k d)
+
+-- the rooms under limits
+abbrev pub AreRooms : List ℤ → Type 0
+AreRooms rooms = AreSmall greatest_room rooms
+
+-- what the decisions of the selection take on the places that are open is no more than the room under each limit
+abbrev pub HasRoom : List Limit → List Bool → (ℕ → Bool) → List ℤ → Type 0
+HasRoom limits selection free rooms = (k : ℕ) → k < most_limits
+    → taken_under (limit_in limits k).nets selection free most_blocks ≤ℤ slice_index_or rooms k (pos 0)

@@ -1,0 +1,138 @@
+-- The room that decisions leave under limits, by the places that are open.
+use Rattle.std.proofs.Common.{◌≡◌, ◌≢◌, ℕ, zero, suc, ◌<◌, ◌≤◌, ℤ, pos, neg_ℤ, ◌+ℤ◌, ◌≤ℤ◌, Bool, true, false, not, ◌==◌, ◌||◌, List, ◌∷◌, length, ◌+◌, get_or}
+use Rattle.std.proofs.Common.{◌∙◌, ap, sym, subst, refl, arith}
+use Rattle.std.specs.Prelude.{nat_lt, None}
+use Rattle.std.proofs.lemmas.Int.{ints, int_max_is}
+use Rattle.std.proofs.lemmas.Bool.{eqb-true}
+use Rattle.std.proofs.lemmas.Bool.Decides.{nat_tests}
+use Rattle.dam_book.specs.Limits.{most_blocks}
+use Rattle.dam_blocks.specs.Problem.{ProblemState}
+use Rattle.dam_blocks.specs.Selection.{accepts, padded, choice}
+use Rattle.dam_blocks.specs.Eligible.{IsEligible}
+use Rattle.dam_bound.specs.declared.limits.Limit.{Limit}
+use Rattle.dam_bound.specs.declared.limits.Room.{Room}
+use Rattle.dam_bound.specs.Limits.{room_taken, if_open, taken_under, most_limits, limit_in, AreLimits, AreRooms, HasRoom, every_place}
+use Rattle.dam_bound.specs.Open.{is_among, IsOpen}
+use Rattle.dam_bound.specs.Relaxed.{without_rows}
+use Rattle.dam_search.specs.Piece.{IsSound}
+use Rattle.dam_search.specs.inside.PriceWalk.{AgreesUnder, IsNode, IsOrder, IsRoom, with_if}
+use Rattle.dam_search.proofs.FirstNode.{among_first, not_among_before, piece_sound}
+use Rattle.dam_search.proofs.Opens.{finds_none, open_any, open_here}
+
+-- ---- fewer places are open
+taken_positive : (accept : Bool) (z : ℤ) → pos 0 ≤ℤ room_taken accept z
+taken_positive true z = let is = int_max_is z (pos 0) in omega (arith, ints, is)
+taken_positive false z = let is = int_max_is (neg_ℤ z) (pos 0) in omega (arith, ints, is)
+
+fewer_taken : (nets : List ℤ) (sel : List Bool) (f g : ℕ → Bool) (n : ℕ) → ((place : ℕ) → g place ≡ true → f place ≡ true)
+    → taken_under nets sel g n ≤ℤ taken_under nets sel f n
+fewer_taken nets sel f g zero subset = omega (arith, ints)
+fewer_taken nets sel f g (suc n) subset =
+    let r = room_taken (accepts sel n) (get_or nets n (pos 0)) in
+    let rest = fewer_taken nets sel f g n subset in
+    let some = taken_positive (accepts sel n) (get_or nets n (pos 0)) in
+    elim (g n) as (λ b. g n ≡ b
+    → (taken_under nets sel g n +ℤ if_open b r) ≤ℤ (taken_under nets sel f n +ℤ if_open (f n) r)) [
+      | true ↦ λ e. (let on = ap (λ (o : Bool). if_open o r) (subset n e) in omega (arith, ints, rest, on))
+      | false ↦ λ e. elim (f n) as (λ b. (taken_under nets sel g n +ℤ pos 0) ≤ℤ (taken_under nets sel f n +ℤ if_open b r)) [
+        | true ↦ omega (arith, ints, rest, some)
+        | false ↦ omega (arith, ints, rest)
+      ]
+    ] refl
+
+pub less_open : (limits : List Limit) (sel : List Bool) (f g : ℕ → Bool) (rooms : List ℤ) → ((place : ℕ) → g place ≡ true → f place ≡ true)
+    → HasRoom limits sel f rooms → HasRoom limits sel g rooms
+less_open limits sel f g rooms subset has k l =
+    let most = has k l in let fewer = fewer_taken (limit_in limits k).nets sel f g most_blocks subset in
+    omega (arith, ints, most, fewer)
+
+-- ---- the first places, one more of them decided
+pub open_at : (at : ℕ) → not (nat_lt at at) ≡ true
+open_at at = grind (arith, nat_tests)
+
+pub decided_at : (at : ℕ) → not (nat_lt at (at + 1)) ≡ false
+decided_at at = grind (arith, nat_tests)
+
+pub others_open : (at p : ℕ) → p ≢ at → not (nat_lt p (at + 1)) ≡ not (nat_lt p at)
+others_open at p apart = grind (arith, nat_tests, apart)
+
+pub agrees_less : (at : ℕ) (taken sel : List Bool) → AgreesUnder (at + 1) taken sel → AgreesUnder at taken sel
+agrees_less at taken sel agrees place l = agrees place (omega (arith, l))
+
+pub agrees_here : (at : ℕ) (taken sel : List Bool) → AgreesUnder (at + 1) taken sel → accepts sel at ≡ accepts taken at
+agrees_here at taken sel agrees = agrees at (omega arith)
+
+-- ---- the room of a node
+differ : (m n : ℕ) → m ≢ n → (m == n) ≡ false
+differ m n ne = elim (m == n) as (λ b. (m == n) ≡ b → b ≡ false) [
+  | true ↦ λ e. absurd (ne (eqb-true m n e))
+  | false ↦ λ e. refl
+] refl
+
+pub others_among : (place p : ℕ) (left : List ℕ) → p ≢ place → is_among p left ≡ is_among p (place ∷ left)
+others_among place p left apart = sym (ap (λ (b : Bool). b || is_among p left) (differ p place apart))
+
+-- how a call lowers the room
+abbrev pub Lowers : List Limit → Room → ℕ → Bool → Room → Type 0
+Lowers limits room place accept next = (sel : List Bool) (before after : ℕ → Bool) → HasRoom limits sel before room.rooms
+    → before place ≡ true → after place ≡ false → ((p : ℕ) → p ≢ place → after p ≡ before p) → accepts sel place ≡ accept
+    → HasRoom limits sel after next.rooms
+
+room_next : (problem : ProblemState) (limits : List Limit) (accept : Bool) (taken rejected : List Bool) (place : ℕ) (left : List ℕ) (room next : Room)
+    → IsNode taken rejected (place ∷ left) → AreRooms next.rooms → Lowers limits room place accept next
+    → IsRoom problem limits taken (place ∷ left) room → IsRoom problem limits (with_if accept taken place) left next
+room_next problem limits accept taken rejected place left room next node are lowers is = record {
+  rooms = are;
+  has = λ sel w opened e.
+      lowers sel (λ p. is_among p (place ∷ left)) (λ p. is_among p left)
+      (is.has sel w (open_any accept taken place left sel opened) e) (among_first place left) node.free.2
+      (λ p apart. others_among place p left apart) (open_here accept taken rejected place left sel node opened);
+}
+
+pub room_after_is : (problem : ProblemState) (limits : List Limit) (accept : Bool) (taken rejected taken' : List Bool) (place : ℕ) (left left' : List ℕ)
+    (room next : Room) → taken' ≡ with_if accept taken place → left' ≡ left
+    → IsNode taken rejected (place ∷ left) → AreRooms next.rooms → Lowers limits room place accept next
+    → IsRoom problem limits taken (place ∷ left) room → IsRoom problem limits taken' left' next
+room_after_is problem limits accept taken rejected taken' place left left' room next e f node are lowers is =
+    subst (λ (xs : List Bool). IsRoom problem limits xs left' next) (sym e)
+    (subst (λ (xs : List ℕ). IsRoom problem limits (with_if accept taken place) xs next) (sym f)
+    (room_next problem limits accept taken rejected place left room next node are lowers is))
+
+-- no eligible selection has a decision that takes too much
+pub no_room : (problem : ProblemState) (limits : List Limit) (accept : Bool) (taken rejected : List Bool) (place : ℕ) (left : List ℕ) (room : Room)
+    (sel : List Bool) (w : ℤ) → IsNode taken rejected (place ∷ left) → IsRoom problem limits taken (place ∷ left) room
+    → ((selection : List Bool) (free : ℕ → Bool) → HasRoom limits selection free room.rooms → free place ≡ true
+    → accepts selection place ≡ accept → ⊥)
+    → IsOpen (with_if accept taken place) left sel → IsEligible problem sel w → ⊥
+no_room problem limits accept taken rejected place left room sel w node is none opened e =
+    none sel (λ p. is_among p (place ∷ left)) (is.has sel w (open_any accept taken place left sel opened) e) (among_first place left)
+    (open_here accept taken rejected place left sel node opened)
+
+-- ---- the room of a piece
+agrees_open : (depth count : ℕ) (taken sel : List Bool) (order : List ℕ) → IsOrder depth count order → IsOpen taken order sel
+    → AgreesUnder depth taken sel
+agrees_open depth count taken sel order is opened place l = opened.agrees place (not_among_before depth count order place is l)
+
+past_depth : (depth p : ℕ) → depth ≤ p → not (nat_lt p depth) ≡ true
+past_depth depth p l = grind (arith, nat_tests, l)
+
+pub piece_room : (problem : ProblemState) (limits : List Limit) (depth count : ℕ) (taken : List Bool) (order : List ℕ) (room : Room)
+    → IsOrder depth count order → AreLimits problem limits → AreRooms room.rooms
+    → ((problem : ProblemState) (sel : List Bool) (w : ℤ) → AreLimits problem limits → IsEligible problem sel w → AgreesUnder depth taken sel
+    → HasRoom limits sel (λ p. not (nat_lt p depth)) room.rooms)
+    → IsRoom problem limits taken order room
+piece_room problem limits depth count taken order room is are rooms has = record {
+  rooms = rooms;
+  has = λ sel w opened e.
+      less_open limits sel (λ p. not (nat_lt p depth)) (λ p. is_among p order) room.rooms
+      (λ p on. past_depth depth p (is.within p on).0)
+      (has problem sel w are e (agrees_open depth count taken sel order is opened));
+}
+
+pub nothing_sound : (problem : ProblemState) (limits : List Limit) (depth piece : ℕ) (taken : List Bool) (order : List ℕ)
+    → taken ≡ padded (choice depth piece) → depth ≤ most_blocks → IsOrder depth (length problem.blocks) order → AreLimits problem limits
+    → ((problem : ProblemState) (sel : List Bool) (w : ℤ) → AreLimits problem limits → IsEligible problem sel w → AgreesUnder depth taken sel → ⊥)
+    → IsSound problem (choice depth piece) None 0 true
+nothing_sound problem limits depth piece taken order is few ordered are none =
+    piece_sound problem depth piece taken order None 0 is few ordered (finds_none problem taken order None)
+    (λ sel w opened e. absurd (none problem sel w are e (agrees_open depth (length problem.blocks) taken sel order ordered opened)))
