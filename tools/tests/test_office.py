@@ -380,6 +380,13 @@ class SignedHeads(Office):
         path.write_bytes(whole)
         self.assertIn("LostEntries", await self.started(disk))
 
+    async def test_a_start_notes_the_head_of_the_journal_that_it_serves(self):
+        disk = Disk()
+        path = await self.entered(disk)
+        path.unlink()
+        self.assertIsNone(await self.started(disk))
+        self.assertEqual(newest.read(path, self.key).size, 3)
+
     async def test_the_last_head_is_held_too(self):
         disk = Disk()
         path = await self.entered(disk)

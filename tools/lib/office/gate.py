@@ -284,6 +284,8 @@ class Gate:
         self.watching = asyncio.create_task(self.watch(self.desk))
         self.ledger.take(records, replies)
         self.check_signed()
+        if self.ledger.size:
+            self.newest.note(self.ledger.head())
         self.is_ready.set()
         self.log_event("desk opened", entries=self.ledger.size, seconds=round(time.monotonic() - began, 3))
 
