@@ -463,6 +463,12 @@ def strings(count, length):
     yield b"</sst>"
 
 
+def wide_strings(count, form):
+    yield f'<sst xmlns="{MAIN[0]}">'.encode()
+    yield from (b"<si><t>%s</t></si>" % (form % number if b"%" in form else form) for number in range(count))
+    yield b"</sst>"
+
+
 def formats(count, code):
     yield f'<styleSheet xmlns="{MAIN[0]}"><numFmts>'.encode()
     yield from (b'<numFmt numFmtId="%d" formatCode="%s"/>' % (number, code) for number in range(200, 200 + count))
@@ -493,6 +499,7 @@ def of_sheets(sheets):
     return archive({**{name: content.encode() for name, content in texts.items()}, **cells})
 
 
+WIDE = "\U0001f600".encode()
 SHARED, TEXT = "xl/sharedStrings.xml", ";".join(order_table.ORDER).encode() + b"\n"
 # The few, and all: each with the words of its fault, None for a table that is read, and "" for either.
 FEW = {
@@ -541,6 +548,12 @@ LARGE = {
     "a text of empty cells": ("a row has at most 16384 cells", lambda: TEXT + (b";" * 10**6 + b"\n") * 3 + b";" * 10**6 + b"a"),
     "a text of wide characters": ("line 2", lambda: TEXT + (b"\xf0\x9f\x98\x80" * 30_000 + b";\n") * 41),
     "a text of spaces": ("line 2", lambda: TEXT + (b"A;K;block;buy;1;7:00%sx;5\n" % (b" " * 30_000)) * 130),
+    "wide cells": ("should be 1 to 8 capitals A to Z", lambda: of_sheet(
+        OPEN, (b"<row>" + b"<c t='str'><v>%s</v></c>" % (WIDE * 45) * 9 + b"</row>" for _ in range(10_000)), CLOSE)),
+    **{f"{count} wide strings": ("", lambda count=count, form=form: of_sheet(
+        OPEN, (b"<row>" + b"".join(b"<c t='s'><v>%d</v></c>" % at for at in range(row, min(row + 30, count))) + b"</row>"
+               for row in range(0, count, 30)), CLOSE, **{SHARED: wide_strings(count, form)}))
+       for count, form in ((299_900, WIDE * 6 + b"%d"), (210_000, WIDE * 4))},
     "one string often": ("characters before this cell", lambda: of_sheet(
         OPEN, (b"<row>" + b"<c t='s'><v>0</v></c>" * 9 + b"</row>" for _ in range(9_999)), CLOSE, **{SHARED: strings(1, 32_000)})),
 }  # fmt: skip

@@ -4,6 +4,7 @@ import contextlib
 import errno
 import io
 import os
+import re
 import resource
 import shlex
 import signal
@@ -15,7 +16,7 @@ import unittest
 from pathlib import Path
 from unittest import mock
 
-from support import AUCTION, AUCTION_RESULTS, TOOLS, heed_interrupts, journal_of, results_of
+from support import AUCTION, AUCTION_RESULTS, TOOLS, TOP, heed_interrupts, journal_of, results_of
 
 from lib.base import aside
 from lib.tool import command
@@ -219,6 +220,23 @@ class Written(unittest.TestCase):
             status, out, _ = self.ends(words, redirection)
             self.assertEqual((status, len(out.splitlines())), (0, 25))
         self.assertEqual(self.ends([sys.executable, TOOLS / "lint", "--quiet", AUCTION], ">&-"), (command.DIFFERS, "", []))
+
+
+class Start(unittest.TestCase):
+    """The statuses of a tool that doesn't start are those that docs/FORMATS.md says."""
+
+    def test_python_does_not_start(self):
+        page = TOP.joinpath("docs", "FORMATS.md").read_text()
+        said = re.search(r"If Python doesn't start,\s+the status may also be ([0-9, ]+) or a signal's", page)[1]
+        statuses, words = set(map(int, said.split(", "))), f"{shlex.quote(str(TOOLS / 'audit'))} --json {AUCTION} {AUCTION_RESULTS}"
+        with tempfile.TemporaryDirectory() as folder:
+            Path(folder, "python3").mkdir()
+            Path(folder, "other").mkdir()
+            Path(folder, "other", "python3").write_text("no program")
+            for line in ("PATH=/nowhere", f"PATH={folder}", f"PATH={folder}/other", "ulimit -v 10240;", "ulimit -n 3;"):
+                ran = subprocess.run(["sh", "-c", f"{line} {words}"], capture_output=True, text=True)
+                self.assertIn(ran.returncode, statuses, (line, ran.stderr))
+                self.assertEqual(ran.stdout, "")
 
 
 if __name__ == "__main__":

@@ -3,20 +3,23 @@
 import csv
 import functools
 import io
+import logging
 import resource
+import socket
 import statistics
 import subprocess
 import sys
 import tempfile
 import tracemalloc
 import unittest
+import unittest.mock
 from pathlib import Path
 
 from support import AUCTION, TOOLS, journal_of, tool
 
 from lib.base import rules
 from lib.journal import book, journal
-from lib.runs import cleared, engine
+from lib.runs import cleared, cluster, engine
 from lib.tool import command
 from lib.whatif import changes, scenarios
 
@@ -276,6 +279,22 @@ class Tool(unittest.TestCase):
         ):
             found = tool("whatif", "scenarios", "--program", "/bin/true", self.journal, self.table, "--cluster", address)
             self.assertEqual(found, (3, b"", f"whatif: the cluster {address} {said}\n"))
+
+    def test_a_cluster_that_closes_at_once(self):
+        """dask says then that its time is over, before it is."""
+        self.addCleanup(logging.disable, logging.NOTSET)
+        with socket.create_server(("127.0.0.1", 0)) as server:
+            address = f"tcp://127.0.0.1:{server.getsockname()[1]}"
+            fault = OSError(f"Timed out trying to connect to {address} after 10 s")
+            dask = unittest.mock.Mock(Client=unittest.mock.Mock(side_effect=fault))
+            for seconds, said in ((10, "it closed the connection"), (0, str(fault))):
+                with (
+                    unittest.mock.patch.dict("sys.modules", distributed=dask),
+                    unittest.mock.patch.object(cluster, "SECONDS", seconds or 1e-9),
+                    unittest.mock.patch.object(cluster.socket, "create_connection"),
+                    self.assertRaisesRegex(engine.Fault, f"the cluster {address} can't be reached: {said}$"),
+                ):
+                    cluster.Cluster(address)
 
 
 if __name__ == "__main__":

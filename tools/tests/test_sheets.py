@@ -294,7 +294,7 @@ class Tolerance(unittest.TestCase):
         words = "table: standard input: line 3, column order: A has an order K in line 2 of standard input (NameTaken)\n"
         self.assertEqual(said[::2], (command.NO_INPUT, words))
         # other characters, and names of other tools, stay faults
-        for name in ("my_k", "\u00f8", "ABCDEFGHIJKLm", ""):
+        for name in ("my_k", "\u00f8", "ABCDEFGHIJKLm", "", "stra\u00df", "\ufb01x", "\u0131-\u017f"):
             self.assertEqual(tool("table", "--journal", "-", data=table(f"A,{name},hour,buy,1,8,5,,"))[0], command.NO_INPUT)
         self.assertIn("write TOWN", wrong(rows[0])[0])
 

@@ -36,6 +36,10 @@ def book(*pieces):
     return made.of_sheet(made.OPEN, *pieces, made.CLOSE)
 
 
+def styles_without_formats():
+    return f'<styleSheet xmlns="{made.MAIN[0]}"/>'.encode()
+
+
 READ = "of 2 sheets, 'orders' was read"
 
 
@@ -126,6 +130,23 @@ class Faults(Read):
             tracemalloc.stop()
             self.assertEqual(found, wanted)
             self.assertLess(most_memory, 24 * 2**20)
+
+    def test_a_workbook_takes_little_memory(self):
+        """Of its shared strings none is kept twice, and of its faults only those that are printed."""
+        cells = b"<row>" + b"<c t='str'><v>%s</v></c>" % (made.WIDE * 45) * 9 + b"</row>"
+        shared = [b"<row>%s</row>" % b"".join(b"<c t='s'><v>%d</v></c>" % at for at in range(row, row + 30)) for row in range(0, 60_000, 30)]
+        strings = {made.SHARED: made.wide_strings(60_000, made.WIDE * 6 + b"%d")}
+        for data, most, more in (
+            (made.of_sheet(made.OPEN, *[cells] * 2_000, made.CLOSE), 9, "\nand 17,980 more\n"),
+            (made.of_sheet(made.OPEN, *shared, made.CLOSE, **strings), 12, "\nand 19,980 more\n"),
+        ):
+            tracemalloc.start()
+            with self.assertRaises(order_table.Wrong) as wrong:
+                order_table.read_tables([("", data)], 24)
+            most_memory = tracemalloc.get_traced_memory()[1] / 2**20
+            tracemalloc.stop()
+            self.assertIn(more.replace(",", ""), str(wrong.exception)[-100:])
+            self.assertLess(most_memory, most)
 
     def test_a_text_has_no_more_lines_than_a_sheet(self):
         with self.assertRaisesRegex(sheets.Wrong, "^line 1048577: a table has at most 1,048,576 lines$"):
@@ -361,6 +382,39 @@ class Unlike(unittest.TestCase):
                 self.assertEqual(fault, f"line 2, column {name}: '{shown}' is {kind}: make the cell one of text")
         found, _ = self.read(styles, E='<c s="7"><v>7</v></c>', F='<c s="8"><v>7</v></c>')  # a number is what it is
         self.assertEqual((found.order.price, found.order.volumes), (700, ((7, 50),)))
+
+    def test_names_of_many_digits(self):
+        """Excel shows 123456789012 as 1.23457E+11, unless its format is 0."""
+        formats = "".join(f'<xf numFmtId="{number}"/>' for number in (0, 49, 164, 1, 165))
+        codes = '<numFmt numFmtId="164" formatCode="general"/><numFmt numFmtId="165" formatCode="0"/>'
+        content = f'<styleSheet xmlns="{made.MAIN[0]}"><numFmts>{codes}</numFmts><cellXfs>{formats}</cellXfs></styleSheet>'
+        styles = {"xl/styles.xml": content.encode()}
+        fault = "line 2, column order: '123456789012' is a number of which Excel shows fewer digits: make the cell one of text"
+        for style in range(5):
+            for number, is_short in (("12345678901", True), ("123456789012", False), ("1.23456789012E+11", False)):
+                found, said = self.read(styles, B=f'<c s="{style}"><v>{number}</v></c>')
+                if is_short or style > 2:
+                    self.assertEqual(found.name, str(int(float(number))))
+                else:
+                    self.assertEqual(said, fault, (style, number))
+        with self.assertRaisesRegex(order_table.Wrong, "column order: '123456789012' is a number of which"):
+            plain = b"<row><c t='str'><v>A</v></c><c><v>123456789012</v></c></row>"
+            order_table.read_tables([("", made.of_sheet(made.OPEN, plain, made.CLOSE, **{"xl/styles.xml": styles_without_formats()}))], 24)
+        found, _ = self.read(styles, E='<c s="0"><v>0.10</v></c>')  # a price is what it is
+        self.assertEqual(found.order.price, 10)
+
+    def test_names_of_sheets(self):
+        """Excel takes names that differ by capitals alone for one."""
+        listed = '<workbook xmlns="{0}" xmlns:r="{1}"><sheets><sheet name="{2}" r:id="r5"/><sheet name="{3}" r:id="r1"/></sheets></workbook>'
+        other = made.OPEN + order(2, "K9") + made.CLOSE
+        for names, read in ((("a", "Orders"), "K1"), (("ORDERS", "b"), "K9"), (("orders", "Orders"), None)):
+            sheets = listed.format(made.MAIN[0], made.OFFICE[0], *names).encode()
+            data = made.of_sheet(made.OPEN, order(2, "K1"), made.CLOSE, **{"xl/workbook.xml": sheets, "xl/worksheets/other.xml": other})
+            if read:
+                self.assertEqual(order_table.read_tables([("", data)], 24).submits[0][1].name, read)
+            else:
+                with self.assertRaisesRegex(order_table.Wrong, "two sheets are named 'Orders'"):
+                    order_table.read_tables([("", data)], 24)
 
     def test_names_of_scenarios(self):
         """Two times of a day, or two numbers, may be shown alike."""

@@ -37,6 +37,7 @@ class Cluster:
 
         logging.disable(logging.CRITICAL)
         warnings.simplefilter("ignore")
+        began = time.monotonic()
         try:
             host, port = re.fullmatch(r"(?:tcp|tls)://(.+):([0-9]{1,5})", address).groups()
             socket.create_connection((host.strip("[]"), int(port)), SECONDS).close()
@@ -44,7 +45,10 @@ class Cluster:
         except AttributeError:
             raise Fault(f"{self.name} should be an address such as tcp://10.0.0.1:8786") from None
         except Exception as fault:
-            raise Fault(f"{self.name} can't be reached: {first_line(fault)}") from None
+            # dask says that its time is over also if the other side closes the connection
+            is_late = time.monotonic() - began >= SECONDS or "timed out" not in str(fault).lower()
+            words = first_line(fault) if is_late else "it closed the connection"
+            raise Fault(f"{self.name} can't be reached: {words}") from None
 
     def workers(self):
         """How many workers the cluster has. A fault if it doesn't answer, or has been without workers for long."""

@@ -233,7 +233,7 @@ class Row:
     def read(self, name, reader):
         """The value that a reader makes of a cell; None if it is wrong."""
         cell = self.cell(name)
-        if self.raises and name in NAMES and cell != cell.upper() == self.meant(name):
+        if self.raises and name in NAMES and cell.isascii() and cell != cell.upper() == self.meant(name):
             self.raised[cell] = cell = cell.upper()
         try:
             refuse_unlike(self.given(name), name in NAMES)
@@ -387,6 +387,22 @@ def refuse_commands(header, rows):
             raise Wrong(f"line {line}, column {WHAT}: {text.quoted(word)}: {words}")
 
 
+class Faults:
+    """The faults of tables: the first ones, and how many there are."""
+
+    def __init__(self):
+        self.first, self.count = [], 0
+
+    def add(self, words):
+        self.count += 1
+        if self.count <= MOST_ERRORS:
+            self.first.append(words)
+
+    def lines(self):
+        more = self.count - len(self.first)
+        return self.first + ([f"and {more} more"] if more else [])
+
+
 class Orders(NamedTuple):
     """The orders of some tables: pairs of their number, from 1, and a submit; notes on the tables; how many orders of others there are."""
 
@@ -401,12 +417,13 @@ def read_tables(sources, periods, who=None, raises=False):
     note. If something is wrong with the tables, all of it, one line each."""
     if periods not in rules.DAYS:
         raise Wrong(f"a day has {', '.join(DAYS[:-1])} or {DAYS[-1]} periods, not {periods}")
-    wrong, notes, tables = [], [], []
+    wrong, notes, tables = Faults(), [], []
     for name, data in sources:
         try:
             tables.append(table_of(name, data if isinstance(data, Cells) else cells_of(data)))
         except Wrong as fault:
-            wrong += [f"{name}: {line}" if name else line for line in str(fault).split("\n")]
+            for line in str(fault).split("\n"):
+                wrong.add(f"{name}: {line}" if name else line)
     entered, submits, number, others = Entered(periods), [], 0, 0
     for table in tables:
         notes += map(table.told, table.notes)
@@ -421,12 +438,12 @@ def read_tables(sources, periods, who=None, raises=False):
                 submits.append((number, row.command()))
                 entered.enter(table.line(line), row, submits[-1][1])
                 raised.update(row.raised)
-            wrong += [table.told(f"line {line}, {words}") for words in row.wrong]
+            for words in row.wrong:
+                wrong.add(table.told(f"line {line}, {words}"))
         notes += [table.told(in_capitals(raised))] if raised else []
-    if wrong:
-        more = len(wrong) - MOST_ERRORS
+    if wrong.count:
         read = [table.told(note) for table in tables for note in table.read]
-        raise Wrong("\n".join(wrong[:MOST_ERRORS] + ([f"and {more} more"] if more > 0 else []) + read))
+        raise Wrong("\n".join(wrong.lines() + read))
     return Orders(submits, notes, others)
 
 

@@ -4,6 +4,8 @@ No row, column or cell is lost: a sheet that could be read in two ways is a faul
 by the schema of workbooks (ECMA-376). openpyxl, which writes the tools' workbooks, believes the size that a sheet states, drops cells out
 of order, and keeps all strings and empty rows. So workbooks are read by zipfile and expat."""
 
+import array
+import bisect
 import datetime
 import functools
 import io
@@ -54,8 +56,7 @@ DATE = re.compile(r"([0-9]{4}-[0-9]{2}-[0-9]{2})(?:T[0-9:.]*Z?)?")
 CLOCK = re.compile(r"T?([0-9]{2}:[0-9]{2})(?::[0-9.]*)?Z?")
 # The numbers of Excel's own formats of dates and times, and what in another format isn't one: texts, and a condition or colour.
 DATE_FORMATS = {*range(14, 23), *range(27, 37), *range(45, 48), *range(50, 59)}
-# Those of formats that show a number as it is, and of a format for texts.
-PLAIN_FORMATS, PLAIN_CODES = {0, 1, 49}, {"general", "0", "@"}
+MOST_DIGITS = 11  # that Excel shows of a number in the format General
 NO_DATE = re.compile(r'"[^"]*"|\\.|_.|\*.|\[(?!(?:h+|m+|s+)\])[^\]\[]*\]', re.IGNORECASE)
 TRUTHS = {"1": "TRUE", "true": "TRUE", "0": "FALSE", "false": "FALSE"}
 
@@ -81,6 +82,11 @@ class Formatted(Unlike):
     kind = "a number with a format"
 
 
+class Shortened(Unlike):
+    __slots__ = ()
+    kind = "a number of which Excel shows fewer digits"
+
+
 class Truth(Unlike):
     __slots__ = ()
     kind = "a truth value"
@@ -91,6 +97,16 @@ class Uncomputed(Unlike):
 
     __slots__ = ()
     kind = "a formula that was saved without its value"
+
+
+def general(number):
+    """The text of a number that has no format, or that of texts."""
+    words = str(number)
+    return Shortened(words) if sum(map(str.isdigit, words)) > MOST_DIGITS else words
+
+
+# The formats, and their numbers in Excel, that show a number as it is.
+PLAIN_FORMATS, PLAIN_CODES = {"0": general, "1": str, "49": general}, {"general": general, "0": str, "@": general}
 
 
 def broken(words):
@@ -435,15 +451,17 @@ class Book(Part):
         self.sheets.append((name, identifier))
 
     def tables(self):
-        """The sheets with cells: the part of each, by its name."""
-        sheets = {}
+        """The sheets with cells: the part of each, by its name. Excel takes names that differ by capitals alone for one."""
+        sheets, names = {}, set()
         for name, identifier in self.sheets:
             kind, part = self.relations.found.get(identifier, (None, None))
             if kind in OTHER_SHEETS:
                 continue
-            if kind != SHEET or name in sheets:
-                raise broken(f"{'two sheets are' if name in sheets else 'no part has the sheet'} named {text.quoted(name)}")
+            is_known = name.lower() in names
+            if kind != SHEET or is_known:
+                raise broken(f"{'two sheets are' if is_known else 'no part has the sheet'} named {text.quoted(name)}")
             sheets[name] = part
+            names.add(name.lower())
         if not sheets:
             raise broken("it has no sheets")
         return sheets
@@ -453,7 +471,7 @@ class Book(Part):
         sheets = self.tables()
         if len(sheets) == 1:
             return *next(iter(sheets.items())), None
-        found = [preferred] if preferred in sheets else self.having(sheets, needed)
+        found = [name for name in sheets if name.lower() == preferred] or self.having(sheets, needed)
         name = [*found, *sheets][0]
         others = [text.quoted(other) for other in found[1:]]
         more = f"; {', '.join(others)} {'has' if len(others) == 1 else 'have'} the columns of orders too" if others else ""
@@ -480,7 +498,7 @@ class Book(Part):
 
 
 class Styles(Part):
-    """For each format of cells how it shows a number: as a `Date`, `Formatted`, or as it is (`str`)."""
+    """For each format of cells how it shows a number: as a `Date`, `Formatted`, `general`, or as it is (`str`)."""
 
     ROOT = "styleSheet"
     PLACES = {"": ROOT, ROOT: "numFmts cellXfs extLst", "numFmts": "numFmt*", "cellXfs": "xf*"}
@@ -492,7 +510,7 @@ class Styles(Part):
 
     def __init__(self):
         super().__init__()
-        self.shown = {str(number): kind for numbers, kind in ((DATE_FORMATS, Date), (PLAIN_FORMATS, str)) for number in numbers}
+        self.shown = {**PLAIN_FORMATS, **{str(number): Date for number in DATE_FORMATS}}
         self.formats, self.own = [], 0
 
     def open_numFmt(self, attributes):
@@ -500,7 +518,7 @@ class Styles(Part):
         if len(code) > LONGEST_NAME:
             raise broken(f"a format has more than {LONGEST_NAME:,} characters")
         is_date = re.search("[dmyhs]", NO_DATE.sub("", code).split(";")[0], re.IGNORECASE)
-        self.shown[number[:10]] = str if code.strip().lower() in PLAIN_CODES else Date if is_date else Formatted
+        self.shown[number[:10]] = PLAIN_CODES.get(code.strip().lower(), Date if is_date else Formatted)
         self.own += 1
         if self.own > MOST_OWN_FORMATS:
             raise too_many(MOST_OWN_FORMATS, "number formats")
@@ -551,6 +569,43 @@ class Texts(Part):
         return words
 
 
+class Numbers:
+    """A set of small numbers, which takes little memory."""
+
+    def __init__(self):
+        self.flags = bytearray()
+
+    def add(self, number):
+        if number >= len(self.flags):
+            self.flags.extend(bytes(number + 1 - len(self.flags)))
+        self.flags[number] = 1
+
+    def __contains__(self, number):
+        return number < len(self.flags) and self.flags[number] == 1
+
+    def __bool__(self):
+        return bool(self.flags)
+
+
+class Kept:
+    """Strings by their numbers, which increase: in UTF-8, and so in less memory than strings of their own."""
+
+    def __init__(self):
+        self.numbers, self.ends, self.data = array.array("I"), array.array("I"), bytearray()
+
+    def add(self, number, words):
+        self.data += words.encode()
+        self.numbers.append(number)
+        self.ends.append(len(self.data))
+
+    def get(self, number):
+        """A string; None if there is none of this number."""
+        at = bisect.bisect_left(self.numbers, number)
+        if at == len(self.numbers) or self.numbers[at] != number:
+            return None
+        return self.data[self.ends[at - 1] if at else 0 : self.ends[at]].decode()
+
+
 class Strings(Texts):
     """The shared strings that are needed, by their numbers."""
 
@@ -559,7 +614,7 @@ class Strings(Texts):
 
     def __init__(self, needed):
         super().__init__()
-        self.needed, self.number, self.found, self.characters = needed, -1, {}, 0
+        self.needed, self.number, self.found, self.characters = needed, -1, Kept(), 0
 
     def open_si(self, _):
         self.number += 1
@@ -571,7 +626,7 @@ class Strings(Texts):
             self.characters += len(words)
             if self.characters > MOST_CHARACTERS:
                 raise too_many(MOST_CHARACTERS, "characters in its cells")
-            self.found[self.number] = words
+            self.found.add(self.number, words)
 
     def wrong(self, words):
         return broken(f"string {self.number} of its cells: {words}")
@@ -602,7 +657,7 @@ class Sheet(Texts):
         super().__init__()
         self.place, self.part, self.book = f"sheet {text.quoted(name)}", part, book
         self.last = None if most is None else most + 1  # how many rows it may have
-        self.rows, self.needed, self.formats = [], set(), {}
+        self.rows, self.needed, self.formats = [], Numbers(), {}
         self.row = self.column = self.count_of_cells = self.characters = 0
         self.cells = None  # of a row; None outside
         self.has_data = False
@@ -713,7 +768,7 @@ class Sheet(Texts):
         if kind == "n":
             return self.number(value.strip())
         if kind == "s":
-            if not WHOLE.fullmatch(value) or value.startswith("-"):
+            if not WHOLE.fullmatch(value) or not 0 <= int(value) < MOST_ELEMENTS:
                 raise self.wrong(f"it has no string {text.quoted(value)}")
             return int(value)
         if kind in ("str", "inlineStr"):
@@ -739,7 +794,7 @@ class Sheet(Texts):
 
     def format(self):
         """How the cell's format shows numbers."""
-        style, formats = self.style, self.book.formats or [str]
+        style, formats = self.style, self.book.formats or [general]
         if not WHOLE.fullmatch(style) or not 0 <= int(style) < len(formats):
             raise self.wrong(f"it has no format {text.quoted(style)}")
         return formats[int(style)]
@@ -784,10 +839,11 @@ class Sheet(Texts):
             for at, cell in enumerate(self.cells):
                 if isinstance(cell, int):
                     self.column = at + 1
-                    if cell not in strings:
+                    words = strings.get(cell)
+                    if words is None:
                         raise self.wrong(f"it has no string '{cell}'")
-                    self.cells[at] = strings[cell]
-                    self.add_characters(strings[cell])
+                    self.cells[at] = words
+                    self.add_characters(words)
         return self.rows
 
 
@@ -801,7 +857,7 @@ class FirstRow(Sheet):
 
     def __init__(self, name, part, book, names):
         super().__init__(name, part, book, None)
-        self.sought = names
+        self.sought, self.needed = names, set()
 
     def words(self):
         """The content of a cell, or a word in its place if it isn't needed."""
