@@ -119,14 +119,16 @@ def full_office(args, counts):
         office.kill("desk")  # which has the limit
         counts.check("with room it is available again, without a command", until(office.is_ready))
         fill(office, 4_096)
-        began = subprocess.Popen([*TOOL, "close", office.folder], env=office.environment, stdout=subprocess.PIPE, stderr=subprocess.PIPE)
+        said = office.folder.parent / "said"
+        with said.open("wb") as stream:
+            began = subprocess.Popen([*TOOL, "close", office.folder], env=office.environment, stdout=stream, stderr=stream)
         counts.check("and not while a closed day has no files", until(lambda: office.get("/healthz")[0] == 503))
         state = json.loads(office.tool("status", office.folder, "--json").stdout)["days"][0]["state"]
         counts.check(f"both name the same state: {state}", state == json.loads(office.get(f"/days/{office.day}")[2])["state"] != "open")
-        time.sleep(2.5)
+        counts.check("close says that it waits", until(lambda: b"has no head yet" in said.read_bytes()))
         fill(office, resource.RLIM_INFINITY)
-        out, err = began.communicate(timeout=60)
-        counts.check(f"close says that it waits: {err}", b"has no head yet" in err and b"has its results" in out)
+        status = began.wait(60)
+        counts.check(f"and ends with the results: {said.read_bytes()}", status == 0 and b"has its results" in said.read_bytes())
         counts.check("and the office is available once they are there", until(office.is_ready))
 
 
