@@ -41,7 +41,7 @@ STRIPPED = ("bin/dam", "bin/dam-desk", f"{LIBRARY}/libdam.so.1")  # files withou
 PROGRAMS = ("bin/dam", "bin/dam-desk", *(f"{PYTHON}/{tool}" for tool in TOOLS))
 # Pages whose commands are run where the examples are: the package has them as installed commands.
 WITH_COMMANDS = ("AUDIT.md", "EXAMPLES.md", "GUIDE.md", "TABLES.md", "TRUST.md", "USING.md", "WHATIF.md")
-COMMANDS = re.compile(r"^```sh\n.*?^```$", re.MULTILINE | re.DOTALL)
+COMMANDS = re.compile(r"^```(?:sh|text)\n.*?^```$", re.MULTILINE | re.DOTALL)
 CLONED = re.compile(rf"(?<![\w./-])(?:\./dam\b|tools/(?=(?:{'|'.join(TOOLS)})\b))")
 # A link of a page to another file.
 LINK = re.compile(r"\[([^\]]*)\]\(([^)#:\s]+)(?:#[^)\s]*)?\)")

@@ -2,6 +2,8 @@
 
 import concurrent.futures
 import itertools
+import contextlib
+import io
 import os
 import shutil
 import signal
@@ -173,6 +175,13 @@ class Many(unittest.TestCase):
             (fault,) = dam_tools.clear_many([AUCTION], program=other)
             self.assertIsInstance(fault, dam_tools.Fault)
             self.assertEqual((str(fault), fault.status), (f"{other} printed no results of this journal", None))
+
+    def test_a_program_that_says_that_it_is_not_proved(self):
+        launcher = self.script("launcher", f'echo "dam: this run is not proved" >&2; exec {self.program} "$@"')
+        with unittest.mock.patch.object(engine, "RELAYED", set()), contextlib.redirect_stderr(io.StringIO()) as said:
+            for _ in range(2):
+                self.assertEqual(dam_tools.clear(AUCTION, launcher).text, dam_tools.clear(AUCTION, self.program).text)
+        self.assertEqual(said.getvalue(), "dam: this run is not proved\n")
 
     def test_a_program_that_fails_without_words(self):
         for line, status in ("exit 1", 1), ("kill -9 $$", -9):

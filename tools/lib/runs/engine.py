@@ -32,6 +32,7 @@ MOST_NODES, MOST_ANSWER = 67_108_864, 300_000  # of library/dam.h
 ONE_WORKER = ("clear", "--workers=1", "--cut=0")  # as the library searches: many days share the processors
 RESULTS = re.compile(rb"day,[0-9]+\nwelfare,-?[0-9]+\n")  # the beginning of the results of a day
 LATE = "late"  # instead of the status of a run that took too long
+RELAYED = set()  # lines of runs that were passed on
 AHEAD = 2  # texts for each job that wait for a thread
 MOST_AHEAD = 1_024  # texts that wait for an executor
 
@@ -183,7 +184,18 @@ def ran(words, text, timeout=None, running=None):
         except BaseException:
             process.kill()
             raise
+    if not process.returncode:
+        relay(said)
     return process.returncode, out, said
+
+
+def relay(said):
+    """Passes on the lines of a run that succeeded, such as that it isn't proved; each once."""
+    for line in said.decode(errors="replace").splitlines():
+        if line not in RELAYED and sys.stderr:
+            RELAYED.add(line)
+            with contextlib.suppress(OSError):
+                print(line, file=sys.stderr, flush=True)
 
 
 def printed(words, text, timeout=None):
