@@ -95,6 +95,13 @@ def number(rng, text):
     return text[: place.start()] + rng.choice(forms) + text[place.end() :]
 
 
+def wide(rng, line):
+    """The line with far more fields, or a far longer one, than a record has."""
+    more = rng.choice([b"," * 70_000, b'"",' * 30_000, b'"a"",' * 20_000, b"A" * 70_000 + b"," * 99, b"1:1;" * 20_000])
+    body = line.rstrip(b"\r\n")
+    return rng.choice([more + body, body + more]) + line[len(body) :]
+
+
 def quote_all(rng, text):
     """Quotes whole fields here and there: the text means the same."""
     lines = []
@@ -118,7 +125,7 @@ def line_end(rng, line):
 CHANGES = [
     cut, cut_front, insert, insert, drop, change, change, double, quote_all, shuffle, on_lines(line_end),
     on_fields(lambda rng, field: rng.choice(FIELDS)), on_fields(lambda rng, field: rng.choice(FIELDS)),
-    number, number, on_fields(quoted), on_fields(oddly_quoted), on_fields(insert), on_fields(drop),
+    number, number, on_lines(wide), on_fields(quoted), on_fields(oddly_quoted), on_fields(insert), on_fields(drop),
 ]  # fmt: skip
 
 
