@@ -88,8 +88,8 @@ class Desk:
     def environment(self, file, **more):
         return {"LD_PRELOAD": str(self.library), "DESK_FILE": str(file), **self.surroundings, **more}
 
-    def run(self, file, batches=(), refusal=None, words=(), more=None, stdout=subprocess.PIPE):
-        """Runs the desk with the file. Each batch comes in by one read, if it isn't longer than a packet."""
+    def run(self, file, batches=(), refusal=None, words=(), more=None, stdout=subprocess.PIPE, source=None):
+        """Runs the desk with the file. Each batch comes in by one read, if it isn't longer than a packet; or the input is an open file."""
         log = Path(f"{file}.{threading.get_ident()}.log")
         log.write_bytes(b"")
         surroundings = self.environment(file, DESK_LOG=str(log), **(more or {}))
@@ -97,7 +97,7 @@ class Desk:
             surroundings["DESK_REFUSE"] = " ".join(map(str, refusal))
         ours, theirs = feed(packets(batches))
         try:
-            ran = subprocess.run([*self.words, *words, str(file)], stdin=ours, stdout=stdout, stderr=subprocess.PIPE, env=surroundings,
+            ran = subprocess.run([*self.words, *words, str(file)], stdin=source or ours, stdout=stdout, stderr=subprocess.PIPE, env=surroundings,
                                  timeout=SECONDS)
         finally:
             os.close(ours)

@@ -3,6 +3,7 @@
 import os
 import random
 import resource
+import select
 import socket
 import subprocess
 import time
@@ -11,7 +12,7 @@ import images
 import journals
 import kills
 import streams
-from device import SECONDS
+from device import SECONDS, SYNC
 from images import HEAD, MOST, is_at_rest, marked_in
 from journals import CLOSE, rules
 from shared.printed import Printed
@@ -22,6 +23,7 @@ NO_FILE, FULL = b"file: it isn't a regular file with one name\n", b"file: the jo
 DATABASE, NOT_WRITTEN = b"file: a database's files have its name\n", b"file: its lines aren't as a desk writes them\n"
 NO_LINES = b"file: its lines aren't a journal: "
 NOBODY = 65_534
+BATCH = 65_536  # bytes of a read
 MEMORY = 256 << 20  # bytes of addresses, for the longest inputs
 USAGE = b"command line\nUsage: dam-desk "
 
@@ -78,6 +80,8 @@ def run(counts, desk, dam, whole):
     files.cut_lines()
     files.closed_pipe()
     files.full()
+    files.half_a_line()
+    files.long_batches()
     files.hostile_lines(whole)
     print(f"files: {counts.passed + counts.failed - before} checks; {time.monotonic() - begun:.1f} s", flush=True)
 
@@ -241,7 +245,8 @@ class Files:
         rng = random.Random("full")
         most = rules.MOST_RECORDS - 2
         for about, records in [("orders", kills.load(rng, most)), ("closes", [DAY] + [CLOSE] * most),
-                               ("long names", journals.long_names(rng, most))]:  # fmt: skip
+                               ("long names", journals.long_names(rng, most)),
+                               ("wide orders", journals.wide_orders(most))]:  # fmt: skip
             self.full_of(about, journals.Journal([*records, CLOSE], self.dam))
 
     def full_of(self, about, journal):
@@ -262,6 +267,31 @@ class Files:
         shown = self.given(["--journal", file])
         self.check(f"the journal of {about}", shown, 0, journal.text(len(journal)), b"")
         self.counts.check(f"the journal of {about} is replayed", self.dam.replay(shown.stdout).stdout == journal.printed(len(journal)))
+
+    def half_a_line(self):
+        """Whole lines are answered while the next one is still to come whole."""
+        words = [*self.desk.words, str(self.desk.folder() / "day.desk")]
+        with subprocess.Popen(words, stdin=subprocess.PIPE, stdout=subprocess.PIPE) as desk:
+            desk.stdin.write(DAY + CLOSE[:3])
+            desk.stdin.flush()
+            ready, _, _ = select.select([desk.stdout], [], [], SECONDS)
+            got = os.read(desk.stdout.fileno(), 1 << 16) if ready else b""
+            self.counts.check(f"a line is answered before the next one is whole: {got!r}", got == b"day,24\n")
+            rest, _ = desk.communicate(CLOSE[3:])
+            self.counts.check(f"and that one then: {rest!r}", rest == b"1,done\n")
+
+    def long_batches(self):
+        """A file as the input comes in by reads of 65,536 bytes, and each of these is a batch of two syncs."""
+        text = DAY + b"cancel,ABCDEFGH,NAME-NUMBER1,,,,,,\n" * 6_000
+        counted = []
+        for given in (b"", text):
+            folder = self.desk.folder()
+            path = desk_file(folder, given)
+            with path.open("rb") as source:
+                events = self.desk.run(folder / "day.desk", source=source).events
+            counted.append(sum(event.kind == SYNC for event in events))
+        most = 2 * -(-len(text) // BATCH)
+        self.counts.check(f"{counted[1] - counted[0]} syncs of {len(text)} bytes, at most {most}", 0 < counted[1] - counted[0] <= most)
 
     def hostile_lines(self, whole):
         """16 MB of lines that aren't records, in little memory."""

@@ -85,11 +85,19 @@ def long_names(rng, count):
     """Records of the longest names, some with a volume in each of 100 periods."""
     yield b"day,%d,,,,,,,\n" % rules.GREATEST_PERIOD
     for at in range(count):
-        volumes = WIDE if at % 9 == 4 else b"%d:%d" % (rules.GREATEST_PERIOD, rules.GREATEST_VOLUME)
+        volumes = WIDE if at // 3 % 3 == 1 else b"%d:%d" % (rules.GREATEST_PERIOD, rules.GREATEST_VOLUME)
         name = rng.choice(NAMES)
         lines = [b"submit,%b,%b,block,sell,%d,%b,%b,GROUP-NUMBER\n" % (WHO, name, rules.GREATEST_PRICE, volumes, rng.choice([b"", *NAMES])),
                  b"amend,%b,%b,,,%d,%b,,\n" % (WHO, name, rules.LEAST_PRICE, volumes), b"cancel,%b,%b,,,,,,\n" % (WHO, name)]
         yield lines[at % 3]
+
+
+def wide_orders(count):
+    """The longest records: a journal of these is as long as there may be."""
+    yield b"day,%d,,,,,,,\n" % rules.GREATEST_PERIOD
+    for at in range(count):
+        name, parent = NAMES[at % len(NAMES)], NAMES[(at + 1) % len(NAMES)]
+        yield b"submit,%b,%b,block,sell,%d,%b,%b,GROUP-NUMBER\n" % (WHO, name, rules.GREATEST_PRICE, WIDE, parent)
 
 
 def drawn(rng, count):
