@@ -48,7 +48,7 @@ class Isolation(unittest.TestCase):
         for name, source in (("a.csv", AUCTION), ("a.txt", AUCTION_RESULTS)):
             self.folder.joinpath(name).write_bytes(source.read_bytes())
         tools = [[name, "--version"] for name in place.TOOLS]
-        for path, lines in ((":/opt/x", tools), ("/opt/x:", tools[:1]), (".", tools[:1]), (str(self.folder), [["prove", "--help"]])):
+        for path, lines in ((":/other", tools), ("/other:", tools[:1]), (".", tools[:1]), (str(self.folder), [["prove", "--help"]])):
             environment = {**os.environ, "PYTHONPATH": path, "PYTHONINSPECT": "1", "PYTHONHOME": "/nowhere"}
             for name, *words in (*lines, ["audit", "--days", ".", "--json"]):
                 ran = subprocess.run([TOOLS / name, *words], cwd=self.folder, capture_output=True, env=environment, timeout=300)
