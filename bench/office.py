@@ -26,7 +26,7 @@ from served import DAY, free_port, names, served
 from dam_tools.office import AsyncOffice
 
 DESK = os.environ.get("DESK", "../crates/dam_desk/out/dam_desk")
-CONNECTIONS, TURNS, COMMANDS = 50, 5, 40  # each connection sends so many commands in a turn
+CONNECTIONS, TURNS, COMMANDS = 50, 5, 40  # COMMANDS of each connection in a turn
 WHOLE_DAY = 199  # and on the whole day
 PER_SECOND = "{:,.0f} a second".format
 
