@@ -41,6 +41,7 @@ STRIPPED = ("bin/dam", "bin/dam-desk", f"{LIBRARY}/libdam.so.1")  # files withou
 PROGRAMS = ("bin/dam", "bin/dam-desk", *(f"{PYTHON}/{tool}" for tool in TOOLS))
 # Pages whose commands are run where the examples are: the package has them as installed commands.
 WITH_COMMANDS = ("AUDIT.md", "EXAMPLES.md", "GUIDE.md", "TABLES.md", "TRUST.md", "USING.md", "WHATIF.md")
+DEFINITIONS = "docs/DEFINITIONS.md"
 COMMANDS = re.compile(r"^```(?:sh|text)\n.*?^```$", re.MULTILINE | re.DOTALL)
 CLONED = re.compile(rf"(?<![\w./-])(?:\./dam\b|tools/(?=(?:{'|'.join(TOOLS)})\b))")
 # A link of a page to another file.
@@ -99,6 +100,12 @@ def script(tool):
     return b"#!/usr/bin/python3 -I\n" + rest
 
 
+def definitions():
+    """The page of definitions with its list, which no file of a clone has."""
+    wanted = [made_of.TOP / "tools" / "reading-list", "--definitions"]
+    return subprocess.run(wanted, stdout=subprocess.PIPE, env=made_of.environment(), check=True).stdout
+
+
 def compressed(data):
     return subprocess.run(["gzip", "-9n"], input=data, stdout=subprocess.PIPE, env=made_of.environment(), check=True).stdout
 
@@ -108,7 +115,7 @@ def make(clone, folder, totals):
     files = taken(clone)
     held = {*files, *LINKS}
     for target, name in files.items():
-        data = (made_of.TOP / name).read_bytes()
+        data = definitions() if name == DEFINITIONS else (made_of.TOP / name).read_bytes()
         mode = 0o755 if target in PROGRAMS or name.endswith(".sh") else 0o644
         write(folder / target, page(data, target, held) if name.endswith(".md") else data, mode)
     for tool in TOOLS:

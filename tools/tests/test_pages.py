@@ -53,13 +53,12 @@ SOURCES = {
 }
 # The table of a crate's files in its notes.
 FILES = re.compile(r"^\| File of `src/` \| Contents \|\n\|---\|---\|\n((?:\|.*\n)+)", re.MULTILINE)
-DEFINITIONS = TOP / "docs" / "DEFINITIONS.md"
 EXAMPLE = re.compile(r"^```text\n(day,24\nwelfare.*?)^```$", re.MULTILINE | re.DOTALL)
 
 
-def sections():
+def sections(page):
     """The names that the section of each file has on the page of definitions."""
-    found = re.findall(r"^## `(\w+)/specs/(\w+)\.antt`\n(.*?)(?=^## |\Z)", DEFINITIONS.read_text(), re.M | re.S)
+    found = re.findall(r"^## `(\w+)/specs/(\w+)\.antt`\n(.*?)(?=^## |\Z)", page, re.M | re.S)
     return {(crate, module): set(re.findall(r"^- `(\S+)`: .", body, re.M)) for crate, module, body in found}
 
 
@@ -207,7 +206,9 @@ class Pages(unittest.TestCase):
 
 class Definitions(unittest.TestCase):
     def test_each_that_a_public_contract_cites_is_on_the_page(self):
-        on_page = sections()
+        status, page, _ = tool("reading-list", "--definitions")
+        self.assertEqual(status, 0)
+        on_page = sections(page.decode())
         cited = {(node, function) for node, function in Repository(TOP).cited()}
         self.assertGreater(len(cited), 300)
         for (crate, _, module, name), function in sorted(cited):
