@@ -3,6 +3,7 @@ use Rattle.std.proofs.Common.{◌≡◌, ℕ, List, ◌∙◌, sym, ap, subst}
 use Rattle.sqlite_disk.specs.Disk.{Torn, Follows, Only}
 use Rattle.sqlite_disk.specs.declared.Disk.{Ghosts}
 use Rattle.dam_store.specs.Journal.{lines_in, text_of, StandsFor}
+use Rattle.dam_store.specs.Store.{IsUntouched}
 use Rattle.dam_store.specs.inside.Shape.{IsAtRest}
 use Rattle.dam_store.specs.inside.Synced.{IsOpened}
 use Rattle.dam_store.proofs.Rest.{rest_lines, closed_from}
@@ -26,3 +27,6 @@ opened_from g disk bytes text end lines rest stands text_is =
       stands = subst (λ (ls : List (List ℕ)). StandsFor ls bytes) same stands;
       text_is = text_is ∙ ap text_of same;
     }
+
+pub still_untouched : {D : Type 0} (g : Ghosts D) (old middle new : D) → new ≡ middle → IsUntouched g old middle → IsUntouched g old new
+still_untouched g old middle new same untouched = subst (IsUntouched g old) (sym same) untouched

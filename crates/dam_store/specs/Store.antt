@@ -26,3 +26,8 @@ pub record IsTidy {D : Type 0} {g : Ghosts D} (store : Store D g) : Type 0 where
   pub rest : List ℕ
   pub text : g.seen (disk_of store) ≡ written (held store) ++ 45 ∷ rest
   pub one_line : has_byte 10 rest ≡ false
+
+-- Nothing of a file changed: it reads as before, and a crash leaves nothing that it didn't leave before.
+pub record IsUntouched {D : Type 0} (g : Ghosts D) (old new : D) : Type 0 where
+  pub seen : g.seen new ≡ g.seen old
+  pub crash : (file : List ℕ) → g.may_leave new file → g.may_leave old file

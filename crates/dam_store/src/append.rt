@@ -42,6 +42,8 @@ impl<D: Disk> Store<D> {
     /// Appends the lines, all or none. At `Ok` each crash from then on leaves a file that stands for them.
     pub fn append(&mut self, batch: &Batch) -> Result<(), StoreFault>
         ensures ready { OnOk result (is_broken self.new ≡ false) }
+        ensures no_fault { OnOk result (D.Disk.faults (disk_of self.new)
+            ≡ D.Disk.faults (disk_of self.old)) }
         ensures acknowledged { OnOk result (IsTrue (D.Disk.is_clean (disk_of self.new))
             → held self.new ≡ held self.old ++ batch.now) }
         ensures safe { OnOk result (IsTrue (D.Disk.is_clean (disk_of self.new))

@@ -1,9 +1,9 @@
-ghost use Rattle.std.specs.Prelude.{◌≡◌, ◌<◌, ◌≤◌, ℕ, List, true, None, length, IsTrue, IfOk, IfErr, OnOk};
+ghost use Rattle.std.specs.Prelude.{◌≡◌, ◌⊎◌, ◌<◌, ◌≤◌, ℕ, List, true, length, IsTrue, IfOk, IfErr, OnOk};
 ghost use Rattle.sqlite_disk.specs.Disk.{Torn, Holds, Follows, CountsFault, MoreFaults};
 ghost use Rattle.dam_store.specs.Limits.{most_bytes};
-ghost use Rattle.dam_store.specs.Journal.{stands_for};
-ghost use Rattle.dam_store.specs.Faults.{is_failure, is_refusal};
+ghost use Rattle.dam_store.specs.Faults.{is_failed_write, is_failure, is_refusal, IsRefused};
 ghost use Rattle.dam_store.specs.inside.Synced.{IsSynced, IsRead};
+ghost use Rattle.dam_store.specs.declared.fault.StoreFault.TheVariants.{Memory};
 
 use crate::fault::StoreFault;
 use crate::limits::MOST_BYTES;
@@ -22,6 +22,7 @@ pub(crate) fn put<D: Disk>(disk: &mut D, at: usize, bytes: &[u8]) -> Result<(), 
     ensures clean { D.Disk.is_clean disk.new ≡ D.Disk.is_clean disk.old }
     ensures faults { CountsFault result (D.Disk.faults disk.old) (D.Disk.faults disk.new) }
     ensures failure { IfErr result (λ fault. is_failure fault ≡ true) }
+    ensures failed { IfErr result (λ fault. is_failed_write fault ≡ true) }
 {
     disk.write_at(at, bytes).map_err(StoreFault::Write)?;
     disk.sync().map_err(StoreFault::Sync)?;
@@ -42,7 +43,9 @@ pub(crate) fn read_file<D: Disk>(alloc: Global, disk: &mut D) -> Result<Vec<u8>,
         → MoreFaults (D.Disk.faults disk.old) (D.Disk.faults disk.new)) }
     ensures refusal { IfErr result (λ fault. is_refusal fault ≡ true
         → IsTrue (D.Disk.is_clean disk.new)
-        → stands_for (D.Disk.seen disk.old) ≡ None) }
+        → IsRefused (D.Disk.seen disk.old) fault) }
+    ensures no_other { IfErr result (λ fault. (is_failure fault ≡ true)
+        ⊎ (is_refusal fault ≡ true) ⊎ (fault ≡ Memory)) }
 {
     let len = disk.len().map_err(StoreFault::Read)?;
     if len > MOST_BYTES {

@@ -1,7 +1,8 @@
 ghost use Rattle.std.specs.Prelude.{◌≡◌, ◌⊎◌, List, ℕ, true, false, None, IsTrue, IfOk, IfErr};
 ghost use Rattle.dam_store.specs.Journal.{stands_for, text_of, StandsFor};
-ghost use Rattle.dam_store.specs.Store.{disk_of, is_broken, held, IsSafe, IsTidy};
-ghost use Rattle.dam_store.specs.Faults.{is_failure, is_refusal};
+ghost use Rattle.dam_store.specs.Store.{disk_of, is_broken, held, IsSafe, IsTidy, IsUntouched};
+ghost use Rattle.dam_store.specs.Faults.{is_failed_write, is_failure, is_refusal, IsRefused};
+ghost use Rattle.dam_store.specs.declared.fault.StoreFault.TheVariants.{Memory};
 ghost use Rattle.dam_store.specs.History.{Known, IsKnown, IsPossible};
 ghost use Rattle.sqlite_disk.specs.Disk.{MoreFaults};
 
@@ -42,11 +43,18 @@ impl<D: Disk> Store<D> {
             → MoreFaults (D.Disk.faults disk) (D.Disk.faults unopened.disk)) }
         ensures refusal { IfErr result (λ unopened. is_refusal unopened.why ≡ true
             → IsTrue (D.Disk.is_clean unopened.disk)
-            → stands_for (D.Disk.seen disk) ≡ None) }
+            → IsRefused (D.Disk.seen disk) unopened.why) }
+        ensures no_other { IfErr result (λ unopened. (is_failure unopened.why ≡ true)
+            ⊎ (is_refusal unopened.why ≡ true) ⊎ (unopened.why ≡ Memory)) }
+        // The file is as it was, unless a write or a sync failed; and whatever failed, if it is no journal.
+        ensures unwritten { IfErr result (λ unopened. is_failed_write unopened.why ≡ false
+            → IsUntouched D.Disk disk unopened.disk) }
         ensures untouched { IfErr result
             (λ unopened. IsTrue (D.Disk.is_clean unopened.disk)
             → stands_for (D.Disk.seen disk) ≡ None
-            → D.Disk.seen unopened.disk ≡ D.Disk.seen disk) }
+            → IsUntouched D.Disk disk unopened.disk) }
+        ensures no_fault { IfOk result (λ opened.
+            D.Disk.faults (disk_of opened.store) ≡ D.Disk.faults disk) }
         ensures clean { IfOk result
             (λ opened. IsTrue (D.Disk.is_clean (disk_of opened.store))
             → IsTrue (D.Disk.is_clean disk)) }

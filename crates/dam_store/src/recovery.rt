@@ -3,7 +3,9 @@ ghost use Rattle.dam_store.specs.Limits.{most_bytes};
 ghost use Rattle.dam_store.specs.Journal.{is_unmade, head_line, lines_in, stands_for, text_of, StandsFor};
 ghost use Rattle.dam_store.specs.inside.Shape.{has_newline, IsAtRest, IsJournal};
 ghost use Rattle.dam_store.specs.inside.Synced.{IsSynced, IsRead, IsOpened, CrashLeaves};
-ghost use Rattle.dam_store.specs.Faults.{is_failure, is_refusal};
+ghost use Rattle.dam_store.specs.Faults.{is_failed_write, is_failure, is_refusal, IsRefused};
+ghost use Rattle.dam_store.specs.Store.{IsUntouched};
+ghost use Rattle.dam_store.specs.declared.fault.StoreFault.TheVariants.{Memory};
 ghost use Rattle.sqlite_disk.specs.Disk.{MoreFaults};
 
 use crate::device::{put, read_file};
@@ -53,7 +55,7 @@ fn begin<D: Disk>(disk: &mut D, bytes: &[u8]) -> Result<(), StoreFault>
     ensures faults { OnOk result (D.Disk.faults disk.new ≡ D.Disk.faults disk.old) }
     ensures failure { IfErr result (λ fault. is_failure fault ≡ true
         → MoreFaults (D.Disk.faults disk.old) (D.Disk.faults disk.new)) }
-    ensures refusal { IfErr result (λ fault. is_refusal fault ≡ false) }
+    ensures failed { IfErr result (λ fault. is_failed_write fault ≡ true) }
 {
     if has_gate(bytes, 0) {
         return Ok(());
@@ -74,7 +76,7 @@ fn create<D: Disk>(disk: &mut D, bytes: &[u8]) -> Result<(), StoreFault>
     ensures faults { OnOk result (D.Disk.faults disk.new ≡ D.Disk.faults disk.old) }
     ensures failure { IfErr result (λ fault. is_failure fault ≡ true
         → MoreFaults (D.Disk.faults disk.old) (D.Disk.faults disk.new)) }
-    ensures refusal { IfErr result (λ fault. is_refusal fault ≡ false) }
+    ensures failed { IfErr result (λ fault. is_failed_write fault ≡ true) }
 {
     begin(disk, bytes)?;
     put(disk, 1, &AFTER_FIRST)?;
@@ -108,7 +110,8 @@ fn blank<D: Disk>(disk: &mut D, end: usize, bytes: &mut Vec<u8>) -> Result<(), S
     ensures faults { OnOk result (D.Disk.faults disk.new ≡ D.Disk.faults disk.old) }
     ensures failure { IfErr result (λ fault. is_failure fault ≡ true
         → MoreFaults (D.Disk.faults disk.old) (D.Disk.faults disk.new)) }
-    ensures refusal { IfErr result (λ fault. is_refusal fault ≡ false) }
+    ensures failed { IfErr result (λ fault. (is_failed_write fault ≡ true)
+        ⊎ ((fault ≡ Memory) × (disk.new ≡ disk.old))) }
 {
     if !has_newline_after(bytes, end + 1) {
         return Ok(());
@@ -132,7 +135,7 @@ fn close<D: Disk>(disk: &mut D, end: usize, bytes: &[u8]) -> Result<(), StoreFau
     ensures faults { OnOk result (D.Disk.faults disk.new ≡ D.Disk.faults disk.old) }
     ensures failure { IfErr result (λ fault. is_failure fault ≡ true
         → MoreFaults (D.Disk.faults disk.old) (D.Disk.faults disk.new)) }
-    ensures refusal { IfErr result (λ fault. is_refusal fault ≡ false) }
+    ensures failed { IfErr result (λ fault. is_failed_write fault ≡ true) }
 {
     if has_gate(bytes, end) {
         return Ok(());
@@ -158,7 +161,9 @@ fn reopen<D: Disk>(alloc: Global, disk: &mut D, mut bytes: Vec<u8>) -> Result<Li
     ensures failure { IfErr result (λ fault. is_failure fault ≡ true
         → MoreFaults (D.Disk.faults disk.old) (D.Disk.faults disk.new)) }
     ensures refusal { IfErr result (λ fault. is_refusal fault ≡ true
-        → stands_for bytes.items ≡ None) }
+        → IsRefused bytes.items fault) }
+    ensures failed { IfErr result (λ fault. (is_failed_write fault ≡ true)
+        ⊎ ((disk.new ≡ disk.old) × ((is_refusal fault ≡ true) ⊎ (fault ≡ Memory)))) }
 {
     let found = read_lines(alloc, &bytes[HEAD_LINE.len()..])?;
     let end = HEAD_LINE.len() + found.end;
@@ -189,7 +194,9 @@ fn settle<D: Disk>(alloc: Global, disk: &mut D, bytes: Vec<u8>) -> Result<Lines,
     ensures failure { IfErr result (λ fault. is_failure fault ≡ true
         → MoreFaults (D.Disk.faults disk.old) (D.Disk.faults disk.new)) }
     ensures refusal { IfErr result (λ fault. is_refusal fault ≡ true
-        → stands_for bytes.items ≡ None) }
+        → IsRefused bytes.items fault) }
+    ensures failed { IfErr result (λ fault. (is_failed_write fault ≡ true)
+        ⊎ ((disk.new ≡ disk.old) × ((is_refusal fault ≡ true) ⊎ (fault ≡ Memory)))) }
 {
     if bytes.starts_with(&HEAD_LINE) {
         return reopen(alloc, disk, bytes);
@@ -215,14 +222,18 @@ pub(crate) fn recover<D: Disk>(alloc: Global, disk: &mut D) -> Result<Lines, Sto
         (λ file. D.Disk.may_leave disk.old file ⊎ (stands_for file ≡ stands_for (D.Disk.seen disk.old))) }
     ensures untouched { IsTrue (D.Disk.is_clean disk.new)
         → stands_for (D.Disk.seen disk.old) ≡ None
-        → D.Disk.seen disk.new ≡ D.Disk.seen disk.old }
+        → IsUntouched D.Disk disk.old disk.new }
     ensures clean { IsTrue (D.Disk.is_clean disk.new) → IsTrue (D.Disk.is_clean disk.old) }
     ensures faults { OnOk result (D.Disk.faults disk.new ≡ D.Disk.faults disk.old) }
     ensures failure { IfErr result (λ fault. is_failure fault ≡ true
         → MoreFaults (D.Disk.faults disk.old) (D.Disk.faults disk.new)) }
     ensures refusal { IfErr result (λ fault. is_refusal fault ≡ true
         → IsTrue (D.Disk.is_clean disk.new)
-        → stands_for (D.Disk.seen disk.old) ≡ None) }
+        → IsRefused (D.Disk.seen disk.old) fault) }
+    ensures no_other { IfErr result (λ fault. (is_failure fault ≡ true)
+        ⊎ (is_refusal fault ≡ true) ⊎ (fault ≡ Memory)) }
+    ensures unwritten { IfErr result (λ fault. is_failed_write fault ≡ false
+        → IsUntouched D.Disk disk.old disk.new) }
 {
     disk.sync().map_err(StoreFault::Sync)?;
     let bytes = read_file(alloc, disk)?;

@@ -1,3 +1,8 @@
+ghost use Rattle.std.specs.Prelude.{◌≡◌, ◌⊎◌, ℕ, List, IfOk, IfErr};
+ghost use Rattle.dam_store.specs.Journal.{text_of, StandsFor};
+ghost use Rattle.dam_store.specs.Faults.{IsRefused};
+ghost use Rattle.dam_store.specs.declared.fault.StoreFault.TheVariants.{Memory};
+
 use crate::fault::StoreFault;
 use crate::limits::MOST_BYTES;
 use crate::recovery::{HEAD_LINE, is_unmade};
@@ -5,7 +10,11 @@ use crate::scan::read_lines;
 use std::alloc::Global;
 
 /// The lines that a file's bytes stand for, with a newline at the end of each. Nothing is repaired.
-pub fn read_text(alloc: Global, file: &[u8]) -> Result<Vec<u8>, StoreFault> {
+pub fn read_text(alloc: Global, file: &[u8]) -> Result<Vec<u8>, StoreFault>
+    ensures text { IfOk result (λ text. (lines : List (List ℕ))
+        × StandsFor lines file.now × (text.items ≡ text_of lines)) }
+    ensures fault { IfErr result (λ fault. (fault ≡ Memory) ⊎ IsRefused file.now fault) }
+{
     if file.len() > MOST_BYTES {
         return Err(StoreFault::TooLong);
     }
