@@ -21,7 +21,7 @@ from lib.base import rules
 from lib.seal import heads, signing
 
 KILLS, ALL_KILLS = 3, 30
-CONNECTIONS = 50  # of a load, each of a participant
+CONNECTIONS, ALL_CONNECTIONS = 50, 200  # of a load, each of a participant; with --all
 SECONDS = 12  # that a load may take in the check
 
 
@@ -185,6 +185,7 @@ def rolled_back(args, counts):
                 said = office.log.read_text()
                 counts.check(f"a journal without signed entries isn't served: {said[-300:]}", not started and "LostEntries" in said)
                 counts.check("and no head of it is signed", office.get(f"/days/{office.day}/head")[0] == 503)
+                counts.check("and it says that it is stopped", json.loads(office.get("/days")[2])["days"][0]["state"] == "stopped")
                 office.stop()
                 office.log.write_text("")
         desk.write_bytes(later)
@@ -222,12 +223,15 @@ def kills(args, counts):
 
 
 def whole_day(args, counts):
-    """A day of 9,999 commands, or as many as there is time for, from 50 connections; then a crash, the close, and what is published."""
-    with served(args.dam, args.desk, count=CONNECTIONS) as office:
+    """A day of 9,999 commands, or as many as there is time for, from 50 connections, or 200; then a crash, the close, and what is
+    published."""
+    connections = ALL_CONNECTIONS if args.all else CONNECTIONS
+    most = (rules.MOST_RECORDS - 2) // connections  # of each
+    with served(args.dam, args.desk, count=connections) as office:
         office.start()
         load = loads.Load(office)
-        took = asyncio.run(load.run((rules.MOST_RECORDS - 2) // CONNECTIONS, 600 if args.all else SECONDS))
-        print(f"{CONNECTIONS} connections: {load.summary(took)}")
+        took = asyncio.run(load.run(most, 600 if args.all else SECONDS))
+        print(f"{connections} connections: {load.summary(took)}")
         records = office.journal()
         replies = loads.replies_of(args.dam, records)
         wrong = list(loads.faults(load, records, replies, key_of(office)))
@@ -238,9 +242,7 @@ def whole_day(args, counts):
         published = office.close_day()
         print(f"from the close to the results: {published:.2f} s")
         check_published(args, counts, office)
-        counts.check(
-            "another's share isn't touched", office.client(office.who[0]).next(office.day) <= (rules.MOST_RECORDS - 2) // CONNECTIONS + 1
-        )
+        counts.check("another's share isn't touched", office.client(office.who[0]).next(office.day) <= most + 1)
 
 
 def week(args, counts):

@@ -268,6 +268,7 @@ class Crashes(Office):
                     await given.submit("GAS", 3, commands("cancel,GAS,C,,,,,,"))
                 self.assertEqual(caught.exception.fault, "Unavailable")
                 self.assertIn("doesn't begin with the 2 entries", given.fault)
+                self.assertEqual(given.state, "stopped")
                 self.assertFalse(given.is_ready.is_set())
                 with self.assertRaises(gate.Refused):
                     given.submit("GAS", 3, commands("cancel,GAS,C,,,,,,"))

@@ -18,7 +18,8 @@ TERMS, SALTS, DESK = "terms.json", "salts.json", "desk"  # of a day; the last on
 HEAD, JOURNAL, REPLIES, RESULTS, STATEMENT = "head.json", "journal.csv", "replies.txt", "results.txt", "statement.json"
 SIGNED = "signed-head.json"  # the newest head, while a day is open; HEAD is the last one
 CLOSE_NOW, OPEN_JOURNAL = "close-now", "publish-journal"  # the operator's requests
-OPEN, CLOSING, CLOSED, RESULTS_THERE, PUBLISHED = STATES = "open", "closing", "closed", "results", "published"  # of a day
+OPEN, CLOSING, CLOSED, RESULTS_THERE, PUBLISHED = "open", "closing", "closed", "results", "published"  # the states of a day
+STOPPED = "stopped"  # a state that only an office in service knows
 MOST_COMMANDS = rules.MOST_RECORDS - 2  # of all participants: the day and the close are records too
 PRIVATE = 0o077  # the bits of a mode that no file of an office has
 ROOM = 1 << 17  # bytes: more than the desk writes at once

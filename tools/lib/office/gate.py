@@ -14,7 +14,7 @@ MOST_BATCH = 1_000  # records that the desk gets at once
 TICK = 0.1  # seconds between two looks at the clock
 FIRST_PAUSE, LONGEST_PAUSE = 0.1, 2.0  # seconds before a desk is started again
 ROOM_PAUSE = 1.0  # seconds between two looks whether a full disk has room
-STOPPED = "the day is stopped: ask the operator"
+STOPPED_WORDS = "the day is stopped: ask the operator"
 MOST_ENDS = 5  # of the desk at one batch, without an entry of it
 
 
@@ -66,6 +66,8 @@ class Gate:
 
     @property
     def state(self):
+        if self.fault:
+            return folder.STOPPED
         if self.published.has_results:
             return folder.PUBLISHED if self.published.has_journal else folder.RESULTS_THERE
         if self.ledger.is_closed:
@@ -91,7 +93,7 @@ class Gate:
         if (held := self.held(who, first, commands)) is not None:
             return held
         if self.fault:
-            raise Refused("Unavailable", STOPPED)
+            raise Refused("Unavailable", STOPPED_WORDS)
         if not self.is_open():
             raise Refused("Closed", "the day is closed, and this command isn't in its journal")
         if first + len(commands) - 1 > self.ledger.share(who):
@@ -211,7 +213,7 @@ class Gate:
         self.fault = fault
         self.log_event("stopped", fault=fault)
         for one in [*self.waiting, *(one for _, one in self.entering)]:
-            fail(one.done, Refused("Unavailable", STOPPED))
+            fail(one.done, Refused("Unavailable", STOPPED_WORDS))
 
     async def keep(self):
         """Opens the desk, and again whenever it ends, and enters all that comes, until the close is entered."""

@@ -17,7 +17,7 @@ from ..journal import book
 from ..report import style
 from ..seal import heads
 from . import folder, requests, tables
-from .gate import STOPPED, Refused
+from .gate import STOPPED_WORDS, Refused
 from .guards import Buckets
 
 MOST_BODY = 1 << 20  # bytes
@@ -185,7 +185,7 @@ class Web:
             raise Refused("TooFast", "too many requests", seconds=seconds)
         gate = self.gate(request)
         if gate.fault:
-            raise Refused("Unavailable", STOPPED)
+            raise Refused("Unavailable", STOPPED_WORDS)
         if not gate.is_ready.is_set() and not gate.ledger.size:
             raise Refused("Unavailable", "the day isn't open yet", seconds=1)
         return gate, who
@@ -337,7 +337,7 @@ class Web:
         """The newest head; with `since` the proof that it goes on from the head of so many entries."""
         gate = self.gate(request)
         if gate.fault:  # its journal may be another than that of earlier heads
-            raise Refused("Unavailable", STOPPED)
+            raise Refused("Unavailable", STOPPED_WORDS)
         ledger = gate.ledger
         if "since" not in request.query:
             return jsonl([ledger.head()])

@@ -59,6 +59,8 @@ const json = async (path, how) => JSON.parse(await ask(path, how));
 const own = (what) => `/days/${state.day}/${what}/${who()}`;
 const periodWords = (number) => `${number} (${state.known.begins[number - 1]})`;
 const isOpen = () => state.known.state === "open";
+// What a day without a time left says of itself.
+const ENDS = { closing: "closed, results are coming", closed: "closed, results are coming", stopped: "stopped: ask the operator" };
 
 // Whether the participant is sure.
 function sure(words, yes) {
@@ -172,10 +174,10 @@ const secondsLeft = () => (state.known.until ? Math.max(0, state.known.until - p
 function showDay() {
   const day = state.known;
   const closes = new Date(day.closes).toLocaleString("en-GB", { timeZone: day.zone, dateStyle: "medium", timeStyle: "short" });
-  const when = isOpen() ? `It closes on ${closes} (${day.zone}).` : "It is closed.";
+  const when = isOpen() ? `It closes on ${closes} (${day.zone}).` : `It is ${day.state === "stopped" ? "stopped" : "closed"}.`;
   byId("where").textContent = `Delivery day ${day.day}, ${day.periods} periods. ${when}`;
   figures([
-    ["time left", isOpen() ? left(secondsLeft()) : ["closing", "closed"].includes(day.state) ? "closed, results are coming" : "closed", "left"],
+    ["time left", isOpen() ? left(secondsLeft()) : ENDS[day.state] ?? "closed", "left"],
     ["your orders in the book", String(state.orders.length)],
     ["your commands", `${state.next - 1} of ${state.share}`],
     ["entries of all", String(day.entries)],
@@ -222,7 +224,7 @@ async function look() {
   }
 }
 
-// The day is closed: says so, with the orders that were being written.
+// The day is closed or stopped: says so, with the orders that were being written.
 function end() {
   const isWritten = ["name", "price", "volume", "group"].some((id) => byId(id).value) || cells().some((input) => input.value);
   const unsent = [];
@@ -233,7 +235,8 @@ function end() {
   state.count = -1;
   if (byId("sure").open) byId("sure").close("");
   const isLost = byId("entry").contains(document.activeElement) || byId("upload").contains(document.activeElement);
-  say(`The day is closed.${state.unsent}`, state.unsent ? "wrong" : "right");
+  const isStopped = state.known.state === "stopped";
+  say(`The day is ${isStopped ? "stopped" : "closed"}.${state.unsent}`, state.unsent || isStopped ? "wrong" : "right");
   if (isLost) byId("orders-title").focus();
 }
 
