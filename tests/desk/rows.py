@@ -11,6 +11,7 @@ sys.dont_write_bytecode = True
 import crashes
 import files
 import kills
+import names
 import refused
 import stand_ins
 import streams
@@ -18,7 +19,7 @@ from device import Desk
 from journals import Dam
 from shared.counts import Counts
 
-PARTS = {"stand_ins": stand_ins, "crashes": crashes, "kills": kills, "refused": refused, "files": files, "streams": streams}
+PARTS = {"stand_ins": stand_ins, "crashes": crashes, "kills": kills, "refused": refused, "files": files, "streams": streams, "names": names}
 
 
 def processor_time():

@@ -20,6 +20,7 @@ from preload import EVERY, LEFT, SECONDS, Program, Refusal
 from shared import cases
 from shared.counts import Counts
 from shared.printed import Printed
+from lib.base import rules
 
 TOP = Path(__file__).resolve().parents[2]
 EXAMPLES = TOP / "examples"
@@ -333,10 +334,11 @@ def copies(runs):
     records = {"submits": b"submit,A,N-%d,hour,buy,0,1:1,,\n", "amends": b"amend,A,N-%d,,,1,1:1,,\n", "cancels": b"cancel,A,N-%d,,,,,,\n"}
     for last, about in enumerate(records):
         kinds = list(records.values())[: last + 1]
-        few, many = (b"".join([b"day,24,,,,,,,\n", *(kind % at for kind in kinds for at in range(count))]) for count in (500, 1_000))
+        most = min(rules.MOST_HOURLY, rules.MOST_DAY_COMMANDS // len(kinds))
+        few, many = (b"".join([DAY, *(kind % at for kind in kinds for at in range(count))]) for count in (most // 2, most))
         asked, twice = (runs.program.run(["day"], data, Refusal("memory"))[1] for data in (few, many))
         wrong = f"day with {about} asks for memory {asked} times, and {twice} times with twice the orders"
-        runs.check(wrong, 500 < asked < twice < 3 * asked)
+        runs.check(wrong, most // 2 < asked < twice < 3 * asked)
 
 
 def main():

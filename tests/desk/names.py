@@ -1,0 +1,47 @@
+"""Names of orders that collide in a book's map under the fixed seed, in a new file, in one that is opened again, and in a printed journal.
+
+A desk draws a seed of its own, so they take no more instructions than others, which valgrind counts. If a desk gets no random bytes for its
+seed, it takes the fixed one, and then they do: so the names collide."""
+
+import errno
+import shutil
+import sys
+import time
+from concurrent.futures import ThreadPoolExecutor
+from pathlib import Path
+
+sys.path.append(str(Path(__file__).resolve().parents[1] / "hostile"))
+
+import costs
+from preload import Program, Refusal
+
+ABOUT = ["in a new file", "in a file that is opened again", "in a printed journal"]
+FIXED = Refusal("random", first=2, error=errno.ENOSYS)  # a file draws first
+
+
+def instructions(program, desk, records, refusal):
+    """Yields the instructions of a desk with a new file that takes the records, with that file again, and for the file's journal."""
+    file = desk.folder() / "day.desk"
+    for words, data in [([file], costs.journal(records)), ([file], b""), (["--journal", file], b"")]:
+        yield costs.instructions(program, words, data, refusal)
+
+
+def run(counts, desk, dam, whole):
+    if not shutil.which("valgrind"):
+        counts.leave_out("a desk with names that collide: valgrind, which counts instructions, is missing", 1)
+        return
+    begun = time.monotonic()
+    program = Program(desk.words[0], desk.room)
+    others, colliding = costs.submits(costs.ordinary_names()), costs.submits(costs.colliding_names(desk.room))
+    tried = [instructions(program, desk, others, costs.DRAWN), instructions(program, desk, colliding, costs.DRAWN)]
+    with ThreadPoolExecutor() as pool:
+        fixed = pool.submit(next, instructions(program, desk, colliding, FIXED))
+        usual, drawn = pool.map(list, tried)
+    for about, taken, by_others in zip(ABOUT, drawn, usual):
+        took = f"names that collide {about} take {taken / by_others:.1f} times the instructions of others"
+        print(took, flush=True)
+        counts.check(took, taken < costs.TIMES * by_others)
+    took = f"with the fixed seed, they take {fixed.result() / usual[0]:.1f} times those"
+    print(took, flush=True)
+    counts.check(took, fixed.result() > costs.TIMES * usual[0])
+    print(f"names: {time.monotonic() - begun:.1f} s", flush=True)
