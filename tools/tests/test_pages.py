@@ -36,7 +36,7 @@ MOST_BYTES = {
     "READING.md": 4_500,
     "TESTED.md": 12_100,
     "THEOREM.md": 10_000,
-    "TRUST.md": 11_600,
+    "TRUST.md": 11_700,
     "USING.md": 14_000,
 }
 WRITTEN = re.compile(r"<!-- the (.*?): tools/reading-list --write -->.*?<!-- the end of the \1 -->", re.DOTALL)
