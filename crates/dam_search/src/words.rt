@@ -1,7 +1,7 @@
 //! The two words that the workers of a search share, and the rule that every step on them keeps.
 //!
 //! The claim word counts the draws, of pieces and past the last one; the incumbent word is the greatest
-//! welfare that was offered. `docs/WORDS.md` has the rule in words and a drawing.
+//! welfare that was offered. `NOTES.md` has the rule in words and a drawing.
 ghost use Rattle.std.specs.Prelude.{◌≡◌, ◌+◌, ◌≤◌, [], ◌∷◌, IfOk};
 ghost use Rattle.dam_search.specs.Words.{most_pieces, most_seats, AreWords, IsDrawn, IsRead, IsOffered};
 ghost use Rattle.dam_search.specs.Words.{view_of, first_view, spent_view, cut_left, cut_right, joined, IsClosed};
