@@ -190,7 +190,7 @@ class Facts(unittest.TestCase):
 
     def test_the_numbers_of_definitions(self):
         """They are said in round numbers."""
-        tool, text = loaded("reading-list"), plain(TOP / "docs" / "READING.md")
+        tool, text = loaded("reading-list"), plain(TOP / "docs" / "ASSURANCE.md")
         repository = Repository(TOP)
         nodes = {node for _, _, new in tool.lists(repository) for node in new}
         for said, count in (r"some (\d+) definitions and types", len(nodes)), (r"some (\d+) lines", len(tool.few_texts(repository).splitlines())):

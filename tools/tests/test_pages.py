@@ -22,18 +22,17 @@ WIDEST = 140  # columns of a line that isn't of a table
 # The words for which the house rule of English has others, apart from the table of that rule.
 OTHER_WORDS = re.compile(r"\b(anew|beside|dear|so many|want of|whoever)\b", re.IGNORECASE)
 # Pages whose sentences with 'what' aren't looked at: examples, and sentences that stand in sources.
-OTHER_PAGES = {"CONTRIBUTING.md", "MAINTAINING.md", "CHECK.md", "OPERATING.md", "DEFINITIONS.md", "READING.md"}
+OTHER_PAGES = {"CONTRIBUTING.md", "MAINTAINING.md", "CHECK.md", "OPERATING.md", "DEFINITIONS.md"}
 # The most bytes of a page, without the parts that a script writes. A page that grows beyond is split, or says things twice.
 MOST_BYTES = {
     "README.md": 7_168,
     "ARCHITECTURE.md": 6_650,
-    "ASSURANCE.md": 22_000,
+    "ASSURANCE.md": 18_432,
     "CONTRIBUTING.md": 12_700,
     "DECISIONS.md": 6_144,
     "DESK.md": 7_168,
     "MEASURED.md": 8_000,
     "OPERATING.md": 7_500,
-    "READING.md": 4_500,
     "TESTED.md": 12_100,
     "THEOREM.md": 10_000,
     "TRUST.md": 11_700,

@@ -100,8 +100,8 @@ class ReadingList(unittest.TestCase):
             self.repository(folder)
             return module.few_list(module.Repository(Path(folder)))
 
-    def test_a_few_definitions_are_listed_with_the_sentence_above_them(self):
-        self.assertEqual(self.few(["IsSize"]), "- Sizes:\n  - `IsSize` (`lower`, `Sizes`): a size\n")
+    def test_a_few_definitions_are_listed_with_their_modules(self):
+        self.assertEqual(self.few(["IsSize"]), "- Sizes: `IsSize` (`lower`, `Sizes`)\n")
 
     def test_a_definition_that_the_contract_does_not_reach_is_refused(self):
         with self.assertRaisesRegex(Exception, "^the contract of run_clear doesn't reach other$"):
