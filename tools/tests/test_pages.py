@@ -38,7 +38,7 @@ MOST_BYTES = {
     "TESTED.md": 12_100,
     "THEOREM.md": 10_000,
     "TRUST.md": 11_700,
-    "USING.md": 14_000,
+    "USING.md": 9_216,
 }
 WRITTEN = re.compile(r"<!-- the (.*?): tools/reading-list --write -->.*?<!-- the end of the \1 -->", re.DOTALL)
 # The headings of a crate's README.
