@@ -143,8 +143,8 @@ pub fn law()
 
     def test_the_theorem_has_the_listed_definitions_and_names_the_others(self):
         text = self.theorem(["IsSize"], ["Printed"])
-        self.assertIn("\n| sizes | `IsSize` | `Printed` |\n", text)
-        self.assertIn("\n-- a size\nabbrev pub IsSize : ℕ → Type 0\nIsSize n = n ≤ greatest\n```\n", text)
+        self.assertIn("\n| sizes | `Printed` |\n", text)
+        self.assertIn("\nabbrev pub IsSize : ℕ → Type 0\nIsSize n = n ≤ greatest\n```\n", text)
         self.assertNotIn("Printed n = Rule n", text)
 
     def test_the_theorem_only_names_definitions_that_the_contract_reaches(self):
