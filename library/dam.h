@@ -31,7 +31,7 @@
  *   - the buffer doesn't overlap the others
  *   - other threads don't write to any of them during the call
  *
- * There is no call for `dam day`. docs/LIBRARY.md has examples in C, Python and Rust.
+ * There is no call for `dam day`. docs/C.md has examples in C, Python and Rust.
  *
  * The library is for Linux on x86-64. `struct dam_answer` has 16 bytes: the status at offset 0, the length at offset 8. The other bytes are
  * undefined.

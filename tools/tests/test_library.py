@@ -1,11 +1,11 @@
-"""The page on the libraries: that its quotes of its programs stand there; and the numbers of the library for C that copy others."""
+"""The pages on the libraries: that their quotes of programs stand there; and the numbers of the library for C that copy others."""
 
 import re
 import unittest
 
 from support import TOP
 
-PAGE = TOP / "docs" / "LIBRARY.md"
+PAGES = [TOP / "docs" / name for name in ("LIBRARY.md", "C.md")]
 CRATE = TOP / "crates" / "dam_example"
 GATE = TOP / "crates" / "dam_refusals"  # whose program holds a gate by hand
 CALLERS = TOP / "tests" / "library"  # of the library for C
@@ -13,7 +13,7 @@ BLOCK = re.compile(r"^```(\w+)\n(.*?)^```$", re.MULTILINE | re.DOTALL)
 
 
 def quotes(language):
-    return [text for found, text in BLOCK.findall(PAGE.read_text()) if found == language]
+    return [text for page in PAGES for found, text in BLOCK.findall(page.read_text()) if found == language]
 
 
 class Library(unittest.TestCase):
