@@ -17,6 +17,7 @@ from shared.pages import links, prose
 
 CRATES = sorted(path for path in (TOP / "crates").iterdir() if (path / "src").is_dir())
 PAGES = [TOP / "README.md", TOP / "CHANGELOG.md", *sorted((TOP / "docs").glob("*.md")), *sorted((TOP / "crates").glob("*/*.md"))]
+PAGES += [TOP / folder / "NOTES.md" for folder in ("crates", "tests", "tools", "package")]
 MOST = 200  # characters of a cell
 WIDEST = 140  # columns of a line that isn't of a table
 # The words for which the house rule of English has others, apart from the table of that rule.
@@ -26,7 +27,7 @@ OTHER_PAGES = {"CONTRIBUTING.md", "MAINTAINING.md", "CHECK.md", "OPERATING.md", 
 # The most bytes of a page that has parts which a script writes, with these.
 MOST_IN_ALL = {"THEOREM.md": 15_360}
 # The most bytes of README and docs/ together.
-MOST_OF_ALL = 284_000
+MOST_OF_ALL = 271_000
 # The most bytes of a page, without the parts that a script writes. A page that grows beyond is split, or says things twice.
 MOST_BYTES = {
     "README.md": 7_168,
@@ -40,7 +41,10 @@ MOST_BYTES = {
     "GLOSSARY.md": 5_500,
     "LIBRARY.md": 8_300,
     "MEASURED.md": 8_000,
+    "FORMATS.md": 19_900,
+    "MAINTAINING.md": 7_400,
     "OPERATING.md": 7_500,
+    "RULES.md": 11_200,
     "TESTED.md": 12_100,
     "TRUST.md": 11_700,
     "USING.md": 9_216,
