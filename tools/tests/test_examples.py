@@ -92,24 +92,15 @@ class SunnyDay(Walk, unittest.TestCase):
             (["START", "STAY", "EVENING"], [], []),
             (["NOON"], ["LONG"], []),
             (["NOON"], ["NIGHT"], ["NIGHT"]),
-            ([], ["UNIT-7"], ["UNIT-7"]),
         ):
             with self.subTest(without=without, plus=plus):
                 found, losses = self.outcome(without, plus)
                 self.says_euros(found.welfare)
                 self.assertEqual(list(losses), losing)
 
-    def test_the_paradoxical_block(self):
-        found, losses = self.outcome(plus=["UNIT-7"])
-        self.says_euros(losses["UNIT-7"])
-        for number in range(19, 23):
-            self.assertIn(f"{self.outcome()[0].cleared[number].price / 100:.2f}", self.text)
-            self.assertIn(f"{found.cleared[number].price / 100:.2f}", self.text)
-
     def test_the_price_between_two_ends(self):
         found = self.outcome()[0].cleared[19]
-        self.assertIn(f"from {found.low / 100:.2f} EUR", self.text)
-        self.assertIn(f"to {found.high // 100} EUR", self.text)
+        self.assertRegex(self.text, rf"from {found.low / 100:.2f} EUR, [^.]*, to {found.high // 100} EUR")
 
 
 class QuarterHours(Walk, unittest.TestCase):

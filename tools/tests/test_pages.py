@@ -27,27 +27,31 @@ OTHER_PAGES = {"CONTRIBUTING.md", "MAINTAINING.md", "CHECK.md", "OPERATING.md", 
 # The most bytes of a page that has parts which a script writes, with these.
 MOST_IN_ALL = {"THEOREM.md": 15_360}
 # The most bytes of README and docs/ together.
-MOST_OF_ALL = 271_000
+MOST_OF_ALL = 262_000
 # The most bytes of a page, without the parts that a script writes. A page that grows beyond is split, or says things twice.
 MOST_BYTES = {
     "README.md": 7_168,
     "ARCHITECTURE.md": 6_650,
     "ASSURANCE.md": 18_432,
+    "AUDIT.md": 9_500,
     "C.md": 6_200,
     "CHECK.md": 8_192,
-    "CONTRIBUTING.md": 12_700,
-    "DECISIONS.md": 6_144,
+    "CONTRIBUTING.md": 10_800,
+    "DECISIONS.md": 4_200,
     "DESK.md": 7_168,
+    "EXAMPLES.md": 6_600,
+    "FORMATS.md": 19_900,
     "GLOSSARY.md": 5_500,
     "LIBRARY.md": 8_300,
-    "MEASURED.md": 8_000,
-    "FORMATS.md": 19_900,
     "MAINTAINING.md": 7_400,
+    "MEASURED.md": 8_000,
     "OPERATING.md": 7_500,
     "RULES.md": 11_200,
-    "TESTED.md": 12_100,
+    "TABLES.md": 13_800,
+    "TESTED.md": 10_400,
     "TRUST.md": 11_700,
     "USING.md": 9_216,
+    "WHATIF.md": 7_000,
 }
 WRITTEN = re.compile(r"<!-- the (.*?): tools/reading-list --write -->.*?<!-- the end of the \1 -->", re.DOTALL)
 # The headings of a crate's README.
