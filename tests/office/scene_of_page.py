@@ -29,7 +29,7 @@ ON_SCREEN = """(() => { const part = byId('%s'), {top, bottom, left} = part.getB
 SCROLLED = """[...document.querySelectorAll('.wide')]
   .filter((one) => one.checkVisibility() && one.scrollWidth > one.clientWidth).length"""
 HEADS = "participant,order,kind,side,price_eur_mwh,periods,volume_mw,parent,group\n"
-TABLE = HEADS + "{who},T-1,block,buy,80,1-3,10,,G\n{who},T-2,block,buy,70,1;3,5.5,T-1,\n"
+TABLE = HEADS + "{who},T-1,block,buy,80,1-3,10,,G\n{who},T-2,block,buy,70,1;3,5.5,T-1,\n{who},T-3,block,buy,60,2,1,MORE,\n"
 
 
 async def focus(page, name):
@@ -388,13 +388,14 @@ async def upload(page, who, room, counts):
         == [
             ["1", "enter", "T-1", "block", "buy", "80.00", "1-3: 10.0", "group G"],
             ["2", "enter", "T-2", "block", "buy", "70.00", "1: 5.5, 3: 5.5", "parent T-1"],
+            ["3", "enter", "T-3", "block", "buy", "60.00", "2: 1.0", "parent MORE"],  # which is in the book
         ],
     )
     counts.check("before it is entered", len(await rows(page, "commands-table")) == before)
     await click(page, "#enter-all")
-    await until_rows(page, "commands-table", before + 2)
-    counts.check("a table is entered", [row[3] for row in (await rows(page, "commands-table"))[:2]] == ["done", "done"])
-    counts.check("and the message counts it", await text(page, "message") == "2 commands done, on the disk, with a signed receipt.")
+    await until_rows(page, "commands-table", before + 3)
+    counts.check("a table is entered", [row[3] for row in (await rows(page, "commands-table"))[:3]] == ["done"] * 3)
+    counts.check("and the message counts it", await text(page, "message") == "3 commands done, on the disk, each with a signed receipt.")
 
 
 # --- the close
@@ -415,7 +416,7 @@ async def results(page, office, who, other, counts):
     )
     statement, prices, commands = [await rows(page, name) for name in ("statement", "prices", "commands-table")]
     found = {row[0]: row[1:] for row in statement}
-    counts.check(f"each order has its result: {sorted(found)}", sorted(found) == ["MORE", "ONCE", "RUN", "T-1", "T-2", "UNIT-8"])
+    counts.check(f"each order has its result: {sorted(found)}", sorted(found) == ["MORE", "ONCE", "RUN", "T-1", "T-2", "T-3", "UNIT-8"])
     unit = ["hourly", "sell", "61.00", "50.1", "30.0", "61.00", "1,830.00", "executed in part"]
     counts.check(
         f"in a trader's words: {found['UNIT-8']}",
@@ -446,7 +447,7 @@ async def sign_in_again(page, office, who, counts):
     await sign_in(page, office, who)
     await page.until("!document.getElementById('results').hidden")
     counts.check(
-        "the results are there after the next sign-in", len(await rows(page, "statement")) == 6 and len(await rows(page, "prices")) == 24
+        "the results are there after the next sign-in", len(await rows(page, "statement")) == 7 and len(await rows(page, "prices")) == 24
     )
     await click(page, "#sign-out")
 

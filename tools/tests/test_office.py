@@ -716,19 +716,38 @@ class Requests(unittest.TestCase):
         self.assertEqual(requests.table_records(changes, "GAS", 24)[0], ["amend,GAS,A,,,1250,8:300;9:300,,", "cancel,GAS,B,,,,,,"])
         for data, words in (
             (table.replace(b"GAS", b"OIL"), "1 command of other"),
-            (table.replace(b",8,", b",25,"), "PeriodOutOfDay"),
+            (table.replace(b",8,", b",25,"), "there is no period 25$"),
+            (table.replace(b",8,", b",2026-08-10,"), "such as 8, 8-20 or 1;3;5-7, from 1 to 24: a spreadsheet has taken it for a date"),
             (b"", "empty"),
         ):
             with self.assertRaisesRegex(requests.Wrong, words):
                 requests.table_records(data, "GAS", 24)
+
+    def test_a_table_links_to_orders_in_the_book(self):
+        row = "participant,order,kind,side,price_eur_mwh,periods,volume_mw,parent\nGAS,KID%d,block,sell,50,15-16,5,BASE\n"
+        read = lambda *orders: requests.table_records((row % 2).encode(), "GAS", 24, orders)[0]
+        self.assertEqual(read(("BASE", "block")), ["submit,GAS,KID2,block,sell,5000,15:50;16:50,BASE,"])
+        for orders, words in (
+            ([], "line 2, column parent: you have no order BASE, neither in the book nor in a line above"),
+            ([("BASE2", "block")], "line 2, column parent: you have no order BASE, neither in the book nor in a line above"),
+            ([("BASE", "hour")], "line 2, column parent: BASE in the book is an hourly order, not a block"),
+            ([("BASE", "block"), *((f"B{number}", "block") for number in range(23))], "line 2: a book holds at most 24 blocks"),
+        ):
+            with self.subTest(orders=orders), self.assertRaisesRegex(requests.Wrong, f"^{words}$"):
+                read(*orders)
 
     def test_a_table_is_read_in_a_process_of_its_own(self):
         table = b"participant,order,kind,side,price_eur_mwh,periods,volume_mw\nGAS,A,block,buy,12.50,%d,30\n"
         read = lambda data, periods=24: asyncio.run(reader.read(data, "GAS", periods))
         self.assertEqual(read(table % 8), (["submit,GAS,A,block,buy,1250,8:300,,"], []))
         self.assertEqual(read(table % 100, 100)[0], ["submit,GAS,A,block,buy,1250,100:300,,"])
-        with self.assertRaisesRegex(requests.Wrong, "PeriodOutOfDay"):
+        with self.assertRaisesRegex(requests.Wrong, "there is no period 100$"):
             read(table % 100, 96)
+        child = (table % 8).replace(b"mw\n", b"mw,parent\n").replace(b",30\n", b",30,BASE\n")
+        linked = asyncio.run(reader.read(child, "GAS", 24, [("BASE", "block")]))
+        self.assertEqual(linked, (["submit,GAS,A,block,buy,1250,8:300,BASE,"], []))
+        with self.assertRaisesRegex(requests.Wrong, "you have no order BASE, neither in the book nor in a line above$"):
+            read(child)
         with self.assertRaisesRegex(requests.Wrong, "1 command of other"):
             read(table.replace(b"GAS", b"OIL") % 8)
         with mock.patch.object(reader, "MOST_SECONDS", 0.001), self.assertRaisesRegex(gate.Refused, "can't be read"):

@@ -140,15 +140,15 @@ class Worked(unittest.TestCase):
         """A row whose participant can't be read may be of the participant that asks, and so may one that is shifted."""
         rows = ["participant,order,kind,side,price_eur_mwh,periods,volume_mw", "A,H1,hour,buy,3.00,1,1", "A,K1,block,buy,1.00,1-2,1"]
         for row, said in (
-            (",H2,hour,buy,3.00,1,1", "column participant: '' should be 1 to 8 capitals A to Z"),
-            ("4,H2,hour,buy,3.00,1,1", "column participant: '4' should be 1 to 8 capitals A to Z"),
-            ("\u200bA,H2,hour,buy,3.00,1,1", "column participant: '\\u200bA' should be 1 to 8 capitals A to Z"),
-            ("ABCDEFGHI,H2,hour,buy,3.00,1,1", "column participant: 'ABCDEFGHI' should be 1 to 8 capitals A to Z"),
-            ("c,H2,hour,buy,3.00,1,1", "column participant: 'c' should be 1 to 8 capitals A to Z: write C"),
-            ("a,H2,hour,buy,3.00,1,1", "column participant: 'a' should be 1 to 8 capitals A to Z: write A"),
-            ("C,A,H2,hour,buy,3.00,1,1", "it has 8 cells, but the header has 7"),
+            (",H2,hour,buy,3.00,1,1", ", column participant: '' should be 1 to 8 capitals A to Z"),
+            ("4,H2,hour,buy,3.00,1,1", ", column participant: '4' should be 1 to 8 capitals A to Z"),
+            ("\u200bA,H2,hour,buy,3.00,1,1", ", column participant: '\\u200bA' should be 1 to 8 capitals A to Z"),
+            ("ABCDEFGHI,H2,hour,buy,3.00,1,1", ", column participant: 'ABCDEFGHI' should be 1 to 8 capitals A to Z"),
+            ("c,H2,hour,buy,3.00,1,1", ", column participant: 'c' should be 1 to 8 capitals A to Z: write C"),
+            ("a,H2,hour,buy,3.00,1,1", ", column participant: 'a' should be 1 to 8 capitals A to Z: write A"),
+            ("C,A,H2,hour,buy,3.00,1,1", ": it has 8 cells, but the header has 7"),
         ):
-            found = f"audit: sent isn't what A sent: its table has rows that aren't orders: line 4, {said}\n"
+            found = f"audit: sent isn't what A sent: its table has rows that aren't orders: line 4{said}\n"
             self.assertEqual(audit(PUBLISHED, text_of([*rows, row])), (command.NO_INPUT, "", found))
         others = [f"{who},H1,hour,buy,x,1," for who in ("C", "ABCDEFGH")]
         self.assertEqual(audit(PUBLISHED, text_of([*rows, *others]))[::2], (command.DONE, ""))

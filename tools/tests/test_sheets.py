@@ -64,6 +64,7 @@ class Columns(unittest.TestCase):
         self.assertEqual(found[1], "line 1, column 3: the column 'order' appears twice")
         self.assertIn("line 1, column 8: 'parnt' is not a column: write parent", found)
         self.assertIn("line 1, column 7: 'volume' is not a column: write volume_mw", found)
+        self.assertIn("line 1, column 5: 'price' is not a column: write price_eur_mwh", found)
         said = "line 1: there is no column participant, kind, price_eur_mwh, volume_mw; the columns are participant, order"
         self.assertTrue(any(line.startswith(said) for line in found), found)
 

@@ -143,7 +143,7 @@ class Orders(unittest.TestCase):
             ("12.5", text.cents(rules.LEAST_PRICE - 1), "price_eur_mwh", PRICES),
             (",8,", ",,", "periods", "it should name a period"),
             (",8,", ",0,", "periods", "periods and runs of them"),
-            (",8,", ",101,", "periods", "from 1 to 100"),
+            (",8,", ",101,", "periods", "from 1 to 24"),
             (",8,", ",9-8,", "periods", "periods and runs of them"),
             (",8,", ",8-9,", "periods", "an hourly order has one period"),
             (",8,", ",25,", "periods", "the day has periods 1 to 24, so there is no period 25 (PeriodOutOfDay)"),
@@ -170,7 +170,7 @@ class Orders(unittest.TestCase):
         said = "line 3, column parent: WIND-8 of line 2 is an hourly order, not a block (ParentNotBlock)"
         self.assertEqual(said, self.wrong(HOUR, "NORD,K,block,buy,1,1,5,WIND-8,"))
         blocks = [f"A,K{number},block,buy,1,1,5,," for number in range(rules.MOST_BLOCKS + 1)]
-        self.assertIn(f"line {len(blocks) + 1}, a book holds at most {rules.MOST_BLOCKS} blocks (BlocksFull)", self.wrong(*blocks))
+        self.assertIn(f"line {len(blocks) + 1}: a book holds at most {rules.MOST_BLOCKS} blocks (BlocksFull)", self.wrong(*blocks))
 
     def test_a_bad_line_makes_no_other_one_wrong(self):
         """A line that names its order isn't wrong, and its other faults are reported too."""
@@ -243,7 +243,7 @@ class Orders(unittest.TestCase):
         self.assertIn("'side' appears twice", self.wrong(header=HEADER.replace("kind", "side")))
         self.assertIn("there is no column kind", self.wrong(header=HEADER.replace("kind,", "")))
         self.assertIn("the table is empty", self.wrong(header=""))
-        self.assertIn("line 2, it has 10 cells, but the header has 9", self.wrong(BLOCK + ",1"))
+        self.assertIn("line 2: it has 10 cells, but the header has 9", self.wrong(BLOCK + ",1"))
         with self.assertRaises(order_table.Wrong) as fault:
             order_table.read_orders(HEADER.encode() + b"\nN\x81RD", 24, True)
         said = "line 2: the table is neither in UTF-8 nor in Windows-1252: save it as CSV in UTF-8"
@@ -332,7 +332,7 @@ class CommandLine(unittest.TestCase):
         texts = [AUCTION, AUCTION_RESULTS]
         status, out, err = tool("table", "--journal", "-", data=f"{HEADER}\n{HOUR},x\n".encode())
         self.assertEqual((status, out), (command.NO_INPUT, b""))
-        self.assertEqual(err, "table: standard input: line 2, it has 10 cells, but the header has 9\n")
+        self.assertEqual(err, "table: standard input: line 2: it has 10 cells, but the header has 9\n")
         for words in (
             ["--journal", AUCTION, "--participant", "GAS"],
             ["--journal", AUCTION, "-o", "a.xlsx"],

@@ -362,11 +362,11 @@ class Tools(unittest.TestCase):
     def test_a_cell_beyond_the_header_is_a_fault_of_each_command(self):
         head = b"what,participant,order,price_eur_mwh,periods,volume_mw\n"
         for row, count in ((b"amend,GEN,UNIT,60,1,2,30", 7), (b"cancel,GEN,UNIT,,,,30", 7), (b"close,,,,,,,30", 8), (b",,,,,,30", 7)):
-            said = f"whatif: standard input: line 3, it has {count} cells, but the header has 6\n"
+            said = f"whatif: standard input: line 3: it has {count} cells, but the header has 6\n"
             table = head + b"amend,GEN,UNIT,60,1,2\n" + row + b"\n"
             self.assertEqual(self.whatif("change", self.journal, "-", data=table), (3, b"", said))
             table = b"".join(b"%s%s\n" % (b"S," if at else b"scenario,", line) for at, line in enumerate(table.splitlines()))
-            said = f"whatif: standard input: line 3, it has {count + 1} cells, but the header has 7\n"
+            said = f"whatif: standard input: line 3: it has {count + 1} cells, but the header has 7\n"
             self.assertEqual(self.whatif("scenarios", self.journal, "-", data=table), (3, b"", said))
 
     def test_a_column_of_a_table_of_commands_that_appears_twice(self):

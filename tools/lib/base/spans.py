@@ -11,8 +11,9 @@ def dashed(words):
     return "-".join(part.strip() for part in DASH.split(words))
 
 
-def read(words, greatest, separators=";"):
-    """The periods of a text, in its order; a ValueError says the right form of the text."""
+def read(words, greatest, separators=";", periods=None):
+    """The periods of a text, in its order; a ValueError says the right form of the text, for a day of so many periods if they are
+    known."""
     numbers = []
     parts = [part for part in re.split(rf"[{separators}\s]+", words) if part]
     for part in parts or [""]:
@@ -20,7 +21,7 @@ def read(words, greatest, separators=";"):
         first, last = (int(found[1]), int(found[2] or found[1])) if found else (0, 0)
         if not found or first > last or last > greatest:
             by = separators[0]
-            raise ValueError(f"periods and runs of them, such as 8, 8-20 or 1{by}3{by}5-7, from 1 to {greatest}")
+            raise ValueError(f"periods and runs of them, such as 8, 8-20 or 1{by}3{by}5-7, from 1 to {periods or greatest}")
         numbers += range(first, last + 1)
     return numbers
 

@@ -4,7 +4,7 @@ import json
 import re
 
 from ..base import rules, text
-from ..journal import journal
+from ..journal import book, journal
 from ..lint import lint
 from ..sheets import command_table, order_table
 from .folder import MOST_COMMANDS
@@ -17,6 +17,7 @@ FIELDS = {  # of a command in JSON, by its kind: those that it must have, and th
 }
 MOST_LINTED, MOST_LINES = 1 << 12, 20  # bytes and lines of a body of which all faults are named
 RECORD = re.compile("record ([0-9]+)")
+CODE = re.compile(rf" \((?:{'|'.join(book.REASONS)})\)$", re.MULTILINE)  # of the book, behind its words in a table's fault
 DAY = b"day,%d,,,,,,,\n" % rules.GREATEST_PERIOD  # before records; the desk's book knows the day's periods
 
 
@@ -115,18 +116,19 @@ def volumes_of(value, command):
     return ";".join(":".join(number(part, command, "a volume") for part in pair) for pair in value)
 
 
-def table_records(data, who, periods):
-    """The records of a table of orders or of commands of this participant, and notes on how it was read. Nothing is entered."""
+def table_records(data, who, periods, orders=()):
+    """The records of a table of orders or of commands of this participant, whose orders in the book are pairs of a name and a kind; and
+    notes on how it was read. Nothing is entered."""
     try:
         cells = order_table.cells_of(data)
         if command_table.is_command_table(cells):
             placed, notes = command_table.read_commands(cells, periods)
             commands = [command for _, command in placed]
         else:
-            orders = order_table.read_tables([("", cells)], periods)
+            orders = order_table.read_tables([("", cells)], periods, held=(who, orders))
             commands, notes = [submit for _, submit in orders.submits], orders.notes
     except order_table.Wrong as fault:
-        raise Wrong(str(fault)) from None
+        raise Wrong(CODE.sub("", str(fault))) from None
     others = sum(command.who != who for command in commands)
     if others:
         raise Wrong(f"the table has {text.counted(others, 'command')} of other participants than {who}")

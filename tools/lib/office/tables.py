@@ -1,5 +1,6 @@
 """Reads an uploaded table in a process of its own: one that takes long, or much memory, takes neither from the commands. `read` asks for
-it; run as a program, with the participant and the day's periods as its words, this file does it, from standard input to standard output."""
+it; run as a program, with the participant and the day's periods as its words, this file does it, from standard input to standard output.
+The first line of the input has the participant's orders in the book, as JSON: others on the machine see a process's words."""
 
 import json
 import os
@@ -18,10 +19,12 @@ MOST_MEMORY = 1 << 29  # bytes of addresses; a workbook of 1 MiB takes a tenth
 NICENESS = 10
 
 
-async def read(data, who, periods):
-    """The records that a table makes, and notes on how it was read."""
+async def read(data, who, periods, orders=()):
+    """The records that a table makes of a participant whose orders in the book are pairs of a name and a kind; and notes on how it was
+    read."""
+    given = json.dumps(list(orders)).encode() + b"\n" + data
     try:
-        made = await clearing.output(sys.executable, "-I", "-B", __file__, who, str(periods), data=data, seconds=MOST_SECONDS)
+        made = await clearing.output(sys.executable, "-I", "-B", __file__, who, str(periods), data=given, seconds=MOST_SECONDS)
     except clearing.Failed:
         raise Refused("Malformed", f"the table can't be read within {MOST_SECONDS} s") from None
     value = json.loads(made)
@@ -34,8 +37,9 @@ def main(who, periods):
     os.nice(NICENESS)
     resource.setrlimit(resource.RLIMIT_AS, (MOST_MEMORY, MOST_MEMORY))
     resource.setrlimit(resource.RLIMIT_CPU, (MOST_SECONDS, MOST_SECONDS))
+    orders = json.loads(sys.stdin.buffer.readline())
     try:
-        records, notes = requests.table_records(sys.stdin.buffer.read(), who, int(periods))
+        records, notes = requests.table_records(sys.stdin.buffer.read(), who, int(periods), orders)
         made = {"records": records, "notes": notes}
     except requests.Wrong as fault:
         made = {"wrong": str(fault)}

@@ -287,7 +287,8 @@ class Web:
             async with self.tables:
                 if request.transport is None:  # the client is gone
                     raise ConnectionResetError
-                records, notes = await tables.read(body, who, gate.terms.periods)
+                orders = [(name, order.kind) for name, order in gate.ledger.orders(who)]
+                records, notes = await tables.read(body, who, gate.terms.periods, orders)
         finally:
             self.reading.discard(who)
         return web.json_response({"records": records, "notes": notes})

@@ -91,7 +91,7 @@ def read_commands(given, periods):
     for line, cells in columns.table.rows:
         command, faults = columns.read(cells, periods)
         found += [(line, command)] if command else []
-        wrong += [f"line {line}, {words}" for words in faults]
+        wrong += [order_table.of_line(line, words) for words in faults]
     if wrong:
         raise order_table.Wrong("\n".join(wrong))
     return found, columns.table.notes

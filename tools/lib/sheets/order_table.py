@@ -56,7 +56,7 @@ def columns_of(header, needed, further):
             places[name] = at - 1
         elif name in further or WHAT in further and name in REPLY:
             continue
-        elif alike := difflib.get_close_matches(name, missing, 1, ALIKE):
+        elif alike := meant_by(name, missing, needed):
             wrong.append(f"line 1, column {at}: {text.quoted(cell)} is not a column: write {alike[0]}")
         elif name and name not in further:
             notes.append(f"the column {text.quoted(cell)} isn't used")
@@ -66,6 +66,11 @@ def columns_of(header, needed, further):
     if wrong:
         raise Wrong("\n".join([*wrong, *(f"line 1: {note}" for note in notes)] if lacking else wrong))
     return places, notes
+
+
+def meant_by(name, missing, needed):
+    """The missing columns that a name probably stands for: those that are needed, and of which it is the first word, or one like it."""
+    return [one for one in missing if one in needed and one.startswith(f"{name}_")] or difflib.get_close_matches(name, missing, 1, ALIKE)
 
 
 def unlike(cell):
@@ -123,7 +128,7 @@ def read_periods(cell, periods):
     if ":" in cell:
         numbers = read_times(cell, periods)
     else:
-        numbers = read_numbers(cell)
+        numbers = read_numbers(cell, periods)
     if any(one >= other for one, other in zip(numbers, numbers[1:])):
         raise Wrong(f"the periods {text.quoted(cell)} should increase")
     if numbers[-1] > periods:
@@ -138,10 +143,10 @@ def refuse_many(found, cell):
         raise Wrong(f"{text.quoted(cell)} has {len(found):,} parts: a day has at most {rules.GREATEST_PERIOD} periods")
 
 
-def read_numbers(cell):
+def read_numbers(cell, periods):
     refuse_many(parts(cell), cell)
     try:
-        return spans.read(cell, rules.GREATEST_PERIOD)
+        return spans.read(cell, rules.GREATEST_PERIOD, periods=periods)
     except ValueError as fault:
         hint = ": a spreadsheet has taken it for a date, so make the cell one of text" if DATE.fullmatch(cell) else ""
         raise Wrong(f"{text.quoted(cell)} should be {fault}{hint}") from None
@@ -271,10 +276,14 @@ class Row:
 
 
 class Entered:
-    """The orders of the lines so far, also of those that can't be read: the links of the next line to them."""
+    """The orders of the lines so far, also of those that can't be read: the links of the next line to them. And, for a participant who
+    has a book, its orders there."""
 
-    def __init__(self, periods):
-        self.held = book.Book(periods)
+    def __init__(self, periods, owner=None, orders=()):
+        """`orders`: the owner's in the book, as pairs of a name and a kind."""
+        self.held, self.owner = book.Book(periods), owner
+        for name, kind in orders:
+            self.held.change(journal.Submit(owner, name, journal.Order(kind, "buy", 0, ())))
         self.lines = {}  # the line and the kind of each order, by participant and name
 
     def enter(self, line, row, command):
@@ -283,15 +292,24 @@ class Entered:
         if who and name and (who, name) in self.lines:
             row.wrong.append(f"column order: {who} has an order {name} in {self.lines[who, name][0]} (NameTaken)")
         if who and parent:
-            above, kind = self.lines.get((who, parent), (None, None))
-            if above is None:
-                row.wrong.append(f"column parent: {who} has no order {parent} in a line above (UnknownParent)")
-            elif kind == "hour":
-                row.wrong.append(f"column parent: {parent} of {above} is an hourly order, not a block (ParentNotBlock)")
+            if fault := self.parent_fault(who, parent):
+                row.wrong.append(f"column parent: {fault}")
         reason = None if row.wrong else self.held.apply(command)
         if reason in FULL:
             row.wrong.append(f"{FULL[reason]} ({reason})")
         self.lines.setdefault((who, name), (line, command.order.kind))
+
+    def parent_fault(self, who, parent):
+        """Why an order can't have this parent; None if it can."""
+        line, kind = self.lines.get((who, parent), (None, None))
+        where, held = f"of {line}", self.held.rows.get((who, parent))
+        if line is None and held:  # in the owner's book
+            where, kind = "in the book", held.kind
+        elif line is None and who == self.owner:
+            return f"you have no order {parent}, neither in the book nor in a line above (UnknownParent)"
+        elif line is None:
+            return f"{who} has no order {parent} in a line above (UnknownParent)"
+        return f"{parent} {where} is an hourly order, not a block (ParentNotBlock)" if kind == "hour" else None
 
 
 class Table(NamedTuple):
@@ -387,6 +405,11 @@ def refuse_commands(header, rows):
             raise Wrong(f"line {line}, column {WHAT}: {text.quoted(word)}: {words}")
 
 
+def of_line(line, words):
+    """The fault of a row, or of one of its columns."""
+    return f"line {line}{',' if words.startswith('column ') else ':'} {words}"
+
+
 class Faults:
     """The faults of tables: the first ones, and how many there are."""
 
@@ -411,10 +434,11 @@ class Orders(NamedTuple):
     others: int
 
 
-def read_tables(sources, periods, who=None, raises=False):
+def read_tables(sources, periods, who=None, raises=False, held=None):
     """The orders of tables, given as pairs of a name for messages and bytes or cells, for a day of `periods` periods; of one participant,
     or of all. Of the others' rows only the participant and the number of cells are read. `raises`: names are put into capitals, with a
-    note. If something is wrong with the tables, all of it, one line each."""
+    note. `held`: an owner, whom the messages call you, and its orders in the book, as pairs of a name and a kind. If something is wrong
+    with the tables, all of it, one line each."""
     if periods not in rules.DAYS:
         raise Wrong(f"a day has {', '.join(DAYS[:-1])} or {DAYS[-1]} periods, not {periods}")
     wrong, notes, tables = Faults(), [], []
@@ -424,7 +448,7 @@ def read_tables(sources, periods, who=None, raises=False):
         except Wrong as fault:
             for line in str(fault).split("\n"):
                 wrong.add(f"{name}: {line}" if name else line)
-    entered, submits, number, others = Entered(periods), [], 0, 0
+    entered, submits, number, others = Entered(periods, *held or ()), [], 0, 0
     for table in tables:
         notes += map(table.told, table.notes)
         raised = {}
@@ -439,7 +463,7 @@ def read_tables(sources, periods, who=None, raises=False):
                 entered.enter(table.line(line), row, submits[-1][1])
                 raised.update(row.raised)
             for words in row.wrong:
-                wrong.add(table.told(f"line {line}, {words}"))
+                wrong.add(table.told(of_line(line, words)))
         notes += [table.told(in_capitals(raised))] if raised else []
     if wrong.count:
         read = [table.told(note) for table in tables for note in table.read]

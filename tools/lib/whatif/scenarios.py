@@ -132,7 +132,7 @@ def commands_of(name, columns, rows, held):
     for line, _, cells in rows:
         command, faults = columns.read(cells, held.periods)
         if faults:
-            wrong = "\n".join(f"line {line}, {words}" for words in faults)
+            wrong = "\n".join(order_table.of_line(line, words) for words in faults)
             raise Fault(f"{name}: {changes.in_few_lines(wrong)}")
         found += [(f"line {line}", command)] if command else []
     try:

@@ -297,10 +297,11 @@ function outcomeWords(commands, receipts) {
   const refused = commands.map((command, at) => [command, receipts[at].reply]).filter(([, reply]) => reply !== "done");
   const lines = refused.slice(0, MOST_REFUSED).map(([{ what, order }, reply]) => `${order} wasn't ${DONE[what]}: ${reasonOf(reply)}.`);
   if (refused.length > MOST_REFUSED) lines.push(`${refused.length - MOST_REFUSED} more were refused: your commands below have the reasons.`);
-  if (refused.length) lines.push(`The book's ${refused.length === 1 ? "refusal is" : "refusals are"} on the disk, with a signed receipt.`);
+  if (refused.length) lines.push(`The book's ${refused.length === 1 ? "refusal is" : "refusals are"} on the disk, ${refused.length > 1 ? "each " : ""}with a signed receipt.`);
   const [{ what, order }] = commands;
-  const right = commands.length === 1 ? `${order} ${DONE[what]}` : `${counted(commands.length - refused.length, "command")} done`;
-  if (refused.length < commands.length) lines.unshift(`${right}, on the disk, with a signed receipt.`);
+  const done = commands.length - refused.length;
+  const right = commands.length === 1 ? `${order} ${DONE[what]}` : `${counted(done, "command")} done`;
+  if (done) lines.unshift(`${right}, on the disk, ${done > 1 ? "each " : ""}with a signed receipt.`);
   return [lines.join("\n"), refused.length ? "wrong" : "right"];
 }
 
