@@ -242,7 +242,25 @@ def whole_day(args, counts):
         published = office.close_day()
         print(f"from the close to the results: {published:.2f} s")
         check_published(args, counts, office)
+        office.kill("office", "desk")
+        office.begin()
+        wrong = list(other_answers(office, len(records) + 1))
+        counts.check(f"a closed day that is read again gives no other answers: {wrong[:3]}", not wrong)
         counts.check("another's share isn't touched", office.client(office.who[0]).next(office.day) <= most + 1)
+
+
+def other_answers(office, size):
+    """The answers of an office that starts, until it is ready, which aren't those of a closed day with so many entries."""
+    who, is_ready = office.who[0], False
+    while not is_ready:
+        is_ready = office.is_ready()
+        for path in (f"/days/{office.day}/head", f"/days/{office.day}/commands/{who}/1", f"/days/{office.day}/receipts/{who}"):
+            with contextlib.suppress(OSError):  # it doesn't listen yet
+                status, _, data = office.get(path, office.bearer(who))
+                if status != 503 and (status != 200 or path.endswith("head") and json.loads(data)["size"] != size):
+                    yield path, status, data[:100]
+    if office.process.poll() is not None:
+        yield "it ended", office.log.read_text()[-500:]
 
 
 def week(args, counts):

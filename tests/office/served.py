@@ -82,11 +82,16 @@ class Served:
     def started(self):
         """Serves the office, and returns whether the day takes commands, or its log says that it is stopped."""
         self.begin()
-        while not (self.is_ready() or b'"stopped"' in self.log.read_bytes()):
+        while not (self.is_ready() or b'"stopped"' in self.log.read_bytes() and self.listens()):
             if self.process.poll() is not None:
                 raise RuntimeError(f"the office doesn't start: {self.log.read_text()[-2_000:]}")
             time.sleep(STEP)
         return self.is_ready()
+
+    def listens(self):
+        with contextlib.suppress(OSError), socket.create_connection(("127.0.0.1", self.port)):
+            return True
+        return False
 
     def is_ready(self):
         try:

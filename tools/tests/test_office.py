@@ -34,7 +34,7 @@ try:
     from cryptography.exceptions import InvalidSignature
 
     from lib.seal import sealing, signing
-    from lib.office import clearing, demo, folder, gate, guards, newest, observed, operate, requests, setup, tokens
+    from lib.office import clearing, demo, folder, gate, guards, newest, observed, operate, requests, setup, tokens, web
     from lib.office import serve as serving
     from lib.office import tables as reader
     from lib.office.desk import Desk, Ended
@@ -381,6 +381,44 @@ class SignedHeads(Office):
         path.write_bytes(whole)
         self.assertIn("LostEntries", await self.started(disk))
 
+    async def test_nothing_is_entered_while_the_newest_head_isnt_kept(self):
+        self.make()
+        full = mock.patch.object(newest.os, "replace", mock.Mock(side_effect=OSError(errno.ENOSPC, "No space left on device")))
+        with opener(Disk()), mock.patch.object(newest, "PAUSE", 0.001):
+            async with self.running(self.gate()) as given:
+                with full:
+                    await given.submit("GAS", 1, commands("cancel,GAS,A,,,,,,"))
+                    await self.until(lambda: not given.is_right)
+                    with self.assertRaises(gate.Refused) as caught:
+                        given.submit("GAS", 2, commands("cancel,GAS,B,,,,,,"))
+                    self.assertEqual(caught.exception.fault, "Unavailable")
+                    self.assertEqual(await given.submit("GAS", 1, commands("cancel,GAS,A,,,,,,")), [1])  # which is entered
+                await self.until(lambda: given.is_right)
+                self.assertEqual(await given.submit("GAS", 2, commands("cancel,GAS,B,,,,,,")), [2])
+                with full:
+                    await given.submit("GAS", 3, commands("cancel,GAS,C,,,,,,"))
+                    await self.until(lambda: not given.is_right)
+                    given.close()  # which needs no head
+                    await self.until(lambda: given.ledger.is_closed)
+
+    async def test_a_stopped_day_says_so_and_isnt_closed(self):
+        disk = Disk()
+        await self.entered(disk)
+        disk.records.pop()
+        with mock.patch.object(operate, "shown", mock.Mock()), mock.patch.object(operate.asyncio, "run", lambda _: ["day", *disk.records]):
+            self.assertEqual(operate.status(self.office, "dam-desk")["days"][0]["state"], "open")
+            with opener(disk), self.office.held():
+                given = self.gate()
+                await given.run()
+                self.assertEqual(operate.status(self.office, "dam-desk")["days"][0]["state"], "stopped")
+                with self.assertRaisesRegex(command.Stop, f"^{DAY} is stopped, and wasn't closed: LostEntries"):
+                    operate.close(self.office, DAY, given.files)
+            self.assertFalse(given.files.has(folder.CLOSE_NOW))
+            self.assertEqual(operate.status(self.office, "dam-desk")["days"][0]["state"], "open")
+        disk.records.append(self.RECORDS[-1])
+        self.assertIsNone(await self.started(disk))
+        self.assertFalse(given.files.has(folder.STOPPED_DAY))
+
     async def test_a_start_notes_the_head_of_the_journal_that_it_serves(self):
         disk = Disk()
         path = await self.entered(disk)
@@ -534,8 +572,26 @@ class Closing(Office):
             await task
             await clearing.sign(given)
         given.files.file(folder.STATEMENT).write_text("{}")
-        async with self.running(self.gate()) as again:
-            self.assertEqual((again.fault, heads.line(again.ledger.head())), (None, given.files.read(folder.HEAD)))
+        begins, ends, load = threading.Event(), threading.Event(), clearing.load
+
+        def slow(*words):
+            made = load(*words)
+            begins.set()
+            ends.wait()
+            return made
+
+        with mock.patch.object(clearing, "load", slow):
+            again = self.gate()
+            task = asyncio.create_task(again.run())
+            await asyncio.to_thread(begins.wait)
+            self.assertEqual((again.is_known.is_set(), again.ledger.size), (False, 0))  # no part of the journal is seen
+            with self.assertRaises(gate.Refused) as caught:
+                web.Web.need_known(None, again)
+            self.assertEqual(caught.exception.fault, "Unavailable")
+            ends.set()
+            await task
+        self.assertTrue(again.is_known.is_set())
+        self.assertEqual((again.fault, heads.line(again.ledger.head())), (None, given.files.read(folder.HEAD)))
         journal_file = given.files.file(folder.JOURNAL)
         journal_file.write_bytes(journal_file.read_bytes().replace(b"GAS,A,", b"GAS,B,"))
         again = self.gate()

@@ -84,19 +84,21 @@ def own_words(why, who):
 
 
 def load(files, ledger):
-    """Takes the journal of a day that is published, which has to be that of its head."""
+    """The ledger, with the journal of a day that is published, which has to be that of its head."""
     records = files.read(folder.JOURNAL).decode("ascii").splitlines()[1:]
     replies = [line.partition(",")[2] for line in files.read(folder.REPLIES).decode("ascii").splitlines()[1:]]
     ledger.take(records, replies)
     if heads.line(ledger.head()) != files.read(folder.HEAD):
         raise Contradiction("the published head isn't of the journal next to it")
+    return ledger
 
 
 async def publish(gate):
     """Makes the files of a closed day, each once; a step that fails is tried again."""
-    began, pause = time.monotonic(), FIRST_PAUSE
+    pause = FIRST_PAUSE
     for step, name in ((sign, folder.HEAD), (clear, folder.RESULTS), (state, folder.STATEMENT)):
         while True:
+            began = time.monotonic()
             try:
                 await step(gate)
                 break

@@ -18,6 +18,7 @@ TERMS, SALTS, DESK = "terms.json", "salts.json", "desk"  # of a day; the last on
 HEAD, JOURNAL, REPLIES, RESULTS, STATEMENT = "head.json", "journal.csv", "replies.txt", "results.txt", "statement.json"
 SIGNED = "signed-head.json"  # the newest head, while a day is open; HEAD is the last one
 CLOSE_NOW, OPEN_JOURNAL = "close-now", "publish-journal"  # the operator's requests
+STOPPED_DAY = "stopped"  # why the office that is served has stopped the day
 OPEN, CLOSING, CLOSED, RESULTS_THERE, PUBLISHED = "open", "closing", "closed", "results", "published"  # the states of a day
 STOPPED = "stopped"  # a state that only an office in service knows
 MOST_COMMANDS = rules.MOST_RECORDS - 2  # of all participants: the day and the close are records too
@@ -86,6 +87,9 @@ class DayFolder:
 
     def read(self, name):
         return self.file(name).read_bytes()
+
+    def drop(self, name):
+        self.file(name).unlink(missing_ok=True)
 
     def need_room(self):
         """Ends with an OSError unless the disk takes a batch of the desk now."""

@@ -3,6 +3,7 @@
 import asyncio
 import contextlib
 import dataclasses
+import functools
 import time
 
 from . import clearing, folder, newest
@@ -52,7 +53,9 @@ class Gate:
 
     def __init__(self, files, key, programs, clock, log, counts):
         self.files, self.terms = files, files.terms()
-        self.ledger = Ledger(self.terms, files.salts(), key)
+        self.make_ledger = functools.partial(Ledger, self.terms, files.salts(), key)
+        self.ledger = self.make_ledger()
+        self.is_known = asyncio.Event()  # the ledger has the journal's entries: before, nothing can be said of any
         self.programs, self.clock, self.log, self.counts = programs, clock, log, counts
         self.waiting, self.wake = [], asyncio.Event()
         self.entering = []  # the batch at the desk
@@ -76,8 +79,8 @@ class Gate:
 
     @property
     def is_right(self):
-        """Whether the day takes commands, or after its close has the files that it should."""
-        return self.is_ready.is_set() and self.trouble is None
+        """Whether the day takes commands, or after its close has the files that it should, and its newest head is kept."""
+        return self.is_ready.is_set() and self.trouble is None and not self.newest.is_failing
 
     def is_open(self):
         """Whether a command that arrives now is in time."""
@@ -96,6 +99,8 @@ class Gate:
             raise Refused("Unavailable", STOPPED_WORDS)
         if not self.is_open():
             raise Refused("Closed", "the day is closed, and this command isn't in its journal")
+        if self.newest.is_failing:  # a start wouldn't miss entries that are acknowledged now
+            raise Refused("Unavailable", "the office's disk can't be written: send the same command again later", seconds=1)
         if first + len(commands) - 1 > self.ledger.share(who):
             raise Refused("ShareUsed", f"you may enter {self.ledger.share(who)} commands on this day", next=self.ledger.count(who) + 1)
         return self.wait(Waiting(who, first, commands, asyncio.get_running_loop().create_future()))
@@ -189,9 +194,12 @@ class Gate:
         """Keeps the day until it is published. It ends earlier only if the journal contradicts the ledger or its head."""
         closer = asyncio.create_task(self.close_in_time())
         try:
+            with contextlib.suppress(OSError):
+                self.files.drop(folder.STOPPED_DAY)
             if self.published.is_whole:
-                await asyncio.to_thread(clearing.load, self.files, self.ledger)
+                self.ledger = await asyncio.to_thread(clearing.load, self.files, self.make_ledger())
                 self.check_signed()
+                self.is_known.set()
             else:
                 await self.keep()
                 await self.leave_desk()
@@ -212,6 +220,8 @@ class Gate:
         self.is_ready.clear()
         self.fault = fault
         self.log_event("stopped", fault=fault)
+        with contextlib.suppress(OSError):
+            folder.put(self.files.file(folder.STOPPED_DAY), f"{fault}\n".encode())
         for one in [*self.waiting, *(one for _, one in self.entering)]:
             fail(one.done, Refused("Unavailable", STOPPED_WORDS))
 
@@ -235,7 +245,7 @@ class Gate:
                 self.trouble = words if self.entering else self.trouble
                 await self.leave_desk()
                 self.counts.add("desk_ends_total")
-                self.log_event("desk ended", fault=words, entries=self.ledger.size)
+                self.log_event("desk ended", fault=words, **({"entries": self.ledger.size} if self.is_known.is_set() else {}))
                 ends = ends + 1 if self.ledger.size == size else 0
                 self.put_back(ends)
                 await asyncio.sleep(pause)
@@ -286,6 +296,7 @@ class Gate:
         self.watching = asyncio.create_task(self.watch(self.desk))
         self.ledger.take(records, replies)
         self.check_signed()
+        self.is_known.set()
         if self.ledger.size:
             self.newest.note(self.ledger.head())
         self.is_ready.set()

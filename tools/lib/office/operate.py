@@ -13,8 +13,8 @@ from .desk import Ended, shown
 CLOSE_SECONDS, TELL_SECONDS, STEP = 60, 2, 0.05  # to wait for the results of a close, and until it says why it waits
 
 
-def state_of(files, desk):
-    """A day in a record, by its files."""
+def state_of(files, desk, is_served=False):
+    """A day in a record, by its files, and by whether the office is served."""
     terms = files.terms()
     has = files.has
     left = (terms.closes - datetime.datetime.now(datetime.timezone.utc)).total_seconds()
@@ -27,6 +27,8 @@ def state_of(files, desk):
     state = folder.CLOSED if is_closed else state
     if has(folder.RESULTS):
         state = folder.PUBLISHED if has(folder.OPEN_JOURNAL) else folder.RESULTS_THERE
+    if is_served and has(folder.STOPPED_DAY):
+        state = folder.STOPPED
     counts = dict.fromkeys(terms.shares, 0)
     for record in records:
         who = record.split(",")[1]
@@ -46,8 +48,9 @@ def state_of(files, desk):
 def status(office, desk):
     """The days of an office, and whether it is served."""
     register = tokens.Register(office.file(folder.PARTICIPANTS))
-    days = [state_of(files, desk) for files in office.days().values()]
-    return {"served": office.is_served(), "participants": len(register.names()), "revoked": register.revoked(), "days": days}
+    is_served = office.is_served()
+    days = [state_of(files, desk, is_served) for files in office.days().values()]
+    return {"served": is_served, "participants": len(register.names()), "revoked": register.revoked(), "days": days}
 
 
 def status_lines(found):
@@ -65,9 +68,12 @@ def request(files, name):
 
 
 def close(office, day, files):
-    """Closes a day now. If the office runs, waits for the results."""
+    """Closes a day now. If the office runs, waits for the results. A stopped day isn't closed: its journal may lack entries."""
+    is_served = office.is_served()
+    if is_served and files.has(folder.STOPPED_DAY):
+        raise command.Stop(f"{day} is stopped, and wasn't closed: {files.read(folder.STOPPED_DAY).decode(errors='replace').strip()}")
     request(files, folder.CLOSE_NOW)
-    if not office.is_served() and not files.has(folder.RESULTS):
+    if not is_served and not files.has(folder.RESULTS):
         return f"{day} will be closed once the office is served"
     began, told, tell_at = time.monotonic(), None, TELL_SECONDS
     while not files.has(folder.RESULTS):

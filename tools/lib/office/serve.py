@@ -11,6 +11,7 @@ import signal
 import socket
 import ssl
 import subprocess
+import time
 from typing import NamedTuple
 
 from aiohttp import web
@@ -22,6 +23,7 @@ from .gate import Clock, Gate
 from .web import Web
 
 LOOK_SECONDS = 1  # between two looks for days that were added
+KNOWN_SECONDS, KNOWN_STEP = 2, 0.01  # that the journals of all days get to be read before it listens; between two looks
 STOP_SECONDS = 3  # that open requests get at the end
 BACKLOG = 128  # connections that wait to be accepted
 KEEP_SECONDS = 10  # that a connection stays open without a request
@@ -103,6 +105,13 @@ class Office:
                 self.note({None: str(fault)})
             await asyncio.sleep(LOOK_SECONDS)
 
+    async def known(self):
+        """Waits until the entries of each day are known, or it is stopped, so that no first request is turned away; but not long."""
+        await asyncio.sleep(0)  # the first look
+        until = time.monotonic() + KNOWN_SECONDS
+        while time.monotonic() < until and not all(gate.is_known.is_set() or gate.fault for gate in self.gates.values()):
+            await asyncio.sleep(KNOWN_STEP)
+
     async def stop(self):
         for task in self.tasks:
             task.cancel()
@@ -158,6 +167,7 @@ async def serve(office, host, port, tls=None, behind_proxy=False, demo=None, sta
         asyncio.get_running_loop().add_signal_handler(number, stopped.set)
     try:
         await runner.setup()
+        await office.known()
         listener = guards.Listener(runner.server, bound(host, port), tls, office.counts)
         port = listener.socket.getsockname()[1]
         office.log.write("serving", host=host, port=port, tls=tls is not None)

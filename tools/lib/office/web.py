@@ -153,7 +153,8 @@ class Web:
         except (asyncio.CancelledError, ConnectionError):
             raise
         except Exception as wrong:
-            self.log.write("defect", kind=type(wrong).__name__, route=route_of(request))
+            day = {"day": request.match_info["day"]} if request.match_info.get("day") in self.office.gates else {}
+            self.log.write("defect", kind=type(wrong).__name__, route=route_of(request), **day)
             response = web.json_response({"fault": "Defect", "words": "the office failed at this request"}, status=500)
         self.counts.add("requests_total", '{method="%s",status="%d"}' % (method_of(request), response.status))
         return response
@@ -186,9 +187,12 @@ class Web:
         gate = self.gate(request)
         if gate.fault:
             raise Refused("Unavailable", STOPPED_WORDS)
-        if not gate.is_ready.is_set() and not gate.ledger.size:
-            raise Refused("Unavailable", "the day isn't open yet", seconds=1)
+        self.need_known(gate)
         return gate, who
+
+    def need_known(self, gate):
+        if not gate.is_known.is_set():
+            raise Refused("Unavailable", "the office is still reading the day's journal", seconds=1)
 
     def length(self, request):
         """The length of a body, which is known before it is read."""
@@ -339,6 +343,7 @@ class Web:
         gate = self.gate(request)
         if gate.fault:  # its journal may be another than that of earlier heads
             raise Refused("Unavailable", STOPPED_WORDS)
+        self.need_known(gate)
         ledger = gate.ledger
         if "since" not in request.query:
             return jsonl([ledger.head()])
@@ -357,6 +362,8 @@ class Web:
     async def published(self, request):
         """The texts that have the orders of all: only if the operator publishes the journal."""
         gate, name = self.gate(request), request.path.rpartition("/")[2]
+        if not gate.published.has_results:
+            raise Refused("NotFound", "there are no results yet")
         if not gate.published.has_journal:
             raise Refused("NotFound", "the operator hasn't published the day; its prices are under prices")
         files = {"results": folder.RESULTS, "journal": folder.JOURNAL, "replies": folder.REPLIES}
@@ -371,7 +378,7 @@ class Web:
         for name, gate in self.office.gates.items():
             label = f'{{day="{name}"}}'
             gauges += [(f"entries{label}", gate.ledger.size), (f"waiting{label}", len(gate.waiting))]
-            gauges += [(f"ready{label}", int(gate.is_right)), (f"open{label}", int(gate.is_open()))]
+            gauges += [(f"ready{label}", int(gate.is_right)), (f"open{label}", int(gate.state == folder.OPEN))]
         return web.Response(text=self.counts.text(gauges), content_type="text/plain")
 
     # --- the demo
@@ -400,7 +407,7 @@ def kind_of(request):
 def query_number(request, name):
     word = request.query.get(name, "0")
     if not (word.isascii() and word.isdigit() and len(word) <= 5):
-        raise Refused("Malformed", f"{name} should be a number")
+        raise Refused("Malformed", f"{name} should be a number up to 99999")
     return int(word)
 
 
