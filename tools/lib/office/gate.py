@@ -211,9 +211,11 @@ class Gate:
             self.stop(f"a defect of the office: {type(fault).__name__}: {ascii(str(fault))[:200]}")
         finally:
             closer.cancel()
-            await asyncio.gather(*self.answering, return_exceptions=True)
-            self.newest.end()
-            await self.leave_desk()
+            try:
+                await asyncio.gather(*self.answering, return_exceptions=True)
+            finally:  # also if it is cancelled here
+                self.newest.end()
+                await self.leave_desk()
 
     def stop(self, fault):
         """Stops the day, and no other: it takes no command, and gives no receipt, until the operator has looked."""
