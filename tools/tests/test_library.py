@@ -5,7 +5,7 @@ import unittest
 
 from support import TOP
 
-PAGES = [TOP / "docs" / name for name in ("LIBRARY.md", "C.md")]
+PAGES = [TOP / "docs" / "LIBRARY.md", TOP / "docs" / "C.md", TOP / "crates" / "dam_gate" / "NOTES.md"]
 CRATE = TOP / "crates" / "dam_example"
 GATE = TOP / "crates" / "dam_refusals"  # whose program holds a gate by hand
 CALLERS = TOP / "tests" / "library"  # of the library for C

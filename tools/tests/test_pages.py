@@ -25,28 +25,28 @@ OTHER_WORDS = re.compile(r"\b(anew|beside|dear|so many|want of|whoever)\b", re.I
 # Pages whose sentences with 'what' aren't looked at: examples, and sentences that stand in sources.
 OTHER_PAGES = {"CONTRIBUTING.md", "CHECK.md", "OPERATING.md", "DEFINITIONS.md"}
 # The most bytes of a page that has parts which a script writes, with these.
-MOST_IN_ALL = {"THEOREM.md": 15_360}
+MOST_IN_ALL = {"THEOREM.md": 15_200}
 # The most bytes of README and docs/ together.
-MOST_OF_ALL = 248_000
+MOST_OF_ALL = 241_000
 # The most bytes of a page, without the parts that a script writes. A page that grows beyond is split, or says things twice.
 MOST_BYTES = {
     "README.md": 7_168,
     "ARCHITECTURE.md": 6_650,
-    "ASSURANCE.md": 18_432,
-    "AUDIT.md": 9_500,
+    "ASSURANCE.md": 17_900,
+    "AUDIT.md": 9_216,
     "C.md": 6_200,
     "CHECK.md": 6_750,
-    "CONTRIBUTING.md": 10_240,
-    "DECISIONS.md": 4_200,
+    "CONTRIBUTING.md": 10_150,
+    "DECISIONS.md": 3_600,
     "DESK.md": 7_168,
-    "EXAMPLES.md": 6_600,
-    "FORMATS.md": 19_900,
+    "EXAMPLES.md": 6_400,
+    "FORMATS.md": 19_100,
     "GLOSSARY.md": 3_500,
-    "LIBRARY.md": 8_300,
+    "LIBRARY.md": 5_800,
     "MEASURED.md": 8_000,
-    "OPERATING.md": 7_168,
-    "RULES.md": 11_200,
-    "TABLES.md": 13_800,
+    "OPERATING.md": 7_100,
+    "RULES.md": 10_850,
+    "TABLES.md": 13_700,
     "TESTED.md": 6_900,
     "TRUST.md": 11_700,
     "USING.md": 9_216,

@@ -1,4 +1,4 @@
-"""The reading lists: that the page has those of this repository, and which names are followed."""
+"""The reading lists: that the page has the parts of this repository, and which names are followed."""
 
 import subprocess
 import sys
@@ -98,10 +98,10 @@ class ReadingList(unittest.TestCase):
         module.FIRST = {"run_clear": {"Sizes": names}}
         with tempfile.TemporaryDirectory() as folder:
             self.repository(folder)
-            return module.few_list(module.Repository(Path(folder)))
+            return module.few_texts(module.Repository(Path(folder)))
 
-    def test_a_few_definitions_are_listed_with_their_modules(self):
-        self.assertEqual(self.few(["IsSize"]), "- Sizes: `IsSize` (`lower`, `Sizes`)\n")
+    def test_a_few_definitions_are_printed_with_the_sentence_above_them(self):
+        self.assertEqual(self.few(["IsSize"]), "-- a size\nabbrev pub IsSize : ℕ → Type 0\nIsSize n = n ≤ greatest\n")
 
     def test_a_definition_that_the_contract_does_not_reach_is_refused(self):
         with self.assertRaisesRegex(Exception, "^the contract of run_clear doesn't reach other$"):
