@@ -60,6 +60,9 @@ def refused_files():
         ("too many records", [DAY, *[close] * rules.MOST_RECORDS], b""),
     ]:  # fmt: skip
         yield about, lines(*records), NO_LINES + why
+    for about, torn in [("no mark at its end", b""), ("a torn end", b"x\n+" + close + b"x")]:
+        yield f"no day and {about}", lines(close)[:-1] + torn, NO_LINES + b"the first record is not a day"
+        yield f"an empty line and {about}", lines(DAY, b"\n")[:-1] + torn, NOT_WRITTEN
     for about, records in [
         ("quotes", [DAY, b'"close",,,,,,,,\n']), ("a return in a line", [DAY[:-1] + b"\r\n"]), ("an empty line", [DAY, b"\n", close]),
     ]:  # fmt: skip

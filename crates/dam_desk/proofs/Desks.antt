@@ -5,10 +5,12 @@ use Rattle.std.proofs.KnownBytes.{Appends-nil, Appends-trans, Consumes-trans, Co
 use Rattle.sqlite_disk.specs.declared.Disk.{Ghosts}
 use Rattle.dam_store.specs.Journal.{StandsForEither, has_byte, text_of}
 use Rattle.dam_store.specs.Store.{IsSafe, disk_of, held}
+use Rattle.dam_store.specs.declared.fault.StoreFault.{StoreFault}
+use Rattle.dam_store.specs.declared.fault.StoreFault.TheVariants as store
 use Rattle.dam_store.specs.declared.store.Store.{Store}
 use Rattle.dam_desk.specs.Journal.{Journal, State, AreLines, AreWhole, OpensTo, Reads, journal_text, next}
 use Rattle.dam_desk.specs.Desk.{Finishes, IsDesk, IsEnding, IsGiven, MayLeave, Served, Takes, end_answer}
-use Rattle.dam_desk.specs.Faults.{IsWritingFault}
+use Rattle.dam_desk.specs.Faults.{IsWritingFault, is_read, of_store}
 use Rattle.dam_desk.specs.declared.desk.Desk.{Desk}
 use Rattle.dam_desk.specs.declared.fault.DeskFault.{DeskFault}
 use Rattle.dam_desk.specs.declared.fault.DeskFault.TheVariants.{InUse, NotAFile, Database, Io, Store as Stores, NotAJournal, Respelled, Read, Write, Memory}
@@ -323,3 +325,25 @@ all_given old mid new given buffer count before last none ended =
     Consumes-whole old new (given ++ take 0 buffer) (λ (bytes : List ℕ). bytes ≡ given)
     (Consumes-trans old mid new given (take 0 buffer) before (subst (λ (n : ℕ). Consumes mid new (take n buffer)) none last)) ended
     (append-nil given)
+
+pub writing_no_read : (old new : Option (List ℕ)) (text : List ℕ) (fault : DeskFault) → IsWritingFault old new text fault → is_read fault ≡ false
+writing_no_read old new text InUse is = absurd is
+writing_no_read old new text NotAFile is = absurd is
+writing_no_read old new text Database is = absurd is
+writing_no_read old new text (Io error) is = absurd is
+writing_no_read old new text (Stores fault) is = absurd is
+writing_no_read old new text (NotAJournal fault) is = absurd is
+writing_no_read old new text Respelled is = absurd is
+writing_no_read old new text Read is = absurd is
+writing_no_read old new text (Write written) is = refl
+writing_no_read old new text Memory is = absurd is
+
+pub store_no_read : (fault : StoreFault) → is_read (of_store fault) ≡ false
+store_no_read store.Memory = refl
+store_no_read store.NotAJournal = refl
+store_no_read store.TooLong = refl
+store_no_read store.Full = refl
+store_no_read store.Broken = refl
+store_no_read (store.Read error) = refl
+store_no_read (store.Write error) = refl
+store_no_read (store.Sync error) = refl

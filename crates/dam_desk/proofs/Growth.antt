@@ -1,5 +1,5 @@
 -- A journal and its replies, with one line more.
-use Rattle.std.proofs.Common.{◌≡◌, ◌⊎◌, inl, inr, suc, ◌+◌, ◌-◌, ◌<◌, ◌≤◌, ℕ, true, false, List, [], ◌∷◌, ◌++◌, Option, Some, None, length, refl, sym, ap, ◌∙◌, subst, arith, append_assoc, append-nil, length-append}
+use Rattle.std.proofs.Common.{◌≡◌, ◌⊎◌, inl, inr, suc, ◌+◌, ◌-◌, ◌<◌, ◌≤◌, ℕ, true, false, not, if◌then◌else◌, List, [], ◌∷◌, ◌++◌, Option, Some, None, length, refl, sym, ap, ◌∙◌, subst, arith, append_assoc, append-nil, length-append}
 use Rattle.std.proofs.lemmas.Bool.{cases_Bool, cond-true, cond-false, leb-false}
 use Rattle.std.specs.List.{AllByRecursion, flat_map}
 use Rattle.dam_book.specs.Book.{commands_of, entries_of, is_day, reply_to, run}
@@ -10,7 +10,7 @@ use Rattle.dam_book.specs.declared.command.Entry.{Entry}
 use Rattle.dam_results.specs.Journal.{IsCommand, ReadsAs}
 use Rattle.dam_results.specs.Replies.{day_line, entry_line}
 use Rattle.dam_results.specs.Written.{journal_text, written}
-use Rattle.dam_desk.specs.Journal.{Journal, State, AreAnswers, Reads, answer_to, day_of, journal_after, replies_text, state_after}
+use Rattle.dam_desk.specs.Journal.{Journal, State, AreAnswers, AreReplies, Reads, answer_to, day_of, enters, journal_after, next, replies_text, state_after}
 use Rattle.dam_desk.specs.Lines.{Says}
 use Rattle.dam_desk.specs.Room.{is_full}
 use Rattle.dam_desk.specs.declared.reading.Said.{Said}
@@ -29,19 +29,23 @@ lines_snoc [] e = append-nil (entry_line e)
 lines_snoc (x ∷ es) e = ap (λ (t : List ℕ). entry_line x ++ t) (lines_snoc es e)
     ∙ sym (append_assoc (entry_line x) (flat_map entry_line es) (entry_line e))
 
+command_grows : EntriesGrow → (number : ℕ) (j : Journal) (command : Command) → is_full (length j.commands) command ≡ false
+    → replies_text (journal_after (Some j) (Commands command)) ≡ replies_text (Some j) ++ answer_to number (Some j) (Commands command)
+command_grows grow number j command room =
+    let entry : Entry = record { number = length j.commands + 1; command = command; reply = reply_to (run j.periods j.commands) command } in
+    let entries = entries_of j.periods j.commands in
+    ap (λ (o : Journal). replies_text (Some o)) (cond-false (is_full (length j.commands) command) j (with_one j command) room)
+    ∙ ap (λ (es : List Entry). day_line j.periods ++ flat_map entry_line es) (grow j.periods j.commands command)
+    ∙ ap (λ (t : List ℕ). day_line j.periods ++ t) (lines_snoc entries entry)
+    ∙ sym (append_assoc (day_line j.periods) (flat_map entry_line entries) (entry_line entry))
+    ∙ ap (λ (t : List ℕ). replies_text (Some j) ++ t) (sym (cond-false (is_full (length j.commands) command) _ (entry_line entry) room))
+
 command_step : EntriesGrow → (number : ℕ) (j : Journal) (command : Command)
     → (journal_after (Some j) (Commands command) ≡ Some j)
     ⊎ (replies_text (journal_after (Some j) (Commands command)) ≡ replies_text (Some j) ++ answer_to number (Some j) (Commands command))
 command_step grow number j command = elim (cases_Bool (is_full (length j.commands) command)) [
   | inl full ↦ inl (ap Some (cond-true (is_full (length j.commands) command) j (with_one j command) full))
-  | inr room ↦
-      let entry : Entry = record { number = length j.commands + 1; command = command; reply = reply_to (run j.periods j.commands) command } in
-      let entries = entries_of j.periods j.commands in
-      inr (ap (λ (o : Journal). replies_text (Some o)) (cond-false (is_full (length j.commands) command) j (with_one j command) room)
-      ∙ ap (λ (es : List Entry). day_line j.periods ++ flat_map entry_line es) (grow j.periods j.commands command)
-      ∙ ap (λ (t : List ℕ). day_line j.periods ++ t) (lines_snoc entries entry)
-      ∙ sym (append_assoc (day_line j.periods) (flat_map entry_line entries) (entry_line entry))
-      ∙ ap (λ (t : List ℕ). replies_text (Some j) ++ t) (sym (cond-false (is_full (length j.commands) command) _ (entry_line entry) room)))
+  | inr room ↦ inr (command_grows grow number j command room)
 ]
 
 pub replies_step : EntriesGrow → (number : ℕ) (journal : Option Journal) (said : Said)
@@ -53,6 +57,46 @@ replies_step grow number None (Fault fault) = inl refl
 replies_step grow number (Some j) (Days periods) = inl refl
 replies_step grow number (Some j) (Commands command) = command_step grow number j command
 replies_step grow number (Some j) (Fault fault) = inl refl
+
+-- the answer, if it is a reply
+abbrev reply_of : ℕ → Option Journal → Said → List ℕ
+reply_of number journal said = if enters journal said then answer_to number journal said else []
+
+command_reply : EntriesGrow → (number : ℕ) (j : Journal) (command : Command)
+    → replies_text (journal_after (Some j) (Commands command)) ≡ replies_text (Some j) ++ reply_of number (Some j) (Commands command)
+command_reply grow number j command =
+    let full = is_full (length j.commands) command in
+    let answer = answer_to number (Some j) (Commands command) in
+    elim (cases_Bool full) [
+      | inl is ↦ ap (λ (o : Journal). replies_text (Some o)) (cond-true full j (with_one j command) is)
+          ∙ sym (append-nil (replies_text (Some j)))
+          ∙ ap (λ (t : List ℕ). replies_text (Some j) ++ t) (sym (cond-false (not full) answer [] (ap not is)))
+      | inr room ↦ command_grows grow number j command room
+          ∙ ap (λ (t : List ℕ). replies_text (Some j) ++ t) (sym (cond-true (not full) answer [] (ap not room)))
+    ]
+
+reply_step : EntriesGrow → (number : ℕ) (journal : Option Journal) (said : Said)
+    → replies_text (journal_after journal said) ≡ replies_text journal ++ reply_of number journal said
+reply_step grow number None (Days periods) = append-nil (day_line periods)
+reply_step grow number None (Commands command) = refl
+reply_step grow number None (Fault fault) = refl
+reply_step grow number (Some j) (Days periods) = sym (append-nil (replies_text (Some j)))
+reply_step grow number (Some j) (Commands command) = command_reply grow number j command
+reply_step grow number (Some j) (Fault fault) = sym (append-nil (replies_text (Some j)))
+
+-- the replies among the answers make the journal's replies longer
+pub replies_run : EntriesGrow → (state : State) (lines : List (List ℕ)) (answers : List ℕ) (last : State) → AreAnswers state lines answers last
+    → (replies : List ℕ) × AreReplies state lines replies × (replies_text last.journal ≡ replies_text state.journal ++ replies)
+replies_run grow state [] answers last run =
+    ([], refl, ap (λ (s : State). replies_text s.journal) run.1 ∙ sym (append-nil (replies_text state.journal)))
+replies_run grow state (line ∷ lines) answers last run =
+    let more = replies_run grow (state_after state run.0) lines run.2 last run.4 in
+    let reply = reply_of (next state.answered) state.journal run.0 in (
+      reply ++ more.0,
+      (run.0, run.1, more.0, refl, more.1),
+      more.2 ∙ ap (λ (t : List ℕ). t ++ more.0) (reply_step grow (next state.answered) state.journal run.0)
+          ∙ append_assoc (replies_text state.journal) reply more.0,
+    )
 
 abbrev EntriesAreOf : Type 0
 EntriesAreOf = (periods : ℕ) (cs : List Command) → commands_of (entries_of periods cs) ≡ cs

@@ -6,3 +6,6 @@ mod Runs
 mod Steps
 mod Growth
 mod Desks
+mod Saying
+mod Opening
+mod Served

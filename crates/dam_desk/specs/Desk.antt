@@ -1,12 +1,18 @@
 -- A desk, as its contracts see it: what it prints, and what its file keeps through a crash.
-use Rattle.std.specs.Prelude.{◌≡◌, ◌⊎◌, ℕ, List, [], ◌∷◌, ◌++◌, take, Option, None, Some, IsTrue}
+use Rattle.std.specs.Prelude.{◌≡◌, ◌⊎◌, ℕ, List, [], ◌∷◌, ◌++◌, take, false, Option, None, Some, IsTrue}
 use Rattle.std.specs.Io.KnownBytes.{Appends}
 use Rattle.sqlite_disk.specs.declared.Disk.{Ghosts}
-use Rattle.dam_store.specs.Journal.{StandsFor, text_of}
-use Rattle.dam_store.specs.Store.{disk_of, held}
+use Rattle.dam_book.specs.Book.{commands_of, entries_of, run, IsLegalHistory}
+use Rattle.dam_book.specs.declared.command.Command.{Command}
+use Rattle.dam_results.specs.Journal.{ReadsAs}
+use Rattle.dam_results.specs.Replies.{replies_to}
+use Rattle.dam_store.specs.Journal.{StandsFor, stands_for, text_of}
+use Rattle.dam_store.specs.Store.{disk_of, held, IsUntouched}
 use Rattle.dam_desk.specs.Answers.{fault_line}
-use Rattle.dam_desk.specs.Journal.{Journal, State, AreAnswers, AreLines, FirstLines, OpensTo, Reads, journal_text, next, replies_text}
+use Rattle.dam_desk.specs.Faults.{is_failed_write, IsOpenFault}
+use Rattle.dam_desk.specs.Journal.{Journal, State, AreAnswers, AreLines, AreReplies, FirstLines, OpensTo, Reads, journal_text, next, replies_text}
 use Rattle.dam_desk.specs.declared.desk.Desk.{Desk}
+use Rattle.dam_desk.specs.declared.fault.DeskFault.{DeskFault}
 use Rattle.dam_desk.specs.declared.fault.LineFault.TheVariants.{CutShort}
 use Rattle.dam_desk.specs.inside.Intake.{IsIn}
 
@@ -24,11 +30,25 @@ pub record IsDesk {D : Type 0} {g : Ghosts D} (desk : Desk D g) (state : State) 
   pub reads : Reads state.journal
   pub file : IsTrue (g.is_clean (disk_of desk.store)) → text_of (held desk.store) ≡ journal_text state.journal
 
--- a desk that was opened and has answered nothing, and the replies to its journal, as `dam replay` prints them
-pub record IsOpened {D : Type 0} {g : Ghosts D} (desk : Desk D g) (replies : List ℕ) : Type 0 where
+-- nothing was answered yet, and this is the journal
+abbrev pub at_first : Option Journal → State
+at_first journal = record { answered = 0; journal = journal }
+
+-- A desk that was opened on a disk and has answered nothing: it has the journal to which the file opened, and these are the replies to it,
+-- as `dam replay` prints them.
+pub record IsOpened {D : Type 0} {g : Ghosts D} (desk : Desk D g) (disk : D) (replies : List ℕ) : Type 0 where
   pub journal : Option Journal
-  pub fresh : IsDesk desk (record { answered = 0; journal = journal }) []
+  pub opens : IsTrue (g.is_clean (disk_of desk.store)) → OpensTo journal (g.seen disk)
+  pub fresh : IsDesk desk (at_first journal) []
   pub same_replies : replies ≡ replies_text journal
+
+-- A desk wasn't opened on a disk, for this cause. The file is as it was, unless a write or a sync failed. Then it still stands for what it
+-- stood for, whatever a crash leaves.
+pub record IsUnopened {D : Type 0} (g : Ghosts D) (old new : D) (why : DeskFault) : Type 0 where
+  pub cause : IsTrue (g.is_clean new) → IsOpenFault (g.seen old) why
+  pub untouched : is_failed_write why ≡ false → IsUntouched g old new
+  pub crash : IsTrue (g.is_clean new) → (file : List ℕ) → g.may_leave new file
+      → g.may_leave old file ⊎ (stands_for file ≡ stands_for (g.seen old))
 
 -- Of the bytes that were given, all lines were answered, and their answers were written after the first text. The desk has the state
 -- after them, and whatever a crash leaves opens to its journal.
@@ -84,6 +104,29 @@ pub record Finishes (state : State) (given first : List ℕ) (old new : Option (
   pub answered : AreAnswers state lines answers last
   pub written : Appends old new (first ++ (answers ++ end_answer (next last.answered) begun))
   pub safe : (file : List ℕ) → outcomes file → OpensTo last.journal file
+
+-- The entries of the journal are a legal history. Whoever reads its text gets its commands, and so `dam replay` prints its replies, and
+-- `dam clear` clears its book.
+pub record IsSettled (journal : Journal) : Type 0 where
+  pub legal : IsLegalHistory journal.periods (entries_of journal.periods journal.commands)
+  pub entries : commands_of (entries_of journal.periods journal.commands) ≡ journal.commands
+  pub one_reading : (periods : ℕ) (commands : List Command) → ReadsAs (journal_text (Some journal)) periods commands
+      → (replies_to periods commands ≡ replies_text (Some journal))
+      × (run periods commands ≡ run journal.periods journal.commands)
+
+-- the same, if there is a day
+abbrev pub AreSettled : Option Journal → Type 0
+AreSettled None = Unit {0}
+AreSettled (Some journal) = IsSettled journal
+
+-- A file that opened to this journal was served to the end of the input. The replies among the answers, after the replies at the opening,
+-- are those of the journal that is left.
+pub record IsServed (journal : Option Journal) (given : List ℕ) (old new : Option (List ℕ)) (outcomes : List ℕ → Type 0) : Type 0 where
+  pub finishes : Finishes (at_first journal) given (replies_text journal) old new outcomes
+  pub replies : List ℕ
+  pub among : AreReplies (at_first journal) finishes.lines replies
+  pub replayed : replies_text finishes.last.journal ≡ replies_text journal ++ replies
+  pub settled : AreSettled finishes.last.journal
 
 -- a reader with these bytes gave some of the first ones
 abbrev pub IsGiven : Option (List ℕ) → List ℕ → Type 0

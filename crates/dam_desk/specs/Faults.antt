@@ -1,12 +1,18 @@
 -- The faults that end a desk, and the statuses of the program.
-use Rattle.std.specs.Prelude.{◌≤◌, ℕ, Bool, true, false, List, length, take, Option}
+use Rattle.std.specs.Prelude.{◌≡◌, ◌≢◌, ◌⊎◌, ◌≤◌, ℕ, Bool, true, false, List, length, take, Option}
 use Rattle.std.specs.Io.KnownBytes.{Appends}
+use Rattle.dam_book.specs.declared.command.Command.{Command}
+use Rattle.dam_results.specs.Faults.{IsJournalFault}
+use Rattle.dam_results.specs.Journal.{ReadsAs}
+use Rattle.dam_results.specs.Written.{written}
 use Rattle.dam_results.specs.declared.journal.JournalFault.{JournalFault}
 use Rattle.dam_results.specs.declared.journal.JournalFault.TheVariants as journal
+use Rattle.dam_store.specs.Faults.{is_failed_write as store_failed_write, is_failure, IsRefused}
+use Rattle.dam_store.specs.Journal.{StandsFor, text_of}
 use Rattle.dam_store.specs.declared.fault.StoreFault.{StoreFault}
 use Rattle.dam_store.specs.declared.fault.StoreFault.TheVariants as store
 use Rattle.dam_desk.specs.declared.fault.DeskFault.{DeskFault}
-use Rattle.dam_desk.specs.declared.fault.DeskFault.TheVariants.{NotAFile, Database, Store, NotAJournal, Respelled, Write, Memory}
+use Rattle.dam_desk.specs.declared.fault.DeskFault.TheVariants.{NotAFile, Database, Store, NotAJournal, Respelled, Read, Write, Memory}
 
 -- the fault of a desk whose store has that fault
 abbrev pub of_store : StoreFault → DeskFault
@@ -17,6 +23,30 @@ of_store fault = Store fault
 abbrev pub of_journal : JournalFault → DeskFault
 of_journal journal.Memory = Memory
 of_journal fault = NotAJournal fault
+
+-- a write or a sync of the file failed
+abbrev pub is_failed_write : DeskFault → Bool
+is_failed_write (Store fault) = store_failed_write fault
+is_failed_write fault = false
+
+-- the reader failed
+abbrev pub is_read : DeskFault → Bool
+is_read Read = true
+is_read fault = false
+
+-- the text, which has some bytes, isn't a written journal, for this cause
+abbrev pub IsTextFault : List ℕ → DeskFault → Type 0
+IsTextFault text (NotAJournal fault) = IsJournalFault text fault
+IsTextFault text Respelled =
+    (periods : ℕ) × (commands : List Command) × ReadsAs text periods commands × (text ≢ written periods commands)
+IsTextFault text Memory = Unit {0}
+IsTextFault text fault = ⊥
+
+-- why a desk isn't opened on a file: a call failed, memory ran out, or the file is refused or its lines aren't a written journal
+abbrev pub IsOpenFault : List ℕ → DeskFault → Type 0
+IsOpenFault file Memory = Unit {0}
+IsOpenFault file (Store fault) = (is_failure fault ≡ true) ⊎ IsRefused file fault
+IsOpenFault file fault = (lines : List (List ℕ)) × StandsFor lines file × IsTextFault (text_of lines) fault
 
 -- 1 if the file is at fault, 4 if the machine is
 abbrev pub store_status : StoreFault → ℕ

@@ -1,5 +1,5 @@
 -- The journal of a desk: which answer a line of the input gets, and what it enters.
-use Rattle.std.specs.Prelude.{◌≡◌, ◌==◌, ◌+◌, ◌-◌, ◌^◌, ℕ, min, false, if◌then◌else◌, List, [], ◌∷◌, ◌++◌, length, Option, None, Some}
+use Rattle.std.specs.Prelude.{◌≡◌, ◌==◌, ◌+◌, ◌-◌, ◌^◌, ℕ, min, Bool, true, false, not, if◌then◌else◌, List, [], ◌∷◌, ◌++◌, length, Option, None, Some}
 use Rattle.std.specs.List.{AllByRecursion}
 use Rattle.dam_book.specs.Book.{reply_to, run}
 use Rattle.dam_book.specs.declared.command.Command.{Command}
@@ -86,6 +86,20 @@ AreAnswers state (line ∷ lines) text last =
     (said : Said) × Says (day_of state.journal) line said
     × (rest : List ℕ) × (text ≡ answer_to (next state.answered) state.journal said ++ rest)
     × AreAnswers (state_after state said) lines rest last
+
+-- a line that says this enters something
+abbrev pub enters : Option Journal → Said → Bool
+enters None (Day periods) = true
+enters (Some journal) (Commands command) = not (is_full (length journal.commands) command)
+enters journal said = false
+
+-- the text has, of the answers to these lines, those to the lines that enter something
+abbrev pub AreReplies : State → List (List ℕ) → List ℕ → Type 0
+AreReplies state [] text = text ≡ []
+AreReplies state (line ∷ lines) text =
+    (said : Said) × Says (day_of state.journal) line said
+    × (rest : List ℕ) × (text ≡ (if enters state.journal said then answer_to (next state.answered) state.journal said else []) ++ rest)
+    × AreReplies (state_after state said) lines rest
 
 -- none of the lines has a line feed
 abbrev pub AreWhole : List (List ℕ) → Type 0

@@ -30,10 +30,15 @@ text_after day text = record_of day ++ (text ++ 10 ∷ [])
 abbrev pub IsDayLine : List ℕ → ℕ → Type 0
 IsDayLine text periods = (length text ≤ most_line) × ReadsAs (text ++ 10 ∷ []) periods []
 
+-- the line isn't too long, and is no record of a day
+pub record IsNoDay (text : List ℕ) : Type 0 where
+  pub short : length text ≤ most_line
+  pub other : (periods : ℕ) → ¬ (IsDayLine text periods)
+
 -- after the record of a day of this many periods, the line is the record of this command
 abbrev pub IsCommandLine : ℕ → List ℕ → Command → Type 0
 IsCommandLine periods text command =
-    (length text ≤ most_line) × ((day : ℕ) × ReadsAs (text_after (Some periods) text) day (command ∷ []))
+    IsNoDay text × ((day : ℕ) × ReadsAs (text_after (Some periods) text) day (command ∷ []))
 
 -- the line, which is read after this many bytes, has the fault of the journal
 abbrev pub IsSameFault : ℕ → JournalFault → LineFault → Type 0
@@ -54,7 +59,7 @@ AreOfOne (Some periods) commands = length commands ≡ 1
 abbrev pub IsLineFault : Option ℕ → List ℕ → LineFault → Type 0
 IsLineFault day text fault =
     ((most_line < length text) × (fault ≡ line.TooLong))
-    ⊎ (((periods : ℕ) → ¬ (IsDayLine text periods))
+    ⊎ (IsNoDay text
     × (((why : JournalFault) × IsJournalFault (text_after day text) why × IsSameFault (length (record_of day)) why fault)
     ⊎ ((fault ≡ line.NotOneRecord)
     × ((periods : ℕ) × (commands : List Command) × ReadsAs (text_after day text) periods commands

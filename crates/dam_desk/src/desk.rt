@@ -5,7 +5,7 @@ ghost use Rattle.dam_store.specs.Store.{disk_of, held, is_broken};
 ghost use Rattle.dam_desk.specs.Desk.{IsDesk, KeepsLines, MayLeave, Served, Takes, end_answer};
 ghost use Rattle.dam_desk.specs.Journal.{State, OpensTo, next};
 ghost use Rattle.dam_desk.specs.Lines.{kept};
-ghost use Rattle.dam_desk.specs.Faults.{is_write};
+ghost use Rattle.dam_desk.specs.Faults.{is_read, is_write};
 
 use crate::answer::write_fault;
 use crate::fault::{DeskFault, LineFault};
@@ -29,6 +29,9 @@ impl<D: Disk> Desk<D> {
     /// Nothing is retried. After a fault the desk is at its end.
     pub(crate) fn take<W: Write>(&mut self, bytes: &[u8], writer: &mut W) -> Result<(), DeskFault>
         ensures ready { OnOk result (is_broken self.new.store ≡ false) }
+        ensures no_fault { OnOk result (D.Disk.faults (disk_of self.new.store)
+            ≡ D.Disk.faults (disk_of self.old.store)) }
+        ensures no_read { IfErr result (λ fault. is_read fault ≡ false) }
         ensures grown { OnOk result (IsTrue (D.Disk.is_clean (disk_of self.new.store))
             → (batch : List (List ℕ)) × held self.new.store ≡ held self.old.store ++ batch) }
         // Unless the writer failed, it wasn't called. If it did, all that the lines enter is safe.
@@ -63,6 +66,7 @@ impl<D: Disk> Desk<D> {
         ensures ok { (begun : List ℕ) → self.now.intake.line ≡ kept begun
             → OnOk result (Appends (W.contents writer.old) (W.contents writer.new)
             (end_answer (next self.now.intake.answered) begun)) }
+        ensures no_read { IfErr result (λ fault. is_read fault ≡ false) }
         ensures err { (begun : List ℕ) → self.now.intake.line ≡ kept begun
             → OnErr result ((count : ℕ) × Appends (W.contents writer.old) (W.contents writer.new)
             (take count (end_answer (next self.now.intake.answered) begun))) }

@@ -2,7 +2,7 @@ ghost use Rattle.std.specs.Prelude.{◌≡◌};
 ghost use Rattle.dam_desk.specs.Faults.{fault_status};
 
 use dam_results::JournalFault;
-use dam_store::{FileFault, StoreFault};
+use dam_store::StoreFault;
 use sqlite_std_file::OpenError;
 use std::alloc::AllocError;
 use std::io;
@@ -77,22 +77,17 @@ impl From<AllocError> for DeskFault {
     }
 }
 
-impl From<FileFault> for DeskFault {
-    fn from(fault: FileFault) -> DeskFault {
-        match fault {
-            FileFault::File(error) => open_fault(error),
-            FileFault::Store(fault) => DeskFault::from(fault),
+impl From<OpenError> for DeskFault {
+    fn from(error: OpenError) -> DeskFault {
+        match error {
+            OpenError::Busy => DeskFault::InUse,
+            OpenError::HotJournal => DeskFault::Database,
+            OpenError::OutOfMemory => DeskFault::Memory,
+            OpenError::Io(error) if error.kind() == io::ErrorKind::Unsupported => {
+                DeskFault::NotAFile
+            }
+            OpenError::Io(error) => io_fault(error),
         }
-    }
-}
-
-fn open_fault(error: OpenError) -> DeskFault {
-    match error {
-        OpenError::Busy => DeskFault::InUse,
-        OpenError::HotJournal => DeskFault::Database,
-        OpenError::OutOfMemory => DeskFault::Memory,
-        OpenError::Io(error) if error.kind() == io::ErrorKind::Unsupported => DeskFault::NotAFile,
-        OpenError::Io(error) => io_fault(error),
     }
 }
 

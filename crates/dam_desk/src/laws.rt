@@ -1,9 +1,12 @@
 //! Laws of a desk's journal, the contract of a function that does nothing but cite the laws that they rest on.
 ghost use Rattle.std.specs.Prelude.{◌≡◌, ◌⊎◌, ◌++◌, ℕ, List, Option};
-ghost use Rattle.dam_desk.specs.Journal.{Journal, State, AreAnswers, Reads, answer_to, journal_after, replies_text};
+ghost use Rattle.dam_desk.specs.Desk.{AreSettled};
+ghost use Rattle.dam_desk.specs.Journal.{Journal, State, AreAnswers, AreReplies, Reads, answer_to, journal_after, replies_text};
+ghost use Rattle.dam_desk.specs.Lines.{Says};
 ghost use Rattle.dam_desk.specs.declared.reading.Said.{Said};
 
 use dam_book::laws::{histories_are_runs, runs_grow};
+use dam_results::laws::{fault_is_no_journal, text_has_one_fault, text_is_one_journal};
 use dam_results::spelling_laws::written_journals_read;
 
 /// The text of a journal reads as the journal, whatever lines were answered. A line that enters something adds its answer
@@ -19,4 +22,33 @@ pub(crate) fn journals_grow()
     histories_are_runs();
     runs_grow();
     written_journals_read();
+}
+
+/// A line says one thing in a journal: it is one record, or has one fault.
+pub(crate) fn lines_say_one()
+    ensures { (day : Option ℕ) (text : List ℕ) (said other : Said)
+        → Says day text said → Says day text other → said ≡ other }
+{
+    text_is_one_journal();
+    fault_is_no_journal();
+    text_has_one_fault();
+}
+
+/// The replies to a journal, after the answers to some lines, are those before, and then the answers to the lines that
+/// entered something.
+pub(crate) fn replies_are_answers()
+    ensures { (state last : State) (lines : List (List ℕ)) (answers : List ℕ)
+        → AreAnswers state lines answers last
+        → (replies : List ℕ) × AreReplies state lines replies
+        × (replies_text last.journal ≡ replies_text state.journal ++ replies) }
+{
+    runs_grow();
+}
+
+/// The entries of a journal are a legal history, and its text has no other commands.
+pub(crate) fn journals_settle()
+    ensures { (journal : Option Journal) → Reads journal → AreSettled journal }
+{
+    histories_are_runs();
+    text_is_one_journal();
 }

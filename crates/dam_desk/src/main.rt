@@ -15,17 +15,17 @@ mod open;
 mod output;
 mod reading;
 mod reopened;
+mod run;
 mod serve;
 mod state;
 mod words;
 
 use dam_book::Seed;
-use dam_store::{StoreFault, open_file};
+use dam_store::open_file;
 use fault::{DeskFault, status};
-use held::text_of_file;
-use open::{open, reopen};
+use held::{file_bytes, held_text};
 use output::write_text;
-use serve::serve;
+use run::run;
 use sqlite_std_file::Wary;
 use std::process::ExitCode;
 use words::{Job, USAGE, job_of, words};
@@ -53,21 +53,22 @@ fn main(rt: HostRuntime) -> ExitCode {
 
 /// Serves the journal in a file, from standard input to standard output.
 fn serve_file(rt: &HostRuntime, path: &str) -> Result<(), DeskFault> {
-    let opened = open_file(rt, path, Wary)?;
-    let (mut desk, replies) = open(rt.alloc(), Seed::drawn(rt), opened)?;
-    serve(
-        &mut desk,
-        replies.as_slice(),
+    let disk = open_file(rt, path, Wary)?;
+    let ended = run(
+        rt.alloc(),
+        Seed::drawn(rt),
+        disk,
         &mut rt.stdin(),
         &mut rt.stdout(),
-    )
+    );
+    ended.done
 }
 
 /// Prints the journal that a file holds. It doesn't lock the file or change it. A file that a desk refuses has the same fault
 /// here.
 fn print_journal(rt: &HostRuntime, path: &str) -> Result<(), DeskFault> {
-    let text = text_of_file(rt, path)?;
-    let _journal = reopen(rt.alloc(), Seed::drawn(rt), text.as_slice())?;
+    let bytes = file_bytes(rt, path)?;
+    let text = held_text(rt.alloc(), Seed::drawn(rt), bytes.as_slice())?;
     write_text(&mut rt.stdout(), text.as_slice())
 }
 

@@ -1,9 +1,9 @@
 //! Opens a desk.
-ghost use Rattle.std.specs.Prelude.{◌≡◌, ◌≤◌, false, IsTrue, IfOk};
+ghost use Rattle.std.specs.Prelude.{◌≡◌, ◌≤◌, false, IsTrue, IfOk, IfErr};
 ghost use Rattle.dam_book.specs.Limits.{most_entries};
-ghost use Rattle.dam_store.specs.Journal.{text_of};
-ghost use Rattle.dam_store.specs.Store.{disk_of, held, is_broken};
-ghost use Rattle.dam_desk.specs.Desk.{IsOpened};
+ghost use Rattle.dam_store.specs.Store.{disk_of, is_broken};
+ghost use Rattle.dam_desk.specs.Desk.{IsOpened, IsUnopened};
+ghost use Rattle.dam_desk.specs.Faults.{IsTextFault};
 ghost use Rattle.dam_desk.specs.inside.Day.{entered_of};
 ghost use Rattle.dam_desk.specs.inside.Intake.{IsReopened};
 
@@ -15,35 +15,62 @@ use crate::reopened::Reopened;
 use crate::state::Intake;
 use dam_book::Seed;
 use dam_results::read_into;
-use dam_store::Opened;
+use dam_store::Found;
 use sqlite_disk::Disk;
 use std::alloc::Global;
 
-/// The desk of a store that was opened, and the replies to its journal. The store stays as it is.
+/// A disk on which no desk was opened, and why.
+#[derive(Drop)]
+pub(crate) struct Refused<D: Disk> {
+    pub(crate) why: DeskFault,
+    pub(crate) disk: D,
+}
+
+/// The desk of the journal on a disk, and the replies to it. The file's lines are read before its end is repaired, so that
+/// a file with other lines stays as it is.
 pub(crate) fn open<D: Disk + Drop>(
     alloc: Global,
     seed: Seed,
-    opened: Opened<D>,
-) -> Result<(Desk<D>, Vec<u8>), DeskFault>
-    requires ready { is_broken opened.store ≡ false }
-    ensures store { IfOk result (λ desk. desk.0.store ≡ opened.store) }
-    ensures desk { (IsTrue (D.Disk.is_clean (disk_of opened.store))
-        → opened.text.items ≡ text_of (held opened.store))
-        → IfOk result (λ desk. IsOpened desk.0 desk.1.items) }
+    disk: D,
+) -> Result<(Desk<D>, Vec<u8>), Refused<D>>
+    requires usable { IsTrue (D.Disk.is_usable disk) }
+    ensures ready { IfOk result (λ desk. is_broken desk.0.store ≡ false) }
+    ensures desk { IfOk result (λ desk. IsOpened desk.0 disk desk.1.items) }
+    ensures no_fault { IfOk result (λ desk.
+        D.Disk.faults (disk_of desk.0.store) ≡ D.Disk.faults disk) }
+    ensures refused { IfErr result
+        (λ refused. IsUnopened D.Disk disk refused.disk refused.why) }
 {
-    let (day, replies) = reopen(alloc, seed, opened.text.as_slice())?;
-    let intake = Intake {
-        alloc,
-        seed,
-        day,
-        line: Line::new(alloc),
-        answered: 0,
-        begins: false,
-        entries: Vec::new(alloc),
-        answers: Vec::new(alloc),
+    let found = match Found::find(alloc, disk) {
+        Ok(found) => found,
+        Err(unopened) => {
+            let why = DeskFault::from(unopened.why);
+            return Err(Refused {
+                why,
+                disk: unopened.disk,
+            });
+        }
     };
-    let store = opened.store;
-    Ok((Desk { store, intake }, replies))
+    let (day, replies) = match reopen(alloc, seed, found.text.as_slice()) {
+        Ok(reopened) => reopened,
+        Err(why) => {
+            let disk = found.into_disk();
+            return Err(Refused { why, disk });
+        }
+    };
+    match found.open() {
+        Ok(store) => {
+            let intake = Intake::new(alloc, seed, day);
+            Ok((Desk { store, intake }, replies))
+        }
+        Err(unopened) => {
+            let why = DeskFault::from(unopened.why);
+            Err(Refused {
+                why,
+                disk: unopened.disk,
+            })
+        }
+    }
 }
 
 /// The day of a journal's text, and the replies to its commands; none, if the text has no bytes.
@@ -55,6 +82,7 @@ pub(crate) fn reopen(
     ensures few { IfOk result (λ reopened. entered_of reopened.0 ≤ most_entries) }
     ensures journal { IfOk result
         (λ reopened. IsReopened text.now reopened.0 reopened.1.items) }
+    ensures fault { IfErr result (IsTextFault text.now) }
 {
     if text.is_empty() {
         return Ok((None, Vec::new(alloc)));

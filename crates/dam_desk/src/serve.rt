@@ -1,6 +1,8 @@
-ghost use Rattle.std.specs.Prelude.{◌≡◌, ◌++◌, ℕ, List, false, IsTrue, IfSome, OnOk, OnErr};
+ghost use Rattle.std.specs.Prelude.{◌≡◌, ◌++◌, ℕ, List, true, false, IsTrue, IfSome, IfErr, OnOk, OnErr};
+ghost use Rattle.std.specs.Io.KnownBytes.{Consumes};
 ghost use Rattle.dam_store.specs.Store.{disk_of, held, is_broken};
-ghost use Rattle.dam_desk.specs.Desk.{Finishes, IsDesk, IsGiven, KeepsLines, MayLeave, Served};
+ghost use Rattle.dam_desk.specs.Desk.{Finishes, IsDesk, IsGiven, KeepsLines, MayLeave, Served, Takes};
+ghost use Rattle.dam_desk.specs.Faults.{is_read};
 ghost use Rattle.dam_desk.specs.Journal.{State};
 
 use crate::desk::Desk;
@@ -21,6 +23,10 @@ pub(crate) fn serve<D: Disk, R: Read, W: Write>(
 ) -> Result<(), DeskFault>
     requires { is_broken desk.old.store ≡ false }
     ensures ready { OnOk result (is_broken desk.new.store ≡ false) }
+    ensures no_fault { OnOk result (D.Disk.faults (disk_of desk.new.store)
+        ≡ D.Disk.faults (disk_of desk.old.store)) }
+    ensures clean { D.Disk.is_clean (disk_of desk.new.store)
+        ≡ D.Disk.is_clean (disk_of desk.old.store) }
     // A crash at any moment leaves what the desk held, and maybe what was entered since.
     ensures crash { IsTrue (D.Disk.is_clean (disk_of desk.new.store))
         → KeepsLines (D.Disk.may_leave (disk_of desk.new.store)) (held desk.old.store) }
@@ -29,6 +35,12 @@ pub(crate) fn serve<D: Disk, R: Read, W: Write>(
         → OnOk result ((given : List ℕ) × IfSome (R.remaining reader.old) (λ bytes. bytes ≡ given)
         × Finishes state (begun ++ given) replies.now
         (W.contents writer.old) (W.contents writer.new) (MayLeave desk.new)) }
+    // A read may fail at any time. If it does, all lines that have come in are answered, so they are at each read.
+    ensures answered { (state : State) (begun : List ℕ) → IsDesk desk.old state begun
+        → IfErr result (λ fault. is_read fault ≡ true
+        → (given : List ℕ) × Consumes (R.remaining reader.old) (R.remaining reader.new) given
+        × Takes desk.new state (begun ++ given) replies.now
+        (W.contents writer.old) (W.contents writer.new)) }
     // If the desk ends before, what was answered is safe.
     ensures faulty { (state : State) (begun : List ℕ) → IsDesk desk.old state begun
         → OnErr result ((given : List ℕ) × IsGiven (R.remaining reader.old) given
@@ -39,8 +51,9 @@ pub(crate) fn serve<D: Disk, R: Read, W: Write>(
     write_text(writer, replies)?;
     let mut chunk = [0; CHUNK];
     for _ in 0..u64::MAX {
-        let Ok(count) = reader.read(&mut chunk) else {
-            return Err(DeskFault::Read);
+        let count = match reader.read(&mut chunk) {
+            Ok(count) => count,
+            Err(_) => return Err(DeskFault::Read),
         };
         if count == 0 {
             return desk.end(writer);

@@ -1,5 +1,5 @@
 //! The state of a desk between two lines.
-ghost use Rattle.std.specs.Prelude.{◌≤◌, length};
+ghost use Rattle.std.specs.Prelude.{◌≡◌, ◌≤◌, [], length};
 ghost use Rattle.dam_book.specs.Limits.{most_entries};
 ghost use Rattle.dam_desk.specs.inside.Day.{entered_of};
 
@@ -25,4 +25,25 @@ pub(crate) struct Intake {
     pub(crate) answers: Vec<u8>,
     ghost few: { length entries.items ≤ entered_of day },
     ghost room: { entered_of day ≤ most_entries },
+}
+
+impl Intake {
+    /// Before the first line.
+    pub(crate) fn new(alloc: Global, seed: Seed, day: Option<Day>) -> Intake
+        requires { entered_of day ≤ most_entries }
+        ensures day { result.day ≡ day }
+        ensures line { result.line ≡ [] }
+        ensures answered { result.answered ≡ 0 }
+    {
+        Intake {
+            alloc,
+            seed,
+            day,
+            line: Line::new(alloc),
+            answered: 0,
+            begins: false,
+            entries: Vec::new(alloc),
+            answers: Vec::new(alloc),
+        }
+    }
 }

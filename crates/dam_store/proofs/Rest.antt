@@ -1,13 +1,13 @@
 -- What a journal's file stands for while lines are written after a gate, the gate is opened, or the end is repaired.
-use Rattle.std.proofs.Common.{◌≡◌, inl, inr, ℕ, zero, suc, ◌+◌, ◌-◌, ◌<◌, ◌≤◌, ◌==◌, ◌&&◌, nat_lt, replicate, true, false, List, [], ◌∷◌, ◌++◌, Some, None, length, take, drop, slice_index, refl, sym, ap, ◌∙◌, subst, arith, append_assoc, length-append, length-drop, append-nil, take-append-drop}
-use Rattle.std.proofs.lemmas.Bool.{or_parts, or_from, and_cases, both_ways, cases_lt, cases_Bool, cond-true, cond-false, eqb-true, lt-ltb, le-ltb}
+use Rattle.std.proofs.Common.{◌≡◌, inl, inr, ℕ, zero, suc, ◌+◌, ◌-◌, ◌<◌, ◌≤◌, ◌==◌, ◌&&◌, nat_lt, replicate, true, false, not, List, [], ◌∷◌, ◌++◌, Some, None, length, take, drop, slice_index, refl, sym, ap, ◌∙◌, subst, arith, append_assoc, length-append, length-drop, append-nil, take-append-drop}
+use Rattle.std.proofs.lemmas.Bool.{or_parts, or_from, or_cases, not-true, or_left, or_right, and_cases, both_ways, cases_lt, cases_Bool, cond-true, cond-false, eqb-true, lt-ltb, le-ltb}
 use Rattle.std.proofs.lemmas.List.{drop_at, drop_all, take_at, drop-drop, drop_more, get_or_past, take_rest, length-take-le}
 use Rattle.std.proofs.lemmas.Slice.Eq.{bytes_eq-Decides}
 use Rattle.std.specs.Str.{bytes_eq}
 use Rattle.sqlite_disk.specs.Disk.{Torn, Holds}
 use Rattle.dam_store.specs.Limits.{most_bytes}
 use Rattle.dam_store.specs.Journal.{marked, written, lines_in, with_room, head_line, stands_for, StandsFor, StandsForEither}
-use Rattle.dam_store.specs.inside.Shape.{has_newline, AreWhole, IsShut, IsJournal, IsAtRest, IsClosed, EndsAt}
+use Rattle.dam_store.specs.inside.Shape.{has_newline, is_shut, AreWhole, IsShut, IsJournal, IsEndedAt, IsAtRest, IsClosed, EndsAt}
 use Rattle.dam_store.proofs.Lines.{lines_then_shut, marked-append, whole-append, whole_lines}
 use Rattle.dam_store.proofs.Parts.{middle, middle_short, middle_whole, torn_is, written_is}
 use Rattle.dam_store.proofs.Unmade.{stands_after_head}
@@ -352,3 +352,30 @@ no_room_after file end closed batch full =
       length-append (written lines) (marked batch),
     ) in
     omega (arith, all, closed.end_is, length-drop 1 (marked batch ++ 45 ∷ []), length-append (marked batch) (45 ∷ []))
+
+pub journal_of : (file : List ℕ) (end : ℕ) → IsEndedAt file end → IsJournal file end (lines_in file)
+journal_of file end ended = record {
+  split = ended.split;
+  end_is = ended.end_is;
+  whole = whole_lines (drop (length head_line) file);
+  shut = shut_from (drop end file) ended.shut;
+  short = ended.short;
+}
+  where
+    shut_from : (bytes : List ℕ) → is_shut bytes ≡ true → IsShut bytes
+    shut_from bytes shut = elim (or_cases (not (slice_index bytes 0 == 43)) (not (has_newline bytes)) shut) [
+      | inl other ↦ inl (not-true (slice_index bytes 0 == 43) other)
+      | inr none ↦ inr (not-true (has_newline bytes) none)
+    ]
+
+pub ended_of : (file : List ℕ) (end : ℕ) → IsJournal file end (lines_in file) → end < most_bytes → IsEndedAt file end
+ended_of file end journal room = record {
+  split = journal.split;
+  end_is = journal.end_is;
+  shut = elim journal.shut [
+    | inl other ↦ or_left _ _ (ap not other)
+    | inr none ↦ or_right _ _ (ap not none)
+  ];
+  short = journal.short;
+  room = room;
+}

@@ -1,9 +1,8 @@
 -- What a crash leaves after one write to a file that is known.
-use Rattle.std.proofs.Common.{◌≡◌, ℕ, List, ◌∙◌, sym, ap, subst}
+use Rattle.std.proofs.Common.{◌≡◌, ℕ, List, ◌∙◌, sym, subst}
 use Rattle.sqlite_disk.specs.Disk.{Torn, Follows, Only}
 use Rattle.sqlite_disk.specs.declared.Disk.{Ghosts}
-use Rattle.dam_store.specs.Journal.{lines_in, text_of, StandsFor}
-use Rattle.dam_store.specs.Store.{IsUntouched}
+use Rattle.dam_store.specs.Journal.{lines_in, StandsFor}
 use Rattle.dam_store.specs.inside.Shape.{IsAtRest}
 use Rattle.dam_store.specs.inside.Synced.{IsOpened}
 use Rattle.dam_store.proofs.Rest.{rest_lines, closed_from}
@@ -18,15 +17,11 @@ module _ {D : Type 0} (g : Ghosts D) (old new : D) (bytes : List ℕ) (same : g.
   pub seen_step : Torn at n (g.seen old) (g.seen new) → Torn at n bytes (g.seen new)
   seen_step torn = subst (λ (f : List ℕ). Torn at n f (g.seen new)) same torn
 
-pub opened_from : {D : Type 0} (g : Ghosts D) (disk : D) (bytes text : List ℕ) (end : ℕ) (lines : List (List ℕ))
-    → IsAtRest (g.seen disk) end lines → StandsFor lines bytes → text ≡ text_of lines → IsOpened g disk bytes text end
-opened_from g disk bytes text end lines rest stands text_is =
+pub opened_from : {D : Type 0} (g : Ghosts D) (disk : D) (bytes : List ℕ) (end : ℕ) (lines : List (List ℕ))
+    → IsAtRest (g.seen disk) end lines → StandsFor lines bytes → IsOpened g disk bytes end
+opened_from g disk bytes end lines rest stands =
     let same : lines ≡ lines_in (g.seen disk) = sym (rest_lines (g.seen disk) end lines rest) in
     record {
       closed = closed_from (g.seen disk) end lines rest;
       stands = subst (λ (ls : List (List ℕ)). StandsFor ls bytes) same stands;
-      text_is = text_is ∙ ap text_of same;
     }
-
-pub still_untouched : {D : Type 0} (g : Ghosts D) (old middle new : D) → new ≡ middle → IsUntouched g old middle → IsUntouched g old new
-still_untouched g old middle new same untouched = subst (IsUntouched g old) (sym same) untouched

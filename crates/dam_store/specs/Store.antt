@@ -2,11 +2,16 @@
 use Rattle.std.specs.Prelude.{◌≡◌, Bool, false, List, ℕ, ◌∷◌, ◌++◌}
 use Rattle.sqlite_disk.specs.declared.Disk.{Ghosts}
 use Rattle.dam_store.specs.Journal.{lines_in, written, has_byte, StandsFor}
+use Rattle.dam_store.specs.declared.store.Found.{Found}
 use Rattle.dam_store.specs.declared.store.Store.{Store}
 
 -- the disk that a store writes to
 abbrev pub disk_of : {D : Type 0} {g : Ghosts D} → Store D g → D
 disk_of store = store.disk
+
+-- the disk on which a store was found
+abbrev pub found_on : {D : Type 0} {g : Ghosts D} → Found D g → D
+found_on found = found.disk
 
 -- a write or a sync has failed
 abbrev pub is_broken : {D : Type 0} {g : Ghosts D} → Store D g → Bool

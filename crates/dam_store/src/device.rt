@@ -1,4 +1,4 @@
-ghost use Rattle.std.specs.Prelude.{◌≡◌, ◌⊎◌, ◌<◌, ◌≤◌, ℕ, List, true, length, IsTrue, IfOk, IfErr, OnOk};
+ghost use Rattle.std.specs.Prelude.{◌≡◌, ◌⊎◌, ◌<◌, ◌≤◌, ℕ, List, true, false, length, IsTrue, IfOk, IfErr, OnOk};
 ghost use Rattle.sqlite_disk.specs.Disk.{Torn, Holds, Follows, CountsFault, MoreFaults};
 ghost use Rattle.dam_store.specs.Limits.{most_bytes};
 ghost use Rattle.dam_store.specs.Faults.{is_failed_write, is_failure, is_refusal, IsRefused};
@@ -41,6 +41,8 @@ pub(crate) fn read_file<D: Disk>(alloc: Global, disk: &mut D) -> Result<Vec<u8>,
     ensures faults { OnOk result (D.Disk.faults disk.new ≡ D.Disk.faults disk.old) }
     ensures failure { IfErr result (λ fault. is_failure fault ≡ true
         → MoreFaults (D.Disk.faults disk.old) (D.Disk.faults disk.new)) }
+    ensures no_failure { IfErr result (λ fault. is_failure fault ≡ false
+        → D.Disk.faults disk.new ≡ D.Disk.faults disk.old) }
     ensures refusal { IfErr result (λ fault. is_refusal fault ≡ true
         → IsTrue (D.Disk.is_clean disk.new)
         → IsRefused (D.Disk.seen disk.old) fault) }

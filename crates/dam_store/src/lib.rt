@@ -18,7 +18,7 @@ mod text;
 
 pub use batch::Batch;
 pub use fault::{LineFault, StoreFault};
-pub use file::{FileFault, open_file};
+pub use file::open_file;
 pub use limits::MOST_BYTES;
-pub use store::{Opened, Store, Unopened};
+pub use store::{Found, Store, Unopened};
 pub use text::read_text;

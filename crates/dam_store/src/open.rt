@@ -1,74 +1,136 @@
-ghost use Rattle.std.specs.Prelude.{◌≡◌, ◌⊎◌, List, ℕ, true, false, None, IsTrue, IfOk, IfErr};
+ghost use Rattle.std.specs.Prelude.{◌≡◌, ◌⊎◌, List, ℕ, true, false, IsTrue, IfOk, IfErr, OnOk};
 ghost use Rattle.dam_store.specs.Journal.{stands_for, text_of, StandsFor};
-ghost use Rattle.dam_store.specs.Store.{disk_of, is_broken, held, IsSafe, IsTidy, IsUntouched};
+ghost use Rattle.dam_store.specs.Store.{disk_of, found_on, is_broken, held, IsSafe, IsTidy, IsUntouched};
 ghost use Rattle.dam_store.specs.Faults.{is_failed_write, is_failure, is_refusal, IsRefused};
-ghost use Rattle.dam_store.specs.declared.fault.StoreFault.TheVariants.{Memory};
 ghost use Rattle.dam_store.specs.History.{Known, IsKnown, IsPossible};
-ghost use Rattle.sqlite_disk.specs.Disk.{MoreFaults};
+ghost use Rattle.dam_store.specs.inside.Shape.{IsEnd};
+ghost use Rattle.dam_store.specs.inside.Synced.{IsRead};
+ghost use Rattle.dam_store.specs.declared.fault.StoreFault.TheVariants.{Memory};
+ghost use Rattle.sqlite_disk.specs.Disk.{MoreFaults, Only};
 
-use crate::recovery::recover;
-use crate::store::{Opened, Store, Unopened};
+use crate::device::read_file;
+use crate::fault::StoreFault;
+use crate::recovery::repair;
+use crate::store::{Found, Store, Unopened};
+use crate::text::{FileLines, file_lines};
 use sqlite_disk::Disk;
 use std::alloc::Global;
 
-impl<D: Disk> Store<D> {
-    /// Opens the file that a crash may have left, or an empty one. It syncs the file first, and may itself crash at any
-    /// moment.
-    pub fn open(alloc: Global, mut disk: D) -> Result<Opened<D>, Unopened<D>>
+/// Syncs the file, and reads it.
+fn read_synced<D: Disk>(alloc: Global, disk: &mut D) -> Result<(Vec<u8>, FileLines), StoreFault>
+    requires usable { IsTrue (D.Disk.is_usable disk.old) }
+    ensures read { IfOk result (λ found. IsRead D.Disk disk.new found.0.items) }
+    ensures ends { IfOk result (λ found. IsEnd found.0.items found.1.end) }
+    ensures text { IfOk result (λ found. IsTrue (D.Disk.is_clean disk.new)
+        → (lines : List (List ℕ)) × StandsFor lines (D.Disk.seen disk.old)
+        × (found.1.text.items ≡ text_of lines)) }
+    ensures untouched { IsUntouched D.Disk disk.old disk.new }
+    ensures clean { IsTrue (D.Disk.is_clean disk.new) → IsTrue (D.Disk.is_clean disk.old) }
+    ensures faults { OnOk result (D.Disk.faults disk.new ≡ D.Disk.faults disk.old) }
+    ensures failure { IfErr result (λ fault. is_failure fault ≡ true
+        → MoreFaults (D.Disk.faults disk.old) (D.Disk.faults disk.new)) }
+    ensures no_failure { IfErr result (λ fault. is_failure fault ≡ false
+        → D.Disk.faults disk.new ≡ D.Disk.faults disk.old) }
+    ensures refusal { IfErr result (λ fault. is_refusal fault ≡ true
+        → IsTrue (D.Disk.is_clean disk.new)
+        → IsRefused (D.Disk.seen disk.old) fault) }
+    ensures no_other { IfErr result (λ fault. (is_failure fault ≡ true)
+        ⊎ (is_refusal fault ≡ true) ⊎ (fault ≡ Memory)) }
+{
+    disk.sync().map_err(StoreFault::Sync)?;
+    let bytes = read_file(alloc, disk)?;
+    let lines = file_lines(alloc, &bytes)?;
+    Ok((bytes, lines))
+}
+
+impl<D: Disk> Found<D> {
+    /// Finds the store in the file that a crash may have left, or in an empty one. It syncs and reads the file, and writes
+    /// nothing.
+    pub fn find(alloc: Global, mut disk: D) -> Result<Found<D>, Unopened<D>>
         requires { IsTrue (D.Disk.is_usable disk) }
-        ensures ready { IfOk result (λ opened. is_broken opened.store ≡ false) }
-        ensures found { IfOk result (λ opened. IsTrue (D.Disk.is_clean (disk_of opened.store))
-            → StandsFor (held opened.store) (D.Disk.seen disk)) }
-        ensures text { IfOk result (λ opened. IsTrue (D.Disk.is_clean (disk_of opened.store))
-            → opened.text.items ≡ text_of (held opened.store)) }
-        ensures safe { IfOk result
-            (λ opened. IsTrue (D.Disk.is_clean (disk_of opened.store)) → IsSafe opened.store) }
-        ensures tidy { IfOk result
-            (λ opened. IsTrue (D.Disk.is_clean (disk_of opened.store)) → IsTidy opened.store) }
-        ensures crash { IfOk result
-            (λ opened. IsTrue (D.Disk.is_clean (disk_of opened.store)) → (file : List ℕ)
-            → D.Disk.may_leave (disk_of opened.store) file
-            → D.Disk.may_leave disk file ⊎ (stands_for file ≡ stands_for (D.Disk.seen disk))) }
-        ensures crash_unopened { IfErr result
-            (λ unopened. IsTrue (D.Disk.is_clean unopened.disk) → (file : List ℕ)
-            → D.Disk.may_leave unopened.disk file
-            → D.Disk.may_leave disk file ⊎ (stands_for file ≡ stands_for (D.Disk.seen disk))) }
-        ensures known { IfOk result
-            (λ opened. IsTrue (D.Disk.is_clean (disk_of opened.store)) → (known : Known)
-            → IsKnown (D.Disk.may_leave disk) known → IsPossible known (held opened.store)) }
-        ensures still_known { IfErr result
-            (λ unopened. IsTrue (D.Disk.is_clean unopened.disk) → (known : Known)
-            → IsKnown (D.Disk.may_leave disk) known → IsKnown (D.Disk.may_leave unopened.disk) known) }
+        ensures text { IfOk result (λ found. IsTrue (D.Disk.is_clean (found_on found))
+            → (lines : List (List ℕ)) × StandsFor lines (D.Disk.seen disk)
+            × (found.text.items ≡ text_of lines)) }
+        ensures untouched { IfOk result (λ found. IsUntouched D.Disk disk (found_on found)) }
+        ensures synced { IfOk result
+            (λ found. Only (D.Disk.seen disk) (D.Disk.may_leave (found_on found))) }
+        ensures refused_untouched { IfErr result
+            (λ unopened. IsUntouched D.Disk disk unopened.disk) }
+        ensures no_fault { IfOk result
+            (λ found. D.Disk.faults (found_on found) ≡ D.Disk.faults disk) }
         ensures failure { IfErr result (λ unopened. is_failure unopened.why ≡ true
             → MoreFaults (D.Disk.faults disk) (D.Disk.faults unopened.disk)) }
+        ensures no_failure { IfErr result (λ unopened. is_failure unopened.why ≡ false
+            → D.Disk.faults unopened.disk ≡ D.Disk.faults disk) }
         ensures refusal { IfErr result (λ unopened. is_refusal unopened.why ≡ true
             → IsTrue (D.Disk.is_clean unopened.disk)
             → IsRefused (D.Disk.seen disk) unopened.why) }
         ensures no_other { IfErr result (λ unopened. (is_failure unopened.why ≡ true)
             ⊎ (is_refusal unopened.why ≡ true) ⊎ (unopened.why ≡ Memory)) }
-        // The file is as it was, unless a write or a sync failed; and whatever failed, if it is no journal.
-        ensures unwritten { IfErr result (λ unopened. is_failed_write unopened.why ≡ false
-            → IsUntouched D.Disk disk unopened.disk) }
-        ensures untouched { IfErr result
-            (λ unopened. IsTrue (D.Disk.is_clean unopened.disk)
-            → stands_for (D.Disk.seen disk) ≡ None
-            → IsUntouched D.Disk disk unopened.disk) }
-        ensures no_fault { IfOk result (λ opened.
-            D.Disk.faults (disk_of opened.store) ≡ D.Disk.faults disk) }
-        ensures clean { IfOk result
-            (λ opened. IsTrue (D.Disk.is_clean (disk_of opened.store))
+        ensures clean { IfOk result (λ found. IsTrue (D.Disk.is_clean (found_on found))
             → IsTrue (D.Disk.is_clean disk)) }
     {
-        match recover(alloc, &mut disk) {
-            Ok(found) => Ok(Opened {
-                store: Store {
-                    disk,
-                    end: found.end,
-                    is_broken: false,
-                },
-                text: found.text,
+        match read_synced(alloc, &mut disk) {
+            Ok((bytes, lines)) => Ok(Found {
+                text: lines.text,
+                disk,
+                bytes,
+                end: lines.end,
             }),
             Err(why) => Err(Unopened { why, disk }),
         }
+    }
+
+    /// Repairs the end of the file, or makes it whole. It may crash at any moment.
+    pub fn open(self) -> Result<Store<D>, Unopened<D>>
+        ensures ready { IfOk result (λ store. is_broken store ≡ false) }
+        ensures found { IfOk result (λ store. IsTrue (D.Disk.is_clean (disk_of store))
+            → StandsFor (held store) (D.Disk.seen (found_on self))) }
+        ensures safe { IfOk result
+            (λ store. IsTrue (D.Disk.is_clean (disk_of store)) → IsSafe store) }
+        ensures tidy { IfOk result
+            (λ store. IsTrue (D.Disk.is_clean (disk_of store)) → IsTidy store) }
+        ensures crash { IfOk result
+            (λ store. IsTrue (D.Disk.is_clean (disk_of store)) → (file : List ℕ)
+            → D.Disk.may_leave (disk_of store) file
+            → stands_for file ≡ stands_for (D.Disk.seen (found_on self))) }
+        ensures crash_unopened { IfErr result
+            (λ unopened. IsTrue (D.Disk.is_clean unopened.disk) → (file : List ℕ)
+            → D.Disk.may_leave unopened.disk file
+            → stands_for file ≡ stands_for (D.Disk.seen (found_on self))) }
+        ensures known { IfOk result
+            (λ store. IsTrue (D.Disk.is_clean (disk_of store)) → (known : Known)
+            → IsKnown (D.Disk.may_leave (found_on self)) known → IsPossible known (held store)) }
+        ensures still_known { IfErr result
+            (λ unopened. IsTrue (D.Disk.is_clean unopened.disk) → (known : Known)
+            → IsKnown (D.Disk.may_leave (found_on self)) known
+            → IsKnown (D.Disk.may_leave unopened.disk) known) }
+        ensures no_fault { IfOk result
+            (λ store. D.Disk.faults (disk_of store) ≡ D.Disk.faults (found_on self)) }
+        ensures failure { IfErr result (λ unopened. is_failure unopened.why ≡ true
+            → MoreFaults (D.Disk.faults (found_on self)) (D.Disk.faults unopened.disk)) }
+        ensures failed { IfErr result (λ unopened. (is_failed_write unopened.why ≡ true)
+            ⊎ ((unopened.why ≡ Memory) × (unopened.disk ≡ found_on self))) }
+        ensures clean { IfOk result (λ store. D.Disk.is_clean (disk_of store)
+            ≡ D.Disk.is_clean (found_on self)) }
+        ensures clean_unopened { IfErr result (λ unopened. D.Disk.is_clean unopened.disk
+            ≡ D.Disk.is_clean (found_on self)) }
+    {
+        let mut disk = self.disk;
+        match repair(&mut disk, self.end, self.bytes) {
+            Ok(end) => Ok(Store {
+                disk,
+                end,
+                is_broken: false,
+            }),
+            Err(why) => Err(Unopened { why, disk }),
+        }
+    }
+
+    /// Gives the disk back, as it was found.
+    pub fn into_disk(self) -> D
+        ensures { result ≡ found_on self }
+    {
+        self.disk
     }
 }

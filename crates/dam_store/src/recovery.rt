@@ -1,19 +1,16 @@
 ghost use Rattle.std.specs.Prelude.{◌≡◌, ◌⊎◌, ◌+◌, ◌∷◌, ◌<◌, ◌≤◌, [], List, ℕ, false, true, None, ◌&&◌, ◌==◌, ◌-◌, ◌++◌, nat_lt, slice_index, length, take, drop, replicate, IsTrue, IfOk, IfErr, OnOk};
 ghost use Rattle.dam_store.specs.Limits.{most_bytes};
-ghost use Rattle.dam_store.specs.Journal.{is_unmade, head_line, lines_in, stands_for, text_of, StandsFor};
-ghost use Rattle.dam_store.specs.inside.Shape.{has_newline, IsAtRest, IsJournal};
+ghost use Rattle.dam_store.specs.Journal.{is_unmade, head_line, lines_in, stands_for, StandsFor};
+ghost use Rattle.dam_store.specs.inside.Shape.{has_newline, IsAtRest, IsEnd, IsEndedAt, IsJournal};
 ghost use Rattle.dam_store.specs.inside.Synced.{IsSynced, IsRead, IsOpened, CrashLeaves};
-ghost use Rattle.dam_store.specs.Faults.{is_failed_write, is_failure, is_refusal, IsRefused};
-ghost use Rattle.dam_store.specs.Store.{IsUntouched};
+ghost use Rattle.dam_store.specs.Faults.{is_failed_write, is_failure};
 ghost use Rattle.dam_store.specs.declared.fault.StoreFault.TheVariants.{Memory};
 ghost use Rattle.sqlite_disk.specs.Disk.{MoreFaults};
 
-use crate::device::{put, read_file};
+use crate::device::put;
 use crate::fault::StoreFault;
-use crate::limits::MOST_BYTES;
-use crate::scan::{Lines, read_lines};
 use sqlite_disk::Disk;
-use std::alloc::{AllocError, Global};
+use std::alloc::AllocError;
 
 pub(crate) const HEAD_LINE: [u8; 12] = *b"+dam-desk 1\n";
 
@@ -144,99 +141,56 @@ fn close<D: Disk>(disk: &mut D, end: usize, bytes: &[u8]) -> Result<(), StoreFau
     Ok(())
 }
 
-/// Opens a file that begins with the first line: closes its end.
-fn reopen<D: Disk>(alloc: Global, disk: &mut D, mut bytes: Vec<u8>) -> Result<Lines, StoreFault>
+/// Closes the end of a file that begins with the first line.
+fn close_end<D: Disk>(disk: &mut D, end: usize, mut bytes: Vec<u8>) -> Result<(), StoreFault>
     requires read { IsRead D.Disk disk.old bytes.items }
-    requires short { length bytes.items ≤ most_bytes }
-    requires head { bytes.items ≡ head_line ++ drop (length head_line) bytes.items }
+    requires ended { IsEndedAt bytes.items end }
     ensures synced { OnOk result (IsSynced D.Disk disk.new) }
-    ensures opened { IfOk result (λ found. IsTrue (D.Disk.is_clean disk.new)
-        → IsOpened D.Disk disk.new bytes.items found.text.items found.end) }
-    ensures room { IfOk result (λ found. found.end < most_bytes) }
+    ensures opened { OnOk result (IsTrue (D.Disk.is_clean disk.new)
+        → IsOpened D.Disk disk.new bytes.items end) }
     ensures crash { CrashLeaves D.Disk disk.new (λ file. stands_for file
         ≡ stands_for bytes.items) }
-    ensures untouched { stands_for bytes.items ≡ None → disk.new ≡ disk.old }
     ensures clean { D.Disk.is_clean disk.new ≡ D.Disk.is_clean disk.old }
     ensures faults { OnOk result (D.Disk.faults disk.new ≡ D.Disk.faults disk.old) }
     ensures failure { IfErr result (λ fault. is_failure fault ≡ true
         → MoreFaults (D.Disk.faults disk.old) (D.Disk.faults disk.new)) }
-    ensures refusal { IfErr result (λ fault. is_refusal fault ≡ true
-        → IsRefused bytes.items fault) }
     ensures failed { IfErr result (λ fault. (is_failed_write fault ≡ true)
-        ⊎ ((disk.new ≡ disk.old) × ((is_refusal fault ≡ true) ⊎ (fault ≡ Memory)))) }
+        ⊎ ((fault ≡ Memory) × (disk.new ≡ disk.old))) }
 {
-    let found = read_lines(alloc, &bytes[HEAD_LINE.len()..])?;
-    let end = HEAD_LINE.len() + found.end;
-    if end >= MOST_BYTES {
-        return Err(StoreFault::Full);
-    }
     blank(disk, end, &mut bytes)?;
     close(disk, end, &bytes)?;
-    Ok(Lines {
-        text: found.text,
-        end,
-    })
+    Ok(())
 }
 
-/// Opens the file whose bytes are given: makes it whole, or closes its end.
-fn settle<D: Disk>(alloc: Global, disk: &mut D, bytes: Vec<u8>) -> Result<Lines, StoreFault>
+/// Makes the file whole whose bytes are given, or closes its end. Returns where its lines end.
+pub(crate) fn repair<D: Disk>(
+    disk: &mut D,
+    end: Option<usize>,
+    bytes: Vec<u8>,
+) -> Result<usize, StoreFault>
     requires read { IsRead D.Disk disk.old bytes.items }
-    requires short { length bytes.items ≤ most_bytes }
+    requires ends { IsEnd bytes.items end }
     ensures synced { OnOk result (IsSynced D.Disk disk.new) }
-    ensures opened { IfOk result (λ found. IsTrue (D.Disk.is_clean disk.new)
-        → IsOpened D.Disk disk.new bytes.items found.text.items found.end) }
-    ensures room { IfOk result (λ found. found.end < most_bytes) }
+    ensures opened { IfOk result (λ end. IsTrue (D.Disk.is_clean disk.new)
+        → IsOpened D.Disk disk.new bytes.items end) }
+    ensures room { IfOk result (λ end. end < most_bytes) }
     ensures crash { CrashLeaves D.Disk disk.new (λ file. stands_for file
         ≡ stands_for bytes.items) }
-    ensures untouched { stands_for bytes.items ≡ None → disk.new ≡ disk.old }
     ensures clean { D.Disk.is_clean disk.new ≡ D.Disk.is_clean disk.old }
     ensures faults { OnOk result (D.Disk.faults disk.new ≡ D.Disk.faults disk.old) }
     ensures failure { IfErr result (λ fault. is_failure fault ≡ true
         → MoreFaults (D.Disk.faults disk.old) (D.Disk.faults disk.new)) }
-    ensures refusal { IfErr result (λ fault. is_refusal fault ≡ true
-        → IsRefused bytes.items fault) }
     ensures failed { IfErr result (λ fault. (is_failed_write fault ≡ true)
-        ⊎ ((disk.new ≡ disk.old) × ((is_refusal fault ≡ true) ⊎ (fault ≡ Memory)))) }
+        ⊎ ((fault ≡ Memory) × (disk.new ≡ disk.old))) }
 {
-    if bytes.starts_with(&HEAD_LINE) {
-        return reopen(alloc, disk, bytes);
+    match end {
+        Some(end) => {
+            close_end(disk, end, bytes)?;
+            Ok(end)
+        }
+        None => {
+            create(disk, &bytes)?;
+            Ok(HEAD_LINE.len())
+        }
     }
-    if !is_unmade(&bytes) {
-        return Err(StoreFault::NotAJournal);
-    }
-    create(disk, &bytes)?;
-    Ok(Lines {
-        text: Vec::new(alloc),
-        end: HEAD_LINE.len(),
-    })
-}
-
-/// Opens a file that a crash may have left.
-pub(crate) fn recover<D: Disk>(alloc: Global, disk: &mut D) -> Result<Lines, StoreFault>
-    requires usable { IsTrue (D.Disk.is_usable disk.old) }
-    ensures synced { OnOk result (IsSynced D.Disk disk.new) }
-    ensures opened { IfOk result (λ found. IsTrue (D.Disk.is_clean disk.new)
-        → IsOpened D.Disk disk.new (D.Disk.seen disk.old) found.text.items found.end) }
-    ensures room { IfOk result (λ found. found.end < most_bytes) }
-    ensures crash { CrashLeaves D.Disk disk.new
-        (λ file. D.Disk.may_leave disk.old file ⊎ (stands_for file ≡ stands_for (D.Disk.seen disk.old))) }
-    ensures untouched { IsTrue (D.Disk.is_clean disk.new)
-        → stands_for (D.Disk.seen disk.old) ≡ None
-        → IsUntouched D.Disk disk.old disk.new }
-    ensures clean { IsTrue (D.Disk.is_clean disk.new) → IsTrue (D.Disk.is_clean disk.old) }
-    ensures faults { OnOk result (D.Disk.faults disk.new ≡ D.Disk.faults disk.old) }
-    ensures failure { IfErr result (λ fault. is_failure fault ≡ true
-        → MoreFaults (D.Disk.faults disk.old) (D.Disk.faults disk.new)) }
-    ensures refusal { IfErr result (λ fault. is_refusal fault ≡ true
-        → IsTrue (D.Disk.is_clean disk.new)
-        → IsRefused (D.Disk.seen disk.old) fault) }
-    ensures no_other { IfErr result (λ fault. (is_failure fault ≡ true)
-        ⊎ (is_refusal fault ≡ true) ⊎ (fault ≡ Memory)) }
-    ensures unwritten { IfErr result (λ fault. is_failed_write fault ≡ false
-        → IsUntouched D.Disk disk.old disk.new) }
-{
-    disk.sync().map_err(StoreFault::Sync)?;
-    let bytes = read_file(alloc, disk)?;
-    let found = settle(alloc, disk, bytes)?;
-    Ok(found)
 }

@@ -1,7 +1,8 @@
 ghost use Rattle.std.specs.Prelude.{◌≡◌, ◌<◌, false, IsTrue};
+ghost use Rattle.std.proofs.Props.{props};
 ghost use Rattle.dam_store.specs.Limits.{most_bytes};
-ghost use Rattle.dam_store.specs.inside.Shape.{IsClosed};
-ghost use Rattle.dam_store.specs.inside.Synced.{IsSynced};
+ghost use Rattle.dam_store.specs.inside.Shape.{IsClosed, IsEnd};
+ghost use Rattle.dam_store.specs.inside.Synced.{IsRead, IsSynced};
 
 use crate::fault::StoreFault;
 use sqlite_disk::Disk;
@@ -17,12 +18,17 @@ pub struct Store<D: Disk> {
     ghost closed: { is_broken ≡ false → IsTrue (D.Disk.is_clean disk) → IsClosed (D.Disk.seen disk) end },
 }
 
-/// A store that was opened, and the lines that it holds.
+/// A store that was found on a disk, before the end of its file is repaired. Nothing was written yet.
 #[derive(Drop)]
-pub struct Opened<D: Disk> {
-    pub store: Store<D>,
-    /// The lines, with a newline at the end of each.
+pub struct Found<D: Disk> {
+    /// The lines that it holds, with a newline at the end of each.
     pub text: Vec<u8>,
+    pub(crate) disk: D,
+    pub(crate) bytes: Vec<u8>,
+    /// Where the lines end. None: the file was never made whole.
+    pub(crate) end: Option<usize>,
+    ghost read: { IsRead D.Disk disk bytes.items },
+    ghost ends: { IsEnd bytes.items end } by { Prim.hlevel props },
 }
 
 /// A disk that holds no store that can be opened now, and why.

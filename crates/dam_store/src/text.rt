@@ -1,6 +1,8 @@
-ghost use Rattle.std.specs.Prelude.{◌≡◌, ◌⊎◌, ℕ, List, IfOk, IfErr};
+ghost use Rattle.std.specs.Prelude.{◌≡◌, ◌⊎◌, ◌≤◌, ℕ, List, length, IfOk, IfErr};
+ghost use Rattle.dam_store.specs.Limits.{most_bytes};
 ghost use Rattle.dam_store.specs.Journal.{text_of, StandsFor};
 ghost use Rattle.dam_store.specs.Faults.{IsRefused};
+ghost use Rattle.dam_store.specs.inside.Shape.{IsEnd};
 ghost use Rattle.dam_store.specs.declared.fault.StoreFault.TheVariants.{Memory};
 
 use crate::fault::StoreFault;
@@ -8,6 +10,42 @@ use crate::limits::MOST_BYTES;
 use crate::recovery::{HEAD_LINE, is_unmade};
 use crate::scan::read_lines;
 use std::alloc::Global;
+
+/// The lines that a file's bytes stand for.
+#[derive(Drop)]
+pub(crate) struct FileLines {
+    /// The lines, with a newline at the end of each.
+    pub(crate) text: Vec<u8>,
+    /// Where they end. None: the file was never made whole.
+    pub(crate) end: Option<usize>,
+}
+
+/// The lines that a file's bytes stand for.
+pub(crate) fn file_lines(alloc: Global, file: &[u8]) -> Result<FileLines, StoreFault>
+    requires { length file.now ≤ most_bytes }
+    ensures text { IfOk result (λ found. (lines : List (List ℕ))
+        × StandsFor lines file.now × (found.text.items ≡ text_of lines)) }
+    ensures end { IfOk result (λ found. IsEnd file.now found.end) }
+    ensures fault { IfErr result (λ fault. (fault ≡ Memory) ⊎ IsRefused file.now fault) }
+{
+    if !file.starts_with(&HEAD_LINE) {
+        return if is_unmade(file) {
+            let text = Vec::new(alloc);
+            Ok(FileLines { text, end: None })
+        } else {
+            Err(StoreFault::NotAJournal)
+        };
+    }
+    let found = read_lines(alloc, &file[HEAD_LINE.len()..])?;
+    let end = HEAD_LINE.len() + found.end;
+    if end >= MOST_BYTES {
+        return Err(StoreFault::Full);
+    }
+    Ok(FileLines {
+        text: found.text,
+        end: Some(end),
+    })
+}
 
 /// The lines that a file's bytes stand for, with a newline at the end of each. Nothing is repaired.
 pub fn read_text(alloc: Global, file: &[u8]) -> Result<Vec<u8>, StoreFault>
@@ -18,16 +56,6 @@ pub fn read_text(alloc: Global, file: &[u8]) -> Result<Vec<u8>, StoreFault>
     if file.len() > MOST_BYTES {
         return Err(StoreFault::TooLong);
     }
-    if !file.starts_with(&HEAD_LINE) {
-        return if is_unmade(file) {
-            Ok(Vec::new(alloc))
-        } else {
-            Err(StoreFault::NotAJournal)
-        };
-    }
-    let found = read_lines(alloc, &file[HEAD_LINE.len()..])?;
-    if HEAD_LINE.len() + found.end >= MOST_BYTES {
-        return Err(StoreFault::Full);
-    }
+    let found = file_lines(alloc, file)?;
     Ok(found.text)
 }

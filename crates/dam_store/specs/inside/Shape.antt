@@ -1,7 +1,7 @@
 -- The bytes of a journal's file.
-use Rattle.std.specs.Prelude.{◌≡◌, ◌⊎◌, ℕ, ◌+◌, ◌≤◌, ◌==◌, Bool, false, List, [], ◌∷◌, ◌++◌, length, drop, slice_index}
+use Rattle.std.specs.Prelude.{◌≡◌, ◌⊎◌, ℕ, ◌+◌, ◌<◌, ◌≤◌, ◌==◌, ◌||◌, Bool, true, false, not, Option, MatchOption, List, [], ◌∷◌, ◌++◌, length, drop, slice_index}
 use Rattle.dam_store.specs.Limits.{most_bytes}
-use Rattle.dam_store.specs.Journal.{text_of, marked, marked_lines, written, lines_in, has_byte}
+use Rattle.dam_store.specs.Journal.{text_of, marked, marked_lines, written, lines_in, has_byte, is_unmade}
 
 -- some byte is a newline
 abbrev pub has_newline : List ℕ → Bool
@@ -46,6 +46,22 @@ pub record IsJournal (file : List ℕ) (end : ℕ) (lines : List (List ℕ)) : T
   pub whole : AreWhole lines
   pub shut : IsShut (drop end file)
   pub short : length file ≤ most_bytes
+
+-- the bytes don't begin with a whole marked line
+abbrev pub is_shut : List ℕ → Bool
+is_shut bytes = not (slice_index bytes 0 == 43) || not (has_newline bytes)
+
+-- the lines that the file holds end at `end`, and it has room for one more byte there
+pub record IsEndedAt (file : List ℕ) (end : ℕ) : Type 0 where
+  pub split : file ≡ written (lines_in file) ++ drop end file
+  pub end_is : end ≡ length (written (lines_in file))
+  pub shut : is_shut (drop end file) ≡ true
+  pub short : length file ≤ most_bytes
+  pub room : end < most_bytes
+
+-- where the lines of a file end; it was never made whole if they end nowhere
+abbrev pub IsEnd : List ℕ → Option ℕ → Type 0
+IsEnd file end = MatchOption end (is_unmade file ≡ true) (IsEndedAt file)
 
 -- the file is the first line and these lines up to `end`, and then one line that doesn't count yet
 pub record IsAtRest (file : List ℕ) (end : ℕ) (lines : List (List ℕ)) : Type 0 where

@@ -2,7 +2,7 @@
 use Rattle.std.specs.Prelude.{◌≡◌, List, ℕ, IsTrue}
 use Rattle.sqlite_disk.specs.Disk.{Only}
 use Rattle.sqlite_disk.specs.declared.Disk.{Ghosts}
-use Rattle.dam_store.specs.Journal.{lines_in, text_of, StandsFor}
+use Rattle.dam_store.specs.Journal.{lines_in, StandsFor}
 use Rattle.dam_store.specs.inside.Shape.{IsClosed}
 
 -- it may be used, and any crash leaves what a read returns
@@ -19,8 +19,7 @@ pub record IsRead {D : Type 0} (g : Ghosts D) (disk : D) (bytes : List ℕ) : Ty
 abbrev pub CrashLeaves : {D : Type 0} → Ghosts D → D → (List ℕ → Type 0) → Type 0
 CrashLeaves g disk P = IsTrue (g.is_clean disk) → (file : List ℕ) → g.may_leave disk file → P file
 
--- the file is at rest, and holds the lines that the bytes stand for, which are this text
-pub record IsOpened {D : Type 0} (g : Ghosts D) (disk : D) (bytes text : List ℕ) (end : ℕ) : Type 0 where
+-- the file is at rest, and holds the lines that the bytes stand for
+pub record IsOpened {D : Type 0} (g : Ghosts D) (disk : D) (bytes : List ℕ) (end : ℕ) : Type 0 where
   pub closed : IsClosed (g.seen disk) end
   pub stands : StandsFor (lines_in (g.seen disk)) bytes
-  pub text_is : text ≡ text_of (lines_in (g.seen disk))

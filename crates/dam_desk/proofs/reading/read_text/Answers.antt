@@ -14,7 +14,7 @@ returns c day line is before_is few =
     let none = rw c.in_default.is at c.in_ok-periods.ensures in
     let no_day : (q : ℕ) → ¬ (ReadsAs (line ++ 10 ∷ []) q []) = subst (λ (t : List ℕ). (q : ℕ) → ¬ (ReadsAs t q [])) (alone day line text before is before_is) none in
     inr (
-      (λ q day_line. no_day q day_line.1),
+      record { short = few; other = λ q day_line. no_day q day_line.1 },
       elim c.match-read.branch [
         | in-Ok w ↦
             let reads = w.in-Ok.ensures.ok in

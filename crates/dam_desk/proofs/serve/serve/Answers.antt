@@ -1,6 +1,6 @@
 -- What the desk held at first is kept by each batch.
 use Rattle.std.proofs.Common.{rules, ◌<◌, ◌++◌, [], List, ℕ, inl, inr, length, take, refl, sym, ◌∙◌, subst, arith, append_assoc, append-nil}
-use Rattle.std.proofs.KnownBytes.{Appends-nil, Consumes-nil, Consumes-trans}
+use Rattle.std.proofs.KnownBytes.{Appends-nil, Consumes-kept, Consumes-nil, Consumes-trans}
 use Rattle.std.proofs.lemmas.Result.{on_ok_weaker}
 use Rattle.std.specs.Io.KnownBytes.{Appends}
 use Rattle.dam_store.specs.Store.{disk_of, held}
@@ -19,6 +19,8 @@ returns-in_err-take-clause-crash g c clean =
 pub loop-preserved : goal.loop-preserved
 loop-preserved g c = record {
   ready = c.in_ok-take.ensures.ready;
+  no_fault = c.in_ok-take.ensures.no_fault ∙ c.loop.invariant.no_fault;
+  clean = c.take.ensures.clean ∙ c.loop.invariant.clean;
   grown = λ clean.
       let grown = c.loop.invariant.grown (sym c.take.ensures.clean ∙ clean) in
       let batch = c.in_ok-take.ensures.grown clean in (
@@ -48,6 +50,8 @@ loop-preserved g c = record {
 pub loop-init : goal.loop-init
 loop-init g c = record {
   ready = c.requires;
+  no_fault = refl;
+  clean = refl;
   grown = λ clean. ([], sym (append-nil (held c.args.desk.now.store)));
   kept = λ clean. c.is_safe-safe.ensures.keeps c.requires clean;
   chunk = search rules;
@@ -71,8 +75,8 @@ returns-in_err-write_text-clause-faulty g c state begun is =
       served_first c.args.desk.now state begun c.args.replies.now old new part.0 (c.is_safe-safe.ensures.opens state begun is c.requires) part.1,
     )
 
-pub returns-in_default-clause-faulty : goal.returns-in_default-clause-faulty
-returns-in_default-clause-faulty g c state begun is =
+pub returns-in-Err-clause-faulty : goal.returns-in-Err-clause-faulty
+returns-in-Err-clause-faulty g c state begun is =
     let so_far = c.loop.invariant.taken state begun is in
     let old = g.W.Write.contents c.args.writer.now in
     let now = g.W.Write.contents c.loop.writer in (
@@ -137,3 +141,16 @@ returns-in_err-take-clause-faulty g c state begun is =
           (served_more c.loop.desk state (begun ++ so_far.0) more c.args.replies.now old mid new _ so_far.2
           (c.in_err-take.ensures.faulty so_far.2.last so_far.2.begun so_far.2.now c.loop.invariant.ready)),
     )
+
+pub returns-in-Err-clause-answered : goal.returns-in-Err-clause-answered
+returns-in-Err-clause-answered g c state begun is failed =
+    let so_far = c.loop.invariant.taken state begun is in (
+      so_far.0,
+      Consumes-kept (g.R.Read.remaining c.args.reader.now) (g.R.Read.remaining c.loop.reader) (g.R.Read.remaining c.read.new.self) so_far.0 so_far.1
+          c.in-Err.ensures.bytes,
+      so_far.2,
+    )
+
+pub returns-clause-answered : goal.returns-clause-answered
+returns-clause-answered g c state begun is failed =
+    let so_far = c.loop.invariant.taken state begun is in (so_far.0, so_far.1, so_far.2)

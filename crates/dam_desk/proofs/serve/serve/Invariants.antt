@@ -10,6 +10,8 @@ use Rattle.dam_desk.proofs.serve.serve.Given as goal
 abbrev pub invariant-loop : goal.invariant-loop
 invariant-loop g l = record {
   ready : is_broken l.desk.store ≡ false;
+  no_fault : g.D.Disk.faults (disk_of l.desk.store) ≡ g.D.Disk.faults (disk_of l.initial.desk.store);
+  clean : g.D.Disk.is_clean (disk_of l.desk.store) ≡ g.D.Disk.is_clean (disk_of l.initial.desk.store);
   grown : IsTrue (g.D.Disk.is_clean (disk_of l.desk.store)) → (more : List (List ℕ)) × held l.desk.store ≡ held l.initial.desk.store ++ more;
   kept : IsTrue (g.D.Disk.is_clean (disk_of l.desk.store)) → KeepsLines (g.D.Disk.may_leave (disk_of l.desk.store)) (held l.initial.desk.store);
   chunk : length l.chunk ≡ CHUNK;

@@ -1,0 +1,99 @@
+-- A line says one thing.
+use Rattle.std.proofs.Common.{◌≡◌, ◌⊎◌, inl, inr, ℕ, List, [], ◌∷◌, ◌++◌, Option, Some, None, length, refl, sym, ap, ◌∙◌, subst, arith}
+use Rattle.dam_book.specs.declared.command.Command.{Command}
+use Rattle.dam_results.specs.Faults.{IsJournalFault}
+use Rattle.dam_results.specs.Journal.{ReadsAs}
+use Rattle.dam_results.specs.declared.journal.JournalFault.{JournalFault}
+use Rattle.dam_results.specs.declared.journal.JournalFault.TheVariants as journal
+use Rattle.dam_desk.specs.Lines.{IsDayLine, IsLineFault, IsSameFault, Says, record_of, text_after}
+use Rattle.dam_desk.specs.declared.fault.LineFault.{LineFault}
+use Rattle.dam_desk.specs.declared.reading.Said.{Said}
+use Rattle.dam_desk.specs.declared.reading.Said.TheVariants.{Day as Days, Command as Commands, Fault}
+
+abbrev OneJournal : Type 0
+OneJournal = (text : List ℕ) (periods others : ℕ) (commands more : List Command) → ReadsAs text periods commands → ReadsAs text others more
+    → (periods ≡ others) × (commands ≡ more)
+
+abbrev NoJournal : Type 0
+NoJournal = (text : List ℕ) (fault : JournalFault) (periods : ℕ) (commands : List Command) → IsJournalFault text fault
+    → ReadsAs text periods commands → fault ≡ journal.Memory
+
+abbrev OneFault : Type 0
+OneFault = (text : List ℕ) (fault other : JournalFault) → IsJournalFault text fault → IsJournalFault text other
+    → (fault ≡ other) ⊎ ((fault ≡ journal.Memory) ⊎ (other ≡ journal.Memory))
+
+same_of : (n : ℕ) (why : JournalFault) (fault other : LineFault) → IsSameFault n why fault → IsSameFault n why other → fault ≡ other
+same_of n journal.TooLong fault other a b = a ∙ sym b
+same_of n (journal.NotAscii offset) fault other a b = a ∙ sym b
+same_of n journal.TooManyRecords fault other a b = a ∙ sym b
+same_of n journal.NotDay fault other a b = a ∙ sym b
+same_of n (journal.FieldCount at) fault other a b = a ∙ sym b
+same_of n (journal.BadField at field) fault other a b = a ∙ sym b
+same_of n journal.Memory fault other a b = absurd a
+
+no_memory : (n : ℕ) (why : JournalFault) (fault : LineFault) → IsSameFault n why fault → why ≡ journal.Memory → ⊥
+no_memory n why fault same is = subst (λ (w : JournalFault). IsSameFault n w fault) is same
+
+day_says : (day : Option ℕ) (text : List ℕ) (periods : ℕ) → Says day text (Days periods) → IsDayLine text periods
+day_says None text periods says = says
+day_says (Some d) text periods says = says
+
+fault_says : (day : Option ℕ) (text : List ℕ) (fault : LineFault) → Says day text (Fault fault) → IsLineFault day text fault
+fault_says None text fault says = says
+fault_says (Some d) text fault says = says
+
+day_command : (day : Option ℕ) (text : List ℕ) (periods : ℕ) (command : Command) → IsDayLine text periods → Says day text (Commands command) → ⊥
+day_command None text periods command a b = b
+day_command (Some d) text periods command a b = b.0.other periods a
+
+day_fault : (day : Option ℕ) (text : List ℕ) (periods : ℕ) (fault : LineFault) → IsDayLine text periods → IsLineFault day text fault → ⊥
+day_fault day text periods fault a (inl long) = absurd (omega (arith, a.0, long.0))
+day_fault day text periods fault a (inr other) = other.0.other periods a
+
+module _ (one : OneJournal) (none : NoJournal) (one_fault : OneFault) where
+  command_one : (day : Option ℕ) (text : List ℕ) (command other : Command) → Says day text (Commands command) → Says day text (Commands other)
+      → command ≡ other
+  command_one None text command other a b = absurd a
+  command_one (Some d) text command other a b =
+      let same = one (text_after (Some d) text) a.1.0 b.1.0 (command ∷ []) (other ∷ []) a.1.1 b.1.1 in
+      let is = same.1 in cc
+
+  command_fault : (day : Option ℕ) (text : List ℕ) (command : Command) (fault : LineFault) → Says day text (Commands command)
+      → IsLineFault day text fault → ⊥
+  command_fault None text command fault a b = a
+  command_fault (Some d) text command fault a (inl long) = absurd (omega (arith, a.0.short, long.0))
+  command_fault (Some d) text command fault a (inr (no_day, inl faulty)) =
+      no_memory (length (record_of (Some d))) faulty.0 fault faulty.2
+      (none (text_after (Some d) text) faulty.0 a.1.0 (command ∷ []) faulty.1 a.1.1)
+  command_fault (Some d) text command fault a (inr (no_day, inr many)) =
+      let same = one (text_after (Some d) text) a.1.0 many.1.0 (command ∷ []) many.1.1 a.1.1 many.1.2 in
+      many.1.3 (ap length (sym same.1))
+
+  faults_one : (day : Option ℕ) (text : List ℕ) (fault other : LineFault) → IsLineFault day text fault → IsLineFault day text other → fault ≡ other
+  faults_one day text fault other (inl a) (inl b) = a.1 ∙ sym b.1
+  faults_one day text fault other (inl a) (inr b) = absurd (omega (arith, a.0, b.0.short))
+  faults_one day text fault other (inr a) (inl b) = absurd (omega (arith, b.0, a.0.short))
+  faults_one day text fault other (inr (_, inl a)) (inr (_, inl b)) =
+      let n = length (record_of day) in
+      elim (one_fault (text_after day text) a.0 b.0 a.1 b.1) [
+        | inl same ↦ same_of n b.0 fault other (subst (λ (w : JournalFault). IsSameFault n w fault) same a.2) b.2
+        | inr (inl memory) ↦ absurd (no_memory n a.0 fault a.2 memory)
+        | inr (inr memory) ↦ absurd (no_memory n b.0 other b.2 memory)
+      ]
+  faults_one day text fault other (inr (_, inl a)) (inr (_, inr b)) =
+      absurd (no_memory (length (record_of day)) a.0 fault a.2 (none (text_after day text) a.0 b.1.0 b.1.1 a.1 b.1.2))
+  faults_one day text fault other (inr (_, inr a)) (inr (_, inl b)) =
+      absurd (no_memory (length (record_of day)) b.0 other b.2 (none (text_after day text) b.0 a.1.0 a.1.1 b.1 a.1.2))
+  faults_one day text fault other (inr (_, inr a)) (inr (_, inr b)) = a.0 ∙ sym b.0
+
+  pub says_one : (day : Option ℕ) (text : List ℕ) (said other : Said) → Says day text said → Says day text other → said ≡ other
+  says_one day text (Days p) (Days q) a b =
+      ap Days (one (text ++ 10 ∷ []) p q [] [] (day_says day text p a).1 (day_says day text q b).1).0
+  says_one day text (Days p) (Commands c) a b = absurd (day_command day text p c (day_says day text p a) b)
+  says_one day text (Days p) (Fault f) a b = absurd (day_fault day text p f (day_says day text p a) (fault_says day text f b))
+  says_one day text (Commands c) (Days p) a b = absurd (day_command day text p c (day_says day text p b) a)
+  says_one day text (Commands c) (Commands d) a b = ap Commands (command_one day text c d a b)
+  says_one day text (Commands c) (Fault f) a b = absurd (command_fault day text c f a (fault_says day text f b))
+  says_one day text (Fault f) (Days p) a b = absurd (day_fault day text p f (day_says day text p b) (fault_says day text f a))
+  says_one day text (Fault f) (Commands c) a b = absurd (command_fault day text c f b (fault_says day text f a))
+  says_one day text (Fault f) (Fault h) a b = ap Fault (faults_one day text f h (fault_says day text f a) (fault_says day text h b))

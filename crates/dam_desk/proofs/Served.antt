@@ -1,0 +1,41 @@
+-- A run that was served, by the disk that it leaves.
+use Rattle.std.proofs.Common.{◌≡◌, ◌++◌, List, ℕ, Option, Result, Ok, Err, IfErr, OnErr, IsTrue, sym, subst}
+use Rattle.sqlite_disk.specs.declared.Disk.{Ghosts}
+use Rattle.dam_store.specs.Store.{disk_of}
+use Rattle.dam_desk.specs.Desk.{AreSettled, Finishes, IsServed, MayLeave, Served, at_first}
+use Rattle.dam_desk.specs.Journal.{Journal, State, AreAnswers, AreReplies, Reads, replies_text}
+use Rattle.dam_desk.specs.declared.desk.Desk.{Desk}
+
+pub err_to : {X Y : Type 0} (r : Result X Y) (P : Type 0) (Q : Y → Type 0) → ((y : Y) → P → Q y) → OnErr r P → IfErr r Q
+err_to (Ok x) P Q then p = tt
+err_to (Err y) P Q then p = then y p
+
+module _ {D : Type 0} {g : Ghosts D} (desk : Desk D g) (disk : D) (same : disk ≡ disk_of desk.store) (journal : Option Journal) (first : List ℕ) (replies_are : first ≡ replies_text journal) (given : List ℕ) (old new : Option (List ℕ)) where
+  abbrev pub Left : List ℕ → Type 0
+  Left file = IsTrue (g.is_clean disk) × g.may_leave disk file
+
+  moved : (P : List ℕ → (List ℕ → Type 0) → Type 0) → P first (MayLeave desk) → P (replies_text journal) Left
+  moved P has =
+      subst (λ (d : D). P (replies_text journal) (λ file. IsTrue (g.is_clean d) × g.may_leave d file)) (sym same)
+      (subst (λ (t : List ℕ). P t (MayLeave desk)) replies_are has)
+
+  pub served_still : Served (at_first journal) given first old new (MayLeave desk)
+      → Served (at_first journal) given (replies_text journal) old new Left
+  served_still served = moved (λ t outcomes. Served (at_first journal) given t old new outcomes) served
+
+  pub is_served : ((state last : State) (lines : List (List ℕ)) (answers : List ℕ) → Reads state.journal → AreAnswers state lines answers last
+      → Reads last.journal)
+      → ((state last : State) (lines : List (List ℕ)) (answers : List ℕ) → AreAnswers state lines answers last
+      → (replies : List ℕ) × AreReplies state lines replies × (replies_text last.journal ≡ replies_text state.journal ++ replies))
+      → ((j : Option Journal) → Reads j → AreSettled j)
+      → Reads journal → Finishes (at_first journal) given first old new (MayLeave desk) → IsServed journal given old new Left
+  is_served grow answer settle reads finishes =
+      let all = moved (λ t outcomes. Finishes (at_first journal) given t old new outcomes) finishes in
+      let replies = answer (at_first journal) all.last all.lines all.answers all.answered in
+      record {
+        finishes = all;
+        replies = replies.0;
+        among = replies.1;
+        replayed = replies.2;
+        settled = settle all.last.journal (grow (at_first journal) all.last all.lines all.answers reads all.answered);
+      }
