@@ -28,6 +28,16 @@ ON_SCREEN = """(() => { const part = byId('%s'), {top, bottom, left} = part.getB
 # How many tables are scrolled sideways.
 SCROLLED = """[...document.querySelectorAll('.wide')]
   .filter((one) => one.checkVisibility() && one.scrollWidth > one.clientWidth).length"""
+# Tables at which the keyboard stops, and which don't scroll, or that scroll without a stop.
+STOPS = """[...document.querySelectorAll('.wide')].filter((one) => one.checkVisibility()).filter((one) => (one.tabIndex === 0)
+  !== (one.scrollWidth > one.clientWidth || one.scrollHeight > one.clientHeight)).map((one) => one.textContent.slice(0, 40))"""
+# How well the words of the buttons that do most can be read: the least contrast.
+CONTRAST = """(() => { const light = (words) => words.match(/[0-9.]+/g).slice(0, 3).map((one) => one / 255)
+    .map((one) => (one <= 0.04045 ? one / 12.92 : ((one + 0.055) / 1.055) ** 2.4))
+    .reduce((sum, one, at) => sum + one * [0.2126, 0.7152, 0.0722][at], 0);
+  const of = (one) => { const { color, backgroundColor } = getComputedStyle(one);
+    const [low, high] = [color, backgroundColor].map(light).sort((one, other) => one - other); return (high + 0.05) / (low + 0.05); };
+  return Math.min(...['enter', 'enter-all', 'yes'].map((id) => of(byId(id))), of(document.querySelector('#sign-in-form button'))); })()"""
 HEADS = "participant,order,kind,side,price_eur_mwh,periods,volume_mw,parent,group\n"
 TABLE = HEADS + "{who},T-1,block,buy,80,1-3,10,,G\n{who},T-2,block,buy,70,1;3,5.5,T-1,\n{who},T-3,block,buy,60,2,1,MORE,\n"
 
@@ -81,6 +91,7 @@ async def shown(page, counts, pictures, name):
             counts.check(f"{name} fits into {width}", await page.run("document.documentElement.scrollWidth") <= width)
             if width == WIDTHS[0]:
                 counts.check(f"no table of {name} is scrolled at {width}", await page.run(SCROLLED) == 0)
+            counts.check(f"{name}'s buttons can be read in {scheme}", await page.run(CONTRAST) >= 4.5)
             if pictures:
                 await page.picture(Path(pictures, f"{name}-{width}-{scheme}.png"))
     counts.check(f"each control of {name} has a name", await page.run(UNNAMED) == 0)
@@ -118,7 +129,8 @@ async def first_sign_in(page, office, who, counts):
         await page.until("document.getElementById('message').className === 'wrong'")
         counts.check(f"{wrong[:9]} is no token", "This isn't a token of this office" in await text(page, "message"))
     await sign_in(page, office, who)
-    await page.until("document.activeElement.id === 'name'")
+    await page.until("document.activeElement.id === 'title'")
+    counts.check("the focus is on the first heading", await page.run("document.querySelector('h1') === document.activeElement"))
     counts.check(
         "the token isn't in the page or its address",
         office.tokens[who] not in await page.run("document.documentElement.outerHTML + location.href"),
@@ -129,6 +141,8 @@ async def first_sign_in(page, office, who, counts):
     await click(page, "#sign-out")
     await sign_in(page, office, who)
     counts.check("and an hourly order's after the next sign-in", await page.run(FIELDS) == HOURLY)
+    head = await page.run("fetch(byId('head').href).then((answer) => answer.json())")
+    counts.check("the head of the day is linked", head["day"] == office.day and "after the close" in await text(page, "receipts-help"))
     counts.check("only a demo can be closed", await page.run("document.getElementById('demo-close').hidden"))
 
 
@@ -193,6 +207,7 @@ async def enter_orders(page, who, counts):
     await write(page, "fill-volume", "30")
     await page.key("Enter", 13)
     counts.check("Enter in the volume fills in", await page.run("cells().map((one) => one.value).join(' ').trim()") == "30 30")
+    counts.check("and empties it", await page.run("byId('fill-volume').value") == "")
     await write(page, "group", "eve")
     await click(page, "#enter")
     await until_rows(page, "orders-table", 2)
@@ -212,6 +227,7 @@ async def enter_orders(page, who, counts):
 
 
 async def change_orders(page, counts):
+    await keep_a_draft(page, counts)
     await click(page, '[aria-label="Amend UNIT-8"]')
     looks = await page.run("['name', 'side', 'price'].map((id) => getComputedStyle(byId(id)).backgroundColor)")
     counts.check(
@@ -237,20 +253,55 @@ async def change_orders(page, counts):
     counts.check("a refusal is in words", (await rows(page, "commands-table"))[0][1:4] == ["cancel", "RUN", f"refused: {reason}"])
     counts.check("and the message names it", (await text(page, "message")).startswith(f"RUN wasn't cancelled: {reason}."))
     await page.until("document.activeElement.id === 'orders-title'")
+    counts.check("each reason is to the participant", await page.run(REASONS) == TOLD)
+
+
+# The reasons that name a command's order or its parent, or the market's limits.
+REASONS = """['NameTaken', 'UnknownOrder', 'UnknownParent', 'ParentNotBlock', 'HourlyFull', 'BlocksFull', 'Closed']
+  .map((code) => reasonOf(`refused,${code}`, { order: 'X1', parent: 'CH-11' }))"""
+TOLD = [
+    "you already have an order X1",
+    "you have no order X1: it was cancelled, refused, or never entered",
+    "its parent CH-11 isn't in the book",
+    "its parent CH-11 is an hourly order",
+    "this auction takes 4,000 hourly orders from all participants together, and it has them",
+    "this auction takes 24 blocks from all participants together, and it has them",
+    "the book was already closed",
+]
+
+
+async def keep_a_draft(page, counts):
+    """A new order that is half written comes back after an amend of another, whether this is entered or not."""
+    await click(page, "input[value=hour]")
+    half = {"name": "HALF", "price": "7", "volume": "8", "group": "G", "fill-volume": "9", "period": "11", "fill-from": "3", "fill-to": "5"}
+    for name, words in half.items():
+        await choose(page, name, words)
+    await page.run("cells()[6].value = '1.5'")
+    before = await page.run("JSON.stringify(draft())")
+    await click(page, '[aria-label="Amend UNIT-8"]')
+    await click(page, '[aria-label="Amend MORE"]')
+    shows = await page.run("byId('name').value + kindChosen() + byId('fill-volume').value")
+    counts.check("an amend has its own form", shows == "MOREblock")
+    await click(page, "#keep")
+    counts.check("a half-written order comes back", await page.run("JSON.stringify(draft())") == before)
+    is_new = "!state.changes && byId('enter').textContent === 'Enter the order' && !byId('name').disabled"
+    counts.check("as a new one", await page.run(is_new))
+    await page.run("change(null)")
+    counts.check("and doesn't come back twice", await page.run("byId('name').value") == "")
 
 
 RIGHT = """[limitRule('4000').value, limitRule('-500').value, limitRule('12,5').value, volumeRule('0.1').value, volumeRule('9999,9').value,
   nameRule('-').value, nameRule('ABCDEFGHIJ-9').value, groupRule('').value].join(' ')"""
 WRONG = (
-    ("price", "5000", "from -500.00 to 4,000.00 EUR/MWh"),
-    ("price", "-500.01", "from -500.00 to 4,000.00 EUR/MWh"),
+    ("price", "5000", "from -500.00 to 4000.00 EUR/MWh"),
+    ("price", "-500.01", "from -500.00 to 4000.00 EUR/MWh"),
     ("price", "60.555", "at most 2 digits after the point, and thousands without a separator"),
     ("price", "sixty", "Write a number from -500.00"),
     ("price", "", "Write a number from -500.00"),
-    ("volume", "1000000", "It should be from 0.1 to 9,999.9 MW"),
-    ("volume", "10000", "It should be from 0.1 to 9,999.9 MW"),
-    ("volume", "0", "It should be from 0.1 to 9,999.9 MW"),
-    ("volume", "-5", "It should be from 0.1 to 9,999.9 MW"),
+    ("volume", "1000000", "It should be from 0.1 to 9999.9 MW"),
+    ("volume", "10000", "It should be from 0.1 to 9999.9 MW"),
+    ("volume", "0", "It should be from 0.1 to 9999.9 MW"),
+    ("volume", "-5", "It should be from 0.1 to 9999.9 MW"),
     ("volume", "0.05", "at most 1 digit after the point"),
     ("volume", "", "Write a number from 0.1"),
     ("name", "A_B", "1 to 12 of the characters A to Z, 0 to 9 and -"),
@@ -268,8 +319,9 @@ async def faults(page, counts, pictures):
     await click(page, "input[value=hour]")
     counts.check(
         "the rules are there before a fault",
-        "0.1 to 9,999.9" in await text(page, "volume-help") and "to 12" in await text(page, "name-help"),
+        "0.1 to 9999.9" in await text(page, "volume-help") and "to 12" in await text(page, "name-help"),
     )
+    counts.check("and so is the comma", "4000.00, with a point or a comma" in await text(page, "price-help"))
     for name, words, fault in WRONG:
         for field, right in (("name", "NEW"), ("price", "1"), ("volume", "1"), (name, words)):
             await write(page, field, right)
@@ -282,12 +334,23 @@ async def faults(page, counts, pictures):
     gone = await page.run("[byId('name-fault').textContent, byId('message').textContent, byId('name').ariaInvalid]")
     counts.check(f"a fault goes when its field is changed: {gone}", gone == ["", "", None])
     await click(page, "input[value=block]")
-    for name, words, fault in (("group", "G_1", "1 to 12 of the characters"), ("fill-volume", "0", "from 0.1 to 9,999.9 MW")):
+    for name, words, fault in (("group", "G_1", "1 to 12 of the characters"), ("fill-volume", "0", "from 0.1 to 9999.9 MW")):
         await write(page, name, words)
         await click(page, "#enter" if name == "group" else "#fill")
         is_marked, told = await page.run(MARKED % name)
         counts.check(f"{name} {words} is told at its field: {told}", is_marked == "true" and fault in told)
     await write(page, "group", "")
+    await choose(page, "fill-volume", 30)
+    await choose(page, "fill-from", 11)
+    await choose(page, "fill-to", 12)
+    await page.run("cells()[4].value = '1'")
+    for filled in ("1", ""):
+        await page.run(f"cells()[4].value = '{filled}'")
+        await click(page, "#enter")
+        told = await text(page, "fill-fault")
+        unfilled = "30 MW for 11 to 12 isn't filled in: press Fill in, or empty the box."
+        counts.check(f"a volume that isn't filled in isn't lost: {told}", told == unfilled and await focused(page) == "fill-volume")
+    await choose(page, "fill-volume", "")
     await click(page, "#enter")
     counts.check("a block without volumes", "at least one period" in await text(page, "grid-fault"))
     await page.run("cells()[4].focus()")
@@ -321,9 +384,11 @@ async def faults(page, counts, pictures):
 LOSE = """{ const real = window.fetch; window.lost = false; window.fetch = async (path, how) => { const answer = await real(path, how);
   if (how?.method !== 'PUT' || window.lost) return answer; window.lost = true; throw new TypeError('lost'); }; }"""
 
-# Answers no command any more, and doesn't wait between the tries.
+# Answers nothing any more, and doesn't wait between the tries.
 NEVER = """{ window.real = fetch; window.timeout = setTimeout; setTimeout = (does) => timeout(does, 1);
-  fetch = async (path, how) => { if (how?.method === 'PUT') throw new TypeError('lost'); return real(path, how); }; }"""
+  window.unanswered = 0; fetch = async () => { unanswered += 1; throw new TypeError('lost'); }; }"""
+# What is told of an order of which nobody knows whether it was entered.
+UNSURE = "The office can't be reached. We don't know whether GONE was entered: look in Your orders once it's back."
 
 
 async def lose_an_answer(page, counts):
@@ -343,9 +408,13 @@ async def lose_an_answer(page, counts):
     await write(page, "price", "1")
     await write(page, "volume", "1")
     await page.key("Enter", 13)
-    await said(page, "It isn't known whether GONE was entered: the office can't be reached. Look at your commands")
+    await said(page, UNSURE)
+    await page.run("unanswered = 0; look()")
     counts.check("an order that may be lost stays in the form", await page.run("byId('name').value") == "GONE")
+    counts.check("and so does its message", await page.run("unanswered > 0") and await text(page, "message") == UNSURE)
     await page.run("fetch = real; setTimeout = timeout; change(null)")
+    await page.run("look()")
+    counts.check("also once the office answers", await text(page, "message") == UNSURE)
     twice = "(async (one) => await enter([one]) && await enter([one]))({ what: 'amend', order: 'ONCE', price: 100, volumes: [[1, 10]] })"
     counts.check("commands can follow at once", await page.run(twice))
     await page.run("enter([{ what: 'cancel', order: 'a' }])")
@@ -387,10 +456,11 @@ async def upload(page, who, room, counts):
         read
         == [
             ["1", "enter", "T-1", "block", "buy", "80.00", "1-3: 10.0", "group G"],
-            ["2", "enter", "T-2", "block", "buy", "70.00", "1: 5.5, 3: 5.5", "parent T-1"],
+            ["2", "enter", "T-2", "block", "buy", "70.00", "1: 5.5; 3: 5.5", "parent T-1"],
             ["3", "enter", "T-3", "block", "buy", "60.00", "2: 1.0", "parent MORE"],  # which is in the book
         ],
     )
+    counts.check("with its count", await text(page, "enter-all") == "Enter these 3 rows")
     counts.check("before it is entered", len(await rows(page, "commands-table")) == before)
     await click(page, "#enter-all")
     await until_rows(page, "commands-table", before + 3)
@@ -409,15 +479,16 @@ async def results(page, office, who, other, counts):
     counts.check("and again", await text(page, "announced") == "1 minute left")
     await write(page, "name", "LATE")
     await asyncio.to_thread(office.close_day)
-    await page.until("!document.getElementById('results').hidden")
-    counts.check(
-        "an unfinished order isn't lost without a word",
-        await text(page, "message") == "The results are there.\nYour unfinished order LATE wasn't sent.",
-    )
+    await page.until("document.activeElement.id === 'results-title'")
+    counts.check("the focus is at the results, which are seen", await page.run(ON_SCREEN % "results-title"))
+    counts.check("an unfinished order isn't lost without a word", await text(page, "unsent") == "Your unfinished order LATE wasn't sent.")
+    told = await page.run("[byId('message').textContent, byId('message').className, document.querySelector('#message a').hash]")
+    counts.check(f"the results are no fault: {told}", told == ["The results are out.", "right", "#results"])
     statement, prices, commands = [await rows(page, name) for name in ("statement", "prices", "commands-table")]
     found = {row[0]: row[1:] for row in statement}
-    counts.check(f"each order has its result: {sorted(found)}", sorted(found) == ["MORE", "ONCE", "RUN", "T-1", "T-2", "T-3", "UNIT-8"])
-    unit = ["hourly", "sell", "61.00", "50.1", "30.0", "61.00", "1,830.00", "executed in part"]
+    in_book = ["UNIT-8", "RUN", "MORE", "T-1", "T-2", "T-3", "ONCE"]
+    counts.check(f"each order has its result, in the order of the book: {list(found)}", [row[0] for row in statement] == in_book)
+    unit = ["hourly", "sell", "61.00", "50.1", "30.0", "61.00", "+1,830.00", "executed in part"]
     counts.check(
         f"in a trader's words: {found['UNIT-8']}",
         found["UNIT-8"][:8] == unit and found["ONCE"][7] == "not executed" and all(row[8] for row in found.values()),
@@ -425,8 +496,19 @@ async def results(page, office, who, other, counts):
     numbers = [row[0] for row in commands]
     counts.check("commands have their own numbers", numbers == [str(number) for number in range(len(commands), 0, -1)])
     counts.check("and no other", "command 2" not in await text(page, "statement"))
-    counts.check("each period has its price", len(prices) == 24 and prices[7] == ["8", "07:00", "61.00", "30.0"])
-    counts.check(f"also one without trade: {prices[8]}", prices[8] == ["9", "08:00", "1,750.00 (nominal)", "0.0"])
+    counts.check("each period has its price", len(prices) == 24 and prices[7] == ["8 (07:00)", "61.00", "30.0"])
+    counts.check(f"also one without trade: {prices[8]}", prices[8] == ["9 (08:00)", "1,750.00 (nominal)", "0.0"])
+    totals = await page.run("[...document.querySelectorAll('#totals dd')].map((one) => one.textContent)")
+    executed = [float(row[6].replace(",", "").replace("\u2212", "-")) for row in found.values() if row[6]]
+    counts.check(f"the totals are the sums: {totals}", totals == expected_totals(executed))
+    position = await rows(page, "position")
+    counts.check(f"the position has each period of one's own: {position}", ["8 (07:00)", "0.0", "30.0", "\u221230.0"] in position)
+    saved = (await page.run("csv(state.results)")).splitlines()
+    counts.check(f"the results can be saved: {saved[1]}", saved[1].startswith("UNIT-8,hour,sell,61,8,50.1,,,in part,30,1830,at-the-price,"))
+    counts.check("a cell isn't a formula", await page.run("[field('-A'), field(-1), field('a,\"b')].join(' ')") == "'-A -1 \"a,\"\"b\"")
+    counts.check("a demo's button isn't there", await page.run("byId('demo-close').hidden"))
+    wrong = await page.run(STOPS)
+    counts.check(f"the keyboard stops at tables that scroll, and at no others: {wrong}", wrong == [])
     counts.check("nothing of another's", f"{other}," not in await page.run("document.body.textContent"))
     counts.check("orders can't be entered any more", await page.run("document.getElementById('entry').hidden"))
     counts.check("the journal isn't offered", await page.run("byId('journal').hidden") and "hasn't" in await text(page, "no-journal"))
@@ -466,6 +548,7 @@ async def scene(office, counts, pictures, room):
         await leave(page, office, who, office.who[2], room, counts)
         await upload(page, who, room, counts)
         await lose_an_answer(page, counts)
+        await page.run("byId('commands-list').open = true")
         await shown(page, counts, pictures, "orders")
         await results(page, office, who, other, counts)
         await shown(page, counts, pictures, "results")
@@ -473,6 +556,13 @@ async def scene(office, counts, pictures, room):
         # a wrong token, a table that can't be read and many tables are answers that the browser notes
         found = [fault for fault in page.faults if not any(status in fault for status in ("400", "401", "429"))]
         counts.check(f"no script fails, and the policy refuses nothing: {found}", not found)
+
+
+def expected_totals(amounts):
+    """What is received, paid, and both together, as the page writes them."""
+    received, paid = sum(max(0, one) for one in amounts), sum(min(0, one) for one in amounts)
+    sign = "+" if received + paid > 0 else "\u2212"
+    return [f"{received:,.2f}", f"{-paid:,.2f}", f"{sign}{abs(received + paid):,.2f}"]
 
 
 async def length_scene(page, office, periods, counts):
@@ -490,7 +580,7 @@ async def length_scene(page, office, periods, counts):
     await click(page, "#enter")
     await until_rows(page, "orders-table", 1)
     first = (await rows(page, "commands-table"))[0]
-    counts.check(f"a block over {periods} periods: {first}", first[6:8] == ["4000.00", f"1-{periods}: 9999.9"])
+    counts.check(f"a block over {periods} periods: {first}", first[6:8] == ["4,000.00", f"1-{periods}: 9,999.9"])
     fits = await page.run("document.documentElement.scrollWidth") <= WIDTHS[0] and await page.run(SCROLLED) == 0
     counts.check(f"a day of {periods} periods fits into {WIDTHS[0]}", fits)
     await asyncio.to_thread(office.close_day)
@@ -499,7 +589,8 @@ async def length_scene(page, office, periods, counts):
     energy = f"{9_999.9 * periods * float(rules.DAYS[periods]):,.1f}"
     counts.check(f"{energy} MWh of {periods} periods: {row}", row[4:6] == [energy, "0.0"] and row[8] == "paradoxically rejected")
     counts.check("its reason says what is missing, and not how much", row[9].endswith("period 1 wouldn't balance: too few sellers"))
-    counts.check(f"the prices of {periods} periods", [one[1] for one in prices] == [clock.begins(periods, at + 1) for at in range(periods)])
+    begins = [f"{number} ({clock.begins(periods, number)})" for number in range(1, periods + 1)]
+    counts.check(f"the prices of {periods} periods", [one[0] for one in prices] == begins)
 
 
 async def lengths_scene(args, counts):
@@ -517,7 +608,8 @@ async def demo_scene(url, counts, pictures):
     async with browser.opened(url) as page:
         await page.until("document.querySelector('#demo-names button')")
         await page.run("[...document.querySelectorAll('#demo-names button')].find((one) => one.textContent === 'GAS').click()")
-        await page.until("document.activeElement.id === 'name'")
+        await page.until("document.activeElement.id === 'title'")
+        counts.check("a demo can be closed", await page.run("byId('demo-close').checkVisibility()"))
         await click(page, "input[value=block]")
         await write(page, "name", "NIGHT")
         await choose(page, "side", "sell")
@@ -536,7 +628,8 @@ async def demo_scene(url, counts, pictures):
         await click(page, "#close-now")
         await click(page, "#yes")
         await page.until("!document.getElementById('results').hidden")
-        counts.check("the focus is at the orders after the close", await focused(page) == "orders-title")
+        await page.until("document.activeElement.id === 'results-title'")
+        counts.check("a demo that is closed can't be closed again", await page.run("byId('demo-close').hidden"))
         (night,), prices = await rows(page, "statement"), await rows(page, "prices")
         counts.check(f"a block over a night has a price in the demo: {night}", night[5:7] == ["25.0", "48.00"] and night[8] == "accepted")
         counts.check("each period of the demo has trade", len(prices) == 24 and not any("nominal" in row[2] for row in prices))

@@ -823,7 +823,10 @@ class Requests(unittest.TestCase):
         why += " and OIL,A would lose 3 EUR"
         self.assertEqual(clearing.own_words(why, "OIL").count("another participant's block would lose"), 1)
         self.assertNotIn("GAS", clearing.own_words(why, "OIL"))
-        self.assertIn("OIL,A would lose 3 EUR", clearing.own_words(why, "OIL"))
+        self.assertTrue(clearing.own_words(why, "OIL").endswith(" and A would lose 3 EUR"))
+        published = clearing.own_words(why, "OIL", True)
+        self.assertEqual(published, why.replace("OIL,", ""))
+        self.assertEqual(clearing.own_words(why.replace("OIL", "COAL"), "OAL", True), why.replace("OIL", "COAL"))
         same = "would gain nothing at the prices, but GAS,LONG offers the same and stands earlier in the book"
         self.assertNotIn("GAS", clearing.own_words(same, "OIL"))
         self.assertEqual(clearing.own_words(same, "GAS"), same)

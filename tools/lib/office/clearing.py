@@ -58,7 +58,7 @@ class Published:
 
     def statement(self, who):
         """A participant's commands with what became of them; None before they are published. Reasons that name another's order don't,
-        unless the journal is published."""
+        unless the journal is published; the participant's own orders are named without it."""
         if self.rows is None and self.is_whole:
             found = json.loads(self.files.read(folder.STATEMENT))
             rows = {}
@@ -68,19 +68,22 @@ class Published:
         if self.rows is None:
             return None
         day, rows = self.rows[0], self.rows[1].get(who, [])
+        rows = [{**row, "why": own_words(row["why"], who, self.has_journal)} for row in rows]
         if not self.has_journal:
-            rows = [{**row, "why": own_words(row["why"], who)} for row in rows]
             day = {name: value for name, value in day.items() if name not in SUMS}
         return {"day": day, "rows": rows}
 
 
-def own_words(why, who):
-    """A reason without the orders of others, and without their volumes."""
+def own_words(why, who, is_published=False):
+    """A reason with the participant's own orders by their names alone; without the orders of others, and without their volumes, unless they
+    are published."""
     if why is None:
         return None
-    why = MISSING.sub(r"too few \1s", why)
-    why = SAME.sub(lambda found: found[0] if found["who"] == who else ", but an equal block stands earlier in the book", why)
-    return LOSER.sub(lambda found: found[0] if found["who"] == who else "another participant's block would lose", why)
+    if not is_published:
+        why = MISSING.sub(r"too few \1s", why)
+        why = SAME.sub(lambda found: found[0] if found["who"] == who else ", but an equal block stands earlier in the book", why)
+        why = LOSER.sub(lambda found: found[0] if found["who"] == who else "another participant's block would lose", why)
+    return re.sub(rf"\b{who},(?=[A-Z0-9-]+ would lose )", "", why)
 
 
 def load(files, ledger):

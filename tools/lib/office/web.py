@@ -59,7 +59,8 @@ DAY = r"/days/{day:[0-9A-Za-z._-]{1,32}}"
 OWN = r"/{who:[A-Z]{1,8}}"
 NUMBER = r"/{number:[1-9][0-9]{0,4}}"
 PARTS = {"/": ("office.html", "text/html"), "/office.css": ("office.css", "text/css"), "/office.js": ("office.js", "text/javascript")}
-RULES = "LEAST_PRICE", "GREATEST_PRICE", "GREATEST_VOLUME", "LONGEST_NAME"  # that the page checks before it sends an order
+# That the page checks before it sends an order, or tells.
+RULES = "LEAST_PRICE", "GREATEST_PRICE", "GREATEST_VOLUME", "LONGEST_NAME", "MOST_HOURLY", "MOST_BLOCKS"
 OPENAPI = Path(__file__).with_name("openapi.json")
 
 
@@ -94,6 +95,7 @@ class Web:
     def page(self, name):
         known = {"reasons": book.REASONS, "rules": {name.lower(): getattr(rules, name) for name in RULES}}
         made = {name: Markup(json.dumps(value)) for name, value in known.items()}
+        made["most_blocks"] = rules.MOST_BLOCKS
         return style.style(name) if name.endswith(".css") else style.TEMPLATES.get_template(name).render(**made)
 
     def application(self):

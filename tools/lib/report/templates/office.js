@@ -6,10 +6,16 @@ const LOOK = 2000; // milliseconds between two looks at the day
 const RETRIES = 5; // of a command whose answer didn't come: the same number can't enter it twice
 const MOST_REFUSED = 10; // that a message names
 const TOLD = [[600, "10 minutes"], [60, "1 minute"]]; // when the time left is announced
-const NOBODY = { token: "", next: 1, count: -1, share: "", orders: [], changes: null, read: [], unsent: "", last: { kind: "hour", side: "buy" } };
-const state = { ...NOBODY, token: sessionStorage.getItem("token") ?? "", day: null, known: null, visit: 0, looks: null, told: 0 };
+const NOBODY = {
+  token: "", next: 1, count: -1, share: "", orders: [], changes: null, draft: null, read: [], results: [], awaits: false, last: { kind: "hour", side: "buy" },
+};
+const OWN = ["orders-table", "commands-table", "statement", "prices", "position", "totals", "figures", "groups", "unsent"]; // what is shown of it
+const state = {
+  ...NOBODY, token: sessionStorage.getItem("token") ?? "", day: null, known: null, demo: false, visit: 0, looks: null, told: 0, about: "",
+};
 
 {% include "office_parts.js" %}
+{% include "office_results.js" %}
 
 class Fault extends Error {
   constructor(status, fault, words) {
@@ -22,15 +28,16 @@ function who() {
   return state.token.split(".")[0];
 }
 
-// Says it until something else is said, or until what it is `about` is over: a look that failed, or fields that are marked.
+// Says it until something else is said, or until what it is `about` is over: a look that failed, or fields that are marked. What is about
+// commands of which nobody knows what became of them isn't replaced by a look that fails. The words may be a list with elements.
 function say(words, kind = "right", about = "") {
-  byId("message").textContent = words;
-  byId("message").className = words ? kind : "";
+  byId("message").replaceChildren(...[words].flat());
+  byId("message").className = words.length ? kind : "";
   state.about = about;
 }
 
 function sayFault(fault, about = "") {
-  if (fault.fault !== "Left") say(`${fault.message}.`, "wrong", about);
+  if (fault.fault !== "Left") say(`${sentence(fault.message)}.`, "wrong", about);
 }
 
 // An answer in text. What comes after another participant has signed in, or after another day was chosen, is for nobody.
@@ -93,7 +100,7 @@ async function signIn(token) {
   fresh();
   show();
   await look();
-  byId("name").focus({ preventScroll: true });
+  byId("title").focus();
 }
 
 function refuse() {
@@ -105,9 +112,10 @@ function refuse() {
 function fresh() {
   Object.assign(state, { ...NOBODY, token: state.token, told: 0 });
   if (byId("sure").open) byId("sure").close("");
-  for (const id of ["orders-table", "commands-table", "statement", "prices", "figures", "groups"]) byId(id).replaceChildren();
+  for (const id of OWN) byId(id).replaceChildren();
   byId("announced").textContent = byId("token").value = "";
   byId("results").hidden = true;
+  byId("commands-list").open = false;
   for (const form of document.forms) form.reset();
   for (const id of ["period", "fill-from"]) byId(id).value = "1";
   byId("fill-to").value = String(state.known.periods);
@@ -142,7 +150,8 @@ async function days() {
   const open = found.find((day) => day.state === "open") ?? found.at(-1);
   byId("days").value = state.day ?? open.day;
   await choose(byId("days").value);
-  byId("demo-close").hidden = byId("demo").hidden = !demo;
+  state.demo = demo;
+  byId("demo").hidden = !demo;
   if (demo) {
     const { participants } = await json("/demo");
     byId("demo-names").replaceChildren(...Object.entries(participants).map(([name, token]) => {
@@ -176,23 +185,30 @@ function showDay() {
   const closes = new Date(day.closes).toLocaleString("en-GB", { timeZone: day.zone, dateStyle: "medium", timeStyle: "short" });
   const when = isOpen() ? `It closes on ${closes} (${day.zone}).` : `It is ${day.state === "stopped" ? "stopped" : "closed"}.`;
   byId("where").textContent = `Delivery day ${day.day}, ${day.periods} periods. ${when}`;
+  for (const part of document.querySelectorAll(".zone")) part.textContent = day.zone;
   figures([
     ["time left", isOpen() ? left(secondsLeft()) : ENDS[day.state] ?? "closed", "left"],
-    ["your orders in the book", String(state.orders.length)],
-    ["your commands", `${state.next - 1} of ${state.share}`],
-    ["entries of all", String(day.entries)],
+    ["your orders in the book", shown(state.orders.length, 0)],
+    ["your commands", `${shown(state.next - 1, 0)} of ${shown(state.share, 0)}`],
+    ["entries of all", shown(day.entries, 0)],
   ]);
-  byId("left").className = isOpen() && day.seconds_left < 60 ? "late" : "";
+  for (const part of lefts()) part.classList.toggle("late", isOpen() && day.seconds_left < 60);
+  for (const part of document.querySelectorAll(".left")) part.textContent = left(secondsLeft());
   byId("entry").hidden = byId("upload").hidden = !isOpen();
-  byId("close-now").disabled = !isOpen();
+  byId("demo-close").hidden = !state.demo || !isOpen();
+  for (const link of document.querySelectorAll("#jumps a")) link.parentElement.hidden = !byId(link.hash.slice(1)).checkVisibility();
+  byId("head").href = `/days/${day.day}/head`;
   byId("no-journal").hidden = day.has_journal;
   byId("journal").hidden = !day.has_journal;
   byId("journal").href = `/days/${day.day}/journal`;
 }
 
+// Where the time left stands: among the figures, and by each form.
+const lefts = () => document.querySelectorAll("#left, .left");
+
 function tick() {
   if (!state.token || !state.known?.until || !isOpen() || !byId("left")) return;
-  byId("left").textContent = left(secondsLeft());
+  for (const part of lefts()) part.textContent = left(secondsLeft());
   announce(secondsLeft());
 }
 
@@ -213,12 +229,14 @@ async function look() {
     state.known = found;
     if (before.state === "open" && !isOpen()) end();
     await lookAtCommands();
-    if (found.has_statement && byId("results").hidden) await showResults();
+    const isNew = found.has_statement && byId("results").hidden;
+    if (isNew) await showResults();
     showDay();
     if (state.about === "look") say("");
+    if (isNew) tellResults();
   } catch (fault) {
     if (fault.fault === "Token") signOut();
-    if (fault.status !== 429) sayFault(fault, "look"); // after many requests, the next look comes soon enough
+    if (fault.status !== 429 && state.about !== "unsure") sayFault(fault, "look"); // after many requests, the next look comes soon enough
   } finally {
     if (state.looks === visit) state.looks = null;
   }
@@ -226,17 +244,20 @@ async function look() {
 
 // The day is closed or stopped: says so, with the orders that were being written.
 function end() {
-  const isWritten = ["name", "price", "volume", "group"].some((id) => byId(id).value) || cells().some((input) => input.value);
-  const unsent = [];
+  const { fields, grid } = state.changes ? state.draft : draft();
+  const unsent = state.about === "unsure" ? [byId("message").textContent] : [];
   if (state.changes) unsent.push(`The change of ${state.changes} wasn't sent.`);
-  else if (isWritten) unsent.push(`Your unfinished order ${byId("name").value} wasn't sent.`);
-  if (state.read.length) unsent.push(`The ${counted(state.read.length, "command")} of your table ${state.read.length === 1 ? "wasn't" : "weren't"} sent.`);
-  state.unsent = unsent.map((words) => `\n${words}`).join("");
+  const isWritten = WRITTEN.some((id) => fields[id]) || grid.some(Boolean);
+  if (isWritten) unsent.push(`Your unfinished order${fields.name && ` ${fields.name}`} wasn't sent.`);
+  const count = state.read.length;
+  if (count) unsent.push(`The ${counted(count, "row")} of your table ${count === 1 ? "wasn't" : "weren't"} sent.`);
+  byId("unsent").textContent = unsent.join("\n");
   state.count = -1;
+  state.awaits = true;
   if (byId("sure").open) byId("sure").close("");
   const isLost = byId("entry").contains(document.activeElement) || byId("upload").contains(document.activeElement);
   const isStopped = state.known.state === "stopped";
-  say(`The day is ${isStopped ? "stopped" : "closed"}.${state.unsent}`, state.unsent || isStopped ? "wrong" : "right");
+  say(`The day is ${isStopped ? "stopped" : "closed"}.`, isStopped ? "wrong" : "right");
   if (isLost) byId("orders-title").focus();
 }
 
@@ -251,10 +272,12 @@ async function lookAtCommands() {
   const rows = all.commands.reverse().map(({ number, entry, record, reply }) => {
     const command = commandOf(record);
     const { what, order } = command;
-    return [String(number), what === "submit" ? "enter" : what, order, replyWords(reply, later.get(number)), ...orderCells(command), element("span", { title: record, textContent: entry })];
+    const told = replyWords(reply, command, later.get(number));
+    return [String(number), what === "submit" ? "enter" : what, order, told, ...orderCells(command), element("span", { title: record, textContent: entry })];
   });
   const heads = [["your command", "n"], ["does"], ["order"], ["reply", "why"], ...ORDER_HEADS, ["entry in the journal", "n"]];
-  byId("commands-table").replaceChildren(rows.length ? table("Each command with the book's reply, the last one first", heads, rows) : "You have entered no command yet.");
+  byId("commands-count").textContent = rows.length ? `${counted(rows.length, "command")}, with the book's replies` : "You have entered no command yet";
+  byId("commands-table").replaceChildren(...(rows.length ? [table("Each command with the book's reply, the last one first", heads, rows)] : []));
 }
 
 function showOrders() {
@@ -286,7 +309,7 @@ async function put(commands) {
       return receipts;
     } catch (fault) {
       if (time === RETRIES || fault.fault === "Left" || ![0, 429, 503].includes(fault.status)) throw fault;
-      say(`${fault.message}; trying again`, "wrong");
+      say(`${sentence(fault.message)}; trying again`, "wrong");
       await new Promise((done) => setTimeout(done, 1000 * time));
     }
   }
@@ -295,7 +318,8 @@ async function put(commands) {
 // What became of commands, in words.
 function outcomeWords(commands, receipts) {
   const refused = commands.map((command, at) => [command, receipts[at].reply]).filter(([, reply]) => reply !== "done");
-  const lines = refused.slice(0, MOST_REFUSED).map(([{ what, order }, reply]) => `${order} wasn't ${DONE[what]}: ${reasonOf(reply)}.`);
+  const words = ([command, reply]) => `${command.order} wasn't ${DONE[command.what]}: ${reasonOf(reply, command)}.`;
+  const lines = refused.slice(0, MOST_REFUSED).map(words);
   if (refused.length > MOST_REFUSED) lines.push(`${refused.length - MOST_REFUSED} more were refused: your commands below have the reasons.`);
   if (refused.length) lines.push(`The book's ${refused.length === 1 ? "refusal is" : "refusals are"} on the disk, ${refused.length > 1 ? "each " : ""}with a signed receipt.`);
   const [{ what, order }] = commands;
@@ -305,12 +329,14 @@ function outcomeWords(commands, receipts) {
   return [lines.join("\n"), refused.length ? "wrong" : "right"];
 }
 
+const UNSURE = [0, 503]; // of an answer after which a command may be entered
+
 // Of commands that the office refuses, or of which no answer came.
 function failureWords(commands, { status, message }) {
   const [{ what, order }] = commands;
   const [subject, was, does] = commands.length === 1 ? [order, "was", DONE[what]] : [`The ${commands.length} commands`, "were", "entered"];
-  if (![0, 503].includes(status)) return `${subject} ${was}n't ${does}: ${message}.`;
-  return `It isn't known whether ${subject.replace("The ", "the ")} ${was} ${does}: ${message}. Look at your commands before you try again.`;
+  if (!UNSURE.includes(status)) return `${subject} ${was}n't ${does}: ${message}.`;
+  return `${sentence(message)}. We don't know whether ${subject.replace("The ", "the ")} ${was} ${does}: look in Your orders once it's back.`;
 }
 
 // Enters commands, and looks again. Only if it isn't known what became of them, the look is waited for.
@@ -329,7 +355,7 @@ async function enter(commands) {
     again();
     return kind === "right";
   } catch (fault) {
-    if (fault.fault !== "Left") say(failureWords(commands, fault), "wrong");
+    if (fault.fault !== "Left") say(failureWords(commands, fault), "wrong", UNSURE.includes(fault.status) ? "unsure" : "");
     await again();
     return false;
   } finally {
@@ -352,13 +378,14 @@ function command() {
   const kind = kindChosen();
   const filled = cells().filter((input) => input.value.trim());
   const some = () => ({ fault: "Write a volume for at least one period." });
-  const grid = filled.length ? filled.map((input) => [input, volumeRule, `Period ${input.dataset.period}: `]) : [[cells()[0], some]];
+  const isFilled = filled.length || byId("fill-volume").value.trim();
+  const grid = isFilled ? filled.map((input) => [input, volumeRule, `Period ${input.dataset.period}: `]) : [[cells()[0], some]];
   for (const input of cells()) mark(input, "");
-  const fields = [[byId("name"), nameRule], [byId("price"), limitRule], ...(kind === "hour" ? [[byId("volume"), volumeRule]] : [[byId("group"), groupRule], ...grid])];
-  const values = valuesOf(fields);
+  const own = kind === "hour" ? [[byId("volume"), volumeRule]] : [[byId("group"), groupRule], [byId("fill-volume"), unfilledRule], ...grid];
+  const values = valuesOf([[byId("name"), nameRule], [byId("price"), limitRule], ...own]);
   if (!values) return null;
   const [order, price, ...rest] = values;
-  const volumes = kind === "hour" ? [[Number(byId("period").value), rest[0]]] : filled.map((input, at) => [Number(input.dataset.period), rest[1 + at]]);
+  const volumes = kind === "hour" ? [[Number(byId("period").value), rest[0]]] : filled.map((input, at) => [Number(input.dataset.period), rest[2 + at]]);
   if (state.changes) return { what: "amend", order, price, volumes };
   return { what: "submit", order, kind, side: byId("side").value, price, volumes, ...(kind === "block" ? { parent: byId("parent").value, group: rest[0] } : {}) };
 }
@@ -367,6 +394,13 @@ function showKind() {
   const kind = kindChosen();
   for (const part of document.querySelectorAll(".hourly")) part.hidden = kind !== "hour";
   for (const part of document.querySelectorAll(".blocks")) part.hidden = kind !== "block";
+}
+
+// A volume that was written, and not filled in, would be lost.
+function unfilledRule(words) {
+  const [from, to] = ["fill-from", "fill-to"].map((id) => byId(id).value);
+  const where = from === to ? from : `${from} to ${to}`;
+  return words ? { fault: `${words} MW for ${where} isn't filled in: press Fill in, or empty the box.` } : { value: null };
 }
 
 function fill() {
@@ -380,12 +414,30 @@ function fill() {
       mark(input, "");
     }
   }
+  byId("fill-volume").value = "";
 }
 
-// Makes the form one for a change of an order, or for a new one, which begins with the kind, side and periods of the last one.
+const WRITTEN = ["name", "price", "volume", "group", "fill-volume"]; // the fields that are empty in a new form
+const FIELDS = [...WRITTEN, "side", "period", "parent", "fill-from", "fill-to"];
+
+// What the form has.
+function draft() {
+  const fields = Object.fromEntries(FIELDS.map((id) => [id, byId(id).value]));
+  return { kind: kindChosen(), fields, grid: cells().map((input) => input.value) };
+}
+
+function restore({ kind, fields, grid }) {
+  document.querySelector(`input[name=kind][value=${kind}]`).checked = true;
+  for (const [id, value] of Object.entries(fields)) byId(id).value = value;
+  cells().forEach((input, at) => { input.value = grid[at]; });
+}
+
+// Makes the form one for a change of an order, or for a new one: the one that was being written before the change, or else one that begins
+// with the kind, side and periods of the last one.
 function change(order) {
+  if (order && !state.changes) state.draft = draft();
   state.changes = order?.order ?? null;
-  for (const id of ["name", "price", "volume", "parent", "group", "fill-volume"]) byId(id).value = "";
+  for (const id of [...WRITTEN, "parent"]) byId(id).value = "";
   for (const input of cells()) input.value = "";
   for (const input of byId("order-form").querySelectorAll("[aria-invalid]")) mark(input, "");
   for (const part of [byId("name"), byId("side"), byId("parent"), byId("group"), byId("kinds")]) part.disabled = Boolean(order);
@@ -396,6 +448,8 @@ function change(order) {
   document.querySelector(`input[name=kind][value=${kind}]`).checked = true;
   byId("side").value = side;
   if (order) fillWith(order);
+  else if (state.draft) restore(state.draft);
+  if (!order) state.draft = null;
   showKind();
   if (order) {
     say("");
@@ -452,7 +506,7 @@ async function upload(event) {
     state.read = records.map(commandOf);
     const rows = state.read.map((command, at) => [String(at + 1), command.what === "submit" ? "enter" : command.what, command.order, ...orderCells(command)]);
     byId("read-table").replaceChildren(table("What the table says; nothing is entered yet", [["", "n"], ["does"], ["order"], ...ORDER_HEADS], rows));
-    byId("enter-all").textContent = `Enter ${counted(records.length, "command")}`;
+    byId("enter-all").textContent = `Enter ${records.length === 1 ? "this row" : `these ${records.length} rows`}`;
     byId("read").hidden = false;
     say(["The table was read. Look at it, then enter it.", ...notes].join("\n"));
     byId("enter-all").focus();
@@ -466,7 +520,7 @@ async function upload(event) {
 async function enterAll() {
   const commands = state.read;
   drop();
-  await enter(commands);
+  if (!(await enter(commands))) byId("commands-list").open = true;
   if (state.token) byId("commands-title").focus();
 }
 
@@ -478,36 +532,7 @@ function drop() {
   mark(byId("file"), "");
 }
 
-// --- results
-
-const OUTCOMES = { "in full": "executed in full", "in part": "executed in part", not: "not executed" };
-
-function resultCells(row) {
-  const order = state.orders.find((one) => one.order === row.order);
-  const hours = state.known.periods > 25 ? 0.25 : 1;
-  const offered = (order.volumes.reduce((sum, [, volume]) => sum + volume, 0) * hours) / 10;
-  const average = row.executed_mwh ? ((order.side === "sell" ? 1 : -1) * row.amount_eur) / row.executed_mwh : null;
-  const [kind, side, limit] = orderCells(order);
-  const outcome = OUTCOMES[row.outcome] ?? row.outcome;
-  const energies = [offered, row.executed_mwh].map((value) => shown(value, 1, 3));
-  return [row.order, kind, side, limit, ...energies, average === null ? "" : shown(average, 2), shown(row.amount_eur, 2), outcome, row.why ?? ""];
-}
-
-async function showResults() {
-  const [statement, text] = await Promise.all([json(own("statement")), ask(`/days/${state.day}/prices`)]);
-  const heads = [["order"], ["kind"], ["side"], ["limit, EUR/MWh", "n"], ["offered, MWh", "n"], ["executed, MWh", "n"], ["average price, EUR/MWh", "n"]];
-  heads.push(["is paid, EUR", "n"], ["outcome", "outcome"], ["reason", "why"]);
-  const rows = statement.rows.filter(({ outcome }) => outcome).map(resultCells);
-  byId("statement").replaceChildren(rows.length ? table("Your orders that were in the book at the close", heads, rows) : "You had no order in the book at the close.");
-  const prices = text.split("\n").map((line) => line.split(",")).filter(([word]) => word === "period");
-  const cells = prices.map(([, number, price, volume]) => {
-    const words = shown(price / 100, 2);
-    return [number, state.known.begins[number - 1], Number(volume) ? words : element("span", { className: "nominal", textContent: `${words} (nominal)` }), shown(volume / 10, 1)];
-  });
-  byId("prices").replaceChildren(table("The price and the traded volume of each period", [["period", "n"], ["begins", "n"], ["price, EUR/MWh", "n"], ["volume, MW", "n"]], cells, false));
-  byId("results").hidden = false;
-  say(`The results are there.${state.unsent}`, state.unsent ? "wrong" : "right");
-}
+// --- files
 
 function save(text, type, name) {
   const link = element("a", { href: URL.createObjectURL(new Blob([text], { type })), download: name });
@@ -527,7 +552,7 @@ async function closeNow() {
   if (!(await sure("Close the day now? Nobody can enter orders afterwards, and it can't be undone.", "Close the day"))) return;
   await ask(`/days/${state.day}/close`, { method: "POST" }).catch(sayFault);
   await look();
-  byId("orders-title").focus();
+  if (byId("results").hidden) byId("orders-title").focus();
 }
 
 // Shows the days, again and again until the office answers.
@@ -546,11 +571,12 @@ async function begin() {
 
 // --- the page
 
-byId("price-help").textContent = limitRule.ends;
+byId("price-help").textContent = `${limitRule.ends}, with a point or a comma`;
 for (const id of ["volume-help", "grid-help"]) byId(id).textContent = volumeRule.ends;
 byId("sign-in-form").addEventListener("submit", (event) => { event.preventDefault(); signIn(byId("token").value); });
 byId("sign-out").addEventListener("click", signOut);
 byId("receipts").addEventListener("click", download);
+byId("results-table").addEventListener("click", () => save(csv(state.results), "text/csv", `${who()}-${state.day}.csv`));
 byId("days").addEventListener("change", () => choose(byId("days").value).then(look, (fault) => { byId("days").value = state.day; sayFault(fault); }));
 byId("close-now").addEventListener("click", closeNow);
 for (const id of ["yes", "no"]) byId(id).addEventListener("click", () => byId("sure").close(id));

@@ -29,20 +29,40 @@ function table(caption, heads, rows, isStacked = true) {
   const head = element("tr", { role: "row" }, ...heads.map(([words, of]) => element("th", { role: "columnheader", scope: "col", className: of ?? "", textContent: words })));
   const body = rows.map((cells) => row(heads, cells));
   const parts = [element("caption", {}, element("span", { textContent: caption })), element("thead", { role: "rowgroup" }, head), element("tbody", { role: "rowgroup" }, ...body)];
-  const wide = element("div", { className: isStacked ? "wide stacked" : "wide", tabIndex: 0, role: "region", ariaLabel: caption });
-  wide.append(element("table", { role: "table" }, ...parts));
+  const wide = element("div", { className: isStacked ? "wide stacked" : "wide" }, element("table", { role: "table" }, ...parts));
+  sizes.observe(wide);
   return wide;
 }
 
-function figures(pairs) {
-  byId("figures").replaceChildren(...pairs.map(([words, value, id]) => element("div", {}, element("dt", { textContent: words }), element("dd", { textContent: value, id: id ?? "" }))));
+// The keyboard stops at a table only if it can be scrolled.
+const sizes = new ResizeObserver((entries) => {
+  for (const { target: wide } of entries) {
+    const isScrolled = wide.scrollWidth > wide.clientWidth || wide.scrollHeight > wide.clientHeight;
+    const marks = { tabindex: "0", role: "region", "aria-label": wide.querySelector("caption").textContent };
+    for (const name of Object.keys(marks)) {
+      if (isScrolled) wide.setAttribute(name, marks[name]);
+      else wide.removeAttribute(name);
+    }
+  }
+});
+
+function figures(pairs, place = "figures") {
+  byId(place).replaceChildren(...pairs.map(([words, value, id]) => element("div", {}, element("dt", { textContent: words }), element("dd", { textContent: value, id: id ?? "" }))));
 }
 
 // --- numbers: cents per MWh and tenths of a MW are whole, and never go through a fraction
 
 const fixed = (value, digits) => (value / 10 ** digits).toFixed(digits);
 const shown = (value, digits, most = digits) => (Number(value) || 0).toLocaleString("en", { minimumFractionDigits: digits, maximumFractionDigits: most });
+const grouped = (value, digits) => shown(value / 10 ** digits, digits);
+const sentence = (words) => words.charAt(0).toUpperCase() + words.slice(1);
 const counted = (count, word) => `${count} ${word}${count === 1 ? "" : "s"}`;
+
+// With its sign, as a minus and not as a dash.
+function signed(value, digits) {
+  const made = (Number(value) || 0).toLocaleString("en", { minimumFractionDigits: digits, maximumFractionDigits: digits, signDisplay: "exceptZero" });
+  return made.replace("-", "\u2212");
+}
 
 function left(seconds) {
   const whole = Math.ceil(seconds);
@@ -71,7 +91,7 @@ function runs(volumes) {
     if (last && last.volume === volume && last.to === period - 1) last.to = period;
     else groups.push({ from: period, to: period, volume });
   }
-  return groups.map(({ from, to, volume }) => `${from === to ? from : `${from}-${to}`}: ${fixed(volume, 1)}`).join(", ");
+  return groups.map(({ from, to, volume }) => `${from === to ? from : `${from}-${to}`}: ${grouped(volume, 1)}`).join("; ");
 }
 
 // The cells of an order or a command, and their heads.
@@ -79,13 +99,26 @@ const ORDER_HEADS = [["kind"], ["side"], ["limit, EUR/MWh", "n"], ["volume by pe
 
 function orderCells({ kind, side, price, volumes, parent, group }) {
   const links = [parent && `parent ${parent}`, group && `group ${group}`].filter(Boolean).join(", ");
-  return [{ hour: "hourly", block: "block" }[kind], side, price === undefined ? "" : fixed(price, 2), volumes ? runs(volumes) : "", links];
+  return [{ hour: "hourly", block: "block" }[kind], side, price === undefined ? "" : grouped(price, 2), volumes ? runs(volumes) : "", links];
 }
 
-const reasonOf = (reply) => REASONS[reply.split(",")[1]] ?? reply;
+// Why the book refuses a command, in words to its participant; the other reasons as they are.
+const TO_YOU = {
+  NameTaken: ({ order }) => `you already have an order ${order}`,
+  UnknownOrder: ({ order }) => `you have no order ${order}: it was cancelled, refused, or never entered`,
+  UnknownParent: ({ parent }) => `its parent ${parent} isn't in the book`,
+  ParentNotBlock: ({ parent }) => `its parent ${parent} is an hourly order`,
+  HourlyFull: () => `this auction takes ${RULES.most_hourly.toLocaleString("en")} hourly orders from all participants together, and it has them`,
+  BlocksFull: () => `this auction takes ${RULES.most_blocks} blocks from all participants together, and it has them`,
+};
 
-function replyWords(reply, later) {
-  if (reply !== "done") return element("span", { className: "refused", textContent: `refused: ${reasonOf(reply)}` });
+function reasonOf(reply, command) {
+  const code = reply.split(",")[1];
+  return TO_YOU[code]?.(command) ?? REASONS[code] ?? reply;
+}
+
+function replyWords(reply, command, later) {
+  if (reply !== "done") return element("span", { className: "refused", textContent: `refused: ${reasonOf(reply, command)}` });
   return later ? `done; ${later}` : "done";
 }
 
@@ -105,7 +138,7 @@ function laterWords(commands) {
 // --- the fields of the form: each has a rule, which gives its value or its fault in words
 
 function numberRule(digits, least, greatest, unit) {
-  const ends = [least, greatest].map((value) => shown(value / 10 ** digits, digits)).join(" to ");
+  const ends = [least, greatest].map((value) => fixed(value, digits)).join(" to ");
   const range = `from ${ends} ${unit}`;
   const rule = (words) => {
     const [, sign, whole, rest = ""] = /^([-\u2212]?)(\d+)(?:[.,](\d+))?$/.exec(words) ?? [];
