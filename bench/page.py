@@ -50,11 +50,10 @@ HEAD = """# Measured figures
 
 `bench/run` runs the benchmarks, and `bench/page.py` writes this page. A figure is the median of several runs; compared programs run
 alternately. `A compared with B` is A's time divided by B's. The docstring of each part's script describes its method. The load is the load
-average of the minute before. On a busy machine, figures are unreliable. A commit `with changes` had changes that weren't committed, so no
-commit has exactly that program; other figures may be of an earlier search (see the notes).
+average of the minute before; on a busy machine, figures are unreliable. A commit `with changes` had changes that weren't committed.
 
-A CSV file has every figure of a part, with its target and, for a comparison, both figures; this page shows some. It groups the missed
-targets by kind: how many were missed, the range of their figures, and the worst. `grep MISSED bench/measured/*.csv` prints each.
+A CSV file has every figure of a part, with its target; this page shows some, and the missed targets by kind. `grep MISSED
+bench/measured/*.csv` prints each.
 """
 
 

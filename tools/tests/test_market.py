@@ -90,12 +90,11 @@ class Market(unittest.TestCase):
 
     def test_each_case_runs(self):
         table = PAGE.read_text().split("## Not promised")[1]
-        named = re.findall(r"\| `([\w/-]+)` \|", table)
+        named = re.findall(r"\| `(\w+)\.txt`, `([\w-]+)` \|", table)
         pairs = {name.rpartition("-")[0] for name in cases("market")}
-        self.assertEqual(pairs, {name for name in named if "/" not in name})
-        for name in named:
-            for its in [name] if "/" in name else [f"market/{name}-before", f"market/{name}-after"]:
-                file, _, case = its.partition("/")
+        self.assertEqual(pairs, {name for file, name in named if file == "market"})
+        for file, name in named:
+            for case in [f"{name}-before", f"{name}-after"] if file == "market" else [name]:
                 self.assertIn(case, cases(file))
 
     def test_the_cases_come_out(self):

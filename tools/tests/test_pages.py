@@ -26,31 +26,32 @@ OTHER_WORDS = re.compile(r"\b(anew|beside|dear|so many|want of|whoever)\b", re.I
 OTHER_PAGES = {"CONTRIBUTING.md", "CHECK.md", "OPERATING.md", "DEFINITIONS.md"}
 # The most bytes of a page that has parts which a script writes, with these.
 MOST_IN_ALL = {"THEOREM.md": 15_200}
-# The most bytes of README and docs/ together.
-MOST_OF_ALL = 241_000
+# The most bytes of README and docs/ together: a page that says more says so in place of another.
+MOST_OF_ALL = 235_520
 # The most bytes of a page, without the parts that a script writes. A page that grows beyond is split, or says things twice.
 MOST_BYTES = {
     "README.md": 7_168,
-    "ARCHITECTURE.md": 6_650,
-    "ASSURANCE.md": 17_900,
-    "AUDIT.md": 9_216,
-    "C.md": 6_200,
-    "CHECK.md": 6_750,
-    "CONTRIBUTING.md": 10_150,
+    "ARCHITECTURE.md": 6_000,
+    "ASSURANCE.md": 18_432,
+    "AUDIT.md": 8_704,
+    "C.md": 6_144,
+    "CHECK.md": 6_656,
+    "CONTRIBUTING.md": 10_000,
     "DECISIONS.md": 3_600,
     "DESK.md": 7_168,
-    "EXAMPLES.md": 6_400,
-    "FORMATS.md": 19_100,
-    "GLOSSARY.md": 3_500,
-    "LIBRARY.md": 5_800,
+    "EXAMPLES.md": 5_888,
+    "FORMATS.md": 18_944,
+    "GLOSSARY.md": 3_328,
+    "LIBRARY.md": 5_376,
+    "MARKET.md": 8_192,
     "MEASURED.md": 8_000,
     "OPERATING.md": 7_100,
-    "RULES.md": 10_850,
-    "TABLES.md": 13_700,
-    "TESTED.md": 6_900,
+    "RULES.md": 10_752,
+    "TABLES.md": 13_600,
+    "TESTED.md": 6_656,
     "TRUST.md": 11_700,
     "USING.md": 9_216,
-    "WHATIF.md": 7_000,
+    "WHATIF.md": 6_912,
 }
 WRITTEN = re.compile(r"<!-- the (.*?): tools/reading-list --write -->.*?<!-- the end of the \1 -->", re.DOTALL)
 # The headings of a crate's README.
