@@ -11,10 +11,12 @@ ghost use Rattle.dam_results.specs.Faults.{IsJournalFault};
 use crate::limits::{MOST_BYTES, MOST_RECORDS};
 use dam_book::laws::{price_texts_differ, volumes_texts_differ};
 
-/// The constants are the limits of the journal format.
+/// Each exported constant is the number of its limit, and each limit of the journal format is this number.
 pub fn limits()
     ensures bytes { MOST_BYTES ≡ most_bytes }
     ensures records { MOST_RECORDS ≡ most_records }
+    ensures bytes_is { most_bytes ≡ 16777216 }
+    ensures records_is { most_records ≡ 10001 }
 {}
 
 /// A text is at most one journal.
