@@ -35,7 +35,7 @@ class Page:
             elif value["method"] == "Runtime.exceptionThrown":
                 self.faults.append(value["params"]["exceptionDetails"].get("exception", {}).get("description", "an exception"))
             elif value["method"] == "Log.entryAdded" and value["params"]["entry"]["level"] == "error":
-                self.faults.append(value["params"]["entry"]["text"])
+                self.faults.append(f"{value['params']['entry']['text']} {value['params']['entry'].get('url', '')}")
 
     async def call(self, method, **params):
         number = next(self.numbers)

@@ -28,6 +28,9 @@ def best_of(data):
     read, _ = book.run(journal.read_journal(data))
     return Plain(read).best()
 
+# Behind the blocks that would be accepted too.
+IF = "were added and the other blocks stayed as they are,"
+
 
 class Hand(unittest.TestCase):
     def test_a_family_that_would_gain(self):
@@ -49,13 +52,15 @@ class Hand(unittest.TestCase):
             [
                 (
                     decisions.PARADOX,
-                    "with RUN it would gain 2,440.00 EUR at the prices, but with both, the block itself would lose 1,060.00 EUR"
-                    f" together with its accepted descendants and A,RUN would lose 980.00 EUR, {end}",
+                    f"with RUN it would gain 2,440.00 EUR at the prices, but if both {IF}"
+                    " the block itself would lose 1,060.00 EUR together with its accepted descendants and A,RUN would lose"
+                    f" 980.00 EUR, {end}",
                 ),
                 (
                     decisions.PARADOX,
-                    "with START it would gain 2,440.00 EUR at the prices, but with both, the block itself would lose 980.00 EUR and"
-                    f" A,START would lose 1,060.00 EUR together with its accepted descendants, {end}",
+                    f"with START it would gain 2,440.00 EUR at the prices, but if both {IF}"
+                    " the block itself would lose 980.00 EUR and A,START would lose 1,060.00 EUR together with its accepted"
+                    f" descendants, {end}",
                 ),
             ],
         )
@@ -88,8 +93,8 @@ class Hand(unittest.TestCase):
                 (
                     decisions.REJECTED,
                     "would gain 250.00 EUR at the prices, but its parent P, without which it can't be accepted, would lose 50.00"
-                    " EUR even with it; with both, A,P would lose 250.00 EUR together with its accepted descendants, and the"
-                    " welfare would be 250.00 EUR less",
+                    f" EUR even with it; if both {IF} A,P would lose 250.00"
+                    " EUR together with its accepted descendants, and the welfare would be 250.00 EUR less",
                 ),
             ],
         )
@@ -109,10 +114,11 @@ class Hand(unittest.TestCase):
             "submit,A,D,block,sell,6800,3:100,P,",
         )
         found = told(data, ())
-        self.assertTrue(found[0][1].startswith("with C2 and D it would gain 70.00 EUR at the prices, but with all 3, "), found[0])
+        said = f"with C2 and D it would gain 70.00 EUR at the prices, but if all 3 {IF}"
+        self.assertTrue(found[0][1].startswith(said), found[0])
         # C1 with P and D would lose 30 EUR.
         self.assertIn("would gain 50.00 EUR at the prices, but its parent P, without which it can't be", found[1][1])
-        self.assertIn("accepted, would lose 30.00 EUR even with C1 and D; with all 3, ", found[1][1])
+        self.assertIn(f"accepted, would lose 30.00 EUR even with C1 and D; if all 3 {IF}", found[1][1])
 
     def test_a_rival_of_the_parent(self):
         # R saves 400 EUR; P would lose 300 EUR at the price of 70, and C gain 500: 200 EUR, and with C at 60 EUR nothing.
@@ -157,7 +163,7 @@ class Hand(unittest.TestCase):
         why = "would gain 59.00 EUR at the prices, but A,K1 offers the same and stands earlier in the book"
         self.assertEqual(told(data, {0})[1], (decisions.PARADOX, why))
         other = data.replace(b"submit,B,K1,block,sell,100", b"submit,B,K1,block,sell,101")
-        self.assertIn("with it period 8 wouldn't balance: 1.0 MW would have no buyer", told(other, {0})[1][1])
+        self.assertIn(f"if it {IF} period 8 wouldn't balance: 1.0 MW would have no buyer", told(other, {0})[1][1])
 
     def test_codes(self):
         """Each is in the page of the tables, and each of a block that results can have is found."""
@@ -192,7 +198,8 @@ class Hand(unittest.TestCase):
         self.assertEqual(kinds[5:], [decisions.REJECTED, decisions.ACCEPTED, decisions.REJECTED, decisions.PARADOX])
         self.assertIn("would lose 8,050.00 EUR at the prices", found[5].why)
         self.assertIn("in its place the welfare would be 5,120.00 EUR less", found[7].why)
-        self.assertIn(", but with it the block itself would lose 270.00 EUR, though the welfare would be 2,810.00 EUR greater", found[8].why)
+        why = f", but if it {IF} the block itself would lose 270.00 EUR, though the welfare would be 2,810.00 EUR greater"
+        self.assertIn(why, found[8].why)
 
     def test_a_period_that_would_not_balance(self):
         data = journal_of(
@@ -202,10 +209,10 @@ class Hand(unittest.TestCase):
             "submit,A,K3,block,sell,100,1:30,,",
         )
         found = told(data, ())
-        self.assertTrue(found[2][1].endswith("with it period 1 wouldn't balance: 2.0 MW would have no buyer"))
+        self.assertTrue(found[2][1].endswith(f"{IF} period 1 wouldn't balance: 2.0 MW would have no buyer"))
         self.assertEqual(found[2][0], decisions.PARADOX)
         data = journal_of("submit,A,S1,hour,sell,1,1:3,,", "submit,A,S2,hour,sell,1,2:7,,", "submit,A,K,block,buy,9,1:3;2:10,,")
-        self.assertTrue(told(data, ())[0][1].endswith("with it period 2 wouldn't balance: 0.3 MW would have no seller"))
+        self.assertTrue(told(data, ())[0][1].endswith(f"{IF} period 2 wouldn't balance: 0.3 MW would have no seller"))
 
     def test_the_volume_that_finds_no_other_side(self):
         """With so much less of the block in the period, and not with a tenth more, the period balances."""

@@ -819,7 +819,8 @@ class Requests(unittest.TestCase):
                 read(long)
 
     def test_reasons_dont_name_the_orders_of_others(self):
-        why = "would gain 8.00 EUR at the prices, but with it GAS,LONG would lose 1,200.00 EUR together with its accepted descendants"
+        why = "would gain 8.00 EUR at the prices, but if it were added and the other blocks stayed as they are, GAS,LONG would lose"
+        why += " 1,200.00 EUR together with its accepted descendants"
         why += " and OIL,A would lose 3 EUR"
         self.assertEqual(clearing.own_words(why, "OIL").count("another participant's block would lose"), 1)
         self.assertNotIn("GAS", clearing.own_words(why, "OIL"))
@@ -830,8 +831,8 @@ class Requests(unittest.TestCase):
         same = "would gain nothing at the prices, but GAS,LONG offers the same and stands earlier in the book"
         self.assertNotIn("GAS", clearing.own_words(same, "OIL"))
         self.assertEqual(clearing.own_words(same, "GAS"), same)
-        short = "with it period 8 wouldn't balance: 1,002.0 MW would have no buyer"
-        self.assertEqual(clearing.own_words(short, "GAS"), "with it period 8 wouldn't balance: too few buyers")
+        short = "if it were added, period 8 wouldn't balance: 1,002.0 MW would have no buyer"
+        self.assertEqual(clearing.own_words(short, "GAS"), "if it were added, period 8 wouldn't balance: too few buyers")
 
 
 class Answers(http.server.BaseHTTPRequestHandler):

@@ -132,7 +132,8 @@ class Page(unittest.TestCase):
             "65 to 84",
             f"3{THIN}098{THIN}696.75",
             "paradoxically rejected",
-            "would gain 675.00 EUR at the prices, but with it the block itself would lose 6,660.00 EUR, COAL,PEAK would lose 3,780.00 EUR",
+            "would gain 675.00 EUR at the prices, but if it were added and the other blocks stayed as they are, the block itself would lose"
+            " 6,660.00 EUR, COAL,PEAK would lose 3,780.00 EUR",
             "PeriodOutOfDay",
         ):
             self.assertTrue(any(words in text for text in read.texts), words)

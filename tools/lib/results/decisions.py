@@ -156,9 +156,9 @@ class Judge:
             parent = self.problem.parents[place]
             return why + (f"; its parent {self.name(parent)} is rejected" if parent in family.needed else "")
         count = len(family.members)
-        word = {1: "it", 2: "both,"}.get(count, f"all {count},")
+        word = {1: "it", 2: "both"}.get(count, f"all {count}")
         join = "; " if family.losers() else ", but " if family.gain() else ", and "
-        return f"{why}{join}with {word} {self.consequence(place, other)}"
+        return f"{why}{join}if {word} were added and the other blocks stayed as they are, {self.consequence(place, other)}"
 
     def at_the_prices(self, place, family):
         """The gain or loss of a block at the prices, with its family."""

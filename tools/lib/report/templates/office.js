@@ -220,7 +220,7 @@ function announce(seconds) {
 
 async function look() {
   const { visit } = state;
-  if (!state.token || !state.known || state.looks === visit) return;
+  if (!state.token || byId("signed-in").hidden || !state.known || state.looks === visit) return;
   state.looks = visit;
   try {
     const before = state.known;
