@@ -52,8 +52,8 @@ HEAD = """# Measured figures
 alternately. `A compared with B` is A's time divided by B's. The docstring of each part's script describes its method. The load is the load
 average of the minute before; on a busy machine, figures are unreliable. A commit `with changes` had changes that weren't committed.
 
-A CSV file has every figure of a part, with its target; this page shows some, and the missed targets by kind. `grep MISSED
-bench/measured/*.csv` prints each.
+A CSV file has every figure of a part, with its target; this page shows some, and the missed targets by kind.
+`grep MISSED bench/measured/*.csv` prints each.
 """
 
 
