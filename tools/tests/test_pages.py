@@ -43,7 +43,7 @@ MOST_BYTES = {
     "EXAMPLES.md": 5_888,
     "FORMATS.md": 18_944,
     "GLOSSARY.md": 3_328,
-    "GUIDE.md": 12_200,
+    "GUIDE.md": 12_400,
     "LIBRARY.md": 5_376,
     "MARKET.md": 8_192,
     "MEASURED.md": 8_000,
