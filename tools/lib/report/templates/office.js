@@ -488,7 +488,7 @@ async function enterOrder(event) {
 const TEMPLATE = [
   ["participant", "order", "kind", "side", "price_eur_mwh", "periods", "volume_mw", "parent", "group"],
   ["UNIT-8", "hour", "sell", "60.00", "8", "50", "", ""],
-  ["RUN", "block", "sell", "68.00", "9-12", "15", "", ""],
+  ["RUN", "block", "sell", "68.00", "08:00-12:00", "15", "", ""], // 9-12 would be a date to a spreadsheet
 ];
 const templateRows = () => TEMPLATE.map((row, at) => (at ? [who() || "GAS", ...row] : row));
 const template = () => templateRows().map((row) => `${row.join(",")}\n`).join("");
