@@ -130,6 +130,12 @@ def check_messages(office, counts):
         counts.check(f"{words} is refused", status(answer) in (400, 404, 413, 431, None) and b"<script>" not in answer)
     answer = said(office, request("GET", "/days", ["Expect: <script>alert(1)</script>"]))
     counts.check("an expectation isn't said again", status(answer) == 200 and b"<script>" not in answer)
+    for method, odd in ("GET", "/nothing"), ("DELETE", "/days"):
+        answer = said(office, request(method, odd, ["Expect: <script>alert(1)</script>"]))
+        counts.check(f"nor at {method} {odd}", status(answer) in (404, 405, 417) and b"<script>" not in answer)
+    before_log = len(office.log.read_bytes())
+    said(office, b"GET http://[INJECTED]/days HTTP/1.1\r\nHost: x\r\n\r\n", wait=False)
+    counts.check("a request's words aren't in the log", b"INJECTED" not in office.log.read_bytes()[before_log:])
     answer = said(office, request("PUT", path, [token, "Expect: 100-continue", "Content-Type: text/csv"], b"cancel"))
     counts.check("a client that waits may go on", answer.startswith(b"HTTP/1.1 100 Continue\r\n\r\nHTTP/1.1 400 "))
     bomb = gzip.compress(bytes(300 << 20))
@@ -143,6 +149,22 @@ def check_messages(office, counts):
     counts.check("requests without end aren't answered, and take no memory", len(many) < 10 << 20 and peak(office) - before < 100 << 10)
     chunks = b"".join(b"1000\r\n" + b"a" * 4096 + b"\r\n" for _ in range(400)) + b"0\r\n\r\n"
     counts.check("a body without a length isn't read", status(said(office, request("PUT", path, both) + chunks)) == 400)
+    with contextlib.ExitStack() as stack:
+        for _ in range(20):
+            one = stack.enter_context(socket.create_connection(("127.0.0.1", office.port), timeout=SECONDS))
+            with contextlib.suppress(OSError):
+                one.sendall(request("GET", "/days", ["Transfer-Encoding: chunked"]) + b"1\r\na\r\n" * 90_000)
+        began = time.monotonic()
+        counts.check("tiny chunks hold up nobody", office.get("/days")[0] == 200 and time.monotonic() - began < 3)
+    before = peak(office)
+    with contextlib.ExitStack() as stack:
+        for _ in range(6):
+            one = stack.enter_context(socket.create_connection(("127.0.0.1", office.port), timeout=SECONDS))
+            one.setsockopt(socket.SOL_SOCKET, socket.SO_RCVBUF, 4_096)
+            wide = request("GET", "/openapi.json", [f"X-{number}: {'a' * 4_000}" for number in range(100)])
+            with contextlib.suppress(OSError):
+                one.sendall(request("GET", "/openapi.json") * 4 + wide * 60)
+        counts.check(f"answers that aren't read keep no memory: {peak(office) - before} KiB", peak(office) - before < 30 << 10)
     counts.check("a body of 2 MB is refused", status(said(office, request("PUT", path, [token], b"a" * (2 << 20)))) == 413)
     counts.check("without a token it isn't read", status(said(office, request("PUT", path, [], b"a" * (2 << 20)))) == 401)
     counts.check("nothing was entered", office.client(who).next(office.day) == 1)

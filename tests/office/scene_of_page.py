@@ -594,7 +594,8 @@ async def length_scene(page, office, periods, counts):
     (row,), prices = await rows(page, "statement"), await rows(page, "prices")
     energy = f"{9_999.9 * periods * float(rules.DAYS[periods]):,.1f}"
     counts.check(f"{energy} MWh of {periods} periods: {row}", row[4:6] == [energy, "0.0"] and row[8] == "paradoxically rejected")
-    counts.check("its reason says what is missing, and not how much", row[9].endswith("period 1 wouldn't balance: too few sellers"))
+    words = "at the prices, but with it, a block would lose, a period wouldn't balance, or the welfare wouldn't be greater"
+    counts.check(f"its reason tells nothing of other orders: {row[9]}", row[9].endswith(words))
     begins = [f"{number} ({clock.begins(periods, number)})" for number in range(1, periods + 1)]
     counts.check(f"the prices of {periods} periods", [one[0] for one in prices] == begins)
 

@@ -10,6 +10,7 @@ import io
 import json
 import os
 import random
+import re
 import shutil
 import signal
 import stat
@@ -19,7 +20,7 @@ import unittest
 from pathlib import Path
 from unittest import mock
 
-from support import AUCTION, FIRST, TOOLS, tool
+from support import AUCTION, AUCTION_RESULTS, FIRST, QUARTERS, QUARTERS_RESULTS, SUNNY, SUNNY_RESULTS, TOOLS, tool
 
 from dam_tools import office as client
 from lib.base import rules
@@ -818,21 +819,32 @@ class Requests(unittest.TestCase):
             with mock.patch.object(reader, "__file__", str(path)), self.assertRaisesRegex(gate.Refused, "can't be read"):
                 read(long)
 
-    def test_reasons_dont_name_the_orders_of_others(self):
-        why = "would gain 8.00 EUR at the prices, but if it were added and the other blocks stayed as they are, GAS,LONG would lose"
-        why += " 1,200.00 EUR together with its accepted descendants"
-        why += " and OIL,A would lose 3 EUR"
-        self.assertEqual(clearing.own_words(why, "OIL").count("another participant's block would lose"), 1)
-        self.assertNotIn("GAS", clearing.own_words(why, "OIL"))
-        self.assertTrue(clearing.own_words(why, "OIL").endswith(" and A would lose 3 EUR"))
-        published = clearing.own_words(why, "OIL", True)
-        self.assertEqual(published, why.replace("OIL,", ""))
-        self.assertEqual(clearing.own_words(why.replace("OIL", "COAL"), "OAL", True), why.replace("OIL", "COAL"))
-        same = "would gain nothing at the prices, but GAS,LONG offers the same and stands earlier in the book"
-        self.assertNotIn("GAS", clearing.own_words(same, "OIL"))
-        self.assertEqual(clearing.own_words(same, "GAS"), same)
-        short = "if it were added, period 8 wouldn't balance: 1,002.0 MW would have no buyer"
-        self.assertEqual(clearing.own_words(short, "GAS"), "if it were added, period 8 wouldn't balance: too few buyers")
+    def test_until_the_journal_is_published_reasons_tell_of_own_orders_alone(self):
+        """No number but the own gain, and no name, stands in a reason that compares with another selection."""
+        codes = set()
+        for day in (SUNNY, SUNNY_RESULTS), (AUCTION, AUCTION_RESULTS), (QUARTERS, QUARTERS_RESULTS):
+            made = json.loads(tool("table", "--rows", "statement", "--json", "--quiet", *map(str, day))[1])
+            for row in made["rows"]:
+                codes.add(row["code"])
+                shown = clearing.guarded(row)
+                if row["code"] not in clearing.HIDDEN:
+                    self.assertEqual(shown, row)
+                    continue
+                self.assertIn(shown["code"], (None, "group", "parent"))
+                gain = re.match("would gain ([0-9.,]+) EUR at the prices", row["why"])
+                self.assertLessEqual(set(re.findall("[0-9][0-9.,]*", shown["why"])), set(gain.groups() if gain else ()))
+                self.assertNotRegex(shown["why"].replace("EUR", ""), "[A-Z]{2,}")
+        self.assertLessEqual({"would-lose", "group", "loses", "covered"}, codes)
+        for code, words in clearing.HIDDEN.items():
+            for why in ("period 8 wouldn't balance: 1.0 MW would have no buyer", "with A and B-1 it would gain 8.00 EUR at the prices, but x"):
+                shown = clearing.guarded({"code": code, "why": why})["why"]
+                self.assertIn(shown, (words.removeprefix("but "), f"with A and B-1 it would gain 8.00 EUR at the prices, {words}"))
+
+    def test_published_reasons_have_own_orders_by_name(self):
+        why = "would gain 8.00 EUR at the prices, but if it were added, GAS,LONG would lose 1.00 EUR and OIL,A would lose 3 EUR"
+        self.assertEqual(clearing.own_names(why, "OIL"), why.replace("OIL,", ""))
+        self.assertEqual(clearing.own_names(why.replace("OIL", "COAL"), "OAL"), why.replace("OIL", "COAL"))
+        self.assertIsNone(clearing.own_names(None, "OIL"))
 
 
 class Answers(http.server.BaseHTTPRequestHandler):

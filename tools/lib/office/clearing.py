@@ -9,22 +9,29 @@ import re
 import sys
 import time
 
-from ..base import place, replacing, rules
+from ..base import place, replacing
+from ..results import decisions
 from ..seal import heads
 from . import folder
 from .ledger import Contradiction
 
 FIRST_PAUSE, LONGEST_PAUSE = 1.0, 60.0  # seconds before a step that failed is tried again
 MOST_SECONDS = 600  # that a program may take
-# A block of a participant in a reason, which `lib.decisions` writes.
-BLOCK = rf"(?P<who>[A-Z]{{1,{rules.LONGEST_PARTICIPANT}}}),[A-Z0-9-]{{1,{rules.LONGEST_NAME}}}"
-LOSER = re.compile(rf"{BLOCK} would lose [0-9.,]+ EUR(?: together with its accepted descendants)?")
-SAME = re.compile(rf", but {BLOCK} offers the same and stands earlier in the book")
-# A volume that tells how much others offer.
-MISSING = re.compile(r"[0-9.,]+ MW would have no (buyer|seller)")
+# How a reason of a rejected block begins, which its participant can compute from the prices and its own orders.
+NAMES = r"[A-Z0-9-]+(?:, [A-Z0-9-]+)*(?: and [A-Z0-9-]+)?"
+OWN_GAIN = re.compile(rf"(?:with {NAMES} it )?would gain (?:nothing|[0-9.,]+ EUR) at the prices")
+# How it goes on, by its code, until the journal is published. The published words compare the result with another selection: its welfare,
+# its losses and the periods that don't balance tell others' limits and volumes. Five reasons are one, since each tells something too.
+MOST_GAIN = "but with it, a block would lose, a period wouldn't balance, or the welfare wouldn't be greater"
+HIDDEN = {
+    decisions.GROUP: "but another block of its group, or of the group of a block that it needs, is accepted",
+    decisions.PARENT: "but a block that it needs would lose even with it",
+    **dict.fromkeys((decisions.UNBALANCED, decisions.WOULD_LOSE, decisions.LESS, decisions.TIE, decisions.BETTER), MOST_GAIN),
+}
+TOLD = (decisions.GROUP, decisions.PARENT)  # the codes among these that tell nothing of others
 MOST_FAULT = 1_000  # bytes of what it says of a fault
-# Of all participants' orders. From these, one could compute the limit of another who alone has accepted blocks.
-SUMS = ("hourly_surplus_eur", "block_surplus_eur")
+# Of all participants' orders. From these, one could compute the limits of another.
+SUMS = ("welfare_eur", "hourly_surplus_eur", "block_surplus_eur")
 
 
 class Failed(Exception):
@@ -50,15 +57,16 @@ class Published:
         return self.has_results and self.files.has(folder.OPEN_JOURNAL)
 
     def prices(self, periods):
-        """The first lines of the results: the day, the welfare and the periods. They stay the same, and are read once."""
+        """The first lines of the results without the welfare: the day and the periods. They stay the same, and are read once."""
         if self.text is None:
             with self.files.file(folder.RESULTS).open(encoding="ascii") as results:
-                self.text = "".join(itertools.islice(results, 2 + periods))
+                lines = list(itertools.islice(results, 2 + periods))
+            self.text = "".join(lines[:1] + lines[2:])
         return self.text
 
     def statement(self, who):
-        """A participant's commands with what became of them; None before they are published. Reasons that name another's order don't,
-        unless the journal is published; the participant's own orders are named without it."""
+        """A participant's commands with what became of them; None before they are published. Until the journal is, nothing in it tells of
+        the orders of others but the prices and volumes."""
         if self.rows is None and self.is_whole:
             found = json.loads(self.files.read(folder.STATEMENT))
             rows = {}
@@ -68,22 +76,24 @@ class Published:
         if self.rows is None:
             return None
         day, rows = self.rows[0], self.rows[1].get(who, [])
-        rows = [{**row, "why": own_words(row["why"], who, self.has_journal)} for row in rows]
-        if not self.has_journal:
-            day = {name: value for name, value in day.items() if name not in SUMS}
-        return {"day": day, "rows": rows}
+        if self.has_journal:
+            return {"day": day, "rows": [{**row, "why": own_names(row["why"], who)} for row in rows]}
+        return {"day": {name: value for name, value in day.items() if name not in SUMS}, "rows": list(map(guarded, rows))}
 
 
-def own_words(why, who, is_published=False):
-    """A reason with the participant's own orders by their names alone; without the orders of others, and without their volumes, unless they
-    are published."""
-    if why is None:
-        return None
-    if not is_published:
-        why = MISSING.sub(r"too few \1s", why)
-        why = SAME.sub(lambda found: found[0] if found["who"] == who else ", but an equal block stands earlier in the book", why)
-        why = LOSER.sub(lambda found: found[0] if found["who"] == who else "another participant's block would lose", why)
-    return re.sub(rf"\b{who},(?=[A-Z0-9-]+ would lose )", "", why)
+def own_names(why, who):
+    """A reason with the participant's own orders by their names alone."""
+    return re.sub(rf"\b{who},(?=[A-Z0-9-]+ would lose )", "", why) if why else why
+
+
+def guarded(row):
+    """A row without the words, and the code, that tell of others' orders."""
+    code = row.get("code")
+    if code not in HIDDEN:
+        return row
+    gain = OWN_GAIN.match(row["why"] or "")
+    why = f"{gain[0]}, {HIDDEN[code]}" if gain else HIDDEN[code].removeprefix("but ")
+    return {**row, "why": why, "code": code if code in TOLD else None}
 
 
 def load(files, ledger):

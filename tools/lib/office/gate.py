@@ -173,7 +173,7 @@ class Gate:
         entries = zip((command for command, _ in batch), records)
         async for reply in self.desk.enter(records):
             self.ledger.enter(*next(entries), reply)
-            self.counts.add("entries_total", '{reply="%s"}' % reply.partition(",")[0])
+            self.counts.add("entries_total")
         self.counts.add("batches_total")
         self.trouble = None
         answering = asyncio.create_task(self.answer(begin, self.ledger.size, list(dict.fromkeys(one for _, one in batch))))

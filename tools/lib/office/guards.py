@@ -10,7 +10,10 @@ IDLE_SECONDS = 15  # for the head of a request to come whole
 BUSY_SECONDS = 60  # for a request, from its head to the last byte of its answer
 LOOK_SECONDS = 1
 ACCEPT_PAUSE = 0.1  # seconds until the next try, if a connection can't be accepted
-MOST_AHEAD = 100  # requests that a connection may send before the answers
+MOST_AHEAD = 4  # requests that a connection may send before the answers
+PIECE = 1 << 14  # bytes that are parsed without a look at these limits
+MOST_HEAD = 1 << 15  # bytes of a request's head
+MOST_LINE = 1 << 12  # bytes of a line of a head
 MOST_BUCKETS = 10_000
 TEXTS = {"Content-Type": "text/plain", "X-Content-Type-Options": "nosniff", "Cache-Control": "no-store", "Server": "dam-office"}
 
@@ -44,16 +47,43 @@ class Buckets:
 class Handler(web_protocol.RequestHandler):
     """A connection. A request that can't be read gets a fixed answer, in which nothing of it stands."""
 
+    __slots__ = ("head_bytes", "payload", "is_deaf")
+
+    def __init__(self, *words, **how):
+        super().__init__(*words, max_line_size=MOST_LINE, max_field_size=MOST_LINE, **how)
+        self.head_bytes, self.payload = 0, None  # since the last request; the body of that one
+        self.is_deaf = False  # what comes isn't read any more, and the connection ends after its answer
+
     def begin(self):
         """A request has come, and is answered from now on."""
         self._manager.mark(self, True)
 
     def data_received(self, data):
-        super().data_received(data)
-        if len(self._messages) > MOST_AHEAD and self.transport:
+        """Parses what has come, in pieces, so that no connection holds up the others for long."""
+        for at in range(0, len(data), PIECE):
+            if self.is_deaf or self.transport is None or self.transport.is_closing():
+                return
+            try:
+                self.take(data[at : at + PIECE])
+            except Exception:  # a stranger's bytes at which aiohttp fails
+                self._manager.counts.add("connections_malformed_total")
+                self.transport.abort()
+
+    def take(self, piece):
+        before = self._request_count
+        super().data_received(piece)
+        new = list(self._messages)[before - self._request_count :] if self._request_count > before else []
+        for message, self.payload in new:
+            # no route takes a body in chunks, which is dear to read
+            self.is_deaf = self.is_deaf or getattr(message, "chunked", False)
+        is_body = self.payload is not None and not self.payload.is_eof()
+        self.head_bytes = 0 if new or is_body else self.head_bytes + len(piece)
+        if len(self._messages) > MOST_AHEAD or self.head_bytes > MOST_HEAD:
             self.transport.abort()
 
     async def finish_response(self, request, response, began):
+        if isinstance(response, web.HTTPException):  # of aiohttp itself, which says the request's words again
+            response = self.handle_error(request, response.status)
         found = await super().finish_response(request, response, began)
         self._manager.mark(self, False)
         return found

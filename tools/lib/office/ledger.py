@@ -76,9 +76,9 @@ class Ledger:
         found = self.seal.entries[entry - 1]
         return entry, found.record, found.reply
 
-    def entries(self, who):
-        """All of them, each with its own number first."""
-        return [(number, *self.entry(who, number)) for number in range(1, self.count(who) + 1)]
+    def entries(self, who, since=0):
+        """All of them, or those after so many, each with its own number first."""
+        return [(number, *self.entry(who, number)) for number in range(since + 1, self.count(who) + 1)]
 
     def orders(self, who):
         """A participant's orders in the book, in its order, each with its name."""

@@ -2,6 +2,7 @@
 stranger chose."""
 
 import json
+import logging
 import sys
 import time
 
@@ -19,6 +20,18 @@ class Log:
             print(json.dumps(made), file=self.stream, flush=True)
         except (OSError, ValueError):
             pass
+
+
+class Defects(logging.Handler):
+    """Logs what a library reports by the kind of its exception alone: its words may be a stranger's."""
+
+    def __init__(self, log):
+        super().__init__(logging.ERROR)
+        self.log = log
+
+    def emit(self, record):
+        kind = record.exc_info[0] if record.exc_info else None
+        self.log.write("defect", library=record.name, kind=kind.__name__ if kind else "unknown")
 
 
 class Counts:

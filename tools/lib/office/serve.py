@@ -145,6 +145,11 @@ def more_files():
         resource.setrlimit(resource.RLIMIT_NOFILE, (most, hard))
 
 
+def no_core():
+    """Keeps the key out of core files, also those of the desk."""
+    resource.setrlimit(resource.RLIMIT_CORE, (0, 0))
+
+
 def bound(host, port):
     """A socket that listens at an address."""
     try:
@@ -157,8 +162,10 @@ def bound(host, port):
 
 async def serve(office, host, port, tls=None, behind_proxy=False, demo=None, started=None):
     """Serves until it is stopped. `started` gets the port once it listens."""
-    logging.getLogger("aiohttp").addHandler(logging.NullHandler())
-    logging.getLogger("aiohttp").propagate = False
+    no_core()
+    for name in ("aiohttp", "asyncio"):
+        logging.getLogger(name).handlers = [observed.Defects(office.log)]
+        logging.getLogger(name).propagate = False
     application = Web(office, tls is not None, behind_proxy, demo).application()
     runner = guards.Runner(application, office.counts, keepalive_timeout=KEEP_SECONDS)
     days = asyncio.create_task(office.run())

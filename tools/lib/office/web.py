@@ -27,6 +27,7 @@ COMMANDS_A_SECOND, MOST_COMMANDS = 200, 2_000  # of a participant; many bytes co
 BYTES_OF_COMMAND, LONG_BODY = 100, 1 << 14
 READS_A_SECOND, MOST_READS = 50, 200  # of a participant
 GUESSES_A_SECOND, MOST_GUESSES = 1, 20  # wrong tokens of an address
+LOOKS_A_SECOND, MOST_LOOKS = 200, 2_000  # requests of an address for what all may see
 RECEIPTS_AT_ONCE = 8  # that are made before others get a turn
 RECEIPTS_OF_READ, COMMANDS_OF_READ, ORDERS_OF_READ, READS_OF_TABLE = 20, 200, 100, 100  # how much of an answer counts as one read
 TABLES_AT_ONCE, TABLE_SECONDS = 2, 1  # that are read, each of another participant; seconds until one may send the next
@@ -85,6 +86,7 @@ class Web:
         self.commands = Buckets(COMMANDS_A_SECOND, MOST_COMMANDS, time.monotonic)
         self.reads = Buckets(READS_A_SECOND, MOST_READS, time.monotonic)
         self.guesses = Buckets(GUESSES_A_SECOND, MOST_GUESSES, time.monotonic)
+        self.looks = Buckets(LOOKS_A_SECOND, MOST_LOOKS, time.monotonic)
         self.files = {path: (self.page(name), kind) for path, (name, kind) in PARTS.items()}
         self.files["/openapi.json"] = OPENAPI.read_text(encoding="utf-8"), "application/json"
         self.files["/key"] = office.public_key, "application/x-pem-file"
@@ -139,6 +141,7 @@ class Web:
         """Answers each request: a fault as JSON, with fixed words."""
         request.protocol.begin()
         try:
+            self.slow_down(request)
             response = await handler(request)
         except Refused as refused:
             response = fault(refused.fault, str(refused), **refused.more)
@@ -158,10 +161,20 @@ class Web:
             day = {"day": request.match_info["day"]} if request.match_info.get("day") in self.office.gates else {}
             self.log.write("defect", kind=type(wrong).__name__, route=route_of(request), **day)
             response = web.json_response({"fault": "Defect", "words": "the office failed at this request"}, status=500)
+        if request.protocol.is_deaf:
+            response.force_close()
         self.counts.add("requests_total", '{method="%s",status="%d"}' % (method_of(request), response.status))
         return response
 
     # --- who asks
+
+    def slow_down(self, request):
+        """Limits how often an address asks for what all may see; other requests are limited by participant."""
+        if self.behind_proxy or "who" in request.match_info:
+            return
+        if seconds := self.looks.take(request.remote):
+            request.protocol.is_deaf = True  # else the rest of many requests at once would be read too
+            raise Refused("TooFast", "too many requests", seconds=seconds)
 
     def gate(self, request):
         gate = self.office.gates.get(request.match_info["day"])
@@ -220,6 +233,7 @@ class Web:
         gate, who = self.asked(request, self.commands)
         self.commands.charge(who, self.length(request) // BYTES_OF_COMMAND)  # before it is read, so that not many are at once
         body = await self.body(request)
+        self.participant(request)  # again: the token may have been revoked
         began = time.monotonic()
         first = int(request.match_info["number"])
         commands = await self.read(body, kind_of(request), who, first)
@@ -268,7 +282,7 @@ class Web:
         since = query_number(request, "since")
         self.reads.charge(who, max(0, gate.ledger.count(who) - since) // COMMANDS_OF_READ)
         names = ("number", "entry", "record", "reply")
-        found = [dict(zip(names, one)) for one in gate.ledger.entries(who)[since:]]
+        found = [dict(zip(names, one)) for one in gate.ledger.entries(who, since)]
         return web.json_response({"next": gate.ledger.count(who) + 1, "share": gate.ledger.share(who), "commands": found})
 
     async def own_orders(self, request):
