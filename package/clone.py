@@ -11,6 +11,7 @@ from pathlib import Path
 from lib.crates import sources
 from lib.tool import command
 from lib.base.rules import VERSION
+from manual import site
 
 TOP = Path(sources.TOP)
 PROGRAM, DESK = "crates/dam_cli/out/dam_cli", "crates/dam_desk/out/dam_desk"
@@ -24,6 +25,7 @@ NEEDED = {
     "dpkg-deb": "dpkg",
     "dpkg-shlibdeps": "dpkg-dev",
     "git": "git",
+    "go-md2man": "go-md2man",
     "gzip": "gzip",
     "help2man": "help2man",
     "strip": "binutils",
@@ -104,8 +106,10 @@ def refuse_lack():
         if not shutil.which(name):
             words = f"it needs {name}, which Debian has in the package {debian}: apt-get install {debian}"
             raise command.Stop(words, command.FAILED)
+    site.refuse_lack()
 
 
 def made_with():
-    """The versions of the programs that make the files of a package here; other ones may make others."""
-    return {name: sources.first_line([name, "--version"]) for name in NEEDED if name != "git"}
+    """The versions of the programs that make the files of a package here; other ones may make others. git makes none, and go-md2man doesn't
+    tell its version."""
+    return {name: sources.first_line([name, "--version"]) for name in NEEDED if name not in ("git", "go-md2man")}

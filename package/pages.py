@@ -8,6 +8,7 @@ import textwrap
 from lib.tool import command
 from lib.base.place import TOOLS
 
+from . import formats
 from .clone import TOP, environment
 
 # The commands, each with those of its words that have help of their own.
@@ -160,7 +161,7 @@ def see_also(name):
     of = next(other for other in sorted(COMMANDS, reverse=True) if name == other or name.removeprefix(f"{other}-") in COMMANDS[other])
     others = sorted({*COMMANDS, *(f"{of}-{word}" for word in COMMANDS[of])} - {name})
     listed = ",\n".join(f".BR {other} (1)" for other in others).replace(" (1),", " (1),")
-    return f"{listed}\n.PP\nThe manual begins with README.md in share/doc/dam/, below /usr or the folder of the archive."
+    return f"{listed}\n.PP\n{formats.MANUAL}"
 
 
 def pages(bin_folder, clone, room):

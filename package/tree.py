@@ -9,12 +9,16 @@ from pathlib import Path
 from lib.base.place import TOOLS
 from lib.crates.sources import sum_of_file
 
-from . import changelog, pages
+from manual import site
+from manual.pages import held as with_held
+
+from . import changelog, formats, pages
 from . import clone as made_of
 
 LIBRARY = "lib/x86_64-linux-gnu"
 PYTHON = "lib/python3/dist-packages/dam_tools"
 DOC = "share/doc/dam"
+MANUAL = f"{DOC}/html"
 HERE = Path("package")
 PROVENANCE = "share/dam/provenance.json"
 # Files that are taken as they are, by where they go.
@@ -44,8 +48,6 @@ WITH_COMMANDS = ("AUDIT.md", "EXAMPLES.md", "GUIDE.md", "TABLES.md", "TRUST.md",
 DEFINITIONS = "docs/DEFINITIONS.md"
 COMMANDS = re.compile(r"^```(?:sh|text)\n.*?^```$", re.MULTILINE | re.DOTALL)
 CLONED = re.compile(rf"(?<![\w./-])(?:\./dam\b|tools/(?=(?:{'|'.join(TOOLS)})\b))")
-# A link of a page to another file.
-LINK = re.compile(r"\[([^\]]*)\]\(([^)#:\s]+)(?:#[^)\s]*)?\)")
 
 
 def taken(clone):
@@ -63,14 +65,16 @@ def taken(clone):
     return found
 
 
+def installed(words):
+    """Words with the installed commands in place of those of a clone."""
+    return CLONED.sub(lambda found: "dam" if found[0] == "./dam" else "dam-", words)
+
+
 def page(data, target, held):
     """A page, with the words alone of each link to a file that the package doesn't have, and with installed commands."""
-    here = os.path.dirname(target)
-    kept = lambda link: link[0] if os.path.normpath(f"{here}/{link[2]}") in held else link[1]
-    text = LINK.sub(kept, data.decode())
+    text = with_held(data.decode(), target, held)
     if os.path.basename(target) in WITH_COMMANDS:
-        installed = lambda block: CLONED.sub(lambda found: "dam" if found[0] == "./dam" else "dam-", block[0])
-        text = COMMANDS.sub(installed, text)
+        text = COMMANDS.sub(lambda block: installed(block[0]), text)
     return text.encode()
 
 
@@ -106,6 +110,17 @@ def definitions():
     return subprocess.run(wanted, stdout=subprocess.PIPE, env=made_of.environment(), check=True).stdout
 
 
+def manual(folder, files):
+    """Puts the site of the packaged pages into the package."""
+    own = {name: (folder / target).read_text(encoding="utf-8") for target, name in files.items() if site.is_page(name)}
+    drawn = {name: made_of.TOP / name for name in files.values() if name.endswith(site.PICTURES)}
+    room = folder.parent / "manual"
+    room.mkdir()
+    made = site.build(own, drawn, room)
+    for path in (path for path in made.rglob("*") if path.is_file()):
+        write(folder / MANUAL / path.relative_to(made), path.read_bytes())
+
+
 def compressed(data):
     return subprocess.run(["gzip", "-9n"], input=data, stdout=subprocess.PIPE, env=made_of.environment(), check=True).stdout
 
@@ -133,6 +148,9 @@ def make(clone, folder, totals):
     room.mkdir()
     for name, data in pages.pages(folder / "bin", clone, room).items():
         write(folder / "share/man/man1" / f"{name}.1.gz", compressed(data))
+    for name, data in formats.made(clone.version, installed).items():
+        write(folder / "share/man/man5" / f"{name}.5.gz", compressed(data))
+    manual(folder, files)
     told = provenance(clone, folder, totals)
     write(folder / PROVENANCE, (json.dumps(told, indent=2) + "\n").encode())
     settle(folder, clone.seconds)
@@ -155,7 +173,7 @@ def provenance(clone, folder, totals):
         "built": {target: recorded_of(clone, name) for target, name in TAKEN.items() if name in clone.records},
         "sources": {crate: it for told in clone.records.values() for crate, it in sorted(told["sources"].items())},
         "check": totals,
-        "made_with": made_of.made_with(),
+        "made_with": {**made_of.made_with(), "mkdocs": site.generator(folder / MANUAL)},
         "sha256": {os.fspath(path.relative_to(folder)): sum_of_file(path) for path in files},
     }
 

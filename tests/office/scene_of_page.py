@@ -7,8 +7,8 @@ import subprocess
 import tempfile
 from pathlib import Path
 
-import browser
 from served import TOOL, day_of, free_port, served
+from shared import browser
 
 from lib.base import clock, rules
 

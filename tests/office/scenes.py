@@ -11,10 +11,10 @@ import tempfile
 import time
 from pathlib import Path
 
-import browser
 import hostile
 import loads
 from served import TOOL, TOP, OfficeFault, day_of, free_port, served
+from shared import browser
 
 from dam_tools.office import Asked, Office
 from lib.base import rules

@@ -56,6 +56,7 @@ class Help(unittest.TestCase):
             ("audit", ["--days="], "--days"),
             ("compare", ["a", "b", "c", "d", "-o", ""], "-o/--out"),
             ("lint", [""], "JOURNAL"),
+            ("manual", ["--out", ""], "--out"),
             ("package", ["--out", ""], "--out"),
             ("plot", ["a", "--period="], "--period"),
             ("reading-list", ["--top="], "--top"),

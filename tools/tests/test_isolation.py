@@ -35,7 +35,7 @@ class Isolation(unittest.TestCase):
 
     def test_each_tool_starts_in_every_environment(self):
         """Its help is the same, although an optimising Python leaves docstrings out."""
-        for name, *words in (*([name] for name in place.TOOLS), ["whatif", "scenarios"], ["receipts", "seal"], ["package"], ["reading-list"]):
+        for name, *words in (*([name] for name in place.TOOLS), ["whatif", "scenarios"], ["receipts", "seal"], ["package"], ["manual"], ["reading-list"]):
             status, right, err = tool(name, *words, "--help")
             self.assertEqual((status, err), (0, ""), name)
             self.assertEqual(self.ran(name, *words, "--help", **STRANGE), (0, right, b""), name)

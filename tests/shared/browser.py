@@ -54,15 +54,23 @@ class Page:
         return found["result"].get("value")
 
     async def until(self, script):
-        """Waits until an expression is true."""
+        """Waits until an expression is true, also while another page is opened."""
         with contextlib.suppress(asyncio.TimeoutError):
             async with asyncio.timeout(WAIT_SECONDS):
-                while not await self.run(f"Boolean({script})"):
+                while not await self.holds(script):
                     await asyncio.sleep(STEP)
                 return
         raise AssertionError(
             f"it never is so: {script}; the page says: {await self.run('document.getElementById(`message`)?.textContent')}"
         )
+
+    async def holds(self, script):
+        try:
+            return await self.run(f"Boolean({script})")
+        except RuntimeError as fault:
+            if "navigated" not in str(fault):
+                raise
+            return False
 
     async def look(self, width, scheme, height=900):
         await self.call("Emulation.setDeviceMetricsOverride", width=width, height=height, deviceScaleFactor=1, mobile=width < 500)

@@ -1,0 +1,84 @@
+"""The Markdown of the pages as the site takes it: links within the site, lists indented by four, and names of definitions as links."""
+
+import html
+import os
+import re
+
+# A link of a page to another file.
+LINK = re.compile(r"\[([^\]]*)\]\(([^)#:\s]+)(#[^)\s]*)?\)")
+FENCED = re.compile(r"^( *)```(\w*)\n(.*?)^\1```$", re.MULTILINE | re.DOTALL)
+COMMENT = re.compile(r"^<!--.*?-->\n?", re.MULTILINE | re.DOTALL)
+ITEM = re.compile(r"( *)([-*]|\d+\.)( +)\S")
+WORD = re.compile(r"[^\W\d]\w*")
+# The parts of a page in which a name isn't made a link: a heading, a link or a picture.
+KEPT = re.compile(r"^#.*$|!?\[[^\]]*\]\([^)]*\)", re.MULTILINE)
+CODE = re.compile(r"(?<!`)`(\w+)`(?!`)")
+
+
+def held(text, page, files):
+    """A page without the links to files that aren't among these: their words stay."""
+    here = os.path.dirname(page)
+    return LINK.sub(lambda link: link[0] if os.path.normpath(os.path.join(here, link[2])) in files else link[1], text)
+
+
+def indented(text):
+    """The lists of a text with each level indented by four spaces, and an empty line after an item of several paragraphs: Python's Markdown
+    needs both, and other readers don't."""
+    lines, open_items, is_fenced, has_parts = [], [], False, False
+    for line in text.split("\n"):
+        item, margin = None if is_fenced else ITEM.match(line), len(line) - len(line.lstrip(" "))
+        if line.strip() and not is_fenced:
+            while open_items and margin < open_items[-1]:
+                open_items.pop()
+        if item and has_parts and lines[-1]:
+            lines.append("")
+        has_parts = bool(open_items) and not item and (has_parts or not line)
+        depth = len(open_items) if line else 0
+        lines.append(" " * 4 * depth + (line[min(margin, open_items[-1]) :] if depth else line))
+        is_fenced ^= line.lstrip(" ").startswith("```")
+        if item:
+            open_items.append(len(item[1]) + len(item[2]) + len(item[3]))
+    return "\n".join(lines)
+
+
+def relative(page, target):
+    return os.path.relpath(target, os.path.dirname(page) or ".")
+
+
+def block(text, page, targets):
+    """A text with the names of definitions as links. `targets` has the page of each name."""
+    def linked(found):
+        name = found[0]
+        # mkdocs leaves the addresses of such a link as they are
+        path = relative(page, targets[name]).removesuffix(".md") if name in targets else None
+        return f'<a href="{path}.html#{name}">{name}</a>' if path else name
+
+    return "<pre><code>" + WORD.sub(linked, html.escape(text, quote=False)) + "</code></pre>"
+
+
+def named(text, page, targets):
+    """Sentences with the names of definitions as links."""
+    def linked(found):
+        name = found[1]
+        return f"[{found[0]}]({relative(page, targets[name])}#{name})" if name in targets else found[0]
+
+    parts, last = [], 0
+    for kept in KEPT.finditer(text):
+        parts += [CODE.sub(linked, text[last : kept.start()]), kept[0]]
+        last = kept.end()
+    return "".join([*parts, CODE.sub(linked, text[last:])])
+
+
+def with_definitions(text, page, targets):
+    """A page with the names of definitions as links, in its sentences and in its blocks of text, but not in its headings."""
+    parts, last = [], 0
+    for fence in FENCED.finditer(text):
+        is_named = fence[2] == "text" and not fence[1] and any(word in targets for word in WORD.findall(fence[3]))
+        parts += [named(text[last : fence.start()], page, targets), block(fence[3], page, targets) if is_named else fence[0]]
+        last = fence.end()
+    return "".join([*parts, named(text[last:], page, targets)])
+
+
+def staged(text, page, files, targets):
+    """A page as the site takes it."""
+    return with_definitions(indented(COMMENT.sub("", held(text, page, files))), page, targets)

@@ -1,0 +1,96 @@
+"""The pages of a site in a folder: their links, the parts that they fetch, and whether each leads to a file and a place of the site."""
+
+import os
+import re
+from html.parser import HTMLParser
+from pathlib import Path
+from urllib.parse import unquote, urlsplit
+
+# Attributes whose file is fetched when a page is shown. `xlink:href` and `srcset` fetch too.
+FETCHED = {("script", "src"), ("img", "src"), ("link", "href"), ("iframe", "src"), ("source", "src"), ("object", "data"), ("use", "href"),
+           ("image", "href"), ("video", "src"), ("audio", "src"), ("embed", "src"), ("img", "srcset"), ("source", "srcset")}
+OF_STYLES = re.compile(r"@import\s+[\"']?([^\"';)\s]+)|url\(\s*[\"']?([^\"')]+)")
+
+
+class Page(HTMLParser):
+    """A page: the names of its places, its links, the files that it fetches, the pages before and after it, its blocks of text, and how
+    many items of lists and tables its article has."""
+
+    def __init__(self, path):
+        super().__init__()
+        self.path, self.places, self.links, self.fetches, self.neighbours, self.twice = path, set(), [], [], {}, []
+        self.blocks, self.items, self.tables, self.is_article, self.is_block = [], 0, 0, False, False
+        self.feed(path.read_text(encoding="utf-8"))
+
+    def handle_starttag(self, tag, pairs):
+        found = dict(pairs)
+        self.is_article |= tag == "article"
+        self.items += self.is_article and tag == "li"
+        self.tables += self.is_article and tag == "table"
+        if tag == "pre":
+            self.is_block = True
+            self.blocks.append("")
+        for name in {found.get("id"), found.get("name") if tag == "a" else None} - {None}:
+            self.twice += [name] if name in self.places else []
+            self.places.add(name)
+        if tag in ("a", "area") and found.get("href"):
+            self.links.append(found["href"])
+        if found.get("rel") in ("prev", "next"):
+            self.neighbours[found["rel"]] = found.get("href")
+        self.fetches += [value for name, value in pairs if value and (tag, name.removeprefix("xlink:")) in FETCHED]
+        self.fetches += styles(found.get("style") or "")
+
+    handle_startendtag = handle_starttag
+
+    def handle_endtag(self, tag):
+        self.is_article &= tag != "article"
+        self.is_block &= tag != "pre"
+
+    def handle_data(self, data):
+        if self.is_block:
+            self.blocks[-1] += data
+
+    def texts(self):
+        """The blocks of text, without the line ends around them."""
+        return {block.strip("\n") for block in self.blocks}
+
+
+def styles(text):
+    """The files that a style fetches, but for those that it has in itself."""
+    found = (one or other for one, other in OF_STYLES.findall(text))
+    return [url for url in found if not url.startswith("data:") and not url.startswith("#")]
+
+
+class Site:
+    def __init__(self, folder):
+        self.folder = Path(folder).resolve()
+        self.pages = {path: Page(path) for path in sorted(self.folder.rglob("*.html"))}
+
+    def name(self, path):
+        return path.relative_to(self.folder).as_posix()
+
+    def wrong(self, page, url):
+        """Why a link of a page leads nowhere in the site, if it doesn't."""
+        parts = urlsplit(url)
+        if parts.scheme or parts.netloc:
+            return "another site"
+        target = Path(os.path.normpath(page.path.parent / unquote(parts.path))) if parts.path else page.path
+        if target != self.folder and self.folder not in target.parents:
+            return "outside the site"
+        if target.is_dir() or not target.exists():
+            return "no such file"
+        if parts.fragment and unquote(parts.fragment) not in self.pages[target].places:
+            return "no such place"
+        return None
+
+    def faults(self):
+        """Each link, fetched file and place of the site that is wrong, with its page."""
+        for page in self.pages.values():
+            for url in [*page.links, *page.fetches]:
+                if wrong := self.wrong(page, url):
+                    yield f"{self.name(page.path)}: {url}: {wrong}"
+            yield from (f"{self.name(page.path)}: two places are named {name}" for name in page.twice)
+        for path in sorted(self.folder.rglob("*.css")):
+            for url in styles(path.read_text(encoding="utf-8")):
+                if urlsplit(url).scheme or not (path.parent / url).is_file():
+                    yield f"{self.name(path)}: {url}: not in the site"
