@@ -19,7 +19,7 @@ from pathlib import Path
 HERE = Path(__file__).resolve().parent
 PAGE = HERE.parent / "docs" / "MEASURED.md"
 KEPT = HERE / "measured"
-PARTS = ["quick", "families", "blocks", "thin", "growth", "workers", "looks", "quarters", "desk", "office"]
+PARTS = ["quick", "families", "blocks", "thin", "growth", "workers", "looks", "desk", "office"]
 PEERS = {"families": "HiGHS", "blocks": "HiGHS and CBC each", "thin": "HiGHS and CBC each"}  # the peers of each part
 COLUMNS = ["what", "figure", "target", "holds", "details"]
 RUN_COLUMNS = ["part", "date", "commit", "machine", "load", "kit", "notes"]
@@ -32,7 +32,6 @@ SHOWN = {
     "thin": r"(base|peaks|shaped|odd|random) 96, ([\d,]+) orders, spread (?:0|20|50), seed 1: dam clear",
     "workers": r".*4 workers as fast as 1",
     "looks": r"a look compared with a plain one, while [03] threads.*|a call, 4,000 orders held|dam day.*",
-    "quarters": r"dam replay of 10,000 blocks.*",
     "desk": r"dam replay compared with a desk.*wall time|records that a desk keeps.*|opening .* on disk.*wall time|memory of a desk.*records",
     "office": r".*",
 }
@@ -48,9 +47,10 @@ PICTURES = {"growth": "![Nodes of each family by the number of blocks, compared 
 UNITS = {"ns": 1e-9, "us": 1e-6, "ms": 1e-3}  # of a second
 HEAD = """# Measured figures
 
-`bench/run` runs the benchmarks, and `bench/page.py` writes this page. A figure is the median of several runs; compared programs run
-alternately. `A compared with B` is A's time divided by B's. The docstring of each part's script describes its method. The load is the load
-average of the minute before; on a busy machine, figures are unreliable. A commit `with changes` had changes that weren't committed.
+`bench/run` runs the benchmarks, and `bench/page.py` writes this page. A figure is the median of several runs, or one run of over a second;
+compared programs run alternately. `A compared with B` is A's time divided by B's, or A's rate by B's. The docstring of each part's script
+describes its method. The load is the load average of the minute before; on a busy machine, figures are unreliable. A commit `with changes`
+had changes that weren't committed.
 
 A CSV file has every figure of a part, with its target; this page shows some, and the missed targets by kind.
 `grep MISSED bench/measured/*.csv` prints each.

@@ -42,7 +42,7 @@ MOST_BYTES = {
     "DESK.md": 7_168,
     "EXAMPLES.md": 5_888,
     "FORMATS.md": 18_944,
-    "GLOSSARY.md": 3_328,
+    "GLOSSARY.md": 3_400,
     "GUIDE.md": 12_400,
     "LIBRARY.md": 5_376,
     "MARKET.md": 8_192,
