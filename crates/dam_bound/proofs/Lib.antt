@@ -26,4 +26,5 @@ pub mod MakingClasses
 pub mod PricesByClass
 pub mod Rivalry
 pub mod Losing
+pub mod ClassPricing
 pub mod Limiting

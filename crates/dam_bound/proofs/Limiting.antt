@@ -16,7 +16,7 @@ use Rattle.dam_blocks.specs.Magnitude.{IsWithin}
 use Rattle.dam_blocks.specs.Selection.{accepts}
 use Rattle.dam_blocks.specs.Eligible.{IsEligible}
 use Rattle.dam_bound.specs.ClassCurves.{class_orders, least_net_in, most_net_in, IsClassIn}
-use Rattle.dam_bound.specs.Limits.{most_limits, room_taken, if_open, taken_under, every_place, greatest_room, IsLimit, no_limit, limit_in, AreLimits, AreRooms, AreSmall, HasRoom}
+use Rattle.dam_bound.specs.Limits.{most_limits, room_taken, if_open, taken_under, every_place, greatest_room, IsLimit, no_limit, limit_in, AreLimits, AreRooms, HasRoom}
 use Rattle.dam_bound.specs.Prices.{over_gains}
 use Rattle.dam_bound.specs.declared.class_curves.Class.{Class}
 use Rattle.dam_bound.specs.declared.limits.Limit.{Limit}

@@ -1,5 +1,5 @@
 -- What a block gains at best at prices in the ranges of the classes, alone and with those that descend from it.
-use Rattle.std.proofs.Common.{◌≡◌, ℕ, zero, suc, ◌+◌, ◌<◌, ◌≤◌, ◌&&◌, Bool, true, false, ℤ, pos, ◌+ℤ◌, ◌-ℤ◌, ◌*ℤ◌, ◌≤ℤ◌, Option, Some, None, List, [], length, drop, take, get_or, slice_set, option_map, unwrap_or, ap, ◌∙◌, sym, subst, refl, inl, inr, arith}
+use Rattle.std.proofs.Common.{◌≡◌, ℕ, zero, suc, ◌+◌, ◌<◌, ◌≤◌, ◌&&◌, Bool, true, false, ℤ, pos, ◌+ℤ◌, ◌-ℤ◌, ◌*ℤ◌, ◌≤ℤ◌, Option, Some, List, [], length, drop, take, get_or, slice_set, option_map, unwrap_or, ap, ◌∙◌, sym, subst, refl, inl, inr, arith}
 use Rattle.std.specs.Int.{int_max}
 use Rattle.std.specs.List.{slice_get}
 use Rattle.std.proofs.lemmas.Int.{ints, int_max_is}
@@ -7,8 +7,6 @@ use Rattle.std.proofs.lemmas.Bool.{cases_eq, and_right}
 use Rattle.std.specs.Prelude.{replicate}
 use Rattle.std.proofs.lemmas.List.{take_all, get_or-set_same, get_or-set_other, length-set, length-replicate}
 use Rattle.dam_book.specs.Limits.{most_blocks, last_period}
-use Rattle.dam_curve.specs.Curve.{CurvesState}
-use Rattle.dam_curve.specs.JointPrice.{IsJointPrice}
 use Rattle.dam_curve.specs.PriceRange.{ArePricesBetween, AreUnpriced, IsSmallRange}
 use Rattle.dam_curve.specs.declared.price_range.PriceRange.{PriceRange}
 use Rattle.dam_blocks.specs.declared.problem.Block.{Block}
@@ -19,9 +17,9 @@ use Rattle.dam_blocks.specs.Eligible.{ArePrices, IsEligible, surplus_of, surplus
 use Rattle.dam_bound.specs.ClassCurves.{class_orders, day_value, least_net_in, most_net_in}
 use Rattle.dam_bound.specs.Open.{IsBetween}
 use Rattle.dam_bound.specs.Prices.{over_gains}
-use Rattle.dam_bound.specs.Sums.{class_places, over_places, at_places}
+use Rattle.dam_bound.specs.Sums.{class_places, at_places}
 use Rattle.dam_bound.specs.declared.class_curves.Class.{Class}
-use Rattle.dam_bound.specs.inside.Ranges.{counted_if, IsAllowed, IsInRange, range_in, IsRangeOf, AreRanges, gain_at, AreInRanges, IsBestGain, IsBestPart, IsBestFamily}
+use Rattle.dam_bound.specs.inside.Ranges.{counted_if, range_in, IsRangeOf, AreRanges, gain_at, AreInRanges, IsBestGain, IsBestPart, IsBestFamily}
 use Rattle.dam_bound.proofs.Accepted.{if_accepted}
 use Rattle.dam_bound.proofs.AtPlaces.{at_block}
 use Rattle.dam_bound.proofs.ClassPlaces.{over_next}
@@ -101,7 +99,7 @@ pub in_ranges : (problem : ProblemState) (taken rejected sel : List Bool) (range
 in_ranges problem taken rejected sel ranges prices are between priced j c at =
     are.each j c at sel (class_price problem prices c) between (class_price_is problem sel prices c priced)
 
-surplus_there : (blocks : List Block) (prices : List ℤ) (i : ℕ) (b : Block) → slice_get blocks i ≡ Some b
+pub surplus_there : (blocks : List Block) (prices : List ℤ) (i : ℕ) (b : Block) → slice_get blocks i ≡ Some b
     → surplus_at blocks prices i ≡ surplus_of prices b.order
 surplus_there blocks prices i b at = ap (λ (o : Option Block). unwrap_or (option_map (λ (x : Block). surplus_of prices x.order) o) (pos 0)) at
 
@@ -134,7 +132,7 @@ no_part : (total own : ℤ) → total ≡ (total -ℤ own) +ℤ own
 no_part total own = omega (arith, ints)
 
 -- what the places from one on add is what this one adds and the rest
-one_member : (problem : ProblemState) (sel : List Bool) (prices : List ℤ) (place at : ℕ) (t : Bool) → at < length problem.blocks
+pub one_member : (problem : ProblemState) (sel : List Bool) (prices : List ℤ) (place at : ℕ) (t : Bool) → at < length problem.blocks
     → accepts (accepted_descendants problem.blocks sel place) at ≡ t
     → over_accepted (surplus_of prices) (drop at problem.blocks) (drop at (accepted_descendants problem.blocks sel place))
     ≡ if_accepted t (surplus_at problem.blocks prices at)

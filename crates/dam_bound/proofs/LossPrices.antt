@@ -1,6 +1,6 @@
 -- The surplus of a block at the prices of the day, class by class.
 use Rattle.std.proofs.Common.{◌≡◌, ℕ, zero, suc, ◌+◌, ◌-◌, ◌*◌, ◌<◌, ◌≤◌, ◌==◌, ◌||◌, ◌&&◌, cond, Bool, true, false, ℤ, pos, neg_ℤ, ◌+ℤ◌, ◌*ℤ◌, ◌≤ℤ◌, Option, Some, None}
-use Rattle.std.proofs.Common.{List, [], ◌∷◌, length, drop, take, get_or, ap, ap₂, ◌∙◌, sym, subst, refl, inl, inr, arith}
+use Rattle.std.proofs.Common.{List, [], ◌∷◌, length, get_or, ap, ap₂, ◌∙◌, sym, subst, refl, inl, inr, arith}
 use Rattle.std.specs.List.{slice_get}
 use Rattle.std.specs.Option.{option_map, unwrap_or}
 use Rattle.std.proofs.lemmas.Int.{ints, to_z-of_z}
@@ -8,37 +8,29 @@ use mir.Syntax.{w32}
 use mir.Val.{to_z, of_z}
 use Rattle.std.proofs.lemmas.Bool.{cases_eq}
 use Rattle.std.proofs.lemmas.Bool.Decides.{nat_tests}
-use Rattle.std.proofs.lemmas.List.{take_all}
 use Rattle.std.proofs.lemmas.List.Quantifiers.{position-Some}
 use Rattle.std.proofs.lemmas.Option.{get_or_from_slice_get}
 use Rattle.dam_book.specs.Terms.{BlockTerms}
-use Rattle.dam_book.specs.Limits.{most_blocks, last_period, greatest_volume}
-use Rattle.dam_hour.specs.Limits.{greatest_price, greatest_value}
+use Rattle.dam_book.specs.Limits.{last_period}
+use Rattle.dam_hour.specs.Limits.{greatest_price}
 use Rattle.dam_hour.specs.Best.{signed}
 use Rattle.dam_hour.specs.Price.{AreEnds, price_between}
 use Rattle.dam_hour.specs.declared.step.Step.{Step}
 use Rattle.dam_curve.specs.Line.{IsJointPrice}
 use Rattle.dam_blocks.specs.declared.problem.Block.{Block}
-use Rattle.dam_blocks.specs.Problem.{ProblemState, AreBlocks}
+use Rattle.dam_blocks.specs.Problem.{ProblemState}
 use Rattle.dam_blocks.specs.Magnitude.{IsWithin}
 use Rattle.dam_blocks.specs.Selection.{accepts, over_accepted, net_volume_of, value_of, net_volume}
 use Rattle.dam_blocks.specs.Family.{names, parent_among, parent_place, leads_to, descends, accepted_descendants}
-use Rattle.dam_blocks.specs.Eligible.{ArePrices, surplus_from, surplus_of, surplus_at, family_surplus}
+use Rattle.dam_blocks.specs.Eligible.{ArePrices, surplus_from, surplus_of, family_surplus}
 use Rattle.dam_blocks.proofs.Sums.{surplus_split}
 use Rattle.dam_bound.specs.Classes.{first_of, members, over_class}
 use Rattle.dam_bound.specs.ClassCurves.{class_orders, day_value}
-use Rattle.dam_bound.specs.Prices.{over_gains, greatest_priced_gain}
-use Rattle.dam_bound.specs.Sums.{over_periods, class_places, over_places, at_places}
-use Rattle.dam_bound.specs.inside.Numbers.{AreWithin, AreRaised, both_accept}
-use Rattle.dam_bound.proofs.AtPlaces.{at_block, at_same, raised_is, all_within, order_at, value_small}
-use Rattle.dam_bound.proofs.ClassPlaces.{over_same, over_next, by_class, class_times, periods_plus, turned, no_class, one_more}
+use Rattle.dam_bound.specs.Sums.{over_periods, class_places, over_places}
+use Rattle.dam_bound.proofs.ClassPlaces.{over_same, by_class, class_times, periods_plus, turned}
 use Rattle.dam_bound.proofs.Classing.{class_net, class_volume, class_here, class_elsewhere, same_class}
-use Rattle.dam_bound.proofs.Accepted.{if_accepted}
 use Rattle.dam_bound.proofs.Gains.{AreEndsUnique}
-use Rattle.dam_bound.proofs.Lining.{gains_are}
 use Rattle.dam_bound.proofs.Members.{no_members}
-use Rattle.dam_bound.proofs.DayLevels.{one_at}
-use Rattle.dam_bound.proofs.PlaceSums.{times_within}
 
 -- ---- the joint price of a class
 -- these are the prices from a place on
@@ -148,142 +140,14 @@ surplus_is problem sel prices k b are at =
     (λ j c there. in_class p problem.blocks c n k b at) in
     omega (arith, ints, periods, long, parts, classes, each)
 
--- ---- the gains so far
-pub record AreGainsSoFar (problem : ProblemState) (sel : List Bool) (j : ℕ) (gains : List ℤ) : Type 0 where
-  pub small : AreWithin ((j + 1) * (last_period * greatest_value)) gains
-  pub are : (prices : List ℤ) → ArePrices problem.blocks sel 1 problem.hours prices
-      → gains ≡ at_places most_blocks (surplus_over problem prices (take j (class_places problem))) problem.blocks
-
-pub first_gains : (problem : ProblemState) (sel : List Bool) (values : List ℤ) → AreWithin (last_period * greatest_value) values
-    → values ≡ at_places most_blocks (day_value problem) problem.blocks → AreGainsSoFar problem sel 0 values
-first_gains problem sel values within same = record {
-  small = within;
-  are = λ prices are. same ∙ at_same most_blocks (day_value problem) (surplus_over problem prices []) problem.blocks
-      (λ k b at. no_class (day_value problem b.order));
-}
-
-raised_within : (n : ℕ) (price : ℤ) (nets before after : List ℤ) → AreWithin (n * (last_period * greatest_value)) before
-    → AreWithin greatest_volume nets → IsWithin (last_period * greatest_price) price → AreRaised price nets before after
-    → AreWithin ((n + 1) * (last_period * greatest_value)) after
-raised_within n price nets before after small net_small price_small raised = record {
-  long = raised.long;
-  each = λ i d l.
-      (let is = raised.each i d l in let own = small.each i d l in
-      let product = times_within (last_period * greatest_price) greatest_volume price (get_or nets i d) price_small (net_small.each i d l) in
-      let a = own.at_least in let b = own.at_most in let c = product.at_least in let e = product.at_most in
-      record { at_least = omega (arith, ints, is, a, c); at_most = omega (arith, ints, is, b, e) });
-}
-
-pub more_gains : AreEndsUnique → (problem : ProblemState) (sel : List Bool) (j c : ℕ) (price : ℤ) (nets gains after : List ℤ)
-    → slice_get (class_places problem) j ≡ Some c → nets ≡ at_places most_blocks (net_volume_of (c + 1)) problem.blocks
-    → AreWithin greatest_volume nets → IsWithin (last_period * greatest_price) price
-    → IsJointPrice (class_orders problem c) (net_volume problem.blocks sel (c + 1)) price → AreRaised price nets gains after
-    → AreGainsSoFar problem sel j gains → AreGainsSoFar problem sel (j + 1) after
-more_gains law problem sel j c price nets gains after at nets_are small price_small joint raised so_far =
-    let number : suc j ≡ j + 1 = omega arith in
-    subst (λ (n : ℕ). AreGainsSoFar problem sel n after) number (record {
-      small =
-          (let next : suc j + 1 ≡ (j + 1) + 1 = omega arith in
-          subst (λ (n : ℕ). AreWithin (n * (last_period * greatest_value)) after) (sym next)
-          (raised_within (j + 1) price nets gains after so_far.small small price_small raised));
-      are = λ prices are.
-          (let is = joint_price_is law problem sel c prices price are joint in
-          let places = take j (class_places problem) in
-          raised_is (surplus_over problem prices places) (net_volume_of (c + 1)) price problem.blocks nets gains after nets_are
-          (so_far.are prices are) raised
-          ∙ at_same most_blocks (λ o. surplus_over problem prices places o +ℤ price *ℤ net_volume_of (c + 1) o)
-          (surplus_over problem prices (take (suc j) (class_places problem))) problem.blocks (λ k b there.
-          ap (λ (z : ℤ). surplus_over problem prices places b.order +ℤ z *ℤ net_volume_of (c + 1) b.order) is
-          ∙ one_more (day_value problem b.order) _ _ _
-          (over_next (λ d. class_price problem prices d *ℤ net_volume_of (d + 1) b.order) (class_places problem) j c at)));
-    })
-
-pub all_gains : (problem : ProblemState) (sel : List Bool) (j : ℕ) (gains prices : List ℤ) → length (class_places problem) ≤ j
-    → AreGainsSoFar problem sel j gains → ArePrices problem.blocks sel 1 problem.hours prices
-    → gains ≡ at_places most_blocks (surplus_of prices) problem.blocks
-all_gains problem sel j gains prices past so_far are =
-    so_far.are prices are
-    ∙ ap (λ (ps : List ℕ). at_places most_blocks (surplus_over problem prices ps) problem.blocks) (take_all j (class_places problem) past)
-    ∙ at_same most_blocks (surplus_over problem prices (class_places problem)) (surplus_of prices) problem.blocks
-    (λ k b at. surplus_is problem sel prices k b are at)
-
-pub values_within : (problem : ProblemState) (values : List ℤ) → length problem.hours ≤ last_period → AreBlocks (length problem.hours) problem.blocks
-    → values ≡ at_places most_blocks (day_value problem) problem.blocks → AreWithin (last_period * greatest_value) values
-values_within problem values few blocks are =
-    all_within (day_value problem) problem.blocks (last_period * greatest_value) values are
-    (λ k b at. value_small (length problem.hours) b.order few (order_at (length problem.hours) problem.blocks k b blocks at))
-
-pub gains_small : (j : ℕ) (gains : List ℤ) → j ≤ last_period → AreWithin ((j + 1) * (last_period * greatest_value)) gains
-    → AreWithin greatest_priced_gain gains
-gains_small j gains few small = record {
-  long = small.long;
-  each = λ i d l.
-      (let one = small.each i d l in let a = one.at_least in let b = one.at_most in
-      record { at_least = omega (arith, ints, a, few); at_most = omega (arith, ints, b, few) });
-}
-
 pub price_fits : (x : ℤ) → IsWithin (last_period * greatest_price) x → to_z w32 (of_z w32 x) ≡ x
 price_fits x small = let low = small.at_least in let high = small.at_most in to_z-of_z w32 x (omega (arith, ints, low, high))
 
 -- ---- families
--- two lists that accept the same blocks
-parted : (f : BlockTerms → ℤ) (b : Block) (bs : List Block) (xs : List Bool)
-    → over_accepted f (b ∷ bs) xs ≡ if_accepted (accepts xs 0) (f b.order) +ℤ over_accepted f bs (drop 1 xs)
-parted f b [] [] = omega (arith, ints)
-parted f b (x ∷ bs) [] = omega (arith, ints)
-parted f b bs (true ∷ xs) = refl
-parted f b bs (false ∷ xs) = omega (arith, ints)
-
-next_accepts : (xs : List Bool) (i : ℕ) → accepts (drop 1 xs) i ≡ accepts xs (suc i)
-next_accepts [] i = refl
-next_accepts (x ∷ xs) i = refl
-
-pub same_accepted : (f : BlockTerms → ℤ) (bs : List Block) (xs ys : List Bool) → ((i : ℕ) → i < length bs → accepts xs i ≡ accepts ys i)
-    → over_accepted f bs xs ≡ over_accepted f bs ys
-same_accepted f [] xs ys each = refl
-same_accepted f (b ∷ bs) xs ys each =
-    parted f b bs xs
-    ∙ ap₂ (λ (a : Bool) (z : ℤ). if_accepted a (f b.order) +ℤ z) (each 0 (omega arith))
-    (same_accepted f bs (drop 1 xs) (drop 1 ys) (λ i l. next_accepts xs i ∙ each (suc i) (omega (arith, l)) ∙ sym (next_accepts ys i)))
-    ∙ sym (parted f b bs ys)
-
-pub both_at : (xs ys : List Bool) (i : ℕ) → accepts (both_accept xs ys) i ≡ (accepts xs i && accepts ys i)
-both_at [] ys i = refl
-both_at (true ∷ xs) [] zero = refl
-both_at (false ∷ xs) [] zero = refl
-both_at (x ∷ xs) [] (suc i) = rejected (accepts xs i)
-  where
-    rejected : (a : Bool) → false ≡ (a && false)
-    rejected true = refl
-    rejected false = refl
-both_at (x ∷ xs) (y ∷ ys) zero = refl
-both_at (x ∷ xs) (y ∷ ys) (suc i) = both_at xs ys i
-
 -- the law of dam_blocks on the accepted descendants
 abbrev pub AreDescendants : Type 0
 AreDescendants = (blocks : List Block) (sel : List Bool) (i j : ℕ)
     → accepts (accepted_descendants blocks sel i) j ≡ (accepts sel j && descends blocks i j)
-
-own_surplus : (blocks : List Block) (prices : List ℤ) (place : ℕ) (d : ℤ) (gains : List ℤ) → place < length blocks → length blocks ≤ most_blocks
-    → gains ≡ at_places most_blocks (surplus_of prices) blocks → get_or gains place d ≡ surplus_at blocks prices place
-own_surplus blocks prices place d gains inside few are =
-    let found = one_at blocks place inside in
-    ap (λ (xs : List ℤ). get_or xs place d) are
-    ∙ at_block most_blocks (surplus_of prices) blocks place d found.0 found.1 few
-    ∙ sym (ap (λ (o : Option Block). unwrap_or (option_map (λ (b : Block). surplus_of prices b.order) o) (pos 0)) found.1)
-
-pub some_family : AreDescendants → (blocks : List Block) (sel family : List Bool) (prices gains : List ℤ) (place : ℕ) (d own members : ℤ)
-    → place < length blocks → length blocks ≤ most_blocks → gains ≡ at_places most_blocks (surplus_of prices) blocks
-    → ((j : ℕ) → j < length blocks → accepts family j ≡ descends blocks place j)
-    → own ≡ get_or gains place d → members ≡ over_gains gains (both_accept sel family)
-    → own +ℤ members ≡ family_surplus blocks sel prices place
-some_family law blocks sel family prices gains place d own members inside few are is e f =
-    ap₂ (λ (a b : ℤ). a +ℤ b)
-    (e ∙ own_surplus blocks prices place d gains inside few are)
-    (f ∙ ap (λ (xs : List ℤ). over_gains xs (both_accept sel family)) are
-    ∙ gains_are most_blocks (surplus_of prices) blocks (both_accept sel family) few
-    ∙ same_accepted (surplus_of prices) blocks (both_accept sel family) (accepted_descendants blocks sel place)
-    (λ j l. both_at sel family j ∙ ap (λ (b : Bool). accepts sel j && b) (is j l) ∙ sym (law blocks sel place j)))
 
 rejects : (a b : Bool) → b ≡ false → (a && b) ≡ false
 rejects true b e = e
@@ -295,15 +159,6 @@ no_descendants : AreDescendants → (blocks : List Block) (sel : List Bool) (pri
 no_descendants law blocks sel prices place none =
     no_members (surplus_of prices) blocks (accepted_descendants blocks sel place)
     (λ j l. law blocks sel place j ∙ rejects (accepts sel j) (descends blocks place j) (none j l))
-
-pub no_family : AreDescendants → (blocks : List Block) (sel : List Bool) (prices gains : List ℤ) (place : ℕ) (d own : ℤ)
-    → place < length blocks → length blocks ≤ most_blocks → gains ≡ at_places most_blocks (surplus_of prices) blocks
-    → ((j : ℕ) → j < length blocks → descends blocks place j ≡ false)
-    → own ≡ get_or gains place d → own ≡ family_surplus blocks sel prices place
-no_family law blocks sel prices gains place d own inside few are none e =
-    let here = own_surplus blocks prices place d gains inside few are in
-    let rest = no_descendants law blocks sel prices place none in
-    omega (arith, ints, e, here, rest)
 
 -- ---- places at which no block stands
 parent_below : (blocks : List Block) (o : Option Block) (p : ℕ) → parent_among blocks o ≡ Some p → p < length blocks

@@ -125,6 +125,18 @@ gain_raised held gain net price x p n few same so_far within small net_is price_
     let fits : SFits w64 (gain +ℤ p *ℤ x) = omega (arith, ints, a, b, c, e, few) in
     (subst (SFits w64) (sym all) fits, ap (λ (z : ℤ). to_z w64 (of_z w64 z)) all ∙ to_z-of_z w64 (gain +ℤ p *ℤ x) fits)
 
+-- a gain that is raised, as the code adds it up
+pub gain_added : (gain net price x p : ℤ) (n : ℕ) → n ≤ last_period → IsWithin (n * (last_period * greatest_value)) gain
+    → IsWithin greatest_volume x → IsWithin (last_period * greatest_price) p → net ≡ x → price ≡ p
+    → SFits w64 (gain +ℤ to_z w64 (of_z w64 (to_z w64 (of_z w64 net) *ℤ to_z w64 (of_z w64 price))))
+    × (to_z w64 (of_z w64 (gain +ℤ to_z w64 (of_z w64 (to_z w64 (of_z w64 net) *ℤ to_z w64 (of_z w64 price))))) ≡ gain +ℤ p *ℤ x)
+gain_added gain net price x p n few so_far within small net_is price_is =
+    let c = so_far.at_least in let e = so_far.at_most in
+    let one = to_z-of_z w64 gain (omega (arith, ints, c, e, few)) in
+    let raised = gain_raised gain gain net price x p n few refl so_far within small net_is price_is in
+    let left = λ (z : ℤ). z +ℤ to_z w64 (of_z w64 (to_z w64 (of_z w64 net) *ℤ to_z w64 (of_z w64 price))) in
+    (subst (λ (z : ℤ). SFits w64 (left z)) one raised.0, subst (λ (z : ℤ). to_z w64 (of_z w64 (left z)) ≡ gain +ℤ p *ℤ x) one raised.1)
+
 -- the part of a number above 0 is no larger
 pub positive_within : (x : ℤ) (n : ℕ) → IsWithin n x → IsWithin n (int_max x (pos 0))
 positive_within x n w =

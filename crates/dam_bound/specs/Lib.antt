@@ -4,6 +4,7 @@ pub mod Classes
 pub mod Sums
 pub mod ClassCurves
 pub mod Prices
+pub mod ClassPrices
 pub mod Open
 pub mod Limits
 pub mod inside

@@ -1,5 +1,5 @@
 -- Limits that every eligible selection keeps, and the room that decisions leave under them.
-use Rattle.std.specs.Prelude.{◌≡◌, ℕ, zero, suc, ◌*◌, ◌<◌, ◌≤◌, ℤ, pos, neg_ℤ, ◌+ℤ◌, ◌≤ℤ◌, Bool, true, false, if◌then◌else◌, List, [], length, replicate, slice_index_or}
+use Rattle.std.specs.Prelude.{◌≡◌, ℕ, zero, suc, ◌*◌, ◌<◌, ℤ, pos, neg_ℤ, ◌+ℤ◌, ◌≤ℤ◌, Bool, true, false, List, [], length, replicate, slice_index_or}
 use Rattle.std.specs.Int.{int_max}
 use Rattle.dam_book.specs.Limits.{most_blocks, greatest_volume}
 use Rattle.dam_blocks.specs.Problem.{ProblemState}

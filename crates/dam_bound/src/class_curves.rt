@@ -1,15 +1,17 @@
 //! The classes of a problem's periods with their curves, by which selections are bounded and valued.
 
-ghost use Rattle.std.specs.Prelude.{◌≡◌, ◌↔◌, ◌<◌, ℤ, ◌≤ℤ◌, ◌<ℤ◌, false, List, Some, None, All, IfOk, IfSome};
+ghost use Rattle.std.specs.Prelude.{◌≡◌, ◌↔◌, ◌<◌, ℤ, ◌≤ℤ◌, ◌<ℤ◌, false, ◌&&◌, List, Bool, Some, None, All, length, IfOk, IfSome};
 ghost use Rattle.dam_book.specs.Limits.{most_blocks};
-ghost use Rattle.dam_blocks.specs.Eligible.{ArePrices, HasNoLoss, selection_welfare, surplus_of};
+ghost use Rattle.dam_blocks.specs.Eligible.{ArePrices, HasNoLoss, selection_welfare, surplus_at, family_surplus};
+ghost use Rattle.dam_blocks.specs.Magnitude.{IsWithin};
+ghost use Rattle.dam_bound.specs.ClassPrices.{AreClassPrices};
 ghost use Rattle.dam_bound.specs.Prices.{IsPriceBound, greatest_priced_gain};
 ghost use Rattle.dam_bound.specs.Relaxed.{without_rows};
-ghost use Rattle.dam_bound.specs.Sums.{at_places};
-ghost use Rattle.dam_bound.specs.inside.Numbers.{AreWithin};
+ghost use Rattle.dam_bound.specs.inside.Ranges.{counted_if};
 
 use crate::class_making::{classes_of, values_of};
-use crate::families::{families_of, family_gain};
+use crate::class_prices::ClassPrices;
+use crate::families::families_of;
 use crate::numbers::{add_priced, counts_of, line_at, weighted, weights_of};
 use crate::price_bound::PriceBound;
 use dam_blocks::{Problem, Selection};
@@ -99,66 +101,112 @@ impl<A: Allocator, B: Allocator> ClassCurves<'_, A, B> {
 
     /// The welfare of a selection, in cents per MWh times tenths of a MW; `None` exactly if it is under `least`, or if some
     /// period doesn't balance. The bound may be any of this problem: it is lowered class by class, and given up once it is
-    /// under `least`. Takes no memory.
-    pub fn welfare(&self, selection: Selection, bound: &PriceBound, least: i64) -> Option<i64>
+    /// under `least`. The prices at which the selection clears are written too, all of them only if there is a welfare. Takes
+    /// no memory.
+    pub fn welfare(
+        &self,
+        selection: Selection,
+        bound: &PriceBound,
+        least: i64,
+        prices: &mut ClassPrices,
+    ) -> Option<i64>
         requires { IsPriceBound self.now bound.now }
         ensures some { IfSome result (λ w. (selection_welfare self.now selection ≡ Some w)
             × (least ≤ℤ w)) }
         ensures none { result ≡ None → (w : ℤ)
             → selection_welfare self.now selection ≡ Some w
             → w <ℤ least }
+        ensures prices { IfSome result (λ w. AreClassPrices self.now selection prices.new.prices) }
     {
         let counts = counts_of(selection);
         let mut total = bound.most(selection, &[]);
         for class in &self.classes {
             let net = i64::from(weighted(&counts, &class.nets));
-            let Some(welfare) = self.curves.welfare(class.curve, net) else {
+            let Some(point) = self.curves.point(class.curve, net) else {
                 return None;
             };
-            total -= line_at(bound.lines[class.at as usize], net) - welfare;
+            total -= line_at(bound.lines[class.at as usize], net) - point.welfare;
             if total < least {
                 return None;
             }
+            prices.prices[class.at as usize] = point.price;
         }
         if total < least { None } else { Some(total) }
     }
 
-    /// Whether an accepted block, together with the accepted blocks that descend from it, loses at the prices of a
-    /// selection with which every period balances: one for which `welfare` returns a welfare. Takes no memory.
-    pub fn has_loss(&self, selection: Selection) -> bool
-        requires { (w : ℤ) × (selection_welfare self.now selection ≡ Some w) }
-        ensures { (prices : List ℤ)
-            → ArePrices self.now.blocks selection 1 self.now.hours prices
-            → (result ≡ false) ↔ HasNoLoss self.now.blocks selection prices }
+    /// Whether an accepted block, together with the accepted blocks that descend from it, loses at these prices of the
+    /// selection, which `welfare` wrote. Takes no memory.
+    pub fn has_loss(&self, selection: Selection, prices: &ClassPrices) -> bool
+        requires { AreClassPrices self.now selection prices.now.prices }
+        ensures { (day : List ℤ)
+            → ArePrices self.now.blocks selection 1 self.now.hours day
+            → (result ≡ false) ↔ HasNoLoss self.now.blocks selection day }
     {
         dam_blocks::laws::descendants();
-        let gains = self.gains_at(selection);
         for place in 0..self.families.len() {
-            if selection.has(place)
-                && family_gain(&gains, selection, place, self.families[place]) < 0
-            {
+            if selection.has(place) && self.family_gain(selection, place, prices) < 0 {
                 return true;
             }
         }
         false
     }
 
-    /// The surplus of each block at the prices of a selection with which every period balances.
-    fn gains_at(&self, selection: Selection) -> [i64; MOST_BLOCKS]
-        requires { (w : ℤ) × (selection_welfare self.now selection ≡ Some w) }
-        ensures gains { (prices : List ℤ)
-            → ArePrices self.now.blocks selection 1 self.now.hours prices
-            → result ≡ at_places most_blocks (surplus_of prices) self.now.blocks }
-        ensures size { AreWithin greatest_priced_gain result }
+    /// The gain of the block at the place at these prices, with the accepted blocks that descend from it.
+    fn family_gain(&self, selection: Selection, place: usize, prices: &ClassPrices) -> i64
+        requires place { place < length self.now.blocks }
+        requires prices { AreClassPrices self.now selection prices.now.prices }
+        ensures { (day : List ℤ)
+            → ArePrices self.now.blocks selection 1 self.now.hours day
+            → result ≡ family_surplus self.now.blocks selection day place }
+    {
+        dam_blocks::laws::descendants();
+        let own = self.gain_at(place, prices);
+        let Some(family) = self.families[place] else {
+            return own;
+        };
+        let mut total = own;
+        for at in 0..self.families.len() {
+            total += self.counted_gain(selection.has(at), family.has(at), at, prices);
+        }
+        total
+    }
+
+    /// The gain of the block at the place at these prices, if it is accepted and a member of a family, else 0.
+    fn counted_gain(&self, accepted: bool, member: bool, place: usize, prices: &ClassPrices) -> i64
+        requires place { place < length self.now.blocks }
+        requires prices { (selection : List Bool)
+            × AreClassPrices self.now selection prices.now.prices }
+        ensures value { (selection : List Bool) (day : List ℤ)
+            → AreClassPrices self.now selection prices.now.prices
+            → ArePrices self.now.blocks selection 1 self.now.hours day
+            → result ≡ counted_if (accepted && member) (surplus_at self.now.blocks day place) }
+        ensures size { IsWithin greatest_priced_gain result }
+    {
+        if accepted && member {
+            self.gain_at(place, prices)
+        } else {
+            0
+        }
+    }
+
+    /// The gain of the block at the place at these prices.
+    #[inline(always)]
+    fn gain_at(&self, place: usize, prices: &ClassPrices) -> i64
+        requires place { place < length self.now.blocks }
+        requires prices { (selection : List Bool) × AreClassPrices self.now selection prices.now.prices }
+        ensures value { (selection : List Bool) (day : List ℤ)
+            → AreClassPrices self.now selection prices.now.prices
+            → ArePrices self.now.blocks selection 1 self.now.hours day
+            → result ≡ surplus_at self.now.blocks day place }
+        ensures size { IsWithin greatest_priced_gain result }
     {
         dam_hour::laws::uniqueness();
-        let counts = counts_of(selection);
-        let mut gains = self.values;
+        let values = &self.values;
+        let mut gain = values[place];
         for class in &self.classes {
-            let net = i64::from(weighted(&counts, &class.nets));
-            let price = self.curves.price(class.curve, net);
-            add_priced(&mut gains, &class.nets, price);
+            let price = prices.prices[class.at as usize];
+            gain += i64::from(class.nets[place]) * i64::from(price);
         }
-        gains
+        gain
     }
 }

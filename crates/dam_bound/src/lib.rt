@@ -7,8 +7,9 @@
 //! curves.bound_by_prices(Selection::none(), &[0, 1, 2], &mut bound); // prices for selections of three blocks
 //! let most = bound.most(Selection::none().with(0), &[1, 2]); // of those that accept block 0
 //! let selection = Selection::none().with(0).with(2);
-//! if let Some(welfare) = curves.welfare(selection, &bound, 0) { // None if it is under 0, or doesn't balance
-//!     let loses = curves.has_loss(selection);
+//! let mut prices = ClassPrices::empty();
+//! if let Some(welfare) = curves.welfare(selection, &bound, 0, &mut prices) { // None if it is under 0, or doesn't balance
+//!     let loses = curves.has_loss(selection, &prices);
 //! }
 //! let rivals = curves.are_rivals(0, 1); // if true, no eligible selection accepts both
 //! let none = curves.rules_out(Selection::none().with(0), Selection::none().with(1)); // if true, none accepts 0 but not 1
@@ -38,6 +39,7 @@
 
 mod class_curves;
 mod class_making;
+mod class_prices;
 mod classes;
 mod families;
 pub mod laws;
@@ -51,6 +53,7 @@ mod relaxed;
 mod rivals;
 
 pub use class_curves::ClassCurves;
+pub use class_prices::ClassPrices;
 pub use limits::{Limit, Limits, MOST_LIMITS, Room};
 pub use price_bound::PriceBound;
 pub use relaxed::Relaxed;

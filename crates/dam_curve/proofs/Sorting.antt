@@ -1,17 +1,12 @@
 -- The steps by rising limit, given in any order.
-use Rattle.std.proofs.Common.{◌≡◌, ℕ, zero, suc, ◌+◌, ◌-◌, ◌<◌, ◌≤◌, ℤ, ◌-ℤ◌, nat_abs, List, [], ◌∷◌, ◌++◌, length, length-append}
-use Rattle.std.proofs.Common.{get_or, ap, ◌∙◌, sym, inl, inr, refl, arith}
-use Rattle.std.specs.List.{remove, sum_by}
-use Rattle.std.specs.List.Sorted.{IsPermutation, IsNonDecreasingBy}
-use Rattle.std.proofs.lemmas.Int.{ints}
-use Rattle.std.proofs.lemmas.Bool.{cases_lt}
+use Rattle.std.proofs.Common.{◌≡◌, ℕ, ◌+◌, List, [], ◌∷◌, length}
+use Rattle.std.proofs.Common.{ap, ◌∙◌, sym, refl, arith}
+use Rattle.std.specs.List.{sum_by}
+use Rattle.std.specs.List.Sorted.{IsPermutation}
 use Rattle.std.proofs.lemmas.List.Sums.{sum_by-cons}
 use Rattle.std.proofs.lemmas.List.Sorted.{sum_by-IsPermutation}
-use Rattle.dam_book.specs.declared.order.Side.{Side}
-use Rattle.dam_book.specs.declared.order.Side.TheVariants.{Buy, Sell}
 use Rattle.dam_hour.specs.declared.step.Step.{Step}
-use Rattle.dam_hour.specs.Execution.{AreInRange, IsHour, volume_on}
-use Rattle.dam_curve.specs.Supply.{height_of, total_of, AreAlike, IsSupplyOf}
+use Rattle.dam_curve.specs.Supply.{total_of, AreAlike}
 
 -- ---- the same steps in another order
 total_is : (f : Step → ℕ) (ss : List Step) → total_of f ss ≡ sum_by f ss

@@ -1,13 +1,15 @@
-ghost use Rattle.std.specs.Prelude.{◌≡◌, ◌+◌, ◌-◌, ◌*◌, ◌^◌, ◌≤◌, ◌<◌, ℕ, ℤ, pos, neg_ℤ, ◌+ℤ◌, ◌-ℤ◌, ◌≤ℤ◌, ◌<ℤ◌, Some, List, [], length, take, IsOk, IfOk, OnOk, OnErr, IfSome, slice_index_or};
+ghost use Rattle.std.specs.Prelude.{◌≡◌, ◌+◌, ◌-◌, ◌*◌, ◌^◌, ◌≤◌, ◌<◌, ℕ, ℤ, pos, neg_ℤ, ◌+ℤ◌, ◌-ℤ◌, ◌≤ℤ◌, ◌<ℤ◌, Some, List, [], length, take, IsOk, IfOk, OnOk, OnErr, IfSome, option_map, slice_index_or};
 ghost use Rattle.dam_book.specs.Limits.{last_period};
 ghost use Rattle.dam_hour.specs.Limits.{greatest_price};
 ghost use Rattle.dam_hour.specs.declared.step.Step.{Step};
 ghost use Rattle.dam_curve.specs.declared.segment.Segment.{Segment};
-ghost use Rattle.dam_curve.specs.Curve.{joint_welfare, segment_at, end_of, bottom_of, IsSmallSegment, IsCurve, segments_at, CurvesState, IsCurveAt, Keeps, greatest_joint_welfare};
+ghost use Rattle.dam_curve.specs.Curve.{joint_welfare, segment_at, end_of, bottom_of, IsSmallSegment, IsCurve, segments_at, CurvesState, IsCurveAt, Keeps};
 ghost use Rattle.dam_curve.specs.JointPrice.{IsJointPrice};
 ghost use Rattle.dam_curve.specs.Line.{IsAbove, IsSmallLine};
+ghost use Rattle.dam_curve.specs.Point.{IsSmallPoint};
 
 use crate::line::Line;
+use crate::point::Point;
 use crate::segment::Segment;
 use crate::sum::Sum;
 use dam_hour::laws;
@@ -125,9 +127,9 @@ fn value_of(segment: Segment, net: i64) -> i64
     segment.surplus + i64::from(segment.price) * net
 }
 
-/// The joint welfare at the net volume. The segment that holds there is looked for from a place near by.
+/// The joint welfare and the joint price at the net volume. The segment that holds there is looked for from a place near by.
 #[inline(always)]
-fn value_in(segments: &[Segment], net: i64, near: usize) -> i64
+fn point_in(segments: &[Segment], net: i64, near: usize) -> Point
     requires curve { (periods : List (List Step)) × (least : ℤ) × (most : ℤ)
         × IsCurve periods least most segments.now }
     requires some { 0 < length segments.now }
@@ -135,10 +137,19 @@ fn value_in(segments: &[Segment], net: i64, near: usize) -> i64
     requires top { net ≤ℤ end_of segments.now (pos 0) }
     requires least { neg_ℤ (pos (2 ^ 31)) ≤ℤ net }
     requires most { net ≤ℤ pos (2 ^ 31) }
-    ensures { (periods : List (List Step)) (least most : ℤ)
-        → IsCurve periods least most segments.now → Some result ≡ joint_welfare periods net }
+    ensures welfare { (periods : List (List Step)) (least most : ℤ)
+        → IsCurve periods least most segments.now
+        → Some result.welfare ≡ joint_welfare periods net }
+    ensures price { (periods : List (List Step)) (least most : ℤ)
+        → IsCurve periods least most segments.now → IsJointPrice periods net result.price }
+    ensures at_least { neg_ℤ (pos (last_period * greatest_price)) ≤ℤ result.price }
+    ensures at_most { result.price ≤ℤ pos (last_period * greatest_price) }
 {
-    value_of(segments[place_of(segments, net, near)], net)
+    let segment = segments[place_of(segments, net, near)];
+    Point {
+        welfare: value_of(segment, net),
+        price: segment.price_at(net),
+    }
 }
 
 /// The joint price at the net volume. The segment that holds there is looked for from a place near by.
@@ -241,17 +252,19 @@ impl<A: Allocator> Curves<A> {
         }
     }
 
-    /// The joint welfare of the curve's periods at the net volume, in cents per MWh times tenths of a MW; `None`
-    /// exactly if some of them doesn't balance. Takes no memory.
+    /// The joint welfare of the curve's periods at the net volume, and their clearing prices there; `None` exactly if some of
+    /// them doesn't balance. Takes no memory.
     #[inline(always)]
-    pub fn welfare(&self, curve: Curve, net: i64) -> Option<i64>
+    pub fn point(&self, curve: Curve, net: i64) -> Option<Point>
         requires { (periods : List (List Step)) × (least : ℤ) × (most : ℤ)
             × IsCurveAt self.now curve periods least most × (least ≤ℤ net) × (net ≤ℤ most) }
-        ensures value { (periods : List (List Step)) (least most : ℤ)
+        ensures welfare { (periods : List (List Step)) (least most : ℤ)
             → IsCurveAt self.now curve periods least most → least ≤ℤ net → net ≤ℤ most
-            → result ≡ joint_welfare periods net }
-        ensures at_least { IfSome result (λ w. neg_ℤ (pos greatest_joint_welfare) ≤ℤ w) }
-        ensures at_most { IfSome result (λ w. w ≤ℤ pos greatest_joint_welfare) }
+            → option_map (λ point. point.welfare) result ≡ joint_welfare periods net }
+        ensures price { (periods : List (List Step)) (least most : ℤ)
+            → IsCurveAt self.now curve periods least most
+            → IfSome result (λ point. IsJointPrice periods net point.price) }
+        ensures small { IfSome result IsSmallPoint }
     {
         laws::welfare();
         laws::magnitude();
@@ -261,34 +274,23 @@ impl<A: Allocator> Curves<A> {
         Some(self.searched(curve, net))
     }
 
-    /// The value of the segment for the net volume.
+    /// The point of the segment for the net volume.
     #[inline(always)]
-    fn searched(&self, curve: Curve, net: i64) -> i64
+    fn searched(&self, curve: Curve, net: i64) -> Point
         requires curve { (periods : List (List Step)) × (least : ℤ) × (most : ℤ)
             × IsCurveAt self.now curve periods least most × (least ≤ℤ net) × (net ≤ℤ most) }
         requires bottom { curve.bottom ≤ℤ net }
         requires top { net ≤ℤ curve.top }
-        ensures { (periods : List (List Step)) (least most : ℤ)
+        ensures welfare { (periods : List (List Step)) (least most : ℤ)
             → IsCurveAt self.now curve periods least most
-            → Some result ≡ joint_welfare periods net }
+            → Some result.welfare ≡ joint_welfare periods net }
+        ensures price { (periods : List (List Step)) (least most : ℤ)
+            → IsCurveAt self.now curve periods least most → IsJointPrice periods net result.price }
+        ensures at_least { neg_ℤ (pos (last_period * greatest_price)) ≤ℤ result.price }
+        ensures at_most { result.price ≤ℤ pos (last_period * greatest_price) }
     {
         let segments = segments_of(&self.segments, curve);
-        value_in(segments, net, self.near(curve, net))
-    }
-
-    /// The clearing prices of the curve's periods at the net volume, at which each of them balances, added up; in cents
-    /// per MWh. Takes no memory.
-    #[inline(always)]
-    pub fn price(&self, curve: Curve, net: i64) -> i32
-        requires { (periods : List (List Step)) × (least : ℤ) × (most : ℤ) × (w : ℤ)
-            × IsCurveAt self.now curve periods least most
-            × (joint_welfare periods net ≡ Some w) × (least ≤ℤ net) × (net ≤ℤ most) }
-        ensures price { (periods : List (List Step)) (least most : ℤ)
-            → IsCurveAt self.now curve periods least most → IsJointPrice periods net result }
-        ensures at_least { neg_ℤ (pos (last_period * greatest_price)) ≤ℤ result }
-        ensures at_most { result ≤ℤ pos (last_period * greatest_price) }
-    {
-        self.searched_price(curve, net)
+        point_in(segments, net, self.near(curve, net))
     }
 
     /// The prices of the segment for the net volume.

@@ -16,8 +16,7 @@
 //! sum.add(&supply)?;
 //! let mut curves = Curves::new(alloc);
 //! let curve = curves.add(&sum)?;
-//! let welfare = curves.welfare(curve, 120); // the welfare of `Hour::clear` at this net volume
-//! let price = curves.price(curve, 120); // its price, if there is a welfare
+//! let point = curves.point(curve, 120); // the welfare and the price of `Hour::clear` at this net volume
 //! let range = curves.price_range(curve); // from the price at the greatest net volume to that at the least
 //! let nets = curve.net_range(); // from the least net volume at which the periods balance to the greatest
 //! let line = curves.line_near(curve, 120); // over the welfare at each net volume from -500 to 500
@@ -34,6 +33,7 @@ mod curves;
 pub mod laws;
 mod line;
 mod net_range;
+mod point;
 mod price_range;
 mod row;
 mod segment;
@@ -43,6 +43,7 @@ mod supply;
 pub use curves::{Curve, Curves};
 pub use line::Line;
 pub use net_range::NetRange;
+pub use point::Point;
 pub use price_range::PriceRange;
 pub use sum::Sum;
 pub use supply::Supply;

@@ -3,12 +3,13 @@ ghost use Rattle.dam_book.specs.Limits.{most_blocks};
 ghost use Rattle.dam_blocks.specs.Problem.{ProblemState};
 ghost use Rattle.dam_blocks.specs.Selection.{accepts};
 ghost use Rattle.dam_blocks.specs.Eligible.{selection_welfare, ArePrices, HasNoLoss, IsEligible};
+ghost use Rattle.dam_bound.specs.ClassPrices.{AreClassPrices};
 ghost use Rattle.dam_bound.specs.Limits.{AreLimits};
 ghost use Rattle.dam_bound.specs.Open.{IsBetween};
 ghost use Rattle.dam_bound.specs.Prices.{IsPriceBound};
 
 use dam_blocks::Selection;
-use dam_bound::{ClassCurves, Limits, PriceBound};
+use dam_bound::{ClassCurves, ClassPrices, Limits, PriceBound};
 use std::alloc::Allocator;
 
 /// The hourly orders and blocks of a problem, as a walk by prices asks for them.
@@ -22,20 +23,28 @@ pub trait Prices {
         requires { All (λ place. place < most_blocks) left.now }
         ensures { IsPriceBound (problem self.now) bound.new };
 
-    /// The welfare of a selection, unless it has none or less than `least`.
-    fn welfare(&self, selection: Selection, bound: &PriceBound, least: i64) -> Option<i64>
+    /// The welfare of a selection, unless it has none or less than `least`; and the prices at which it clears.
+    fn welfare(
+        &self,
+        selection: Selection,
+        bound: &PriceBound,
+        least: i64,
+        prices: &mut ClassPrices,
+    ) -> Option<i64>
         requires { IsPriceBound (problem self.now) bound.now }
         ensures some { IfSome result (λ w.
             (selection_welfare (problem self.now) selection ≡ Some w) × (least ≤ℤ w)) }
         ensures none { result ≡ None → (w : ℤ)
-            → selection_welfare (problem self.now) selection ≡ Some w → w <ℤ least };
+            → selection_welfare (problem self.now) selection ≡ Some w → w <ℤ least }
+        ensures prices { IfSome result (λ w.
+            AreClassPrices (problem self.now) selection prices.new.prices) };
 
-    /// Whether some accepted block, together with its accepted descendants, loses at the selection's prices.
-    fn has_loss(&self, selection: Selection) -> bool
-        requires { (w : ℤ) × (selection_welfare (problem self.now) selection ≡ Some w) }
-        ensures { (prices : List ℤ)
-            → ArePrices (problem self.now).blocks selection 1 (problem self.now).hours prices
-            → (result ≡ false) ↔ HasNoLoss (problem self.now).blocks selection prices };
+    /// Whether some accepted block, together with its accepted descendants, loses at these prices of the selection.
+    fn has_loss(&self, selection: Selection, prices: &ClassPrices) -> bool
+        requires { AreClassPrices (problem self.now) selection prices.now.prices }
+        ensures { (day : List ℤ)
+            → ArePrices (problem self.now).blocks selection 1 (problem self.now).hours day
+            → (result ≡ false) ↔ HasNoLoss (problem self.now).blocks selection day };
 
     /// Whether no eligible selection accepts every block that is taken and none that is rejected. It may be `false` even then.
     fn rules_out(&self, taken: Selection, rejected: Selection) -> bool
@@ -64,12 +73,18 @@ impl<A: Allocator, B: Allocator> Prices for ClassCurves<'_, A, B> {
         self.bound_by_prices(taken, left, bound);
     }
 
-    fn welfare(&self, selection: Selection, bound: &PriceBound, least: i64) -> Option<i64> {
-        self.welfare(selection, bound, least)
+    fn welfare(
+        &self,
+        selection: Selection,
+        bound: &PriceBound,
+        least: i64,
+        prices: &mut ClassPrices,
+    ) -> Option<i64> {
+        self.welfare(selection, bound, least, prices)
     }
 
-    fn has_loss(&self, selection: Selection) -> bool {
-        self.has_loss(selection)
+    fn has_loss(&self, selection: Selection, prices: &ClassPrices) -> bool {
+        self.has_loss(selection, prices)
     }
 
     fn rules_out(&self, taken: Selection, rejected: Selection) -> bool {

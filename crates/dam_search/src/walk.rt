@@ -20,7 +20,7 @@ use crate::prices::Prices;
 use crate::root::{bound_of_piece, room_of_piece};
 use crate::space::kept;
 use dam_blocks::{Best, Problem, Selection, admissible, ranks_above};
-use dam_bound::{PriceBound, Room};
+use dam_bound::{ClassPrices, PriceBound, Room};
 use std::alloc::Allocator;
 
 /// How many places must be left for a node to get prices of its own.
@@ -116,7 +116,11 @@ impl<A: Allocator, P: Prices> PriceWalk<'_, A, P> {
         dam_blocks::laws::ranking();
         dam_bound::laws::prices();
         kept(self.problem);
-        let Some(welfare) = self.prices.welfare(taken, prices, found.read as i64) else {
+        let mut own = ClassPrices::empty();
+        let Some(welfare) = self
+            .prices
+            .welfare(taken, prices, found.read as i64, &mut own)
+        else {
             return;
         };
         let Some(best) = candidate(taken, welfare, found) else {
@@ -125,7 +129,7 @@ impl<A: Allocator, P: Prices> PriceWalk<'_, A, P> {
         if !admissible(self.problem, taken) {
             return;
         }
-        if self.prices.has_loss(taken) {
+        if self.prices.has_loss(taken, &own) {
             return;
         }
         let offer = best.welfare;

@@ -1,5 +1,5 @@
 -- Numbers of the blocks at their places.
-use Rattle.std.specs.Prelude.{◌≡◌, ℕ, ◌+◌, ◌*◌, ◌<◌, ℤ, pos, ◌+ℤ◌, ◌*ℤ◌, ◌≤ℤ◌, Bool, ◌&&◌, if◌then◌else◌, List, [], ◌∷◌, length, slice_index_or}
+use Rattle.std.specs.Prelude.{◌≡◌, ℕ, ◌+◌, ◌*◌, ◌<◌, ℤ, pos, ◌+ℤ◌, ◌*ℤ◌, ◌≤ℤ◌, Bool, if◌then◌else◌, List, [], ◌∷◌, length, slice_index_or}
 use Rattle.std.specs.Int.{int_max, int_min}
 use Rattle.dam_book.specs.Limits.{most_blocks, last_period}
 use Rattle.dam_hour.specs.Limits.{greatest_net, greatest_price}
@@ -32,11 +32,6 @@ weighted _ _ = pos 0
 pub record AreRaised (price : ℤ) (nets before after : List ℤ) : Type 0 where
   pub long : length after ≡ most_blocks
   pub each : (i : ℕ) (d : ℤ) → i < most_blocks → slice_index_or after i d ≡ slice_index_or before i d +ℤ price *ℤ slice_index_or nets i d
-
--- the places that both accept
-abbrev pub both_accept : List Bool → List Bool → List Bool
-both_accept (a ∷ xs) (b ∷ ys) = (a && b) ∷ both_accept xs ys
-both_accept _ _ = []
 
 -- the negative numbers added up, and those above 0
 abbrev pub negative_sum : List ℤ → ℤ

@@ -7,7 +7,7 @@ use Rattle.dam_curve.specs.PriceRange.{IsSmallRange}
 use Rattle.dam_curve.specs.declared.price_range.PriceRange.{PriceRange}
 use Rattle.dam_blocks.specs.declared.problem.Block.{Block}
 use Rattle.dam_blocks.specs.Problem.{ProblemState}
-use Rattle.dam_blocks.specs.Selection.{accepts, net_volume_of, net_volume}
+use Rattle.dam_blocks.specs.Selection.{net_volume_of, net_volume}
 use Rattle.dam_blocks.specs.Eligible.{ArePrices, family_surplus}
 use Rattle.dam_bound.specs.ClassCurves.{class_orders, day_value}
 use Rattle.dam_bound.specs.Open.{IsBetween}

@@ -1,5 +1,5 @@
 -- A place more.
-use Rattle.std.proofs.Common.{◌≡◌, suc, ◌+◌, ℕ, pos, ◌+ℤ◌, Bool, List, drop, get_or, ap, ◌∙◌, sym, refl, to_z, of_z, w32, arith}
+use Rattle.std.proofs.Common.{◌≡◌, suc, ◌+◌, ℕ, pos, ◌+ℤ◌, drop, get_or, ap, ◌∙◌, sym, refl, to_z, of_z, w32, arith}
 use Rattle.std.proofs.lemmas.Int.{ints}
 use Rattle.dam_blocks.specs.Selection.{accepts}
 use Rattle.dam_bound.specs.Prices.{over_gains}

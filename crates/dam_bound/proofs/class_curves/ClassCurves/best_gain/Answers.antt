@@ -1,5 +1,5 @@
 -- A class more, and all of them.
-use Rattle.std.proofs.Common.{◌*◌, pos, [], List, length, get_or, to_z, of_z, w64, ap, ◌∙◌, subst, rules, arith}
+use Rattle.std.proofs.Common.{pos, [], List, length, get_or, to_z, of_z, w64, ap, subst, rules, arith}
 use Rattle.dam_blocks.specs.Problem.{ProblemState}
 use Rattle.dam_bound.specs.ClassCurves.{AreClassCurves}
 use Rattle.dam_bound.specs.declared.class_curves.Class.{Class}

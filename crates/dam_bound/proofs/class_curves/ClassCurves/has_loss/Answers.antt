@@ -1,5 +1,5 @@
 -- A block more, and all of them.
-use Rattle.std.proofs.Common.{◌≡◌, ◌<◌, ℕ, pos, ◌≤ℤ◌, length, inl, inr, ap, ◌∙◌, sym, subst, refl, rules, arith}
+use Rattle.std.proofs.Common.{◌≡◌, ℕ, pos, ◌≤ℤ◌, length, inl, inr, ap, ◌∙◌, sym, subst, refl, rules, arith}
 use Rattle.std.proofs.lemmas.Int.{ints}
 use Rattle.std.proofs.lemmas.Bool.{cases_lt}
 use Rattle.dam_blocks.specs.Problem.{ProblemState}
@@ -7,7 +7,6 @@ use Rattle.dam_blocks.specs.Selection.{accepts}
 use Rattle.dam_blocks.specs.Eligible.{family_surplus}
 use Rattle.dam_bound.specs.ClassCurves.{AreClassCurves}
 use Rattle.dam_bound.proofs.LossPrices.{past_surplus}
-use Rattle.dam_bound.proofs.Members.{family_read}
 use mir.Syntax.{w64}
 use mir.Val.{to_z, of_z}
 use Rattle.dam_bound.proofs.class_curves.ClassCurves.has_loss.Goals as goal
@@ -36,14 +35,7 @@ loop-place-preserved g c prices priced i l accepted =
           subst (λ (n : ℕ). pos 0 ≤ℤ family_surplus c.args.self.now.blocks c.args.selection prices n) same
           (elim c.else-has.branch [
             | else-has-via-then-has+else-family_gain-lt0 w ↦
-                (let are = subst (λ (p : ProblemState). AreClassCurves p c.self.inside.curves c.self.inside.classes.items c.self.inside.values
-                c.self.inside.families.items) c.self.view_is c.self.invariant in
-                let many = are.families_are.as_many in let end = c.len-place-end.ensures in let test = c.loop-place-test.true in
-                let inside : c.loop-place.place < length c.args.self.now.blocks = omega (arith, many, end, test) in
-                let family = family_read c.args.self.now.blocks c.self.inside.families.items c.self.inside.families.items c.loop-place.place
-                w.index.result.now refl are.families_are inside w.index.ensures in
-                let value = w.family_gain.ensures c.args.self.now.blocks prices inside are.few_blocks family
-                (c.gains_at-gains.ensures.gains prices priced) in
+                (let value = w.family_gain.ensures prices priced in
                 let narrow : to_z w64 (of_z w64 w.family_gain.result) ≡ w.family_gain.result = search rules in
                 let less = w.if-family_gain-lt0.false in
                 omega (arith, ints, value, narrow, less))
@@ -52,3 +44,10 @@ loop-place-preserved g c prices priced i l accepted =
                 let no = sym c.has.ensures.value ∙ w.if-has.false in absurd (cc))
           ]))
     ]
+
+pub family_gain-requires-clause-place : goal.family_gain-requires-clause-place
+family_gain-requires-clause-place g c =
+    let are = subst (λ (p : ProblemState). AreClassCurves p c.self.inside.curves c.self.inside.classes.items c.self.inside.values
+    c.self.inside.families.items) c.self.view_is c.self.invariant in
+    let many = are.families_are.as_many in let end = c.len-place-end.ensures in let test = c.loop-place-test.true in
+    omega (arith, many, end, test)

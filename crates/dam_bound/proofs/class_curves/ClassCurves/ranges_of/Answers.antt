@@ -1,5 +1,5 @@
 -- A class more, and all of them.
-use Rattle.std.proofs.Common.{◌*◌, pos, [], List, length, get_or, to_z, of_z, w64, ap, ◌∙◌, subst, rules, arith}
+use Rattle.std.proofs.Common.{pos, [], List, length, get_or, ap, subst, rules, arith}
 use Rattle.std.proofs.lemmas.Option.{slice_get_within}
 use Rattle.dam_blocks.specs.Problem.{ProblemState}
 use Rattle.dam_bound.specs.ClassCurves.{AreClassCurves}

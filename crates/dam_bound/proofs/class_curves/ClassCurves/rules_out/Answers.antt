@@ -1,6 +1,5 @@
 -- A block that is taken loses in each selection that is left.
-use Rattle.std.proofs.Common.{◌≡◌, Bool, true, false, ◌∙◌, sym}
-use Rattle.dam_blocks.specs.Selection.{accepts}
+use Rattle.std.proofs.Common.{◌∙◌, sym}
 use Rattle.dam_bound.proofs.class_curves.ClassCurves.rules_out.Goals as goal
 
 pub returns-then-loses_at_best : goal.returns-then-loses_at_best

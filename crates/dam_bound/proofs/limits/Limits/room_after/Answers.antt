@@ -1,5 +1,5 @@
 -- Some room is below 0, or none is.
-use Rattle.std.proofs.Common.{◌≡◌, pos, arith}
+use Rattle.std.proofs.Common.{arith}
 use Rattle.std.proofs.lemmas.Int.{ints}
 use Rattle.dam_bound.proofs.Limiting.{AreLowered, none_fits, still_rooms, still_has}
 use Rattle.dam_bound.proofs.limits.Limits.room_after.Goals as goal

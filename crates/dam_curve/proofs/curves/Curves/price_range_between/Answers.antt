@@ -1,5 +1,5 @@
 -- The net volumes at which the periods balance lie between the ends of the curve, and the prices fall.
-use Rattle.std.proofs.Common.{◌≡◌, ℤ, sym, subst, to_z, of_z, w32, w64, rules, arith}
+use Rattle.std.proofs.Common.{◌≡◌, ℤ, subst, to_z, of_z, w32, w64, rules, arith}
 use Rattle.std.proofs.lemmas.Int.{ints}
 use Rattle.dam_curve.specs.JointPrice.{IsJointPrice}
 use Rattle.dam_curve.proofs.Falling.{AreClipped, between_in, none_between}

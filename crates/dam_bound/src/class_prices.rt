@@ -1,0 +1,18 @@
+use dam_blocks::MOST_PERIODS;
+
+/// The prices of the classes of periods at which a selection clears. `ClassCurves::welfare` writes them.
+#[derive(Clone, Copy)]
+pub struct ClassPrices {
+    /// For each class, at the place of its first period, the clearing prices of its periods, added up, in cents per MWh.
+    /// The numbers at other places are unspecified.
+    pub prices: [i32; MOST_PERIODS],
+}
+
+impl ClassPrices {
+    /// Prices to be written over.
+    pub fn empty() -> ClassPrices {
+        ClassPrices {
+            prices: [0; MOST_PERIODS],
+        }
+    }
+}
