@@ -257,6 +257,38 @@ class Crashes(Office):
                 self.assertEqual([heads.line(given.ledger.receipt(entry)) for entry in again], before)
         self.assertEqual(len(disk.records), 3)
 
+    async def test_a_token_that_was_revoked_enters_nothing_more(self):
+        """Also a command that waits; what is entered already is answered."""
+        self.make()
+        disk, rights = Disk(), [True]
+        with opener(disk):
+            async with self.running(self.gate()) as given:
+                await given.submit("GAS", 1, commands("cancel,GAS,A,,,,,,"))
+                waiting = given.submit("GAS", 2, commands("cancel,GAS,B,,,,,,"), lambda: rights[0])
+                rights[0] = False
+                with self.assertRaises(gate.Refused) as caught:
+                    await waiting
+                self.assertEqual(caught.exception.fault, "Token")
+                self.assertEqual(await given.submit("GAS", 1, commands("cancel,GAS,A,,,,,,"), lambda: rights[0]), [1])
+        self.assertEqual(len(disk.records), 1)
+
+    def test_a_statement_is_kept_as_it_is_sent(self):
+        self.make()
+        files = self.office.days()[DAY]
+        found = clearing.Published(files)
+        self.assertIsNone(found.statement_text("GAS"))
+        rows = [{"participant": who, "code": "tie", "why": "would gain 1.00 EUR at the prices, but x"} for who in ("GAS", "A")]
+        files.file(folder.STATEMENT).write_text(json.dumps({"day": {"welfare_eur": 1, "periods": 24}, "rows": rows}))
+        files.file(folder.RESULTS).write_bytes(b"")
+        first = found.statement_text("GAS")
+        self.assertEqual((json.loads(first)["day"], len(json.loads(first)["rows"])), ({"periods": 24}, 1))
+        self.assertIs(found.statement_text("GAS"), first)
+        with mock.patch.object(clearing, "MOST_TEXTS", 1):
+            found.statement_text("A")
+            self.assertEqual(len(found.texts), 1)
+        files.file(folder.OPEN_JOURNAL).write_bytes(b"")
+        self.assertEqual(json.loads(found.statement_text("GAS")), {"day": {"welfare_eur": 1, "periods": 24}, "rows": rows[:1]})
+
     async def test_a_desk_that_contradicts_the_ledger_stops_the_day(self):
         self.make()
         disk = Disk()

@@ -7,6 +7,7 @@ import json
 import os
 import re
 import sys
+import threading
 import time
 
 from ..base import place, replacing
@@ -29,6 +30,7 @@ HIDDEN = {
     **dict.fromkeys((decisions.UNBALANCED, decisions.WOULD_LOSE, decisions.LESS, decisions.TIE, decisions.BETTER), MOST_GAIN),
 }
 TOLD = (decisions.GROUP, decisions.PARENT)  # the codes among these that tell nothing of others
+MOST_TEXTS = 16  # of statements that are kept as they are sent
 MOST_FAULT = 1_000  # bytes of what it says of a fault
 # Of all participants' orders. From these, one could compute the limits of another.
 SUMS = ("welfare_eur", "hourly_surplus_eur", "block_surplus_eur")
@@ -43,6 +45,7 @@ class Published:
 
     def __init__(self, files):
         self.files, self.rows, self.text = files, None, None
+        self.texts, self.lock = {}, threading.Lock()  # of statements, by participant and whether the journal is published
 
     @property
     def has_results(self):
@@ -79,6 +82,19 @@ class Published:
         if self.has_journal:
             return {"day": day, "rows": [{**row, "why": own_names(row["why"], who)} for row in rows]}
         return {"day": {name: value for name, value in day.items() if name not in SUMS}, "rows": list(map(guarded, rows))}
+
+    def statement_text(self, who):
+        """The statement in JSON, which is kept as it is sent; None before there is one."""
+        key = who, self.has_journal
+        with self.lock:  # it is made in a thread of its own
+            if key not in self.texts:
+                found = self.statement(who)
+                if found is None:
+                    return None
+                while len(self.texts) >= MOST_TEXTS:
+                    self.texts.pop(next(iter(self.texts)))
+                self.texts[key] = json.dumps(found)
+            return self.texts[key]
 
 
 def own_names(why, who):

@@ -40,12 +40,14 @@ class Clock:
 
 @dataclasses.dataclass(eq=False)
 class Waiting:
-    """Commands of one request. `first` is the participant's number of the first one. The close has no participant."""
+    """Commands of one request. `first` is the participant's number of the first one. `is_right` tells whether its token is still the
+    participant's. The close has no participant."""
 
     who: str
     first: int
     commands: list
     done: asyncio.Future
+    is_right: object = lambda: True
 
 
 class Gate:
@@ -91,7 +93,7 @@ class Gate:
 
     # --- requests
 
-    def submit(self, who, first, commands):
+    def submit(self, who, first, commands, is_right=lambda: True):
         """The future numbers of the entries of commands. It is called once the whole request is here, and its time counts."""
         if (held := self.held(who, first, commands)) is not None:
             return held
@@ -103,7 +105,7 @@ class Gate:
             raise Refused("Unavailable", "the office's disk can't be written: send the same command again later", seconds=1)
         if first + len(commands) - 1 > self.ledger.share(who):
             raise Refused("ShareUsed", f"you may enter {self.ledger.share(who)} commands on this day", next=self.ledger.count(who) + 1)
-        return self.wait(Waiting(who, first, commands, asyncio.get_running_loop().create_future()))
+        return self.wait(Waiting(who, first, commands, asyncio.get_running_loop().create_future(), is_right))
 
     def wait(self, waiting):
         self.waiting.append(waiting)
@@ -154,6 +156,9 @@ class Gate:
             new = one.commands[last - one.first + 1 :]
             if not new:
                 self.settle(one)
+                continue
+            if not one.is_right():
+                fail(one.done, Refused("Token", "the token isn't of this participant any more"))
                 continue
             found += [(command, one) for command in new]
             taken[one.who] = last + len(new)

@@ -74,8 +74,10 @@ class Handler(web_protocol.RequestHandler):
         super().data_received(piece)
         new = list(self._messages)[before - self._request_count :] if self._request_count > before else []
         for message, self.payload in new:
-            # no route takes a body in chunks, which is dear to read
-            self.is_deaf = self.is_deaf or getattr(message, "chunked", False)
+            # no route takes a body in chunks, which is dear to read, or another protocol
+            odd = getattr(message, "chunked", False) or getattr(message, "upgrade", False) or getattr(message, "method", "") == "CONNECT"
+            self.is_deaf = self.is_deaf or odd
+        self._message_tail = b""  # what comes after a request for another protocol
         is_body = self.payload is not None and not self.payload.is_eof()
         self.head_bytes = 0 if new or is_body else self.head_bytes + len(piece)
         if len(self._messages) > MOST_AHEAD or self.head_bytes > MOST_HEAD:

@@ -30,6 +30,8 @@ GUESSES_A_SECOND, MOST_GUESSES = 1, 20  # wrong tokens of an address
 LOOKS_A_SECOND, MOST_LOOKS = 200, 2_000  # requests of an address for what all may see
 RECEIPTS_AT_ONCE = 8  # that are made before others get a turn
 RECEIPTS_OF_READ, COMMANDS_OF_READ, ORDERS_OF_READ, READS_OF_TABLE = 20, 200, 100, 100  # how much of an answer counts as one read
+BYTES_OF_READ = 10_000
+DAYS_OF_LOOK = 5
 TABLES_AT_ONCE, TABLE_SECONDS = 2, 1  # that are read, each of another participant; seconds until one may send the next
 JSONL = "application/jsonl"
 HEADERS = {
@@ -168,6 +170,16 @@ class Web:
 
     # --- who asks
 
+    def charge_days(self, request):
+        """An answer about all days counts as several."""
+        if not self.behind_proxy:
+            self.looks.charge(request.remote, len(self.office.gates) // DAYS_OF_LOOK)
+
+    def text(self, who, text):
+        """An answer of a participant's own data, which is charged by its length."""
+        self.reads.charge(who, len(text) // BYTES_OF_READ)
+        return web.Response(text=text, content_type="application/json")
+
     def slow_down(self, request):
         """Limits how often an address asks for what all may see; other requests are limited by participant."""
         if self.behind_proxy or "who" in request.match_info:
@@ -185,14 +197,19 @@ class Web:
     def participant(self, request):
         """The participant whose token the request has, and whose name its path has; all others are refused alike."""
         who = request.match_info["who"]
-        scheme, _, token = request.headers.get("Authorization", "").partition(" ")
-        known = self.office.register.knows(who, token)
-        if not known or scheme.lower() != "bearer":
+        if not self.is_right(request):
             self.counts.add("wrong_tokens_total")
             if not self.behind_proxy and (seconds := self.guesses.take(request.remote)):
+                request.protocol.is_deaf = True
                 raise Refused("TooFast", "too many wrong tokens", seconds=seconds)
             raise Refused("Token", "the token isn't of this participant")
         return who
+
+    def is_right(self, request):
+        """Whether the token is the participant's now."""
+        scheme, _, token = request.headers.get("Authorization", "").partition(" ")
+        known = self.office.register.knows(request.match_info["who"], token)
+        return known and scheme.lower() == "bearer"
 
     def asked(self, request, buckets=None, count=1):
         """The day and the participant of a request of its own data."""
@@ -237,7 +254,7 @@ class Web:
         began = time.monotonic()
         first = int(request.match_info["number"])
         commands = await self.read(body, kind_of(request), who, first)
-        entries = await self.entered(gate, who, first, commands)
+        entries = await self.entered(gate, who, first, commands, request)
         answer = await self.receipts(gate, entries)
         self.counts.took(time.monotonic() - began)
         return answer
@@ -248,9 +265,9 @@ class Web:
             return requests.commands_of(body, kind, who, first)
         return await asyncio.to_thread(requests.commands_of, body, kind, who, first)
 
-    async def entered(self, gate, who, first, commands):
-        """The numbers of the entries of commands, once they are on the disk."""
-        done = gate.submit(who, first, commands)
+    async def entered(self, gate, who, first, commands, request):
+        """The numbers of the entries of commands, once they are on the disk. A token that was revoked by then enters nothing more."""
+        done = gate.submit(who, first, commands, lambda: self.is_right(request))
         await asyncio.wait((done,), timeout=ANSWER_SECONDS)
         if not done.done():
             raise Refused("Unavailable", "the desk hasn't answered yet: send the same command again", seconds=1)
@@ -283,7 +300,7 @@ class Web:
         self.reads.charge(who, max(0, gate.ledger.count(who) - since) // COMMANDS_OF_READ)
         names = ("number", "entry", "record", "reply")
         found = [dict(zip(names, one)) for one in gate.ledger.entries(who, since)]
-        return web.json_response({"next": gate.ledger.count(who) + 1, "share": gate.ledger.share(who), "commands": found})
+        return self.text(who, json.dumps({"next": gate.ledger.count(who) + 1, "share": gate.ledger.share(who), "commands": found}))
 
     async def own_orders(self, request):
         gate, who = self.asked(request)
@@ -293,7 +310,7 @@ class Web:
             found.append(json.dumps({"order": name, **order._asdict()}))
             if place % ORDERS_OF_READ == 0:
                 await asyncio.sleep(0)
-        return web.Response(text=f'{{"orders": [{", ".join(found)}]}}', content_type="application/json")
+        return self.text(who, f'{{"orders": [{", ".join(found)}]}}')
 
     async def table(self, request):
         """The records that a table makes. They aren't entered: the participant sees them first."""
@@ -315,11 +332,10 @@ class Web:
 
     async def statement(self, request):
         gate, who = self.asked(request)
-        self.reads.charge(who, gate.ledger.count(who) // COMMANDS_OF_READ)
-        found = gate.published.statement(who)
+        found = await asyncio.to_thread(gate.published.statement_text, who)
         if found is None:
             raise Refused("NotFound", "there is no statement yet")
-        return web.json_response(found)
+        return self.text(who, found)
 
     # --- what all may see
 
@@ -347,6 +363,7 @@ class Web:
         }
 
     async def days(self, request):
+        self.charge_days(request)
         return web.json_response({"days": [self.shown(gate) for gate in self.office.gates.values()], "demo": bool(self.demo)})
 
     async def day(self, request):
@@ -390,6 +407,7 @@ class Web:
         return web.json_response({"status": "ok" if is_right else "unavailable"}, status=200 if is_right else 503)
 
     async def metrics(self, request):
+        self.charge_days(request)
         gauges = []
         for name, gate in self.office.gates.items():
             label = f'{{day="{name}"}}'
