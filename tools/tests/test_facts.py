@@ -53,7 +53,7 @@ ONCE = {
     r"the launcher `\./dam` has no program": ["FORMATS.md"],
     r"\| `device: read` \|": ["FORMATS.md"],
     r"no run is known": ["FORMATS.md"],
-    r"25 minutes on four idle processors": ["README.md"],
+    r"has run \(25 minutes\)": ["README.md"],
     r"never change the results": ["USING.md"],
     r"\| `--workers N` \|": ["USING.md"],
     r"[Tt]ies go to the larger bought volume, and|Ties go to the selection": ["RULES.md", "RULES.md"],
