@@ -452,7 +452,7 @@ class Contradictions(InFolder):
         for words in ("the published head contradicts it", "the operator signed", "; and with another salt", "two keys signed"):
             self.assertIn(f"`{words}`", page)
             self.assertIn(words, said)
-        self.assertIn("`the operator signed` with two trees, hashes or periods, or two entries of one number (`as ..; and as ..`", page)
+        self.assertIn("`the operator signed` with two trees, hashes or periods, two entries of one number (`as ..; and as ..`", page)
         for words in ("two trees of", "two hashes of entry 1 of", r"\S+ with 96 periods, and with 24,", "entry 1 of .* as .*; and as "):
             self.assertRegex(said, f"the operator signed {words}")
 
