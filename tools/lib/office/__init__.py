@@ -4,7 +4,7 @@ It judges nothing. The desk, a child process, keeps a day's journal on the disk 
 clears the journal; tools/table says what became of each order; `lib.seal` signs heads and makes receipts. Receipts, replay, clear and
 the audit show whether an office was right. Its modules draw nothing, and no module outside of this folder imports them, but tools/office.
 
-It may import: base, journal, lint, receipts, report, runs, seal, sheets, tool.
+It may import: base, journal, lint, receipts, report, results, runs, seal, sheets, tool.
 
 | Module | What |
 |---|---|
