@@ -198,6 +198,25 @@ class Day(unittest.TestCase):
             self.assertEqual(sum(both[1].gain(who) for who in {who for who, _ in day.book.rows}), day.said.welfare)
 
 
+class Entered(unittest.TestCase):
+    def test_a_block_with_children_is_cancelled_after_them(self):
+        """As the book does: each sequence of cancels is refused, or not, at the same place."""
+        lines = ["submit,P,TOP,block,sell,1,1:1,,", "submit,P,LOW,block,sell,1,1:1,TOP,", "submit,P,LAST,block,sell,1,1:1,LOW,"]
+        held = changes.before_close(journal.read_journal(journal_of(*lines, "close,,,,,,,,")))
+        for order in itertools.permutations(["TOP", "LOW", "LAST"]):
+            with self.subTest(order):
+                given = [(f"record {number}", journal.Cancel("P", name)) for number, name in enumerate(order, 1)]
+                fresh = changes.before_close(journal.read_journal(journal_of(*lines, "close,,,,,,,,")))
+                reasons = [fresh.apply(command) for _, command in given]
+                if order == ("LAST", "LOW", "TOP"):
+                    self.assertEqual((reasons, changes.entered(held, given).rows), ([None] * 3, {}))
+                else:
+                    place = next(number for number, reason in enumerate(reasons, 1) if reason)
+                    with self.assertRaisesRegex(changes.Fault, rf"^record {place}: the book refuses cancel,P,{order[place - 1]},.*HasChildren"):
+                        changes.entered(held, given)
+                self.assertEqual(len(held.rows), 3)
+
+
 class Tools(unittest.TestCase):
     def setUp(self):
         folder = tempfile.TemporaryDirectory()

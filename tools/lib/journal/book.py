@@ -32,6 +32,12 @@ class Book:
         self.held = {"hour": 0, "block": 0}
         self.children = Counter()  # of each block, by its participant and name
 
+    def copy(self):
+        """A book of its own, with the same orders."""
+        made = Book(self.periods)
+        made.closed, made.rows, made.held, made.children = self.closed, dict(self.rows), dict(self.held), Counter(self.children)
+        return made
+
     def apply(self, command):
         """Carries out the command and returns None, or changes nothing and returns the reason."""
         reason = self.refusal(command)

@@ -107,8 +107,7 @@ def before_close(read):
 
 def entered(held, commands):
     """A book with further commands, each with where it stands; the book itself stays as it is. A command that it refuses is a fault."""
-    after = book.Book(held.periods)
-    after.rows, after.held = dict(held.rows), dict(held.held)
+    after = held.copy()
     for place, command in commands:
         reason = after.apply(command)
         if reason:
