@@ -43,7 +43,11 @@ CELLS = {
 }
 # The figures of many books together, which the page shows of any part.
 TOGETHER = r"(?:deep|all thin) books together: .*"
-PICTURES = {"growth": "![Nodes of each family by the number of blocks, compared with 2^n](growth.svg)\n"}
+PICTURES = {
+    "growth": "A node stands for all selections with its decisions. The further a family lies below the dashed line, the more its "
+    "bound saves.\n\n"
+    "![Nodes of each family by the number of blocks, compared with 2^n](growth.svg)\n"
+}
 UNITS = {"ns": 1e-9, "us": 1e-6, "ms": 1e-3}  # of a second
 HEAD = """# Measured figures
 

@@ -2,8 +2,9 @@
 """draw_crates.py > docs/crates.svg: draws the crates of crates.txt, each above those that it uses.
 
 A line from a crate down to one that it also uses by way of another is left out. In each row that a line passes it has a place of its own
-between the boxes. The rows follow from the list; the order in a row is the order of the middles of the boxes below, and then above."""
+between the boxes. The rows follow from the list. In a row the order is one in which few lines cross."""
 
+import itertools
 import sys
 from pathlib import Path
 
@@ -14,7 +15,6 @@ sys.path.insert(0, str(TOP / "tools"))
 from lib.crates import crates
 
 WIDTH, HEIGHT, PASSAGE, ACROSS, DOWN, EDGE = 116, 30, 10, 16, 40, 12
-SWEEPS = 8  # over the rows, in turn from the bottom up and from the top down
 INK, LINE, PAPER, FILL, PROGRAM = "#1b1c1d", "#6d7073", "#fefefe", "#d9e6f2", "#f3e6c8"
 LOOK = 'font-family="DejaVu Sans, sans-serif" font-size="12" text-anchor="middle"'
 
@@ -30,17 +30,17 @@ def direct(used, name):
 
 
 def heights(used):
-    """The row of each crate, counted from the bottom: one above the highest that it uses."""
+    """The row of each crate, counted from the bottom: one below the lowest that uses it; what nothing uses is at the top."""
+    users = {name: [other for other in used if name in used[other]] for name in used}
     found = {}
 
-    def height(name):
+    def depth(name):
         if name not in found:
-            found[name] = 1 + max((height(other) for other in used[name]), default=-1)
+            found[name] = 1 + max((depth(other) for other in users[name]), default=-1)
         return found[name]
 
-    for name in used:
-        height(name)
-    return found
+    deepest = max(depth(name) for name in used)
+    return {name: deepest - depth for name, depth in found.items()}
 
 
 def ways(used):
@@ -52,29 +52,42 @@ def ways(used):
 
 
 def rows(used):
-    """The boxes and passages of each row, in their order."""
+    """The boxes and passages of each row, in an order that no exchange of two makes better."""
     at = heights(used)
     lines = list(ways(used))
     found = [[name for name in used if at[name] == row] for row in range(1 + max(at.values()))]
     for line in lines:
         for passage in line[1:-1]:
             found[passage[1]].append(passage)
-    near = {}
+    steps = [[] for _ in found]  # of the lines, by the row that they come from
     for line in lines:
         for upper, lower in zip(line, line[1:]):
-            near.setdefault(upper, ([], []))[0].append(lower)
-            near.setdefault(lower, ([], []))[1].append(upper)
-    for sweep in range(SWEEPS):
-        side = sweep % 2
-        middles = centres(found)
-        for row in found if side == 0 else reversed(found):
-            wanted = {}
-            for item in row:
-                others = near.get(item, ([], []))[side]
-                wanted[item] = sum(middles[other] for other in others) / len(others) if others else middles[item]
-            row.sort(key=wanted.get)
-            middles = centres(found)
+            steps[upper[1] if isinstance(upper, tuple) else at[upper]].append((upper, lower))
+    while any([improved(found, row, steps) for row in found]):
+        pass
     return found
+
+
+def improved(found, row, steps):
+    """Exchanges two of a row if that makes the picture better, as often as it does; whether it did."""
+    best, is_better = tangle(found, steps), False
+    for one in range(len(row)):
+        for other in range(one):
+            row[one], row[other] = row[other], row[one]
+            now = tangle(found, steps)
+            if now < best:
+                best, is_better = now, True
+            else:
+                row[one], row[other] = row[other], row[one]
+    return is_better
+
+
+def tangle(found, steps):
+    """How many pairs of lines cross, and then how far the lines go sideways."""
+    middles = centres(found)
+    ends = [[(middles[upper], middles[lower]) for upper, lower in row] for row in steps]
+    crossed = sum((one[0] - other[0]) * (one[1] - other[1]) < 0 for row in ends for one, other in itertools.combinations(row, 2))
+    return crossed, sum(abs(upper - lower) for row in ends for upper, lower in row)
 
 
 def widths(row):

@@ -159,11 +159,11 @@ def draw_selections(day):
 
     rows = list(steps(counted(day)[0]))
     with pictures.matplotlib.rc_context({**pictures.STYLE, "axes.grid": False}):
-        drawn, axes = pictures.pyplot.subplots(figsize=(pictures.BROAD * 0.7, 2.8))
+        drawn, axes = pictures.pyplot.subplots(figsize=(pictures.BROAD * 0.7, 3.2))
         axes.set_xscale("log")
         for at, (count, words) in enumerate(rows):
-            axes.barh(-at, count - LEFT, left=LEFT, color=pictures.COLOURS["buy"])
-            axes.annotate(f"{count:,} {words}", (LEFT, -at), (6, -3), textcoords="offset points")
+            axes.barh(-at, count - LEFT, left=LEFT, height=0.3, color=pictures.COLOURS["sell"])
+            axes.annotate(f"{count:,} {words}", (LEFT, 0.18 - at), (1, 1), textcoords="offset points")
         axes.set_xlim(LEFT, rows[0][0])
         ticks = [10**digits for digits in range(len(str(rows[0][0])))]
         axes.set_xticks(ticks, [f"{tick:,}" for tick in ticks])

@@ -18,6 +18,7 @@ sys.path[:0] = [str(TOP / "docs"), str(TOP / "tests" / "desk")]
 import draw_bound
 import draw_crates
 import draw_desk
+import draw_hour
 import draw_receipt
 import draw_trust
 import images
@@ -46,8 +47,12 @@ class Crates(unittest.TestCase):
         used = crates.own(crates.listed(LIST))
         self.assertEqual(draw_crates.direct(used, "top"), ["high", "middle"])
         self.assertEqual(list(draw_crates.ways({**used, "last": ["top", "low"]}))[-1], ["last", "top"])
-        self.assertEqual(list(draw_crates.ways({"a": [], "b": ["a"], "c": ["b"], "d": [], "e": ["c", "d"]}))[-1],
-                         ["e", ("e-d", 2), ("e-d", 1), "d"])
+        self.assertEqual(list(draw_crates.ways({"a": [], "b": ["a"], "c": ["b"], "d": ["c"], "e": ["a"]}))[-1],
+                         ["e", ("e-a", 2), ("e-a", 1), "a"])
+
+    def test_lines_that_need_not_cross_do_not(self):
+        used = {"low": [], "below": [], "left": ["below"], "right": ["low"], "both": ["right", "left"]}
+        self.assertEqual(draw_crates.rows(used)[:2], [["below", "low"], ["left", "right"]])
 
     def test_the_picture_is_that_of_the_list(self):
         used = draw_crates.read()
@@ -130,6 +135,17 @@ class Bound(unittest.TestCase):
 
         drawn = pictures.picture(draw_bound.figure(), "svg", words_as_text=True).decode()
         for words in ("COAL BASE", "gains at these prices", "of 8,191 nodes", "accepted (solid)"):
+            self.assertIn(words, drawn)
+
+
+class Hour(unittest.TestCase):
+    @NEEDS_MATPLOTLIB
+    def test_what_the_picture_says(self):
+        """The numbers of GUIDE.md's first step."""
+        from lib.pictures import pictures
+
+        drawn = pictures.picture(draw_hour.figure(), "svg", words_as_text=True).decode()
+        for words in ("WIND: 45 MW", "executed in full", "GAS: 50 MW", "35 MW executed", "not executed", "the price: 60.00", "TOWN buys 80 MW"):
             self.assertIn(words, drawn)
 
 

@@ -8,7 +8,7 @@ use dam_blocks::Problem;
 use dam_book::{Book, Seed};
 use dam_results::publishing_laws::published_results_are_clearings;
 use dam_results::{Results, book_of_text, results};
-use dam_search::{FreeTurn, Plan, search};
+use dam_search::{FreeTurn, MOST_NODES, Plan, search};
 use std::alloc::Global;
 use std::thread::Threads;
 
@@ -26,7 +26,7 @@ pub fn clear<R: Threads + Sync>(rt: &R, alloc: Global, book: &Book) -> Result<Re
 {
     published_results_are_clearings();
     let problem = Problem::of_book(alloc, book)?;
-    let plan = Plan::new(2, 3, 1_000_000).context("a plan")?;
+    let plan = Plan::new(2, 3, MOST_NODES).context("a plan")?;
     let best = search(rt, alloc, &problem, plan, &FreeTurn)?;
     Ok(results(alloc, &problem, best)?)
 }
