@@ -140,6 +140,9 @@ def check_messages(office, counts):
     said(office, b"CONNECT x:1 HTTP/1.1\r\nHost: x\r\n\r\n" + b"a" * 100, wait=False)
     said(office, request("GET", "/days", ["Connection: Upgrade", "Upgrade: h2c"]) + b"a" * 100, wait=False)
     counts.check("nor requests for another protocol", b"defect" not in office.log.read_bytes()[before_log:])
+    said(office, request("GET", "/days"), wait=False)
+    counts.check("a client that ends before its answer isn't a defect", b"defect" not in office.log.read_bytes()[before_log:])
+    check_names(office, counts)
     answer = said(office, request("PUT", path, [token, "Expect: 100-continue", "Content-Type: text/csv"], b"cancel"))
     counts.check("a client that waits may go on", answer.startswith(b"HTTP/1.1 100 Continue\r\n\r\nHTTP/1.1 400 "))
     bomb = gzip.compress(bytes(300 << 20))
@@ -172,6 +175,16 @@ def check_messages(office, counts):
     counts.check("a body of 2 MB is refused", status(said(office, request("PUT", path, [token], b"a" * (2 << 20)))) == 413)
     counts.check("without a token it isn't read", status(said(office, request("PUT", path, [], b"a" * (2 << 20)))) == 401)
     counts.check("nothing was entered", office.client(who).next(office.day) == 1)
+
+
+def check_names(office, counts):
+    """Names of the office in requests, which take seconds to decode: digits of which each is compared with all others."""
+    name = "xn--" + ("\u0661" * 3_900).encode("punycode").decode()
+    for line in (f"GET http://{name}/days", f"CONNECT {name}:1"):
+        with contextlib.closing(socket.create_connection(("127.0.0.1", office.port), timeout=SECONDS)) as one:
+            began = time.monotonic()
+            one.sendall(f"{line} HTTP/1.1\r\nHost: x\r\n\r\n".encode())
+            counts.check(f"{line[:12]} holds up nobody", office.get("/days")[0] == 200 and time.monotonic() - began < 1)
 
 
 def check_slow(office, counts):

@@ -72,14 +72,17 @@ class Handler(web_protocol.RequestHandler):
     def take(self, piece):
         before = self._request_count
         super().data_received(piece)
-        new = list(self._messages)[before - self._request_count :] if self._request_count > before else []
-        for message, self.payload in new:
+        count = self._request_count - before  # of requests that have come
+        for place in range(len(self._messages) - count, len(self._messages)):
+            message, self.payload = self._messages[place]
             # no route takes a body in chunks, which is dear to read, or another protocol
             odd = getattr(message, "chunked", False) or getattr(message, "upgrade", False) or getattr(message, "method", "") == "CONNECT"
             self.is_deaf = self.is_deaf or odd
+            if hasattr(message, "url") and message.url.is_absolute():  # the office has one name: to decode another may take seconds
+                self._messages[place] = message._replace(url=message.url.relative()), self.payload
         self._message_tail = b""  # what comes after a request for another protocol
         is_body = self.payload is not None and not self.payload.is_eof()
-        self.head_bytes = 0 if new or is_body else self.head_bytes + len(piece)
+        self.head_bytes = 0 if count or is_body else self.head_bytes + len(piece)
         if len(self._messages) > MOST_AHEAD or self.head_bytes > MOST_HEAD:
             self.transport.abort()
 
@@ -87,7 +90,8 @@ class Handler(web_protocol.RequestHandler):
         if isinstance(response, web.HTTPException):  # of aiohttp itself, which says the request's words again
             response = self.handle_error(request, response.status)
         found = await super().finish_response(request, response, began)
-        self._manager.mark(self, False)
+        if self._manager is not None:  # the connection isn't lost
+            self._manager.mark(self, False)
         return found
 
     def handle_error(self, request, status=500, exc=None, message=None):
