@@ -344,6 +344,8 @@ def check_published(args, counts, office):
     journal, results, replies = (client.text(office.day, name) for name in ("journal", "results", "replies"))
     cleared = subprocess.run([args.dam, "clear"], input=journal, capture_output=True, check=True).stdout
     counts.check("the results are dam clear's", results == cleared)
+    odd = {"If-Modified-Since": f"Fri, 01 Jan {10**20} 00:00:00 GMT"}
+    counts.check("an impossible date is refused", office.get(f"/days/{office.day}/results", odd)[0] == 400)
     counts.check(
         "the replies are dam replay's",
         replies == subprocess.run([args.dam, "replay"], input=journal, capture_output=True, check=True).stdout,

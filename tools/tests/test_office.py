@@ -272,6 +272,26 @@ class Crashes(Office):
                 self.assertEqual(await given.submit("GAS", 1, commands("cancel,GAS,A,,,,,,"), lambda: rights[0]), [1])
         self.assertEqual(len(disk.records), 1)
 
+    async def test_tokens_that_cant_be_read_lose_no_request_and_no_close(self):
+        self.make()
+        disk = Disk()
+
+        def unreadable():
+            raise OSError(errno.EMFILE, "too many open files")
+
+        with opener(disk):
+            given = self.gate()
+            task = asyncio.create_task(given.run())
+            await given.is_ready.wait()
+            waiting = given.submit("GAS", 1, commands("cancel,GAS,A,,,,,,"), unreadable)
+            behind = given.submit("A", 1, commands("cancel,A,A,,,,,,"))
+            given.close()
+            with self.assertRaises(gate.Refused) as caught:
+                await waiting
+            self.assertEqual((caught.exception.fault, await behind), ("Unavailable", [1]))
+            await task
+        self.assertEqual((disk.records, given.fault), (["cancel,A,A,,,,,,", "close,,,,,,,,"], None))
+
     def test_a_statement_is_kept_as_it_is_sent(self):
         self.make()
         files = self.office.days()[DAY]
@@ -1009,6 +1029,16 @@ class Tokens(Office):
         for own in names:
             self.assertEqual([register.knows(who, made[who]) for who in own], [True, False, True, True, True])
         self.assertEqual(register.add(names[0]), {})
+
+    def test_each_connection_may_be_sent_a_file(self):
+        """Slow downloads leave files for the close."""
+        needed = 2 * guards.MOST_CONNECTIONS + 100
+        with mock.patch.multiple(serving.resource, getrlimit=lambda _: (1_024, 1 << 20), setrlimit=mock.DEFAULT) as made:
+            serving.more_files()
+        soft, hard = made["setrlimit"].call_args.args[1]
+        self.assertTrue(needed <= soft <= hard)
+        unit = (TOOLS.parent / "examples" / "operating" / "dam-office.service").read_text()
+        self.assertLessEqual(needed, int(re.search("^LimitNOFILE=([0-9]+)$", unit, re.MULTILINE)[1]))
 
     def test_files_are_the_owners_alone(self):
         before = os.umask(0o077)

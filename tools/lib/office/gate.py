@@ -157,8 +157,8 @@ class Gate:
             if not new:
                 self.settle(one)
                 continue
-            if not one.is_right():
-                fail(one.done, Refused("Token", "the token isn't of this participant any more"))
+            if fault := token_fault(one):
+                fail(one.done, fault)
                 continue
             found += [(command, one) for command in new]
             taken[one.who] = last + len(new)
@@ -340,6 +340,14 @@ class Gate:
             self.is_closing = True
             self.log_event("closing", entries=self.ledger.size)
             self.wait(Waiting(None, 0, [Close()], asyncio.get_running_loop().create_future()))
+
+
+def token_fault(one):
+    """The fault of a request whose token isn't its participant's now; None if it is."""
+    try:
+        return None if one.is_right() else Refused("Token", "the token isn't of this participant any more")
+    except OSError:  # the file of the tokens can't be read: the requests behind this one, and the close, mustn't be lost
+        return Refused("Unavailable", "the office can't read its tokens: send the same command again", seconds=1)
 
 
 def fail(done, fault):

@@ -137,9 +137,9 @@ def context_of(tls):
 
 
 def more_files():
-    """Lets this process open as many files as it may: a connection is one."""
+    """Lets this process open as many files as it may: a connection is one, and may be sent another."""
     soft, hard = resource.getrlimit(resource.RLIMIT_NOFILE)
-    wanted = guards.MOST_CONNECTIONS + 500
+    wanted = 2 * guards.MOST_CONNECTIONS + 500
     most = wanted if hard == resource.RLIM_INFINITY else min(hard, wanted)
     if soft < most:
         resource.setrlimit(resource.RLIMIT_NOFILE, (most, hard))

@@ -399,6 +399,7 @@ class Web:
             raise Refused("NotFound", "there are no results yet")
         if not gate.published.has_journal:
             raise Refused("NotFound", "the operator hasn't published the day; its prices are under prices")
+        need_dates(request)
         files = {"results": folder.RESULTS, "journal": folder.JOURNAL, "replies": folder.REPLIES}
         return web.FileResponse(gate.files.file(files[name]), headers={"Content-Type": "text/plain; charset=utf-8"})
 
@@ -436,6 +437,14 @@ class Web:
 def kind_of(request):
     """The type of a body. aiohttp's own reader of it takes as long as the rest of a request."""
     return request.headers.get("Content-Type", "").partition(";")[0].strip().lower()
+
+
+def need_dates(request):
+    """Refuses a date at which aiohttp fails when it sends a file: outside of this application, without an answer."""
+    try:
+        return request.if_modified_since, request.if_unmodified_since, request.if_range
+    except OverflowError:
+        raise Refused("Malformed", "a date in the head of the request is out of range") from None
 
 
 def query_number(request, name):
