@@ -1,26 +1,39 @@
-"""Pages that show commands: each prints the page's quotes. Each number of TRUST.md is among what its section's commands print, and the
-orders that GUIDE.md quotes are in its journals."""
+"""Pages that show commands, which tests/commands/run runs: each text of a scene is on its page, and an output that differs is found. Each
+number of TRUST.md is among what its section's commands print, and the orders that GUIDE.md quotes are in its journals."""
 
 import re
-import shutil
-import subprocess
+import sys
 import tempfile
 import unittest
+import unittest.mock
 from pathlib import Path
 
-import shown
 from support import TOP
 
 from lib.journal import book, journal
-from lib.runs import engine
-from lib.tool import command
+from shared.counts import Counts
+from shared.shown import pairs
+
+sys.path.insert(0, str(TOP / "tests" / "commands"))
+
+import session
+from scenes import BOTH, CLONE, INSTALLED, PAGES, Out, Scene
 
 TRUST, GUIDE = TOP / "docs" / "TRUST.md", TOP / "docs" / "GUIDE.md"
 NUMBER = re.compile(r"(?<![\w.-])-?\d[\d,]*(?:\.\d+)?(?![\w-])")
 HIDDEN = re.compile(r"^```.*?^```$|`[^`\n]*`|\]\([^)]*\)|Python 3\.\d+", re.MULTILINE | re.DOTALL)  # the parts that aren't prose
-NEEDS_CRYPTOGRAPHY = unittest.skipUnless(command.has("cryptography"), "cryptography is missing (Debian's python3-cryptography)")
-NEEDS_NUMPY = unittest.skipUnless(command.has("numpy"), "numpy is missing (Debian's python3-numpy)")
-NEEDS_PROGRAM = unittest.skipUnless(engine.BUILT.exists(), "the program isn't built")
+PAGE = """
+```sh
+echo one
+man dam
+echo two
+```
+
+```text
+one
+two
+```
+"""
 
 
 def numbers(text):
@@ -28,39 +41,59 @@ def numbers(text):
     return {abs(float(number.replace(",", ""))) for number in NUMBER.findall(text)}
 
 
+class Scenes(unittest.TestCase):
+    def run_page(self, scene, page=PAGE, form=CLONE):
+        """How many blocks of a page passed, and how many failed."""
+        counts = Counts()
+        with unittest.mock.patch.dict(PAGES, {"page.md": scene}), tempfile.TemporaryDirectory() as folder:
+            room = Path(folder).resolve()
+            (room / "home").mkdir()
+            (room / "page.md").write_text(page)
+            reader = session.Reader(form, room, [], session.environment(room / "home", {"PATH": "/usr/bin:/bin"}))
+            session.run(counts, "page.md", reader, room)
+        return counts.passed, counts.failed
+
+    def test_each_text_is_on_its_page(self):
+        for name in PAGES:
+            for form in BOTH:
+                with self.subTest(name, form=form):
+                    self.assertTrue(list(session.steps(name, (TOP / name).read_text(), form)))
+
+    def test_a_line_that_is_left_out(self):
+        out = Out("why")
+        self.assertEqual(self.run_page(Scene(left_out={"man dam": out})), (1, 0))
+        self.assertEqual(self.run_page(Scene(left_out={"man dam": Out("why", (INSTALLED,))}), form=INSTALLED), (1, 0))
+        # the page hasn't got the line any more, or a part of the quote isn't printed
+        self.assertEqual(self.run_page(Scene(left_out={"man dam": out, "man other": out})), (0, 1))
+        self.assertEqual(self.run_page(Scene(left_out={"man dam": out}), PAGE.replace("two\n```\n\n", "2\n```\n\n")), (0, 1))
+
+    def test_what_fails(self):
+        right = PAGE.replace("man dam\n", "")
+        self.assertEqual(self.run_page(Scene(), right), (1, 0))
+        for scene, page in (
+            (Scene(), right.replace("\none\n", "\n1\n")),
+            (Scene(), right.replace("two\n```\n\n", "two\nfalse\n```\n\n")),
+            (Scene(), right.replace("two\n```\n\n", "two\necho note >&2\n```\n\n")),
+            (Scene(says={"echo": "note"}), right),
+            (Scene(given={"echo 3": "true"}), right),
+            (Scene(edits={"echo 3": "echo 4"}), right),
+        ):
+            with self.subTest(scene=scene, page=page):
+                self.assertEqual(self.run_page(scene, page), (0, 1))
+        self.assertEqual(self.run_page(Scene(given={"echo": "false"}), right), (0, 2))
+        self.assertEqual(self.run_page(Scene(then={"echo": "false"}), right), (1, 1))
+
+    def test_a_line_of_which_the_beginning_is_shown(self):
+        for quoted, is_same in (("one\nt [cut]\n", True), ("one\nx [cut]\n", False), ("o [cut]\n", False)):
+            with self.subTest(quoted):
+                self.assertEqual(session.is_as_quoted("one  \ntwo\n", quoted, True), is_same)
+
+
 class Shown(unittest.TestCase):
-    def check_commands(self, page):
-        shows = list(shown.pairs(page.read_text()))
-        self.assertGreater(len(shows), 4)
-        with tempfile.TemporaryDirectory() as folder:
-            shown.link(folder)
-            for commands, quoted in shows:
-                with self.subTest(commands):
-                    status, printed, said = shown.ran(folder, commands)
-                    self.assertEqual((status, said), (0, ""))
-                    self.assertEqual(printed, quoted or "")
-            self.check_ignored({path.name for path in Path(folder).iterdir() if not path.is_symlink()})
-
-    def check_ignored(self, names):
-        """Git ignores the files, among them a private key, that the commands write into the folder of a clone."""
-        if (TOP / ".git").exists() and shutil.which("git"):
-            words = ["git", "-C", TOP, "-c", "safe.directory=*", "check-ignore", "--no-index", *names]
-            self.assertEqual(set(subprocess.run(words, capture_output=True, text=True).stdout.split()), names)
-
-    @NEEDS_CRYPTOGRAPHY
-    @NEEDS_NUMPY
-    @NEEDS_PROGRAM
-    def test_trust(self):
-        self.check_commands(TRUST)
-
-    @NEEDS_PROGRAM
-    def test_guide(self):
-        self.check_commands(GUIDE)
-
     def test_each_number_of_trust_is_printed(self):
         checked = 0
         for section in re.split(r"^## ", TRUST.read_text(), flags=re.MULTILINE):
-            printed = set().union(*(numbers(quoted or "") for _, quoted in shown.pairs(section)))
+            printed = set().union(*(numbers(quoted or "") for _, quoted in pairs(section)))
             said = numbers(HIDDEN.sub("", section))
             with self.subTest(section.splitlines()[0]):
                 self.assertLessEqual(said, printed)

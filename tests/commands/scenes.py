@@ -1,0 +1,221 @@
+"""What the commands of each page take as given, and the lines that can't be run here, each with its reason. A text that its page doesn't
+have any more fails."""
+
+from typing import NamedTuple
+
+CLONE, INSTALLED = "in a clone", "installed"
+BOTH = (CLONE, INSTALLED)
+
+
+class Out(NamedTuple):
+    """Why a line isn't run, and by which readers."""
+
+    why: str
+    forms: tuple = BOTH
+
+
+class Scene(NamedTuple):
+    """By a text of one block: commands before and after it (`given`, `then`; `$SHOWN` is its output), and words of its notes on standard
+    error (`says`). By a text of any block: the text in its place (`edits`), or why a line that begins with it isn't run (`left_out`).
+    `needs`: modules of Python, programs, and the built desk."""
+
+    given: dict = {}
+    then: dict = {}
+    says: dict = {}
+    edits: dict = {}
+    left_out: dict = {}
+    needs: tuple = ()
+
+
+AS_ROOT = Out("needs root; tests/package/run --install installs a package")
+OF_A_CLONE = Out("the page says that it is for a clone", (INSTALLED,))
+OF_A_PACKAGE = Out("needs a package", (CLONE,))
+OF_THE_PACKAGE_PART = Out("takes half an hour; ./check proves, builds and packages")
+ORDER = "submit,GAS,UNIT-8,hour,sell,6000,8:500,,"
+SERVED = ("aiohttp", "cryptography", "jinja2", "curl", "dam-desk")
+# The browser fetches the page, and ends the demo as Ctrl-C does.
+DEMO = "dam-office demo 2> ../demo.log || test $? -eq 130"
+SAW = 'grep -q "<html" ../page.html'
+
+OFFICE = Scene(
+    needs=(*SERVED, "openssl"),
+    edits={
+        "dam-office demo": DEMO,
+        "--port 8443 --tls cert.pem key.pem": "--port $PORT --tls cert.pem key.pem 2> serve.log &",
+        "https://auction.example/": "https://localhost:$PORT/",
+        '"https://auction.example", token': '"https://localhost:" + os.environ["PORT"], os.environ["TOKEN"]',
+        "from dam_tools.office import Office": "import os\nfrom dam_tools.office import Office",
+        '"2026-11-29"': 'os.environ["DAY"]',
+    },
+    given={
+        "dam-office serve": r"""
+            openssl req -x509 -newkey ec -pkeyopt ec_paramgen_curve:P-256 -nodes -days 2 -subj /CN=localhost \
+              -addext subjectAltName=DNS:localhost -keyout key.pem -out cert.pem 2> openssl.log
+            printf 'silent\nshow-error\n' > .curlrc
+            export SSL_CERT_FILE="$HOME/cert.pem"
+            """,
+        "dam-audit --best": f"""
+            until curl -f https://localhost:$PORT/healthz > /dev/null 2>&1; do kill -0 $!; sleep 0.1; done
+            TOKEN=$(dam-office renew office GAS)
+            printf 'Authorization: Bearer %s\\n' "$TOKEN" > token.txt
+            TYPE='Content-Type: text/csv'
+            curl -f -X PUT -H @token.txt -H "$TYPE" --data-binary '{ORDER}' https://localhost:$PORT/days/$DAY/commands/GAS/1
+            dam-office status office | grep "$DAY.*open"
+            dam-office close office $DAY
+            """,
+        "curl -f -X PUT": """
+            is_open() {
+                curl -f https://localhost:$PORT/days | grep -q $DAY && curl -f https://localhost:$PORT/healthz > /dev/null 2>&1
+            }
+            cd "$HOME"
+            dam-office publish office $DAY
+            curl -f https://localhost:$PORT/days/$DAY/journal | cmp - office/days/$DAY/journal.csv
+            DAY=$(date -d '+3 days' +%F)
+            dam-office init office --day $DAY --periods 24 --close 12:00 --participants p.csv
+            until is_open; do sleep 0.1; done
+            """,
+        "receipts/GAS": """
+            cp office/operator.pem.pub .
+            curl -f -X PUT -H @token.txt -H "$TYPE" --data-binary 'cancel,GAS,UNIT-8,,,,,,' \
+              https://localhost:$PORT/days/$DAY/commands/GAS/2 >> GAS.jsonl
+            dam-office close office $DAY
+            """,
+        "from dam_tools.office": """
+            DAY=$(date -d '+4 days' +%F)
+            dam-office init office --day $DAY --close 12:00 --participants p.csv
+            until is_open; do sleep 0.1; done
+            export DAY TOKEN
+            """,
+    },
+    then={
+        "dam-office demo": SAW,
+        "curl -f -X PUT": 'grep -q UNIT-8 "$SHOWN" && grep -q \'"reply":"done"\' GAS.jsonl',
+        "receipts/GAS": 'grep -q "^right: 2 receipts" "$SHOWN"',
+        "for size in": 'test "$(ls extension-*.json | wc -l)" -ge 2 && grep -q "^right: 2 receipts" "$SHOWN"',
+        "from dam_tools.office": f"""
+            curl -f -H @token.txt https://localhost:$PORT/days/$DAY/orders/GAS | grep -q UNIT-8
+            dam-office revoke office GAS
+            ! curl -f -H @token.txt https://localhost:$PORT/days/$DAY/orders/GAS > refused.txt 2>&1
+            """,
+    },
+)
+
+PAGES = {
+    "README.md": Scene(
+        needs=SERVED,
+        edits={"tools/office demo": DEMO, "/usr/share/doc/dam": "$PREFIX/share/doc/dam"},
+        then={"tools/office demo": f'test "$(grep -c ^period "$SHOWN")" -eq 24\n{SAW}'},
+        left_out={
+            "./dam clear < examples/sunny-day.csv": OF_A_CLONE,
+            "tools/office demo": OF_A_CLONE,
+            "./check": Out("runs this test"),
+            "./dam prove && library/build && tools/package": OF_THE_PACKAGE_PART,
+            "apt install ": AS_ROOT,
+            "cp -r /usr/share/doc/dam/examples .": OF_A_PACKAGE,
+        },
+    ),
+    "docs/GUIDE.md": Scene(
+        needs=("cryptography",),
+        given={
+            "GAS.jsonl": """
+                dam replay < examples/guide/6-rescue.csv > replies.txt
+                dam-receipts keys operator.pem > key.txt
+                dam-receipts seal examples/guide/6-rescue.csv replies.txt --day 2026-11-28 --key operator.pem
+                cp sealed/receipts/GAS.jsonl sealed/head.json .
+                grep ,GAS, examples/guide/6-rescue.csv > FILE
+                """,
+        },
+        then={"GAS.jsonl": 'grep "^right: .*; as sent: " "$SHOWN"'},
+    ),
+    "docs/TRUST.md": Scene(
+        needs=("cryptography", "numpy"),
+        left_out={"docs/draw_trust.py unit-7": OF_A_CLONE, "docs/draw_trust.py selections": OF_A_CLONE},
+    ),
+    "docs/AUDIT.md": Scene(
+        needs=("numpy",),
+        given={
+            "for name in": """
+                cp examples/auction-day.csv day.csv
+                mkdir sent
+                cut -s -d, -f2 day.csv | grep '[A-Z]' | sort -u > members.txt
+                while read -r name; do grep ",$name," day.csv > "sent/$name.csv"; done < members.txt
+                """,
+        },
+        then={"for name in": 'test "$(grep -c "^as sent: " "$SHOWN")" -eq "$(grep -c . members.txt)"'},
+    ),
+    "docs/WHATIF.md": Scene(
+        needs=("numpy", "matplotlib"),
+        then={"--sample": "test -s blocks.svg"},
+        says={"--step": "sampled at 42 limits", "--sample": "COAL UNIT-7 is accepted in 4"},
+    ),
+    "docs/DESK.md": Scene(
+        needs=("dam-desk",),
+        given={"dam-desk day.desk": "cp examples/auction-day.csv commands.csv"},
+        then={
+            "dam-desk day.desk": """
+                exec 3>&-
+                wait
+                dam replay < commands.csv > replies.txt
+                head -n -1 answers.txt | cmp - replies.txt
+                test "$(tail -n 1 answers.txt)" = day,24
+                """,
+            "dam-desk --journal day.desk > day.csv": "grep -q ^welfare results.txt",
+        },
+    ),
+    "docs/OFFICE.md": OFFICE,
+    "docs/OPERATING.md": Scene(
+        needs=("numpy", "cryptography", "man", "dpkg-deb", "xz", "flock"),
+        edits={"VERSION": "$VERSION", "/srv/dam/": "$HOME/srv/"},
+        given={
+            "tar -xJf": 'cp "$ARCHIVE" . && BEFORE=$PATH',
+            "provenance.json": 'cp "$DEB" FILE.deb',
+            "dam-audit --best --json": "cd day",
+            "for day in": """
+                cd "$HOME"
+                mkdir srv && cp -r day srv/2026-11-28
+                [ -z "$DEB" ] || cp "$DEB" NEW.deb
+                """,
+        },
+        then={
+            "tar -xJf": 'grep -q "dam clear" "$SHOWN" && PATH=$BEFORE',
+            "provenance.json": 'grep -q "\\"commit\\": \\"[0-9a-f]*\\"" "$SHOWN"',
+            "#!/bin/sh": """
+                chmod +x day.sh
+                mkdir day
+                cp examples/auction-day.csv day/day.csv
+                ./day.sh day
+                grep -q ^welfare day/results.txt
+                """,
+            "dam-receipts seal": "test -s sealed/head.json",
+            "for day in": 'test ! -s "$SHOWN"',
+        },
+        left_out={
+            "apt-get update && apt-get install ": AS_ROOT,
+            "tar -xJf": OF_A_PACKAGE,
+            'export PATH="$PWD/dam-VERSION': OF_A_PACKAGE,
+            "man dam": OF_A_PACKAGE,
+            "dpkg-deb --fsys-tarfile FILE.deb": OF_A_PACKAGE,
+            "git checkout COMMIT": OF_THE_PACKAGE_PART,
+            "./dam prove && library/build": OF_THE_PACKAGE_PART,
+            "tools/package --confirm FILE.deb": Out("needs the kit; tests/package/run confirms a package"),
+            "dpkg-deb -x NEW.deb new": OF_A_PACKAGE,
+            "apt-get install ./NEW.deb": AS_ROOT,
+            "apt-get install --allow-downgrades": AS_ROOT,
+        },
+    ),
+    "docs/USING.md": Scene(
+        needs=("numpy", "openpyxl", "jinja2", "matplotlib"),
+        given={
+            "--participant GAS": "cp examples/auction-day.csv day.csv && dam clear < day.csv > results.txt",
+            "xargs": "mkdir days && cp examples/auction-day.csv days/one.csv && cp examples/quarter-hours.csv days/two.csv",
+        },
+        says={"--template": "orders.xlsx has no orders"},
+        then={
+            "--template": "grep -q ^welfare results.txt && test -s day.xlsx",
+            "--participant GAS": "test -s gas.html && test -s day.html",
+        },
+    ),
+    "docs/EXAMPLES.md": Scene(needs=("matplotlib",), then={"sunny-day.svg": "test -s sunny-day.svg"}),
+}
+# Pages whose commands other tests run.
+ELSEWHERE = {"docs/C.md": "tests/library/run compiles and runs the callers"}

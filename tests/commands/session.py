@@ -1,0 +1,199 @@
+"""The commands that a page shows, run as a reader runs them: in order, in one shell, in a folder of their own."""
+
+import contextlib
+import os
+import shutil
+import signal
+import socket
+import subprocess
+from pathlib import Path
+from typing import NamedTuple
+
+from lib.base.rules import VERSION
+from lib.tool import command
+from scenes import PAGES
+from shared.shown import blocks
+
+SECONDS = 200  # that the commands of a page may take
+BROWSER = """#!/bin/sh
+curl -fsS "$1" > "$HOME/../page.html"
+kill -INT $PPID
+"""
+CUT = " [cut]"  # ends a quoted line of which the page shows only the beginning
+PYTHON = "python3 - <<'END'\n{}END\n"
+SHOWN = 600  # characters of an output in a message
+
+
+class Reader(NamedTuple):
+    """A reader: how it has `dam`, the folder of its pages, the words that start its shell, and its environment."""
+
+    form: str
+    pages: Path
+    shell: list
+    environment: dict
+
+
+class Step(NamedTuple):
+    """Commands of a page, or of its scene; the output that the page quotes, or None; and words of the lines on standard error."""
+
+    about: str
+    commands: str
+    quoted: str = None
+    says: str = ""
+    is_whole: bool = True  # no line was left out
+
+
+class Faulty(Exception):
+    """A scene that doesn't fit its page."""
+
+
+def environment(home, more):
+    """The environment of a reader whose folder this is: with a port that is free, and a browser that ends what shows it a page."""
+    browser = home.parent / "browser"
+    browser.write_text(BROWSER)
+    browser.chmod(0o755)
+    kept = {name: os.environ[name] for name in ("LANG", "LC_ALL", "TZ") if name in os.environ}
+    return {**kept, "HOME": str(home), "BROWSER": f"{browser} %s", "PORT": str(free_port()), "VERSION": VERSION, **more}
+
+
+def free_port():
+    with contextlib.closing(socket.socket()) as found:
+        found.bind(("127.0.0.1", 0))
+        return found.getsockname()[1]
+
+
+def missing(name, reader):
+    """The programs, and modules of Python, that the commands of a page need, and that are missing."""
+    path = reader.environment["PATH"]
+    return [need for need in PAGES[name].needs if not (has(need) if need in command.PACKAGES else shutil.which(need, path=path))]
+
+
+def has(module):
+    return command.has(module) or command.elsewhere(module)
+
+
+def place_of(found, name, text):
+    """The place of the block that has this text."""
+    places = [at for at, block in enumerate(found) if text in block.commands]
+    if len(places) != 1:
+        raise Faulty(f"{name}: the text {text!r} is in {len(places)} of its blocks")
+    return places[0]
+
+
+def kept(commands, left_out):
+    """The lines of a block but for those that are left out, each with those that go on it."""
+    lines, is_out = [], False
+    for line in commands.splitlines(keepends=True):
+        goes_on = lines_go_on(lines[-1]) if lines and not is_out else False
+        is_out = not goes_on and any(line.startswith(words) for words in left_out)
+        lines += [] if is_out else [line]
+    return "".join(lines)
+
+
+def lines_go_on(line):
+    return line.rstrip("\n").endswith("\\")
+
+
+def edited(commands, edits):
+    for old, new in edits.items():
+        commands = commands.replace(old, new)
+    return commands
+
+
+def steps(name, text, form):
+    """The steps of a page. Each text of its scene has to be on the page: one that isn't there any more is a fault."""
+    scene, found = PAGES[name], blocks(text)
+    for what, texts in ("the line left out", scene.left_out), ("the edit", scene.edits):
+        for it in texts:
+            is_there = [it in block.commands if what == "the edit" else f"\n{it}" in f"\n{block.commands}" for block in found]
+            if not any(is_there):
+                raise Faulty(f"{name}: {what} {it!r} isn't in its blocks")
+    given, then, says = (
+        {place_of(found, name, key): words for key, words in texts.items()} for texts in (scene.given, scene.then, scene.says)
+    )
+    left_out = [line for line, out in scene.left_out.items() if form in out.forms]
+    for at, block in enumerate(found):
+        commands = kept(block.commands, left_out)
+        is_whole = commands == block.commands
+        if not any(line.strip() and not line.startswith("#") for line in commands.splitlines()):
+            continue
+        if commands.startswith("#!"):
+            script = commands.splitlines()[1].split()[1]
+            commands = f"cat > {script} <<'END'\n{commands}END\n"
+        elif block.kind == "python":
+            commands = PYTHON.format(commands)
+        about = f"{form}: {name}: {block.commands.splitlines()[0]}"
+        if at in given:
+            yield Step(f"{about}: what it takes as given", given[at])
+        yield Step(about, edited(commands, scene.edits), block.quoted, says.get(at, ""), is_whole)
+        if at in then:
+            yield Step(f"{about}: what came of it", then[at])
+
+
+def script(made, room):
+    """One script of all steps, which keeps their outputs, and notes each step that is done. `$SHOWN` is the output of the last one."""
+    parts = ["set -e\n"]
+    for number, step in enumerate(made):
+        at = room / str(number)
+        parts.append(f"{{\n{step.commands}\n}} > {at}.out 2> {at}.err\nSHOWN={at}.out\n: > {at}.done\n")
+    return "".join(parts)
+
+
+def is_as_quoted(printed, quoted, is_whole):
+    """Whether an output is the one that a page quotes, or a part of it if lines were left out."""
+    lines, wanted = as_shown(printed).splitlines(), quoted.splitlines()
+    fits = [(len(wanted), 0)] if is_whole else [(len(lines), at) for at in range(len(wanted) - len(lines) + 1)]
+    return bool(lines) and any(len(lines) == length and all(map(is_line, lines, wanted[at : at + length])) for length, at in fits)
+
+
+def as_shown(printed):
+    """An output without spaces at the end of a line."""
+    return "".join(f"{line.rstrip()}\n" for line in printed.splitlines())
+
+
+def is_line(line, wanted):
+    return line.startswith(wanted.removesuffix(CUT)) if wanted.endswith(CUT) else line == wanted
+
+
+def run(counts, name, reader, room):
+    """Runs the commands of a page in the folder home of a room, and checks each block. Returns the outputs by the quoted ones."""
+    try:
+        made = list(steps(name, (reader.pages / name).read_text(encoding="utf-8"), reader.form))
+    except Faulty as fault:
+        counts.check(f"{reader.form}: {fault}", False)
+        return {}
+    for line, out in PAGES[name].left_out.items():
+        if reader.form in out.forms:
+            print(f"not run {reader.form}: {name}: {line}: {out.why}", flush=True)
+    words = [*reader.shell, "sh", "-c", script(made, room)]
+    how = {"cwd": room / "home", "env": reader.environment, "umask": 0o022}
+    process = subprocess.Popen(words, stdin=subprocess.DEVNULL, start_new_session=True, **how)
+    try:
+        process.wait(SECONDS)
+    except subprocess.TimeoutExpired:
+        counts.check(f"{reader.form}: {name}: its commands take longer than {SECONDS} seconds", False)
+    finally:
+        end(process)
+    printed = {step.quoted: check(counts, step, room / str(number), process.returncode) for number, step in enumerate(made)}
+    return {quoted: shown for quoted, shown in printed.items() if quoted and shown}
+
+
+def end(process):
+    """Ends a shell and all that it has started."""
+    with contextlib.suppress(ProcessLookupError):
+        os.killpg(process.pid, signal.SIGKILL)
+    process.wait()
+
+
+def check(counts, step, at, status):
+    """Checks a step by its files, and returns its output."""
+    if not Path(f"{at}.out").exists():
+        counts.check(f"{step.about}: not run, since one before it failed", False)
+        return None
+    printed, said = (Path(f"{at}{ending}").read_text(errors="replace") for ending in (".out", ".err"))
+    is_done = Path(f"{at}.done").exists()
+    is_noted = step.says in said if step.says else not said
+    is_right = is_done and is_noted and (step.quoted is None or is_as_quoted(printed, step.quoted, step.is_whole))
+    ended = "" if is_done else f" ends with status {status}"
+    counts.check(f"{step.about}{ended}: {said[-SHOWN:]}\n{printed[-SHOWN:]}", is_right)
+    return as_shown(printed)
