@@ -163,6 +163,11 @@ class Facts(unittest.TestCase):
                 counted.add(line)
         self.assertGreater(len(counted), 15)
 
+    def test_the_shown_wrong_body(self):
+        text = (TOP / "docs/CONTRIBUTING.md").read_text()
+        name, path, edit = re.search(r"This is `(\w+)` of `(\S+)`:\n\n```text\n(.*?)```", text, re.DOTALL).groups()
+        self.assertIn(f"name: {name}\n{edit}", (TOP / path).read_text())
+
     def test_the_number_of_wrong_bodies(self):
         count = len(list((TOP / "crates").glob("*/must-fail/*.edit")))
         said = re.findall(r"(\d+) of `must-fail/`", "".join(map(plain, PAGES)))
