@@ -14,16 +14,29 @@ class Out(NamedTuple):
     forms: tuple = BOTH
 
 
+class Span(NamedTuple):
+    """How a command within a sentence or a table ends, and words of its notes on standard error."""
+
+    status: int = 0
+    says: str = ""
+
+
+DONE, REFUSED = Span(), Span(says="was refused")
+
+
 class Scene(NamedTuple):
     """By a text of one block: commands before and after it (`given`, `then`; `$SHOWN` is its output), and words of its notes on standard
     error (`says`). By a text of any block: the text in its place (`edits`), or why a line that begins with it isn't run (`left_out`).
-    `needs`: modules of Python, programs, and the built desk."""
+    `spans`: commands of its sentences and tables, which are run after the blocks; `for_spans`: commands before these. `needs`: modules of
+    Python, programs, and the built desk."""
 
     given: dict = {}
     then: dict = {}
     says: dict = {}
     edits: dict = {}
     left_out: dict = {}
+    spans: dict = {}
+    for_spans: str = ":"
     needs: tuple = ()
 
 
@@ -87,6 +100,11 @@ OFFICE = Scene(
             export DAY TOKEN
             """,
     },
+    spans={
+        "dam-office status office": DONE,
+        "dam-office renew office GAS": DONE,
+        "dam-office revoke office GAS": DONE,
+    },
     then={
         "dam-office demo": SAW,
         "curl -f -X PUT": 'grep -q UNIT-8 "$SHOWN" && grep -q \'"reply":"done"\' GAS.jsonl',
@@ -102,7 +120,7 @@ OFFICE = Scene(
 
 PAGES = {
     "README.md": Scene(
-        needs=SERVED,
+        needs=(*SERVED, "openpyxl", "numpy"),
         edits={"tools/office demo": DEMO, "/usr/share/doc/dam": "$PREFIX/share/doc/dam"},
         then={"tools/office demo": f'test "$(grep -c ^period "$SHOWN")" -eq 24\n{SAW}'},
         left_out={
@@ -112,9 +130,36 @@ PAGES = {
             "./dam prove && library/build && tools/package": OF_THE_PACKAGE_PART,
             "apt install ": AS_ROOT,
             "cp -r /usr/share/doc/dam/examples .": OF_A_PACKAGE,
+            "tools/audit examples/sunny-day.csv tests/cases": OF_A_CLONE,
+        },
+        for_spans="""
+            cp examples/sunny-day.csv day.csv
+            grep ,NORD, day.csv > mine.csv
+            echo submit,COAL,MORE-19,hour,sell,2000,19:500,, > more.csv
+            dam-table --template orders.xlsx
+            dam replay < day.csv > replies.txt
+            dam-receipts keys operator.pem > key.txt
+            dam-receipts seal day.csv replies.txt --day 2026-11-28 --key operator.pem
+            cp sealed/receipts/NORD.jsonl .
+            cp sealed/head.json HEAD
+            cp operator.pem.pub KEY
+            """,
+        spans={
+            "tools/audit examples/sunny-day.csv tests/cases/sunny-day.stdout": DONE,
+            "dam clear < day.csv > results.txt": DONE,
+            "dam-table --journal orders.xlsx": Span(says="has no orders"),
+            "dam-table --all day.xlsx day.csv results.txt": REFUSED,
+            "dam-lint day.csv": Span(1),
+            "dam-table --rows blocks day.csv results.txt": REFUSED,
+            "dam-whatif limit --participant COAL --all day.csv": DONE,
+            "dam-whatif change day.csv more.csv": DONE,
+            "dam-audit --best day.csv results.txt --sent mine.csv --participant NORD": DONE,
+            "dam-receipts verify NORD.jsonl --key KEY --head HEAD": DONE,
         },
     ),
     "docs/GUIDE.md": Scene(
+        edits={"/usr/share/doc/dam": "$PREFIX/share/doc/dam"},
+        left_out={"cp -r /usr/share/doc/dam/examples .": OF_A_PACKAGE},
         needs=("cryptography",),
         given={
             "GAS.jsonl": """
@@ -126,13 +171,31 @@ PAGES = {
                 """,
         },
         then={"GAS.jsonl": 'grep "^right: .*; as sent: " "$SHOWN"'},
+        for_spans="""
+            cp examples/guide/6-rescue.csv day.csv
+            cp day.csv JOURNAL
+            dam clear < JOURNAL > RESULTS
+            """,
+        spans={
+            "cp -r /usr/share/doc/dam/examples .": DONE,
+            "tools/lint day.csv": DONE,
+            "./dam replay < day.csv": DONE,
+            "tools/table --participant GAS JOURNAL RESULTS": DONE,
+            "tools/audit JOURNAL RESULTS --sent FILE --participant GAS": DONE,
+        },
     ),
     "docs/TRUST.md": Scene(
         needs=("cryptography", "numpy"),
-        left_out={"docs/draw_trust.py unit-7": OF_A_CLONE, "docs/draw_trust.py selections": OF_A_CLONE},
+        left_out={
+            "docs/draw_trust.py unit-7": OF_A_CLONE,
+            "docs/draw_trust.py selections": OF_A_CLONE,
+            "cp tests/cases/sunny-day.stdout": OF_A_CLONE,
+        },
+        for_spans="mv results.txt printed.txt",
+        spans={"cp tests/cases/sunny-day.stdout results.txt": DONE},
     ),
     "docs/AUDIT.md": Scene(
-        needs=("numpy",),
+        needs=("numpy", "cryptography"),
         given={
             "for name in": """
                 cp examples/auction-day.csv day.csv
@@ -142,6 +205,28 @@ PAGES = {
                 """,
         },
         then={"for name in": 'test "$(grep -c "^as sent: " "$SHOWN")" -eq "$(grep -c . members.txt)"'},
+        left_out={"cp tests/cases/sunny-day.stdout": OF_A_CLONE},
+        for_spans="""
+            cp examples/sunny-day.csv day.csv
+            grep ,NORD, day.csv > sent.csv
+            dam replay < day.csv > replies.txt
+            head -n 20 day.csv | dam day > day.txt
+            dam-receipts keys operator.pem > key.txt
+            dam-receipts seal day.csv replies.txt --day 2026-11-28 --key operator.pem
+            cp sealed/head.json sealed/salts.json .
+            mkdir days
+            cp day.csv days/one.csv
+            cp results.txt days/one.txt
+            """,
+        spans={
+            "cp tests/cases/sunny-day.stdout results.txt": DONE,
+            "tools/audit day.csv results.txt": DONE,
+            "tools/audit day.txt": DONE,
+            "tools/audit --replies day.csv replies.txt": DONE,
+            "tools/audit day.csv results.txt --sent sent.csv --participant NORD": DONE,
+            "tools/audit day.csv results.txt --head head.json --salts salts.json --key operator.pem.pub": DONE,
+            "tools/audit --best --days days": DONE,
+        },
     ),
     "docs/WHATIF.md": Scene(
         needs=("numpy", "matplotlib"),
@@ -161,11 +246,17 @@ PAGES = {
                 """,
             "dam-desk --journal day.desk > day.csv": "grep -q ^welfare results.txt",
         },
+        spans={"dam-desk --journal day.desk > copy.csv": DONE, "dam-desk new.desk < copy.csv": DONE},
     ),
     "docs/OFFICE.md": OFFICE,
     "docs/OPERATING.md": Scene(
         needs=("numpy", "cryptography", "man", "dpkg-deb", "xz", "flock"),
-        edits={"VERSION": "$VERSION", "/srv/dam/": "$HOME/srv/"},
+        edits={"VERSION": "$VERSION", "/srv/dam/": "$HOME/srv/", "/usr/share/doc/dam": "$PREFIX/share/doc/dam"},
+        for_spans='cd "$HOME/day"',
+        spans={
+            "cp -r /usr/share/doc/dam/examples .": DONE,
+            "dam-receipts extend sealed day.csv replies.txt --key operator.pem -o later": DONE,
+        },
         given={
             "tar -xJf": 'cp "$ARCHIVE" . && BEFORE=$PATH',
             "provenance.json": 'cp "$DEB" FILE.deb',
@@ -201,6 +292,7 @@ PAGES = {
             "dpkg-deb -x NEW.deb new": OF_A_PACKAGE,
             "apt-get install ./NEW.deb": AS_ROOT,
             "apt-get install --allow-downgrades": AS_ROOT,
+            "cp -r /usr/share/doc/dam/examples .": OF_A_PACKAGE,
         },
     ),
     "docs/USING.md": Scene(
@@ -214,8 +306,14 @@ PAGES = {
             "--template": "grep -q ^welfare results.txt && test -s day.xlsx",
             "--participant GAS": "test -s gas.html && test -s day.html",
         },
+        for_spans="cp day.csv JOURNAL && cp results.txt RESULTS",
+        spans={"tools/lint day.csv": Span(1), "tools/table --rows blocks JOURNAL RESULTS": REFUSED},
     ),
-    "docs/EXAMPLES.md": Scene(needs=("matplotlib",), then={"sunny-day.svg": "test -s sunny-day.svg"}),
+    "docs/EXAMPLES.md": Scene(
+        needs=("matplotlib",),
+        then={"sunny-day.svg": "test -s sunny-day.svg"},
+        spans={"./dam replay < examples/sunny-day.csv": DONE},
+    ),
 }
 # Pages whose commands other tests run.
 ELSEWHERE = {"docs/C.md": "tests/library/run compiles and runs the callers"}

@@ -9,10 +9,11 @@ import subprocess
 from pathlib import Path
 from typing import NamedTuple
 
+from lib.base.place import CLONED
 from lib.base.rules import VERSION
 from lib.tool import command
-from scenes import PAGES
-from shared.shown import blocks
+from scenes import INSTALLED, PAGES
+from shared.shown import blocks, spans
 
 SECONDS = 200  # that the commands of a page may take
 BROWSER = """#!/bin/sh
@@ -102,32 +103,50 @@ def edited(commands, edits):
 
 def steps(name, text, form):
     """The steps of a page. Each text of its scene has to be on the page: one that isn't there any more is a fault."""
-    scene, found = PAGES[name], blocks(text)
-    for what, texts in ("the line left out", scene.left_out), ("the edit", scene.edits):
-        for it in texts:
-            is_there = [it in block.commands if what == "the edit" else f"\n{it}" in f"\n{block.commands}" for block in found]
-            if not any(is_there):
-                raise Faulty(f"{name}: {what} {it!r} isn't in its blocks")
+    scene, found, within = PAGES[name], blocks(text), spans(text)
+    lines = [line for block in found for line in block.commands.splitlines()] + list(scene.spans)
+    for what, missing in (
+        ("the line left out", [words for words in scene.left_out if not any(line.startswith(words) for line in lines)]),
+        ("the edit", [words for words in scene.edits if not any(words in line for line in lines)]),
+        ("the command", [words for words in scene.spans if words not in within]),
+    ):
+        if missing:
+            raise Faulty(f"{name}: {what} {missing[0]!r} isn't there")
     given, then, says = (
         {place_of(found, name, key): words for key, words in texts.items()} for texts in (scene.given, scene.then, scene.says)
     )
     left_out = [line for line, out in scene.left_out.items() if form in out.forms]
     for at, block in enumerate(found):
-        commands = kept(block.commands, left_out)
-        is_whole = commands == block.commands
+        about, commands = f"{form}: {name}: {block.commands.splitlines()[0]}", kept(block.commands, left_out)
         if not any(line.strip() and not line.startswith("#") for line in commands.splitlines()):
             continue
-        if commands.startswith("#!"):
-            script = commands.splitlines()[1].split()[1]
-            commands = f"cat > {script} <<'END'\n{commands}END\n"
-        elif block.kind == "python":
-            commands = PYTHON.format(commands)
-        about = f"{form}: {name}: {block.commands.splitlines()[0]}"
         if at in given:
             yield Step(f"{about}: what it takes as given", given[at])
-        yield Step(about, edited(commands, scene.edits), block.quoted, says.get(at, ""), is_whole)
+        yield Step(about, edited(runnable(block.kind, commands), scene.edits), block.quoted, says.get(at, ""), commands == block.commands)
         if at in then:
             yield Step(f"{about}: what came of it", then[at])
+    if scene.spans:
+        yield Step(f"{form}: {name}: what its sentences and tables take as given", scene.for_spans)
+    for command, span in scene.spans.items():
+        if kept(command, left_out):
+            yield Step(f"{form}: {name}: {command}", ended(edited(as_in(form, command), scene.edits), span.status), says=span.says)
+
+
+def runnable(kind, commands):
+    """A block as commands of a shell: a script is written to the file that its second line names."""
+    if kind == "python":
+        return PYTHON.format(commands)
+    return f"cat > {commands.splitlines()[1].split()[1]} <<'END'\n{commands}END\n" if commands.startswith("#!") else commands
+
+
+def as_in(form, command):
+    """A command of a sentence: of a clone, or with the installed names in place of these."""
+    return CLONED.sub(lambda found: "dam" if found[0] == "./dam" else "dam-", command) if form == INSTALLED else command
+
+
+def ended(command, status):
+    """A command that has to end with this status."""
+    return f"STATUS=0\n{command} || STATUS=$?\ntest $STATUS -eq {status}"
 
 
 def script(made, room):
@@ -194,6 +213,6 @@ def check(counts, step, at, status):
     is_done = Path(f"{at}.done").exists()
     is_noted = step.says in said if step.says else not said
     is_right = is_done and is_noted and (step.quoted is None or is_as_quoted(printed, step.quoted, step.is_whole))
-    ended = "" if is_done else f" ends with status {status}"
-    counts.check(f"{step.about}{ended}: {said[-SHOWN:]}\n{printed[-SHOWN:]}", is_right)
+    end = "" if is_done else f" ends with status {status}"
+    counts.check(f"{step.about}{end}: {said[-SHOWN:]}\n{printed[-SHOWN:]}", is_right)
     return as_shown(printed)

@@ -1,7 +1,9 @@
-"""The blocks of a page: commands, each with the output that the page quotes."""
+"""The blocks of a page: commands, each with the output that the page quotes; and the commands within its sentences and tables."""
 
 import re
 from typing import NamedTuple
+
+from .pages import FENCE
 
 BLOCK = re.compile(r"^```(sh|python)\n(.*?)^```$(?:\n\n```text\n(.*?)^```$)?", re.MULTILINE | re.DOTALL)
 
@@ -16,6 +18,11 @@ class Block(NamedTuple):
 
 def blocks(text):
     return [Block(*found.groups()) for found in BLOCK.finditer(text)]
+
+
+def spans(text):
+    """The words that stand as code within sentences and tables."""
+    return [" ".join(found.split()) for found in re.findall(r"`([^`]+)`", FENCE.sub("", text))]
 
 
 def pairs(text):

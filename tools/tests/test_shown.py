@@ -17,7 +17,7 @@ from shared.shown import pairs
 sys.path.insert(0, str(TOP / "tests" / "commands"))
 
 import session
-from scenes import BOTH, CLONE, INSTALLED, PAGES, Out, Scene
+from scenes import BOTH, CLONE, INSTALLED, PAGES, Out, Scene, Span
 
 TRUST, GUIDE = TOP / "docs" / "TRUST.md", TOP / "docs" / "GUIDE.md"
 NUMBER = re.compile(r"(?<![\w.-])-?\d[\d,]*(?:\.\d+)?(?![\w-])")
@@ -82,6 +82,17 @@ class Scenes(unittest.TestCase):
                 self.assertEqual(self.run_page(scene, page), (0, 1))
         self.assertEqual(self.run_page(Scene(given={"echo": "false"}), right), (0, 2))
         self.assertEqual(self.run_page(Scene(then={"echo": "false"}), right), (1, 1))
+
+    def test_a_command_of_a_sentence(self):
+        page = "Run `tools/table --version`, or `cat lines`.\n"
+        for span, found in (({}, (2, 0)), ({"status": 1}, (1, 1)), ({"says": "note"}, (1, 1))):
+            with self.subTest(span):
+                self.assertEqual(self.run_page(Scene(spans={"cat lines": Span(**span)}, for_spans="echo 1 > lines"), page), found)
+        self.assertEqual(self.run_page(Scene(spans={"cat words": Span()}), page), (0, 1))
+        self.assertEqual(self.run_page(Scene(spans={"cat lines": Span()}, left_out={"cat": Out("why")}), page), (1, 0))
+        command = "echo 'test $1 = --version' > dam-table && chmod +x dam-table && PATH=.:$PATH"
+        installed = Scene(spans={"tools/table --version": Span()}, for_spans=command)
+        self.assertEqual(self.run_page(installed, page, INSTALLED), (2, 0))
 
     def test_a_line_of_which_the_beginning_is_shown(self):
         for quoted, is_same in (("one\nt [cut]\n", True), ("one\nx [cut]\n", False), ("o [cut]\n", False)):
