@@ -54,7 +54,7 @@ HEAD = """# Measured figures
 `bench/run` runs the benchmarks, and `bench/page.py` writes this page. A figure is the median of several runs, or one run of over a second;
 compared programs run alternately. `A compared with B` is A's time divided by B's, or A's rate by B's. The docstring of each part's script
 describes its method. The load is the load average of the minute before; on a busy machine, figures are unreliable. A commit `with changes`
-had changes that weren't committed.
+had changes that weren't committed. The baseline and the twin are [plain Rust programs](../crates/NOTES.md#words).
 
 A CSV file has every figure of a part, with its target; this page shows some, and the missed targets by kind.
 `grep MISSED bench/measured/*.csv` prints each.
@@ -218,6 +218,12 @@ def counted(part, date, commit, load, notes):
     return [part, f"[{len(rows)}](../bench/measured/{part}.csv)", wrong, date, commit, load.split(" ")[0] or "unknown", notes]
 
 
+def without_figures(runs):
+    """The parts that haven't been measured, in words."""
+    left = [f"`{part}`" for part in PARTS if part not in {run[0] for run in runs}]
+    return f"Parts without figures yet: {', '.join(left)}. " if left else ""
+
+
 def page():
     runs = read(KEPT / "runs.csv")
     notes = list(dict.fromkeys(note for run in runs for note in run[6].split("; ") if note))
@@ -225,7 +231,7 @@ def page():
     when = table(["Part", "Figures", "Targets missed", "Day", "Commit", "Load", "Notes"], lines)
     notes = "; ".join(f"({number}) {note}" for number, note in enumerate(notes, 1))
     machines = dict.fromkeys(f"{run[3]}, kit `{run[5]}`" for run in runs)
-    where = "".join(f"Machine: {machine}.\n" for machine in machines) + (f"Notes: {notes}.\n" if notes else "")
+    where = without_figures(runs) + "".join(f"Machine: {machine}.\n" for machine in machines) + (f"Notes: {notes}.\n" if notes else "")
     wrong = [[run[0], *each] for run in runs for each in missed(read(KEPT / f"{run[0]}.csv"))]
     wrong = table(["Part", "Missed", "How many", "Figures", "Target", "Worst"], wrong) if wrong else "None.\n"
     return "\n".join([HEAD, when, filled(where), "## Missed targets\n", wrong, *map(section, (run[0] for run in runs))])

@@ -36,6 +36,13 @@ class Measured(unittest.TestCase):
         self.assertEqual({path.stem for path in page.KEPT.iterdir()}, {*parts, "runs"})
         self.assertLessEqual(set(parts), set(page.PARTS))
 
+    def test_parts_without_figures_are_named(self):
+        text = page.PAGE.read_text(encoding="utf-8")
+        missing = [part for part in page.PARTS if not (page.KEPT / f"{part}.csv").exists()]
+        self.assertEqual(re.findall(r"Parts without figures yet: (.*?)\.", text), [", ".join(f"`{part}`" for part in missing)] if missing else [])
+        self.assertEqual(page.without_figures([[part] for part in page.PARTS]), "")
+        self.assertEqual(page.without_figures([[page.PARTS[0]]]).count("`"), 2 * len(page.PARTS[1:]))
+
     def test_figures_of_tables(self):
         self.assertEqual(
             list(page.from_tables(TABLES)),
