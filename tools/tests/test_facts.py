@@ -173,6 +173,14 @@ class Facts(unittest.TestCase):
         said = re.findall(r"(\d+) of `must-fail/`", "".join(map(plain, PAGES)))
         self.assertEqual(said, [str(count)])
 
+    def test_the_number_of_walked_books(self):
+        """Of each market, the tests draw as many books."""
+        text = (TOP / "tests" / "rattle" / "dam_search" / "src" / "counts.rt.test").read_text()
+        (books,) = re.findall(r"^const BOOKS: u64 = (\d+);$", text, re.MULTILINE)
+        markets = re.findall(r"nodes_of(?:_pieces)?\(rt\.alloc\(\), [A-Z]", text) + re.findall(r"\(Bonds::\w+, [\d_]+\)", text)
+        said = re.findall(r"few nodes of (\d+) fixed books", plain(TOP / "docs" / "TESTED.md"))
+        self.assertEqual(said, [str(int(books) * len(markets))])
+
     def test_the_lines_of_the_audit(self):
         """They are said in round numbers."""
         text, lib = plain(TOP / "docs" / "AUDIT.md"), TOP / "tools" / "lib"
