@@ -51,10 +51,11 @@ PICTURES = {
 UNITS = {"ns": 1e-9, "us": 1e-6, "ms": 1e-3}  # of a second
 HEAD = """# Measured figures
 
-`bench/run` runs the benchmarks, and `bench/page.py` writes this page. A figure is the median of several runs, or one run of over a second;
-compared programs run alternately. `A compared with B` is A's time divided by B's, or A's rate by B's. The docstring of each part's script
-describes its method. The load is the load average of the minute before; on a busy machine, figures are unreliable. A commit `with changes`
-had changes that weren't committed. The baseline and the twin are [plain Rust programs](../crates/NOTES.md#words).
+`bench/run` runs the benchmarks, and `bench/page.py` writes this page. A time is the median of several runs, or of one of over a second; an
+office's whole day is run once. Compared programs run alternately. `A compared with B` is A's time divided by B's, or A's rate by B's. The
+docstring of each part's script describes its method. The load is the load average of the minute before; on a busy machine, figures are
+unreliable. A commit `with changes` had changes that weren't committed. The baseline and the twin are [plain Rust
+programs](../crates/NOTES.md#words).
 
 A CSV file has every figure of a part, with its target; this page shows some, and the missed targets by kind.
 `grep MISSED bench/measured/*.csv` prints each.
