@@ -15,6 +15,7 @@ PAGES += sorted((TOP / "crates").glob("*/*.md"))
 FORMATS = (TOP / "docs" / "FORMATS.md").read_text()
 NUMBER = r"(-?\d[\d,]*)"
 CONSTANT = re.compile(r"^pub const (\w+): \w+ = (-?[\d_]+);$", re.MULTILINE)
+FUNCTION = re.compile(r"^\s*(?:pub(?:\(crate\))? )?(?:extern \"C\" )?fn \w+", re.MULTILINE)
 # How a limit is said, and its numbers. At the first two words of a line a comment may begin.
 LIMITS = {
     rf"{NUMBER} hourly orders and {NUMBER} blocks": (rules.MOST_HOURLY, rules.MOST_BLOCKS),
@@ -200,6 +201,18 @@ class Facts(unittest.TestCase):
         for said, count in (r"some ([\d,]+) lines of Python", lines(found)), (r"some ([\d,]+) of these", lines(files[name] for name in modules)):
             with self.subTest(said):
                 self.assertAlmostEqual(int(re.search(said, text)[1].replace(",", "")) / count, 1, delta=0.1)
+
+    def test_the_sizes_of_tests_and_proofs(self):
+        """They are said in round numbers. A function has a handwritten proof if a folder of `proofs/` has its invariants or answers."""
+        text = plain(TOP / "docs" / "THEOREM.md")
+        functions, proofs = (TOP.glob(f"crates/*/{part}") for part in ("src/**/*.rt", "proofs/**/*.antt"))
+        proved = {path.parent for path in proofs if path.stem in ("Answers", "Invariants")}
+        heads = sum(len(FUNCTION.findall(path.read_text())) for path in functions)
+        tests = sum(len(path.read_text().splitlines()) for path in (TOP / "tests" / "rattle").rglob("*.rt.test"))
+        said = re.search(r"have another ([\d,]+) lines.* Some (\d+) of ([\d,]+) functions have handwritten proofs", text)
+        for number, count in zip(map(found, said.groups()), (tests, len(proved), heads)):
+            with self.subTest(number):
+                self.assertAlmostEqual(number / count, 1, delta=0.1)
 
     def test_the_numbers_of_definitions(self):
         """They are said in round numbers."""
