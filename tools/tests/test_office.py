@@ -8,6 +8,7 @@ import errno
 import http.server
 import io
 import json
+import logging
 import os
 import random
 import re
@@ -1039,6 +1040,7 @@ class Tokens(Office):
         self.assertTrue(needed <= soft <= hard)
         unit = (TOOLS.parent / "examples" / "operating" / "dam-office.service").read_text()
         self.assertLessEqual(needed, int(re.search("^LimitNOFILE=([0-9]+)$", unit, re.MULTILINE)[1]))
+        self.assertIn("\nStartLimitIntervalSec=0\n", unit, "systemd doesn't give up: the close comes also after many failed starts")
 
     def test_files_are_the_owners_alone(self):
         before = os.umask(0o077)
@@ -1049,6 +1051,17 @@ class Tokens(Office):
         self.office.file(folder.KEY).chmod(0o644)
         with self.assertRaisesRegex(command.Stop, "can be read by others"):
             self.office.need()
+
+    def test_defects_in_a_library_are_logged_once_a_minute(self):
+        stream, now = io.StringIO(), [0.0]
+        told = observed.Defects(observed.Log(stream), lambda: now[0])
+        for seconds in range(120):
+            now[0] = float(seconds)
+            for kind in (OSError, ValueError):
+                told.emit(logging.LogRecord("aiohttp", logging.ERROR, "", 0, "a stranger's words", (), (kind, kind(), None)))
+        lines = [(made["event"], made["kind"]) for made in map(json.loads, stream.getvalue().splitlines())]
+        self.assertEqual(lines, [("defect", "OSError"), ("defect", "ValueError")] * 2)
+        self.assertNotIn("stranger", stream.getvalue())
 
     def test_guesses_are_slowed_down_and_others_are_not(self):
         now = [0.0]

@@ -7,6 +7,7 @@ import sys
 import time
 
 BOUNDS = (0.005, 0.01, 0.025, 0.05, 0.1, 0.25, 0.5, 1, 2.5, 5)  # seconds, of the buckets of a histogram
+DEFECT_SECONDS = 60  # between two lines on defects of one kind in a library
 
 
 class Log:
@@ -23,15 +24,19 @@ class Log:
 
 
 class Defects(logging.Handler):
-    """Logs what a library reports by the kind of its exception alone: its words may be a stranger's."""
+    """Logs what a library reports by the kind of its exception alone, once a minute: its words, and how many they are, may be a
+    stranger's."""
 
-    def __init__(self, log):
+    def __init__(self, log, now=time.monotonic):
         super().__init__(logging.ERROR)
-        self.log = log
+        self.log, self.now, self.told = log, now, {}  # when each kind was logged last
 
     def emit(self, record):
-        kind = record.exc_info[0] if record.exc_info else None
-        self.log.write("defect", library=record.name, kind=kind.__name__ if kind else "unknown")
+        found, now = record.exc_info[0] if record.exc_info else None, self.now()
+        kind = found.__name__ if found else "unknown"
+        if now - self.told.get(kind, -DEFECT_SECONDS) >= DEFECT_SECONDS:
+            self.told[kind] = now
+            self.log.write("defect", library=record.name, kind=kind)
 
 
 class Counts:
