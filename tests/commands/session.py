@@ -6,6 +6,7 @@ import shutil
 import signal
 import socket
 import subprocess
+import sys
 from pathlib import Path
 from typing import NamedTuple
 
@@ -186,15 +187,26 @@ def run(counts, name, reader, room):
             print(f"not run {reader.form}: {name}: {line}: {out.why}", flush=True)
     words = [*reader.shell, "sh", "-c", script(made, room)]
     how = {"cwd": room / "home", "env": reader.environment, "umask": 0o022}
-    process = subprocess.Popen(words, stdin=subprocess.DEVNULL, start_new_session=True, **how)
-    try:
-        process.wait(SECONDS)
-    except subprocess.TimeoutExpired:
-        counts.check(f"{reader.form}: {name}: its commands take longer than {SECONDS} seconds", False)
-    finally:
-        end(process)
+    with signals_end(), subprocess.Popen(words, stdin=subprocess.DEVNULL, start_new_session=True, **how) as process:
+        try:
+            process.wait(SECONDS)
+        except subprocess.TimeoutExpired:
+            counts.check(f"{reader.form}: {name}: its commands take longer than {SECONDS} seconds", False)
+        finally:
+            end(process)
     printed = {step.quoted: check(counts, step, room / str(number), process.returncode) for number, step in enumerate(made)}
     return {quoted: shown for quoted, shown in printed.items() if quoted and shown}
+
+
+@contextlib.contextmanager
+def signals_end():
+    """Signals that end the test end what it has started, too."""
+    before = {number: signal.signal(number, lambda number, _: sys.exit(128 + number)) for number in (signal.SIGHUP, signal.SIGTERM)}
+    try:
+        yield
+    finally:
+        for number, action in before.items():
+            signal.signal(number, action)
 
 
 def end(process):
