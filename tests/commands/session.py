@@ -2,7 +2,6 @@
 
 import contextlib
 import os
-import shutil
 import signal
 import socket
 import subprocess
@@ -13,7 +12,7 @@ from typing import NamedTuple
 from lib.base.place import CLONED
 from lib.base.rules import VERSION
 from lib.tool import command
-from scenes import INSTALLED, PAGES
+from scenes import CLONE, INSTALLED, PAGES
 from shared.shown import blocks, spans
 
 SECONDS = 200  # that the commands of a page may take
@@ -27,12 +26,13 @@ SHOWN = 600  # characters of an output in a message
 
 
 class Reader(NamedTuple):
-    """A reader: how it has `dam`, the folder of its pages, the words that start its shell, and its environment."""
+    """A reader: how it has `dam`, the folder of its pages, the words that start its shell, its environment, and its root folder."""
 
     form: str
     pages: Path
     shell: list
     environment: dict
+    root: Path = Path("/")
 
 
 class Step(NamedTuple):
@@ -49,13 +49,19 @@ class Faulty(Exception):
     """A scene that doesn't fit its page."""
 
 
-def environment(home, more):
+def environment(home, more, root=Path("/")):
     """The environment of a reader whose folder this is: with a port that is free, and a browser that ends what shows it a page."""
     browser = home.parent / "browser"
     browser.write_text(BROWSER)
     browser.chmod(0o755)
     kept = {name: os.environ[name] for name in ("LANG", "LC_ALL", "TZ") if name in os.environ}
-    return {**kept, "HOME": str(home), "BROWSER": f"{browser} %s", "PORT": str(free_port()), "VERSION": VERSION, **more}
+    own = {"HOME": str(inside(home, root)), "BROWSER": f"{inside(browser, root)} %s", "PORT": str(free_port()), "VERSION": VERSION}
+    return {**kept, **own, **more}
+
+
+def inside(path, root):
+    """A path as it is seen by one with this root folder."""
+    return "/" / path.relative_to(root)
 
 
 def free_port():
@@ -65,13 +71,19 @@ def free_port():
 
 
 def missing(name, reader):
-    """The programs, and modules of Python, that the commands of a page need, and that are missing."""
-    path = reader.environment["PATH"]
-    return [need for need in PAGES[name].needs if not (has(need) if need in command.PACKAGES else shutil.which(need, path=path))]
+    """The programs, and modules of Python, that the commands of a page need, and that the reader lacks."""
+    return [need for need in PAGES[name].needs if not (has_module if need in command.PACKAGES else has_program)(need, reader)]
 
 
-def has(module):
-    return command.has(module) or command.elsewhere(module)
+def has_module(name, reader):
+    if reader.form == CLONE:
+        return command.has(name) or command.elsewhere(name)
+    find = [*command.ISOLATED, "-c", f"import importlib.util, sys; sys.exit(importlib.util.find_spec({name!r}) is None)"]
+    return subprocess.run([*reader.shell, *find], env=reader.environment).returncode == 0
+
+
+def has_program(name, reader):
+    return any(os.access(reader.root / folder[1:] / name, os.X_OK) for folder in reader.environment["PATH"].split(":"))
 
 
 def place_of(found, name, text):
@@ -152,7 +164,7 @@ def ended(command, status):
 
 def script(made, room):
     """One script of all steps, which keeps their outputs, and notes each step that is done. `$SHOWN` is the output of the last one."""
-    parts = ["set -e\n"]
+    parts = [f"set -e\ncd {room / 'home'}\n"]
     for number, step in enumerate(made):
         at = room / str(number)
         parts.append(f"{{\n{step.commands}\n}} > {at}.out 2> {at}.err\nSHOWN={at}.out\n: > {at}.done\n")
@@ -185,8 +197,8 @@ def run(counts, name, reader, room):
     for line, out in PAGES[name].left_out.items():
         if reader.form in out.forms:
             print(f"not run {reader.form}: {name}: {line}: {out.why}", flush=True)
-    words = [*reader.shell, "sh", "-c", script(made, room)]
-    how = {"cwd": room / "home", "env": reader.environment, "umask": 0o022}
+    words = [*reader.shell, "sh", "-c", script(made, inside(room, reader.root))]
+    how = {"env": reader.environment, "umask": 0o022}
     with signals_end(), subprocess.Popen(words, stdin=subprocess.DEVNULL, start_new_session=True, **how) as process:
         try:
             process.wait(SECONDS)

@@ -8,6 +8,7 @@ import subprocess
 import tempfile
 from pathlib import Path
 
+import reader
 from lib.base.rules import VERSION
 
 TOP = Path(__file__).resolve().parents[2]
@@ -18,6 +19,7 @@ DAY = "/srv/day"  # in the system: the files of the day
 OF_DEBIAN = ("proc", "dev", "sys", "run", "tmp", "var/cache", "var/log", "var/lib/apt", "var/lib/dpkg/status-old", "var/lib/dpkg/triggers")
 KEPT = (DAY.removeprefix("/"), *OF_DEBIAN)
 OF_THE_REPORT, OF_THE_OFFICE = "python3-jinja2, python3-matplotlib", "python3-aiohttp, python3-cryptography"
+OF_THE_PAGES = "curl, openssl, python3-openpyxl, xz-utils"  # whose commands are run
 FOREIGN = "rt rattle cc gcc clang git"
 IN_PYTHON = """
 import dam_tools, json, sys
@@ -52,12 +54,15 @@ class System:
     def __init__(self, root):
         self.root = root
 
+    def words(self):
+        """The words that start a command in it. It gets a /proc of its own, and its processes end with it."""
+        inside = f'mount -t proc proc "$0/proc" && cd "$0" && exec {shutil.which("chroot")} "$0" "$@"'
+        return ["unshare", "--mount", "--pid", "--fork", "sh", "-c", inside, self.root]
+
     def run(self, *words, data=b""):
-        """The status, the output and the errors of a command. It gets a /proc of its own, and its processes end with it."""
-        inside = 'mount -t proc proc "$0/proc" && cd "$0" && exec chroot "$0" "$@"'
+        """The status, the output and the errors of a command."""
         clean = ["env", "-i", "PATH=/usr/bin:/usr/sbin:/bin:/sbin", f"HOME={DAY}", "LC_ALL=C.UTF-8", "DEBIAN_FRONTEND=noninteractive"]
-        line = ["unshare", "--mount", "--pid", "--fork", "sh", "-c", inside, self.root, *clean, *words]
-        ran = subprocess.run(line, input=data, capture_output=True, timeout=SECONDS)
+        ran = subprocess.run([*self.words(), *clean, *words], input=data, capture_output=True, timeout=SECONDS)
         return ran.returncode, ran.stdout, ran.stderr.decode(errors="replace")
 
     def shell(self, line):
@@ -97,6 +102,7 @@ def begin(root, name, place):
     shutil.copytree("/etc/apt", f"{root}/etc/apt", dirs_exist_ok=True)
     shutil.copytree("/usr/share/keyrings", f"{root}/usr/share/keyrings", dirs_exist_ok=True)
     shutil.copy("/etc/resolv.conf", f"{root}/etc/resolv.conf")
+    Path(root, "etc/hosts").write_text("127.0.0.1 localhost\n")
     return None
 
 
@@ -151,7 +157,7 @@ def in_c(counts, system, caller):
     counts.check(f"installed: a program in C: {error[-500:]}", status == 0 and out == RESULTS.read_bytes())
 
 
-def tests(counts, package, caller):
+def tests(counts, package, archive, caller):
     """Every test of the installed package."""
     missing = [name for name in ("debootstrap", "unshare", "chroot", "apt-get") if not shutil.which(name)]
     found = None if missing else release()
@@ -165,23 +171,24 @@ def tests(counts, package, caller):
         if wrong is not None:
             counts.leave_out(f"the package in a fresh system: debootstrap failed: {' '.join(wrong)}")
             return
-        in_system(counts, System(root), package, caller)
+        in_system(counts, System(root), package, archive, caller)
 
 
 def field(package, name):
     return subprocess.run(["dpkg-deb", "--field", package, name], stdout=subprocess.PIPE).stdout.decode().strip()
 
 
-def in_system(counts, system, package, caller):
+def in_system(counts, system, package, archive, caller):
     status, out, _ = system.shell(f"command -v {FOREIGN}")
     counts.check(f"a fresh system has none of {FOREIGN}: {out}", status != 0 and not out)
     shutil.copy(package, f"{system.root}/dam.deb")
     apt(counts, system, "update")
-    apt(counts, system, "satisfy", f"{field(package, 'Depends')}, {field(package, 'Recommends')}, {OF_THE_REPORT}, {OF_THE_OFFICE}")
+    apt(counts, system, "satisfy", f"{field(package, 'Depends')}, {field(package, 'Recommends')}, {OF_THE_REPORT}, {OF_THE_OFFICE}, {OF_THE_PAGES}")
     before = system.files()
     apt(counts, system, "install", "/dam.deb")
     day(counts, system)
     office(counts, system)
+    reader.in_system(counts, system, package, archive)
     apt(counts, system, "purge", "dam")
     left = sorted(system.files() - before)
     counts.check(f"left after the package was removed: {left[:10]}", not left)

@@ -1,5 +1,5 @@
-"""The commands of the packaged pages, as an ordinary user runs them. The package is the archive that runs in place, in a folder that this
-user can't write to."""
+"""The commands of the packaged pages, as an ordinary user runs them: of the archive that runs in place, in a folder that this user can't
+write to, or of the package that a fresh system has installed."""
 
 import os
 import pwd
@@ -8,6 +8,7 @@ import subprocess
 import sys
 import tempfile
 from pathlib import Path
+from typing import NamedTuple
 
 TOP = Path(__file__).resolve().parents[2]
 sys.path.insert(0, str(TOP / "tests" / "commands"))
@@ -16,6 +17,18 @@ import session
 from scenes import INSTALLED, PAGES
 
 USER = "nobody"  # if this isn't an ordinary user
+SYSTEM_PATH = "/usr/local/bin:/usr/bin:/bin"
+ROOM = "srv/day/reader"  # in a system
+
+
+class Place(NamedTuple):
+    """Where the package is: the folder of its files, the words that start a program there, and its environment."""
+
+    what: str
+    files: Path
+    environment: dict
+    shell: list = []
+    root: Path = Path("/")
 
 
 def tests(counts, debian, archive, program=None):
@@ -29,9 +42,25 @@ def tests(counts, debian, archive, program=None):
         at = unpacked(archive, room)
         before = state(at)
         given = {"DEB": shutil.copy(debian, room), "ARCHIVE": shutil.copy(archive, room), **({"DAM": f"{at}/{program}"} if program else {})}
+        path = f"{at / 'bin'}:{SYSTEM_PATH}"
+        own = {"PATH": path, "PREFIX": str(at), "PYTHONPATH": str(at / "lib/python3/dist-packages")}
         for name in PAGES:
-            one(counts, name, at, room, given)
+            one(counts, name, Place("in place", at, own), room, given)
         counts.check("the commands of the pages leave the package as it was", state(at) == before)
+
+
+def in_system(counts, system, debian, archive):
+    """The commands of each page, by the package that a fresh system has installed."""
+    root = Path(system.root)
+    room = root / ROOM
+    room.mkdir(parents=True)
+    given = {name: str(session.inside(Path(shutil.copy(path, room)), root)) for name, path in (("DEB", debian), ("ARCHIVE", archive))}
+    place = Place("in a fresh system", root / "usr", {"PATH": SYSTEM_PATH, "PREFIX": "/usr"}, system.words(), root)
+    before = state(root / "usr")
+    for name in PAGES:
+        one(counts, name, place, room, given)
+    counts.check("the commands of the pages leave the system as it was", state(root / "usr") == before)
+    shutil.rmtree(room)
 
 
 def unpacked(archive, room):
@@ -55,22 +84,22 @@ def as_user():
     return ["setpriv", f"--reuid={user.pw_uid}", f"--regid={user.pw_gid}", "--clear-groups", "--no-new-privs"], user.pw_uid
 
 
-def one(counts, name, at, room, given):
+def one(counts, name, place, room, given):
     """The commands of a page, in a folder of the user with a copy of the examples."""
     words, user = as_user()
     with tempfile.TemporaryDirectory(dir=room, ignore_cleanup_errors=True) as folder:
         own = Path(folder)
         home = own / "home"
-        shutil.copytree(at / "share/doc/dam/examples", home / "examples")
-        path = f"{at / 'bin'}:/usr/local/bin:/usr/bin:/bin"
-        more = {"PATH": path, "PREFIX": str(at), "PYTHONPATH": str(at / "lib/python3/dist-packages"), **given}
-        reader = session.Reader(INSTALLED, at / "share/doc/dam", words, session.environment(home, more))
+        shutil.copytree(place.files / "share/doc/dam/examples", home / "examples")
+        environment = session.environment(home, {**place.environment, **given}, place.root)
+        reader = session.Reader(INSTALLED, place.files / "share/doc/dam", [*place.shell, *words], environment, place.root)
         if missing := session.missing(name, reader):
-            counts.leave_out(f"the commands of {name}, installed: {', '.join(missing)} missing")
+            counts.leave_out(f"the commands of {name}, {place.what}: {', '.join(missing)} missing")
             return
         subprocess.run(["chmod", "-R", "u+w", home], check=True)
         if words:
             subprocess.run(["chown", "-R", str(user), own], check=True)
-        status = subprocess.run([*words, "test", "-w", at / "bin", "-o", "-w", at / "share/doc/dam"]).returncode
-        counts.check(f"{name}: the user may write to the package", status == 1)
+        prefix = place.environment["PREFIX"]
+        asked = [*reader.shell, "test", "-w", f"{prefix}/bin", "-o", "-w", f"{prefix}/share/doc/dam"]
+        counts.check(f"{name}: the user may write to the package", subprocess.run(asked).returncode == 1)
         session.run(counts, name, reader, own)
