@@ -254,7 +254,7 @@ def check_many(office, counts, most):
     while not office.is_ready() and time.monotonic() < until:
         time.sleep(0.1)
     counts.check(f"it serves after {most} connections", office.get("/days")[0] == 200)
-    counts.check("it refused some", b"connections_refused_total" in office.get("/metrics")[2])
+    counts.check("it refused some", office.measured("dam_office_connections_refused_total") > 0)
 
 
 def check_headers(office, counts):

@@ -3,6 +3,7 @@
 import asyncio
 import contextlib
 import json
+import re
 import resource
 import signal
 import subprocess
@@ -87,7 +88,7 @@ def disk(args, counts):
             while (answer := office.get(f"{path}{entered + 1}", office.bearer(who), "PUT", record % f"B-{entered}"))[0] == 200:
                 entered += 1
             counts.check(f"a full disk is answered by 503, after {entered} commands", answer[0] == 503 and 10 < entered < 200)
-            counts.check("and the ends of the desk are counted", b"dam_office_desk_ends_total" in office.get("/metrics")[2])
+            counts.check("and the ends of the desk are counted", office.measured("dam_office_desk_ends_total") > 0)
             full.unlink()
             receipt = office.client(who).enter(office.day, record % f"B-{entered}")[0]
             counts.check("with room the same command is entered once", receipt["number"] == entered + 1 == len(office.journal()))
@@ -114,10 +115,12 @@ def full_office(args, counts):
         counts.check(f"a full disk is answered by 503: {answer[2]}", answer[0] == 503)
         found = [office.get("/healthz")[0] for _ in range(40) if time.sleep(0.1) is None]
         counts.check(f"and the office is unavailable as long as the disk is full: {found}", set(found) == {503})
-        counts.check("and says so in its counts", f'ready{{day="{office.day}"}} 0'.encode() in office.get("/metrics")[2])
+        values = [office.measured(name) for name in (f'dam_office_ready{{day="{office.day}"}}', "dam_office_right")]
+        counts.check(f"and says so in its counts: {values}", values == [0, 0])
         fill(office, resource.RLIM_INFINITY)
         office.kill("desk")  # which has the limit
         counts.check("with room it is available again, without a command", until(office.is_ready))
+        counts.check("and its counts say so", until(lambda: office.measured("dam_office_right") == 1))
         fill(office, 4_096)
         said = office.folder.parent / "said"
         with said.open("wb") as stream:
@@ -374,7 +377,15 @@ def routes(args, counts):
     for periods in sorted(rules.DAYS):
         with served(args.dam, args.desk, periods=periods, day=day_of(periods)) as office:
             office.start()
+            check_alerts(office, counts)
             described.check(office, counts, periods)
+
+
+def check_alerts(office, counts):
+    """The alerts of the example ask for measures that the office has from its start: one that begins later never grows from 0."""
+    asked = set(re.findall(r"\bdam_office_\w+", (TOP / "examples" / "operating" / "alerts.yml").read_text()))
+    missing = sorted(asked - set(re.findall(r"^\w+", office.get("/metrics")[2].decode(), re.MULTILINE)))
+    counts.check(f"the office has each of {len(asked)} measures of the alerts: {missing}", len(asked) > 4 and not missing)
 
 
 def page(args, counts):

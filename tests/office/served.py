@@ -4,6 +4,7 @@ import contextlib
 import http.client
 import json
 import os
+import re
 import signal
 import socket
 import subprocess
@@ -110,6 +111,11 @@ class Served:
             raise OSError(str(fault)) from None
         finally:
             connection.close()
+
+    def measured(self, name):
+        """A value of /metrics by its name, with its labels if it has any; None without it."""
+        found = re.search(rf"^{re.escape(name)} (\S+)$", self.get("/metrics")[2].decode(), re.MULTILINE)
+        return float(found[1]) if found else None
 
     def bearer(self, who):
         return {"Authorization": f"Bearer {self.tokens[who]}", "Content-Type": "text/csv"}

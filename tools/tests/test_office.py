@@ -39,7 +39,7 @@ try:
     from lib.office import clearing, demo, folder, gate, guards, newest, observed, operate, requests, setup, tokens, web
     from lib.office import serve as serving
     from lib.office import tables as reader
-    from lib.office.desk import Desk, Ended
+    from lib.office.desk import Desk, Ended, how_ended
     from lib.office.ledger import Contradiction, Ledger
 except ImportError:  # without python3-aiohttp and the like
     aiohttp = None
@@ -646,11 +646,24 @@ class Closing(Office):
             await task
         self.assertTrue(again.is_known.is_set())
         self.assertEqual((again.fault, heads.line(again.ledger.head())), (None, given.files.read(folder.HEAD)))
-        journal_file = given.files.file(folder.JOURNAL)
-        journal_file.write_bytes(journal_file.read_bytes().replace(b"GAS,A,", b"GAS,B,"))
+        journal_file, kept = given.files.file(folder.JOURNAL), given.files.read(folder.JOURNAL)
+        journal_file.write_bytes(kept.replace(b"GAS,A,", b"GAS,B,"))
         again = self.gate()
         await again.run()
         self.assertIn("isn't of the journal", again.fault or "")
+        for damage in (None, b"", b"\xff", kept[:-3], kept + b"close,,,,,,,,\n", kept.replace(b"cancel", b"cancle")):
+            journal_file.unlink(missing_ok=True)
+            if damage is not None:
+                journal_file.write_bytes(damage)
+            again = self.gate()
+            await again.run()
+            with self.subTest(damage=damage):
+                self.assertEqual(again.fault, "journal.csv, replies.txt or head.json is missing or damaged")
+        journal_file.write_bytes(kept)
+        given.files.drop(folder.HEAD)
+        again = self.gate()
+        await again.run()
+        self.assertEqual(again.fault, "journal.csv, replies.txt or head.json is missing or damaged")
 
     async def test_a_day_whose_files_cant_be_made_isnt_right(self):
         self.make()
@@ -1207,7 +1220,8 @@ class Setup(Office):
             path.mkdir()  # which no user can read as a file
             with self.subTest(path=path.name, asked=asked[0]):
                 status, out, err = tool("office", *asked)
-                self.assertEqual((status, out), (command.NO_INPUT, b""))
+                said = f"not served, 1 participant\n{DAY}: can't be read\n".encode() if asked[0] == "status" else b""
+                self.assertEqual((status, out), (command.NO_INPUT, said))
                 self.assertIn(f"{path} can't be used: Is a directory", err)
             path.rmdir()
 
@@ -1253,6 +1267,115 @@ class Setup(Office):
             task.cancel()
             await asyncio.gather(task, return_exceptions=True)
             await served.stop()
+
+    async def looked(self):
+        """The reasons why days aren't served, after one look, and the days that are."""
+        with opener(Disk()):
+            served = serving.Office(self.office, serving.Programs("dam", "dam-desk"), observed.Log(io.StringIO()))
+            missed = served.look()
+            await served.stop()
+        return missed, list(served.gates)
+
+    async def test_a_day_with_a_damaged_file_is_named_and_the_others_are_served(self):
+        self.make()
+        later = "2026-11-30"
+        setup.make_day(self.office, folder.Terms(later, 24, FUTURE, "UTC", dict.fromkeys(NAMES, 10)))
+        files = self.office.days()[DAY]
+        for name in (folder.TERMS, folder.SALTS):
+            kept = files.read(name)
+            for damage in (b"", b"{\n", b"[]\n", b"{}\n", b"\xff", kept[:40]):
+                files.file(name).write_bytes(damage)
+                missed, served = await self.looked()
+                with self.subTest(name=name, damage=damage):
+                    self.assertEqual((list(missed), served), ([DAY], [later]))
+                    self.assertIn(f"{files.file(name)} can't be used: it isn't the ", missed[DAY])
+            files.file(name).write_bytes(kept)
+        self.assertEqual(await self.looked(), ({}, [DAY, later]))
+
+    async def test_a_day_whose_folder_cant_be_read_is_named_and_the_others_are_served(self):
+        self.make()
+        later = "2026-11-30"
+        setup.make_day(self.office, folder.Terms(later, 24, FUTURE, "UTC", dict.fromkeys(NAMES, 10)))
+        has = folder.DayFolder.has
+
+        def denied(files, name):
+            if files.path.name == DAY:
+                raise PermissionError(errno.EACCES, "Permission denied", str(files.file(name)))
+            return has(files, name)
+
+        with mock.patch.object(folder.DayFolder, "has", denied):
+            missed, served = await self.looked()
+        self.assertEqual((list(missed), served), ([DAY], [later]))
+        self.assertIn("Permission denied", missed[DAY])
+
+    def test_a_damaged_file_is_no_defect_of_the_tool(self):
+        self.addCleanup(os.umask, os.umask(0o077))
+        self.make()
+        terms, participants = self.office.days()[DAY].file(folder.TERMS), self.office.file(folder.PARTICIPANTS)
+        for path, kind in ((terms, "the terms of a day"), (participants, "the digests of the participants' tokens")):
+            kept = path.read_bytes()
+            path.write_bytes(b"{")
+            status, _, err = tool("office", "status", self.office.path, "--desk", "true")
+            path.write_bytes(kept)
+            self.assertEqual(status, command.NO_INPUT)
+            self.assertIn(f"{path} can't be used: it isn't {kind}", err)
+
+    def test_the_status_has_the_other_days_of_one_that_cant_be_read(self):
+        self.addCleanup(os.umask, os.umask(0o077))
+        self.make()
+        later = "2026-11-30"
+        setup.make_day(self.office, folder.Terms(later, 24, FUTURE, "UTC", dict.fromkeys(NAMES, 10)))
+        self.office.days()[DAY].file(folder.TERMS).write_bytes(b"{")
+        status, out, err = tool("office", "status", self.office.path, "--desk", "true")
+        self.assertEqual((status, out.decode().splitlines()[1]), (command.NO_INPUT, f"{DAY}: can't be read"))
+        self.assertTrue(out.decode().splitlines()[2].startswith(f"{later}: open, 0 entries"))
+        self.assertIn(f"{DAY}: ", err)
+        status, out, _ = tool("office", "status", self.office.path, "--desk", "true", "--json")
+        made = json.loads(out)
+        self.assertEqual((status, made["status"], [one["day"] for one in made["days"]]), (command.NO_INPUT,) * 2 + ([DAY, later],))
+        self.assertIn("terms.json can't be used", made["days"][0]["fault"])
+
+    def test_what_root_makes_is_the_owners(self):
+        self.make()
+        later = "2026-11-30"
+        with mock.patch.object(os, "geteuid", return_value=0), mock.patch.object(os, "chown") as chown:
+            setup.make_day(self.office, folder.Terms(later, 24, FUTURE, "UTC", dict.fromkeys(NAMES, 10)))
+            with self.office.held():
+                pass
+            tokens.Register(self.office.file(folder.PARTICIPANTS)).add(["GAS"])
+        owner = os.stat(self.office.path)
+        self.assertEqual({call.args[1:] for call in chown.call_args_list}, {(owner.st_uid, owner.st_gid)})
+        given = [call.args[0] for call in chown.call_args_list]
+        made, locks = [Path(path) for path in given if not isinstance(path, int)], [path for path in given if isinstance(path, int)]
+        self.assertEqual(sorted(path.name.partition("-")[0] for path in made), [".new", folder.SALTS, folder.TERMS])
+        self.assertEqual(len(locks), 2)  # of the office, and of its participants
+
+    def test_a_program_that_cant_be_run_is_seen_at_the_start(self):
+        for dam, desk, missing in (("/nowhere/dam", "true", "dam"), ("true", "/nowhere/desk", "dam-desk"), ("true", __file__, "dam-desk")):
+            with self.subTest(dam=dam, desk=desk), self.assertRaisesRegex(command.Stop, f"the program {missing} can't be run: ") as caught:
+                serving.programs(dam, desk)
+            self.assertEqual(caught.exception.status, command.FAILED)
+        self.assertEqual(serving.programs("true", "false"), ("true", "false"))
+
+    def test_how_a_program_ended(self):
+        self.assertEqual(how_ended(4), "ended with status 4")
+        self.assertEqual(how_ended(-9), "was ended by signal 9")
+
+    def test_a_close_after_the_day_has_begun_is_noted(self):
+        for close, is_late in (("23:59", False), ("2026-11-28T23:59", False), ("2026-11-29T00:00", True), ("2026-12-03T12:00", True)):
+            with self.subTest(close=close):
+                self.assertEqual(setup.closes_late(self.terms(day="2026-11-29", close=close)), is_late)
+        self.participants("participant\nGAS\n")
+        words = ["--day", "2099-11-28", "--close", "2099-11-28T12:00", "--participants", self.office.path.parent / "p.csv"]
+        status, _, err = tool("office", "init", self.office.path, *words)
+        self.assertEqual(status, 0)
+        self.assertIn("note: 2099-11-28 closes after it has begun", err)
+
+    def test_a_day_that_was_closed_early_doesnt_close_later(self):
+        days = [{"day": DAY, "state": state, "entries": 1, "closes": "T"} for state in (folder.OPEN, folder.CLOSED, folder.PUBLISHED)]
+        found = {"served": True, "participants": 1, "revoked": [], "days": days}
+        lines = list(operate.status_lines(found))[1:]
+        self.assertEqual(lines, [f"{DAY}: open, 1 entry, closes T", f"{DAY}: closed, 1 entry", f"{DAY}: published, 1 entry"])
 
 
 if __name__ == "__main__":

@@ -14,6 +14,7 @@ from ..base import place, replacing
 from ..results import decisions
 from ..seal import heads
 from . import folder
+from .desk import how_ended
 from .ledger import Contradiction
 
 FIRST_PAUSE, LONGEST_PAUSE = 1.0, 60.0  # seconds before a step that failed is tried again
@@ -114,11 +115,15 @@ def guarded(row):
 
 def load(files, ledger):
     """The ledger, with the journal of a day that is published, which has to be that of its head."""
-    records = files.read(folder.JOURNAL).decode("ascii").splitlines()[1:]
-    replies = [line.partition(",")[2] for line in files.read(folder.REPLIES).decode("ascii").splitlines()[1:]]
-    ledger.take(records, replies)
-    if heads.line(ledger.head()) != files.read(folder.HEAD):
-        raise Contradiction("the published head isn't of the journal next to it")
+    try:
+        records = files.read(folder.JOURNAL).decode("ascii").splitlines()[1:]
+        replies = [line.partition(",")[2] for line in files.read(folder.REPLIES).decode("ascii").splitlines()[1:]]
+        ledger.take(records, replies)
+        head = files.read(folder.HEAD)
+    except (FileNotFoundError, ValueError, Contradiction):
+        raise Contradiction(f"{folder.JOURNAL}, {folder.REPLIES} or {folder.HEAD} is missing or damaged") from None
+    if heads.line(ledger.head()) != head:
+        raise Contradiction("the published head isn't of the journal next to it, or isn't of this key")
     return ledger
 
 
@@ -178,5 +183,5 @@ async def output(*words, data=b"", seconds=MOST_SECONDS):
             await process.wait()
     if process.returncode:
         said = err[:MOST_FAULT].decode(errors="replace").strip()
-        raise Failed(f"{os.path.basename(words[0])} ended with status {process.returncode}: {said}")
+        raise Failed(f"{os.path.basename(words[0])} {how_ended(process.returncode)}: {said}")
     return out

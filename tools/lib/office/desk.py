@@ -32,8 +32,13 @@ async def shown(program, path):
     )
     out, err = await process.communicate()
     if process.returncode:
-        raise Ended(f"the desk can't show its journal: status {process.returncode}, {said(err)}")
+        raise Ended(f"the desk can't show its journal: it {how_ended(process.returncode)}: {said(err)}")
     return out.decode("ascii").splitlines()
+
+
+def how_ended(status):
+    """How a program ended: with a status, or by a signal."""
+    return f"ended with status {status}" if status >= 0 else f"was ended by signal {-status}"
 
 
 def said(err):
@@ -95,7 +100,7 @@ class Desk:
         err = await self.process.stderr.read(MOST_FAULT)
         status = await self.process.wait()
         kind = Locked if LOCKED in err else Ended
-        return kind(f"the desk ended with status {status}: {said(err)}")
+        return kind(f"the desk {how_ended(status)}: {said(err)}")
 
     def reply_of(self, line):
         """The reply to the next entry, from its line."""

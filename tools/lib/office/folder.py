@@ -69,6 +69,23 @@ def sync(folder):
         os.close(number)
 
 
+def give(made, path):
+    """Gives a file that was made, by its path or its number, the owner of the office's folder: root may run a command on the office of a
+    user, which has to read it."""
+    if os.geteuid() == 0:
+        owner = os.stat(path)
+        os.chown(made, owner.st_uid, owner.st_gid)
+
+
+@contextlib.contextmanager
+def sound(path, kind):
+    """Ends what reads a file of the office with a fault that names it, if it is damaged."""
+    try:
+        yield
+    except (ValueError, TypeError, KeyError, heads.Wrong):
+        raise command.Stop(f"{command.shown(path)} can't be used: it isn't {kind}") from None
+
+
 def as_json(value):
     return json.dumps(value, indent=1).encode() + b"\n"
 
@@ -99,10 +116,12 @@ class DayFolder:
             os.fsync(file.fileno())
 
     def terms(self):
-        return terms_read(self.read(TERMS))
+        with sound(self.file(TERMS), "the terms of a day"):
+            return terms_read(self.read(TERMS))
 
     def salts(self):
-        return heads.parsed(self.read(SALTS), heads.salts_read)[0]
+        with sound(self.file(SALTS), "the salts of a day"):
+            return heads.parsed(self.read(SALTS), heads.salts_read)[0]
 
 
 class Folder:
@@ -150,6 +169,7 @@ class Folder:
         """Holds the office: one process at a time serves it. A process that ends lets go of it."""
         number = os.open(self.file(LOCK), os.O_RDWR | os.O_CREAT | os.O_CLOEXEC, 0o600)
         try:
+            give(number, self.path)
             fcntl.flock(number, fcntl.LOCK_EX | fcntl.LOCK_NB)
             yield
         except BlockingIOError:

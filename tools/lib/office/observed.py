@@ -6,6 +6,10 @@ import logging
 import sys
 import time
 
+COUNTERS = (  # 0 at first: an alert sees the first one only if 0 came before
+    *("batches_total", "desk_ends_total", "entries_total", "publish_faults_total", "wrong_tokens_total"),
+    *("connections_late_total", "connections_malformed_total", "connections_refused_total"),
+)
 BOUNDS = (0.005, 0.01, 0.025, 0.05, 0.1, 0.25, 0.5, 1, 2.5, 5)  # seconds, of the buckets of a histogram
 DEFECT_SECONDS = 60  # between two lines on defects of one kind in a library
 
@@ -43,7 +47,7 @@ class Counts:
     """Counters, by a name and one label, and the histogram of the time from a command's arrival to its acknowledgement."""
 
     def __init__(self):
-        self.counters = {}
+        self.counters = {(name, ""): 0 for name in COUNTERS}
         self.buckets, self.sum, self.count = [0] * len(BOUNDS), 0.0, 0
 
     def add(self, name, label="", by=1):

@@ -45,11 +45,19 @@ def state_of(files, desk, is_served=False):
     }
 
 
+def shown_of(name, files, desk, is_served):
+    """A day in a record; the fault alone, if its files can't be read."""
+    try:
+        return state_of(files, desk, is_served)
+    except (OSError, command.Stop) as fault:
+        return {"day": name, "fault": command.end_of(fault)[1]}
+
+
 def status(office, desk):
     """The days of an office, and whether it is served."""
     register = tokens.Register(office.file(folder.PARTICIPANTS))
     is_served = office.is_served()
-    days = [state_of(files, desk, is_served) for files in office.days().values()]
+    days = [shown_of(name, files, desk, is_served) for name, files in office.days().items()]
     return {"served": is_served, "participants": len(register.names()), "revoked": register.revoked(), "days": days}
 
 
@@ -58,7 +66,11 @@ def status_lines(found):
     if found["revoked"]:
         yield f"revoked: {', '.join(found['revoked'])}"
     for day in found["days"]:
-        yield f"{day['day']}: {day['state']}, {text.counted(day['entries'], 'entry', 'entries')}, closes {day['closes']}"
+        if "fault" in day:
+            yield f"{day['day']}: can't be read"
+            continue
+        closes = f", closes {day['closes']}" if day["state"] in (folder.OPEN, folder.CLOSING, folder.STOPPED) else ""
+        yield f"{day['day']}: {day['state']}, {text.counted(day['entries'], 'entry', 'entries')}{closes}"
 
 
 def request(files, name):

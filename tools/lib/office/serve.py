@@ -47,19 +47,42 @@ def compiled(crate):
     return ran.stdout.removesuffix("\n")
 
 
-def programs(dam=None, desk=None, may_compile=False):
-    """The programs that an office runs: those that are named, or else the package's, the clone's or the system's; or, if they may be
-    compiled, the clone's without proofs."""
+def runnable(path, name, option):
+    """The path of a program that can be run: one that can't ends the office now, not at the close."""
+    if path is None:
+        raise command.Stop(f"the program {name} is missing: `./dam prove` builds it, or name it with {option}", command.FAILED)
+    if shutil.which(path) is None:
+        raise command.Stop(f"the program {name} can't be run: {command.shown(path)}", command.FAILED)
+    return os.path.abspath(path) if os.sep in str(path) else path
+
+
+def dam_program(named=None, may_compile=False):
+    """The program dam: the one that is named, or else the package's, the clone's or the system's; or, if it may be compiled, the clone's
+    without proofs."""
     found = engine.built()
-    dam = dam or os.environ.get("DAM") or (found.path if found else None) or (compiled("dam_cli") if may_compile else None)
-    if dam is None:
-        raise command.Stop("the program dam is missing: build it, or name it with --dam", command.FAILED)
+    path = named or os.environ.get("DAM") or (found.path if found else None) or (compiled("dam_cli") if may_compile else None)
+    return runnable(path, "dam", "--dam")
+
+
+def desk_program(named=None, may_compile=False):
+    """The program dam-desk, found the same way."""
     here = DESK_BUILT if os.access(DESK_BUILT, os.X_OK) else None
-    desk = desk or os.environ.get("DAM_DESK") or engine.packaged("bin", "dam-desk") or here or shutil.which("dam-desk")
-    desk = desk or (compiled("dam_desk") if may_compile else None)
-    if desk is None:
-        raise command.Stop("the program dam-desk is missing: build it, or name it with --desk", command.FAILED)
-    return Programs(*(os.path.abspath(path) if os.sep in str(path) else path for path in (dam, desk)))
+    path = named or os.environ.get("DAM_DESK") or engine.packaged("bin", "dam-desk") or here or shutil.which("dam-desk")
+    return runnable(path or (compiled("dam_desk") if may_compile else None), "dam-desk", "--desk")
+
+
+def programs(dam=None, desk=None, may_compile=False):
+    """The programs that an office runs."""
+    return Programs(dam_program(dam, may_compile), desk_program(desk, may_compile))
+
+
+@contextlib.contextmanager
+def missing(name, missed):
+    """Notes why a day can't be served, and lets the others go on."""
+    try:
+        yield
+    except (OSError, command.Stop) as fault:
+        missed[name] = str(fault)
 
 
 class Office:
@@ -76,14 +99,15 @@ class Office:
 
     def look(self):
         """Takes up the days that aren't yet; those that are open come first. Returns the faults of those that can't be."""
-        missed = {}
-        new = [(files.has(folder.STATEMENT), name, files) for name, files in self.files.days().items() if name not in self.gates]
+        missed, new = {}, []
+        for name, files in self.files.days().items():
+            with missing(name, missed):
+                if name not in self.gates:
+                    new.append((files.has(folder.STATEMENT), name, files))
         for _, name, files in sorted(new, key=lambda one: one[:2]):
-            try:
+            with missing(name, missed):
                 self.gates[name] = Gate(files, self.key, self.programs, self.clock, self.log, self.counts)
                 self.tasks.append(asyncio.create_task(self.gates[name].run()))
-            except OSError as fault:
-                missed[name] = str(fault)
         return missed
 
     def note(self, missed):

@@ -65,6 +65,11 @@ def terms_of(args, shares, now=None):
     return folder.Terms(args.day, args.periods, closes, args.zone, shares)
 
 
+def closes_late(terms):
+    """Whether a day closes after its first period has begun, which may be a slip."""
+    return terms.closes.astimezone(zoneinfo.ZoneInfo(terms.zone)).date() >= day_of(terms.day)
+
+
 def participants_read(path):
     """The participants of a table with the column participant, and how many commands each may enter, if a column commands says it."""
     try:
@@ -122,6 +127,8 @@ def make_day(office, terms):
         files = folder.DayFolder(made)
         folder.put(files.file(folder.SALTS), heads.line(sealing.new_salts(terms.day)))
         folder.put(files.file(folder.TERMS), folder.as_json(terms.value()))
+        for path in (files.file(folder.SALTS), files.file(folder.TERMS), made):
+            folder.give(path, office.path)
         os.rename(made, days / terms.day)
         folder.sync(days)
     finally:

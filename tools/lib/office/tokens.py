@@ -33,7 +33,8 @@ class Register:
         found = self.path.stat()
         state = found.st_mtime_ns, found.st_ino, found.st_size
         if state != self.seen:
-            self.digests, self.seen = dict(json.loads(self.path.read_bytes())), state
+            with folder.sound(self.path, "the digests of the participants' tokens"):
+                self.digests, self.seen = dict(json.loads(self.path.read_bytes())), state
 
     def knows(self, who, token):
         """Whether a token is the participant's. The comparison takes the same time for every token, and for a name that isn't known."""
@@ -72,6 +73,7 @@ class Register:
         is lost; the lock ends with the process."""
         lock = os.open(f"{self.path}.lock", os.O_RDWR | os.O_CREAT, 0o600)
         try:
+            folder.give(lock, self.path.parent)
             fcntl.flock(lock, fcntl.LOCK_EX)
             self.seen = None  # a change within the resolution of the file's time is seen too
             self.read()

@@ -409,7 +409,7 @@ class Web:
 
     async def metrics(self, request):
         self.charge_days(request)
-        gauges = []
+        gauges = [("right", int(self.office.is_right))]
         for name, gate in self.office.gates.items():
             label = f'{{day="{name}"}}'
             gauges += [(f"entries{label}", gate.ledger.size), (f"waiting{label}", len(gate.waiting))]
