@@ -278,18 +278,20 @@ class Crashes(Office):
         disk = Disk()
 
         def unreadable():
-            raise OSError(errno.EMFILE, "too many open files")
+            raise faults.pop()
 
+        faults = [command.Stop("damaged"), OSError(errno.EMFILE, "too many open files")]
         with opener(disk):
             given = self.gate()
             task = asyncio.create_task(given.run())
             await given.is_ready.wait()
-            waiting = given.submit("GAS", 1, commands("cancel,GAS,A,,,,,,"), unreadable)
+            waiting = [given.submit(who, 1, commands(f"cancel,{who},A,,,,,,"), unreadable) for who in ("GAS", "LONGNAME")]
             behind = given.submit("A", 1, commands("cancel,A,A,,,,,,"))
             given.close()
-            with self.assertRaises(gate.Refused) as caught:
-                await waiting
-            self.assertEqual((caught.exception.fault, await behind), ("Unavailable", [1]))
+            for one in waiting:
+                with self.assertRaises(gate.Refused) as caught:
+                    await one
+                self.assertEqual((caught.exception.fault, await behind), ("Unavailable", [1]))
             await task
         self.assertEqual((disk.records, given.fault), (["cancel,A,A,,,,,,", "close,,,,,,,,"], None))
 
@@ -1307,6 +1309,36 @@ class Setup(Office):
             missed, served = await self.looked()
         self.assertEqual((list(missed), served), ([DAY], [later]))
         self.assertIn("Permission denied", missed[DAY])
+
+    async def test_damaged_tokens_are_named_and_no_defect_of_a_request(self):
+        self.make()
+        path, log = self.office.file(folder.PARTICIPANTS), io.StringIO()
+        token = tokens.Register(path).add(["GAS"])["GAS"]
+        kept = path.read_bytes()
+        asked = mock.Mock(match_info={"who": "GAS"}, headers={"Authorization": f"Bearer {token}"}, remote="127.0.0.1")
+        with opener(Disk()), mock.patch.object(serving, "LOOK_SECONDS", 0.001):
+            served = serving.Office(self.office, serving.Programs("dam", "dam-desk"), observed.Log(log))
+            answers = web.Web(served, False, False)
+            task = asyncio.create_task(served.run())
+            await self.until(lambda: DAY in served.gates and served.gates[DAY].is_ready.is_set() and served.is_right)
+            self.assertEqual(answers.participant(asked), "GAS")
+            for damage in (b"{", b"[1]", None):
+                path.unlink(missing_ok=True)
+                if damage is not None:
+                    path.write_bytes(damage)
+                with self.subTest(damage=damage), self.assertRaises(gate.Refused) as caught:
+                    answers.participant(asked)
+                self.assertEqual(caught.exception.fault, "Unavailable")
+                await self.until(lambda: not served.is_right)
+                said = json.loads(log.getvalue().splitlines()[-1])
+                self.assertEqual((said["event"], said["day"]), ("not served", None))
+                self.assertIn(str(path), said["fault"])
+                path.write_bytes(kept)
+                await self.until(lambda: served.is_right)
+                self.assertEqual(answers.participant(asked), "GAS")
+            task.cancel()
+            await asyncio.gather(task, return_exceptions=True)
+            await served.stop()
 
     def test_a_damaged_file_is_no_defect_of_the_tool(self):
         self.addCleanup(os.umask, os.umask(0o077))

@@ -22,6 +22,7 @@ STOPPED_DAY = "stopped"  # why the office that is served has stopped the day
 OPEN, CLOSING, CLOSED, RESULTS_THERE, PUBLISHED = "open", "closing", "closed", "results", "published"  # the states of a day
 STOPPED = "stopped"  # a state that only an office in service knows
 MOST_COMMANDS = rules.MOST_RECORDS - 2  # of all participants: the day and the close are records too
+UNREADABLE = (OSError, command.Stop)  # by a file that is missing, damaged or another user's
 PRIVATE = 0o077  # the bits of a mode that no file of an office has
 ROOM = 1 << 17  # bytes: more than the desk writes at once
 

@@ -346,8 +346,13 @@ def token_fault(one):
     """The fault of a request whose token isn't its participant's now; None if it is."""
     try:
         return None if one.is_right() else Refused("Token", "the token isn't of this participant any more")
-    except OSError:  # the file of the tokens can't be read: the requests behind this one, and the close, mustn't be lost
-        return Refused("Unavailable", "the office can't read its tokens: send the same command again", seconds=1)
+    except folder.UNREADABLE:  # the requests behind this one, and the close, mustn't be lost
+        return without_tokens()
+
+
+def without_tokens():
+    """The fault of a request while the file of the tokens can't be read."""
+    return Refused("Unavailable", "the office can't read its tokens: send the same command again", seconds=1)
 
 
 def fail(done, fault):

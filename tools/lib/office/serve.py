@@ -78,10 +78,10 @@ def programs(dam=None, desk=None, may_compile=False):
 
 @contextlib.contextmanager
 def missing(name, missed):
-    """Notes why a day can't be served, and lets the others go on."""
+    """Notes why a day can't be served, or all can't, and lets the others go on."""
     try:
         yield
-    except (OSError, command.Stop) as fault:
+    except folder.UNREADABLE as fault:
         missed[name] = str(fault)
 
 
@@ -95,11 +95,13 @@ class Office:
         self.register = tokens.Register(files.file(folder.PARTICIPANTS))
         self.register.read()
         self.gates, self.tasks = {}, []
-        self.missed = {}  # by the name of a day, why it isn't served; by None, why the days aren't known
+        self.missed = {}  # by the name of a day, why it isn't served; by None, why the days or the tokens aren't known
 
     def look(self):
         """Takes up the days that aren't yet; those that are open come first. Returns the faults of those that can't be."""
         missed, new = {}, []
+        with missing(None, missed):
+            self.register.read()
         for name, files in self.files.days().items():
             with missing(name, missed):
                 if name not in self.gates:

@@ -17,7 +17,7 @@ from ..journal import book
 from ..report import style
 from ..seal import heads
 from . import folder, requests, tables
-from .gate import STOPPED_WORDS, Refused
+from .gate import STOPPED_WORDS, Refused, without_tokens
 from .guards import Buckets
 
 MOST_BODY = 1 << 20  # bytes
@@ -197,7 +197,11 @@ class Web:
     def participant(self, request):
         """The participant whose token the request has, and whose name its path has; all others are refused alike."""
         who = request.match_info["who"]
-        if not self.is_right(request):
+        try:
+            is_right = self.is_right(request)
+        except folder.UNREADABLE:
+            raise without_tokens() from None
+        if not is_right:
             self.counts.add("wrong_tokens_total")
             if not self.behind_proxy and (seconds := self.guesses.take(request.remote)):
                 request.protocol.is_deaf = True
