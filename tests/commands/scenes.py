@@ -25,10 +25,10 @@ DONE, REFUSED = Span(), Span(says="was refused")
 
 
 class Scene(NamedTuple):
-    """By a text of one block: commands before and after it (`given`, `then`; `$SHOWN` is its output), and words of its notes on standard
-    error (`says`). By a text of any block: the text in its place (`edits`), or why a line that begins with it isn't run (`left_out`).
-    `spans`: commands of its sentences and tables, which are run after the blocks; `for_spans`: commands before these. `needs`: modules of
-    Python, programs, and the built desk."""
+    """By a text of one block: commands before and after it (`given`, `then`; `$SHOWN` is its output, `$PAGE` the page), and words of its
+    notes on standard error (`says`). By a text of any block: the text in its place (`edits`), or why a line that begins with it isn't run
+    (`left_out`). `spans`: commands of its sentences and tables, which are run after the blocks; `for_spans`: commands before these.
+    `needs`: modules of Python, programs, and the built desk."""
 
     given: dict = {}
     then: dict = {}
@@ -204,7 +204,19 @@ PAGES = {
                 while read -r name; do grep ",$name," day.csv > "sent/$name.csv"; done < members.txt
                 """,
         },
-        then={"for name in": 'test "$(grep -c "^as sent: " "$SHOWN")" -eq "$(grep -c . members.txt)"'},
+        then={
+            # the order of a fictitious name, and the two prices that it leads from and to
+            "echo $?": """
+                GHOST=$(grep -o 'submit,FAKE,[^`]*' "$PAGE")
+                sed "s/^close/$GHOST\\n&/" examples/sunny-day.csv > ghost.csv
+                dam clear < ghost.csv > ghost.txt
+                grep -q '^period,20,19800,' results.txt
+                grep -q '^period,20,10400,' ghost.txt
+                grep -q '198.00 to 104.00 EUR/MWh' "$PAGE"
+                dam-audit ghost.csv ghost.txt
+                """,
+            "for name in": 'test "$(grep -c "^as sent: " "$SHOWN")" -eq "$(grep -c . members.txt)"',
+        },
         left_out={"cp tests/cases/sunny-day.stdout": OF_A_CLONE},
         for_spans="""
             cp examples/sunny-day.csv day.csv

@@ -198,7 +198,8 @@ def run(counts, name, reader, room):
         if reader.form in out.forms:
             print(f"not run {reader.form}: {name}: {line}: {out.why}", flush=True)
     words = [*reader.shell, "sh", "-c", script(made, inside(room, reader.root))]
-    how = {"env": reader.environment, "umask": 0o022}
+    page = str(inside(reader.pages / name, reader.root))
+    how = {"env": {**reader.environment, "PAGE": page}, "umask": 0o022}
     with signals_end(), subprocess.Popen(words, stdin=subprocess.DEVNULL, start_new_session=True, **how) as process:
         try:
             process.wait(SECONDS)
