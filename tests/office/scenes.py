@@ -200,6 +200,26 @@ def rolled_back(args, counts):
         signed.unlink()
         office.start()
         counts.check("and without the head's file a shorter journal is served", len(office.client(who).commands(office.day)) == 1)
+    restored(args, counts)
+
+
+def restored(args, counts):
+    """A day whose last entries are on no disk any more: receipts have them, and a desk's file of their records gives the same receipts."""
+    with served(args.dam, args.desk) as office:
+        office.start()
+        entered = [(who, office.client(who).enter(office.day, f"cancel,{who},{name},,,,,,")[0]) for name in "AB" for who in office.who]
+        path, head = f"/days/{office.day}/commands", office.get(f"/days/{office.day}/head")[2]
+        office.kill("office", "desk")
+        backup = [f"day,{office.periods},,,,,,,", *office.journal()[:2]]
+        after = sorted((receipt for _, receipt in entered if receipt["number"] > 2), key=lambda receipt: receipt["number"])
+        for name in ("desk", "desk-wal", "signed-head.json"):
+            (office.files / name).unlink()
+        records = "".join(f"{record}\n" for record in [*backup, *(receipt["record"] for receipt in after)])
+        subprocess.run([args.desk, office.files / "desk"], input=records.encode(), capture_output=True, check=True)
+        office.start()
+        again = [(who, json.loads(office.get(f"{path}/{who}/{number}", office.bearer(who))[2])) for number in (1, 2) for who in office.who]
+        counts.check("a day that was restored from receipts gives the same ones", again == entered)
+        counts.check("and has the same head", office.get(f"/days/{office.day}/head")[2] == head)
 
 
 def kills(args, counts):

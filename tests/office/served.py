@@ -46,6 +46,7 @@ class Served:
     def __init__(self, dam, desk, count=3, periods=24, words=(), day=DAY):
         self.room = tempfile.TemporaryDirectory(ignore_cleanup_errors=True)
         self.folder, self.port, self.words, self.day = Path(self.room.name, "office"), free_port(), list(words), day
+        self.periods = periods
         self.environment = {**os.environ, "DAM": str(dam), "DAM_DESK": str(desk)}
         self.who = names(count)
         table = Path(self.room.name, "p.csv")
