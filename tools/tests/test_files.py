@@ -77,6 +77,14 @@ class Files(unittest.TestCase):
         self.assertEqual(out.read_text(), "old")
         self.assertEqual(sorted(path.name for path in self.folder.iterdir()), ["a.csv", "day.csv", "results.txt"])
 
+    @unittest.skipUnless(command.has("openpyxl"), "openpyxl is missing (Debian's python3-openpyxl)")
+    def test_a_workbook_whose_temporary_files_cant_be_written(self):
+        small = {"preexec_fn": lambda: resource.setrlimit(resource.RLIMIT_FSIZE, (1_000, 1_000))}
+        for words in (["--all", self.folder / "a.xlsx", self.journal, self.results], ["--template", self.folder / "a.xlsx"]):
+            ran = subprocess.run([sys.executable, TOOLS / "table", "--quiet", *words], capture_output=True, text=True, **small)
+            self.assertEqual(ran.returncode, command.NO_INPUT, ran.stderr)
+            self.assertTrue(ran.stderr.endswith(": File too large\n"), ran.stderr)
+
     def test_an_old_file_that_cant_be_replaced_stays_on_a_full_disk(self):
         out, old = self.folder / "a.csv", b"old" * 100
         out.write_bytes(old)

@@ -1,5 +1,6 @@
 """Nothing of the working folder and little of the environment reaches the tools: no module, no settings, no other library for pictures."""
 
+import errno
 import os
 import subprocess
 import sys
@@ -73,6 +74,15 @@ class Isolation(unittest.TestCase):
         os.mkfifo(settings)  # nobody writes to it
         self.assertEqual(self.ran("plot", *texts), (0, right, b""))
         self.assertEqual([path.name for path in self.folder.iterdir() if path.suffix != ".py"], ["matplotlibrc"])
+
+    @unittest.skipUnless(command.has("matplotlib"), "matplotlib is missing (Debian's python3-matplotlib)")
+    def test_pictures_without_a_folder_for_temporary_files(self):
+        from lib.pictures import drawing
+
+        environment, fault = dict(os.environ), FileNotFoundError(errno.ENOENT, "No usable temporary directory found")
+        with mock.patch.object(tempfile, "TemporaryDirectory", side_effect=fault), self.assertRaises(FileNotFoundError), drawing.apart():
+            pass
+        self.assertEqual(dict(os.environ), environment)
 
     def test_debians_python_is_asked_apart(self):
         """A Python that lacks packages asks Debian's for them; neither looks into the working folder."""

@@ -1,6 +1,7 @@
 """What if: worst limits, further commands, and comparisons of two days; with the built program, or one that answers by the rules."""
 
 import csv
+import errno
 import io
 import itertools
 import json
@@ -451,6 +452,19 @@ class Tools(unittest.TestCase):
         self.program = self.script("fails", "echo memory >&2; exit 4")
         for words in (["--order", "UNIT"], ["--all"]):
             self.assertEqual(self.whatif("limit", self.journal, "--participant", "GEN", *words), (3, b"", "whatif: memory\n"))
+
+    def test_a_program_that_cant_be_started(self):
+        """It isn't a fault of a file if memory or open files run out."""
+        table = f"scenario,{','.join(tables.ORDER)}\nas it was{',' * len(tables.ORDER)}\n".encode()
+        runs = [
+            (["limit", self.journal, "--participant", "GEN", "--order", "UNIT"], b"", ""),
+            (["scenarios", self.journal, "-"], table, "the day as it was: "),
+        ]
+        for number, status in ((errno.EMFILE, command.FAILED), (errno.ENOMEM, command.FAILED), (errno.EACCES, command.NO_INPUT)):
+            with unittest.mock.patch.object(subprocess, "Popen", side_effect=OSError(number, os.strerror(number))):
+                for words, data, before in runs:
+                    said = f"whatif: {before}{self.program} can't be run: {os.strerror(number)}\n"
+                    self.assertEqual(self.whatif(*words, data=data), (status, b"", said))
 
     def test_a_program_that_prints_something_else(self):
         limit, more = ["limit", self.journal, "--participant", "GEN"], TABLE + b"cancel,GEN,UNIT,,,,,\n"

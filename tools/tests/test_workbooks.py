@@ -117,7 +117,7 @@ class Faults(Read):
             (b"a\n" + (b"b," * 16_000 + b"\n") * 20, None, [(1, ["a"]), *((2 + at, ["b"] * 16_000) for at in range(20))]),
             (b"a\n" + (b"b," * 16_000 + b"\n") * 20, 99, f"line 20: the table has more than 300,000 cells {UP}"),
             (b"a\n" + (b"," * 20_000 + b"\n") * 16, 99, [(1, ["a"])]),
-            (b"a\n" + (b"b" * 30_000 + b"\n") * 199, 199, f"line 141: the table has more than 4,194,304 characters {UP}"),
+            (b"a\n" + (b"b" * 30_000 + b"\n") * 199, 199, f"line 141: the table has more than 4,194,304 bytes of text {UP}"),
             (b"a\n" + b"b," * 16_385, 1, "line 2: a row has at most 16384 cells"),
             (b"a\nb," + b"c" * 32_768, 1, "line 2, column 2: it has more than 32,767 characters"),
         ):
@@ -136,13 +136,16 @@ class Faults(Read):
         cells = b"<row>" + b"<c t='str'><v>%s</v></c>" % (made.WIDE * 45) * 9 + b"</row>"
         shared = [b"<row>%s</row>" % b"".join(b"<c t='s'><v>%d</v></c>" % at for at in range(row, row + 30)) for row in range(0, 60_000, 30)]
         strings = {made.SHARED: made.wide_strings(60_000, made.WIDE * 6 + b"%d")}
+        periods = b"".join(order(at, f"K{at}").replace(b"<v>8</v>", b"<v>1-100</v>") for at in range(2, 2_002))
         for data, most, more in (
-            (made.of_sheet(made.OPEN, *[cells] * 2_000, made.CLOSE), 9, "\nand 17,980 more\n"),
+            (made.of_sheet(made.OPEN, *[cells] * 1_000, made.CLOSE), 9, "\nand 8,980 more\n"),
             (made.of_sheet(made.OPEN, *shared, made.CLOSE, **strings), 12, "\nand 19,980 more\n"),
+            (made.of_sheet(made.OPEN, periods, made.CLOSE), 8, "\nand 1,956 more\n"),
+            (made.of_sheet(made.OPEN, *[cells] * 3_000, made.CLOSE), 8, "bytes of text before this cell"),
         ):
             tracemalloc.start()
             with self.assertRaises(order_table.Wrong) as wrong:
-                order_table.read_tables([("", data)], 24)
+                order_table.read_tables([("", data)], 100)
             most_memory = tracemalloc.get_traced_memory()[1] / 2**20
             tracemalloc.stop()
             self.assertIn(more.replace(",", ""), str(wrong.exception)[-100:])
@@ -195,6 +198,14 @@ class Faults(Read):
                 data = book(order(2, "K1").replace(tail, left_out))
                 with self.subTest(form, said=said):
                     self.assertEqual(self.fault(data) if said else self.orders(data), said or [("K1", "")])
+
+    def test_an_archive_behind_another_one(self):
+        """The last of the two would be read, and the rows of the first one lost."""
+        first, last = book(order(2, "K1"), order(3, "K2")), book(order(2, "K1"))
+        said = "line 1: the Excel workbook can't be read: other bytes stand before its archive, such as another workbook"
+        for data in (first + last, first[:-2] + len(last).to_bytes(2, "little") + last, b"PK\3\4" + last):
+            self.assertEqual(self.fault(data), said)
+        self.assertEqual(self.orders(last), [("K1", "")])
 
     def test_other_archives(self):
         said = "line 1: the Excel workbook can't be read: it isn't an Excel workbook (.xlsx), but another archive"
@@ -402,6 +413,31 @@ class Unlike(unittest.TestCase):
             order_table.read_tables([("", made.of_sheet(made.OPEN, plain, made.CLOSE, **{"xl/styles.xml": styles_without_formats()}))], 24)
         found, _ = self.read(styles, E='<c s="0"><v>0.10</v></c>')  # a price is what it is
         self.assertEqual(found.order.price, 10)
+
+    def test_small_numbers_are_no_names(self):
+        """Excel shows 1E-05 as 0.00001."""
+        for number in ("1E-05", "0.00001", "1e-5"):
+            found, said = self.read(B=f"<c><v>{number}</v></c>")
+            self.assertEqual((found, said), (None, "line 2, column order: '0.00001' should be 1 to 12 of A to Z, 0 to 9 and -"), number)
+
+    def test_formats_of_texts(self):
+        """A format may hide a text, or show characters around it."""
+        codes = ("@", "General", "0;0;0;@", "[Red]_-@_-", "0.00", "0;&quot;@&quot;", "0;0;0;General",
+                 ";;;", "@&quot;-1&quot;", "0;0;0;&quot;G&quot;", "0;\\a@", "@@")  # fmt: skip
+        formats = "".join(f'<numFmt numFmtId="{164 + at}" formatCode="{code}"/>' for at, code in enumerate(codes))
+        cells = "".join(f'<xf numFmtId="{164 + at}"/>' for at in range(len(codes)))
+        styles = f'<styleSheet xmlns="{made.MAIN[0]}"><numFmts>{formats}</numFmts><cellXfs>{cells}</cellXfs></styleSheet>'
+        strings = f'<sst xmlns="{made.MAIN[0]}"><si><t>K7</t></si></sst>'
+        parts = {"xl/styles.xml": styles.encode(), made.SHARED: strings.encode()}
+        for style, code in enumerate(codes):
+            for kind, content in (("str", "<v>K7</v>"), ("inlineStr", "<is><t>K7</t></is>"), ("s", "<v>0</v>")):
+                for letter, name in (("B", "order"), ("I", "group")):
+                    found, said = self.read(parts, **{letter: f'<c s="{style}" t="{kind}">{content}</c>'})
+                    fault = f"line 2, column {name}: 'K7' is a text with a format: make the cell one of text"
+                    self.assertEqual(said, None if style < 7 else fault, (code, kind))
+                    self.assertTrue(style >= 7 or "K7" in (found.name, found.order.group))
+        found, _ = self.read(parts, C='<c s="7" t="str"><v>block</v></c>', J='<c s="7" t="str"><v>x</v></c>')
+        self.assertEqual(found.order.kind, "block")
 
     def test_names_of_sheets(self):
         """Excel takes names that differ by capitals alone for one."""

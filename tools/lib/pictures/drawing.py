@@ -22,7 +22,7 @@ def apart():
                 os.fchdir(here)
     finally:
         os.close(here)
-        del os.environ["MPLCONFIGDIR"]
+        os.environ.pop("MPLCONFIGDIR", None)
         os.environ.update({name: path for name, path in kept.items() if os.path.isabs(path)})
 
 

@@ -16,7 +16,7 @@ import threading
 from pathlib import Path
 from typing import NamedTuple
 
-from ..base import place
+from ..base import ending, place
 
 TOP = Path(__file__).resolve().parents[3]
 # Where the program is built, in the tree that this module is part of.
@@ -31,7 +31,7 @@ WHEELS = place.FOLDER / LIBRARY.name
 MOST_NODES, MOST_ANSWER = 67_108_864, 300_000  # of library/dam.h
 ONE_WORKER = ("clear", "--workers=1", "--cut=0")  # as the library searches: many days share the processors
 RESULTS = re.compile(rb"day,[0-9]+\nwelfare,-?[0-9]+\n")  # the beginning of the results of a day
-LATE = "late"  # instead of the status of a run that took too long
+LATE, SHORT = "late", "short"  # instead of the status of a run that took too long, or that memory or open files were short for
 RELAYED = set()  # lines of runs that were passed on
 AHEAD = 2  # texts for each job that wait for a thread
 MOST_AHEAD = 1_024  # texts that wait for an executor
@@ -47,6 +47,10 @@ class Fault(Exception):
 
 class TimedOut(Fault):
     """A run of the program that took longer than its timeout."""
+
+
+class Exhausted(Fault):
+    """A run of the program that didn't begin, because memory or open files ran out."""
 
 
 class Lost(Fault):
@@ -174,7 +178,8 @@ def ran(words, text, timeout=None, running=None):
     try:
         process = subprocess.Popen(words, stdin=subprocess.PIPE, stdout=subprocess.PIPE, stderr=subprocess.PIPE)
     except OSError as fault:
-        raise Fault(f"{words[0]} can't be run: {fault.strerror}") from None
+        kind = Exhausted if ending.is_memory(fault) or ending.is_files(fault) else Fault
+        raise kind(f"{words[0]} can't be run: {fault.strerror}") from None
     with process, running.holds(process) if running else contextlib.nullcontext():
         try:
             out, said = process.communicate(text, timeout=timeout)
@@ -314,8 +319,9 @@ def team_of(jobs):
 
 def answer(text, program=None, running=None, nodes=MOST_NODES, timeout=None):
     """The output of `dam clear` for a journal's text, as a pair of None and these bytes; or else of the status (0 if there is none, LATE
-    of a run that took too long) and the words of the fault. By the library if there is one, unless a program is named, or a timeout, which
-    only a run of the program can have. The pair has no type of this package, so that any executor can send it."""
+    of a run that took too long, SHORT of one that didn't begin) and the words of the fault. By the library if there is one, unless a
+    program is named, or a timeout, which only a run of the program can have. The pair has no type of this package, so that any executor
+    can send it."""
     try:
         path = None if program is not None or timeout is not None else library()
         if path:
@@ -328,6 +334,8 @@ def answer(text, program=None, running=None, nodes=MOST_NODES, timeout=None):
                 return 0, f"{words[0]} printed no results of this journal"
     except TimedOut as fault:
         return LATE, str(fault)
+    except Exhausted as fault:
+        return SHORT, str(fault)
     except Fault as fault:
         return 0, str(fault)
     if not status:
@@ -338,8 +346,8 @@ def answer(text, program=None, running=None, nodes=MOST_NODES, timeout=None):
 def result(answered):
     """The bytes of an answer, or its fault."""
     status, found = answered
-    if status == LATE:
-        return TimedOut(found)
+    if status in (LATE, SHORT):
+        return TimedOut(found) if status == LATE else Exhausted(found)
     return found if status is None else Fault(found, status or None)
 
 

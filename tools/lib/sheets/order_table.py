@@ -459,8 +459,9 @@ def read_tables(sources, periods, who=None, raises=False, held=None):
                 row.read("participant", read_participant)
                 others += 1
             else:
-                submits.append((number, row.command()))
-                entered.enter(table.line(line), row, submits[-1][1])
+                command = row.command()
+                entered.enter(table.line(line), row, command)
+                submits += [] if row.wrong else [(number, command)]
                 raised.update(row.raised)
             for words in row.wrong:
                 wrong.add(table.told(of_line(line, words)))

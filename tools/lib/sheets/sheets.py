@@ -3,6 +3,7 @@
 import codecs
 import csv
 import io
+import os
 import re
 
 from . import shapes, workbooks
@@ -10,7 +11,7 @@ from . import shapes, workbooks
 XLSX = b"PK\x03\x04"  # the first bytes of a workbook
 PART, LONGEST_ROW = 1 << 20, 1 << 20  # bytes that are decoded at once, and characters of a row of a text
 MOST_LINES = workbooks.LAST_ROW  # of a text
-MANY = 10  # how many times the cells and characters of a workbook a text may have if its rows aren't limited
+MANY = 10  # how many times the cells and the text of a workbook a text may have if its rows aren't limited
 PREFERRED = "orders"  # the sheet that is read if there are several
 # The marks by which a program takes a cell for a formula, also the wide ones. In some languages a comma, a semicolon or a tab in a cell
 # begins another one.
@@ -97,11 +98,11 @@ class Lines:
 
 
 class Count:
-    """The cells and the characters of a table, which are limited as the ones of a workbook."""
+    """The cells and the text of a table, which are limited as the ones of a workbook."""
 
     def __init__(self, times):
-        self.most_cells, self.most_characters = times * workbooks.MOST_CELLS, times * workbooks.MOST_CHARACTERS
-        self.cells = self.characters = 0
+        self.most_cells, self.most_text = times * workbooks.MOST_CELLS, times * workbooks.MOST_TEXT
+        self.cells = self.size = 0
 
     def add(self, line, cells):
         if len(cells) > workbooks.LAST_COLUMN:
@@ -110,10 +111,10 @@ class Count:
             if len(cell) > workbooks.LONGEST_CELL:
                 raise Wrong(f"line {line}, column {column}: it has more than {workbooks.LONGEST_CELL:,} characters")
         self.cells += len(cells)
-        self.characters += sum(map(len, cells))
+        self.size += sum(map(workbooks.size_of, cells))
         for count, most, things in (
             (self.cells, self.most_cells, "cells"),
-            (self.characters, self.most_characters, "characters"),
+            (self.size, self.most_text, "bytes of text"),
         ):
             if count > most:
                 raise Wrong(f"line {line}: the table has more than {most:,} {things} up to this line: delete those that it doesn't need")
@@ -172,9 +173,17 @@ def unescaped(cell):
     return ESCAPED.sub(r"\1", cell) if "'" in cell else cell
 
 
+def writer():
+    """The package that writes workbooks. Each sheet is first a temporary file; lxml wouldn't say why one can't be written."""
+    os.environ["OPENPYXL_LXML"] = "False"
+    import openpyxl
+
+    return openpyxl
+
+
 def workbook(tables):
     """The bytes of a workbook with a sheet for each table, by name: numbers are numbers, and words are never formulas."""
-    import openpyxl
+    openpyxl = writer()
     from openpyxl.styles import Font
     from openpyxl.utils import get_column_letter
 

@@ -3,6 +3,7 @@
 import io
 
 from ..base import rules, text
+from . import sheets
 from .order_table import NAMES
 from .tables import ORDER
 
@@ -32,9 +33,7 @@ ROWS = [
 
 def workbook():
     """The bytes of the workbook."""
-    import openpyxl
-
-    book = openpyxl.Workbook()
+    book = sheets.writer().Workbook()
     sheet = book.active
     sheet.title = ORDERS
     fill(sheet, [])

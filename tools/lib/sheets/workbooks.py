@@ -7,6 +7,7 @@ of order, and keeps all strings and empty rows. So workbooks are read by zipfile
 import array
 import bisect
 import datetime
+import decimal
 import functools
 import io
 import itertools
@@ -24,7 +25,7 @@ MOST_PARTS = 10_000  # files in it
 MOST_UNPACKED = 96 * 2**20  # bytes of the parts that are read
 MOST_ELEMENTS = 1_500_000  # in these parts
 MOST_CELLS = 300_000  # of a table; an empty cell counts if one after it in its row has a value
-MOST_CHARACTERS = 4 * 2**20  # in these cells
+MOST_TEXT = 4 * 2**20  # bytes that the characters of these cells take
 MOST_NAMES, MOST_NAMED = 10_000, 2**20  # of elements, attributes and namespaces in a part, and characters of these
 MOST_NAMESPACES = 100_000  # declared in a part
 MOST_HEADS = 100_000  # shared strings in the first rows of all sheets
@@ -57,6 +58,8 @@ CLOCK = re.compile(r"T?([0-9]{2}:[0-9]{2})(?::[0-9.]*)?Z?")
 # The numbers of Excel's own formats of dates and times, and what in another format isn't one: texts, and a condition or colour.
 DATE_FORMATS = {*range(14, 23), *range(27, 37), *range(45, 48), *range(50, 59)}
 MOST_DIGITS = 11  # that Excel shows of a number in the format General
+PIECE = re.compile(r'"[^"]*"|\\.|_.|\*.|\[[^\]\[]*\]|.')  # of a format
+UNSEEN = ("_", "*", "[", " ")  # begin a piece that adds no character
 NO_DATE = re.compile(r'"[^"]*"|\\.|_.|\*.|\[(?!(?:h+|m+|s+)\])[^\]\[]*\]', re.IGNORECASE)
 TRUTHS = {"1": "TRUE", "true": "TRUE", "0": "FALSE", "false": "FALSE"}
 
@@ -82,6 +85,11 @@ class Formatted(Unlike):
     kind = "a number with a format"
 
 
+class Styled(Unlike):
+    __slots__ = ()
+    kind = "a text with a format"
+
+
 class Shortened(Unlike):
     __slots__ = ()
     kind = "a number of which Excel shows fewer digits"
@@ -90,6 +98,12 @@ class Shortened(Unlike):
 class Truth(Unlike):
     __slots__ = ()
     kind = "a truth value"
+
+
+class StyledString(int):
+    """The number of a shared string whose cell shows it in another way."""
+
+    __slots__ = ()
 
 
 class Uncomputed(Unlike):
@@ -109,12 +123,35 @@ def general(number):
 PLAIN_FORMATS, PLAIN_CODES = {"0": general, "1": str, "49": general}, {"general": general, "0": str, "@": general}
 
 
+def digits_of(number):
+    """The text of a number that may not be whole. Excel shows 1e-05 as 0.00001, and so as no name."""
+    words = f"{number:.15g}"
+    return f"{decimal.Decimal(words):f}" if "e-" in words else words
+
+
+def shows_texts(code):
+    """Whether a format shows a text as it is. Its fourth section is of texts, or else its last one, if that has an @."""
+    sections = [[]]
+    for piece in PIECE.findall(code):
+        if piece == ";":
+            sections.append([])
+        elif not piece.startswith(UNSEEN):
+            sections[-1].append(piece)
+    of_texts = sections[3] if len(sections) > 3 else sections[-1]
+    return of_texts == ["@"] or len(sections) < 4 and "@" not in of_texts or "".join(of_texts).lower() == "general"
+
+
 def broken(words):
     return Wrong(f"line 1: the Excel workbook can't be read: {words}")
 
 
 def too_many(most, things):
     return broken(f"it has more than {most:,} {things}")
+
+
+def size_of(words):
+    """The bytes that the characters of a text take in memory: each takes as many as the widest."""
+    return len(words) * (1 if words.isascii() or (widest := max(words)) <= "\xff" else 2 if widest <= "\uffff" else 4)
 
 
 def rows_of(data, preferred, needed=(), most=None):
@@ -146,7 +183,10 @@ class Package:
             raise too_many(MOST_PARTS, "parts")
         self.archive = unzipped(lambda: zipfile.ZipFile(io.BytesIO(data)))
         self.parts = {}
-        for info in self.archive.infolist():
+        files = self.archive.infolist()
+        if files and min(info.header_offset for info in files):
+            raise broken("other bytes stand before its archive, such as another workbook")
+        for info in files:
             if self.parts.setdefault(key(info.filename), info) is not info:
                 raise broken(f"two parts are named {text.quoted(info.filename)}")
         self.unpacked = self.elements = 0
@@ -427,7 +467,7 @@ class Book(Part):
         styles = Styles()
         if part := self.relations.only(STYLES):
             package.read(part, styles)
-        self.formats = styles.of_cells()
+        self.formats, self.styled = styles.of_cells(), styles.of_texts()
 
     def relations_of(self, owner):
         relations = Relations(owner)
@@ -512,6 +552,7 @@ class Styles(Part):
         super().__init__()
         self.shown = {**PLAIN_FORMATS, **{str(number): Date for number in DATE_FORMATS}}
         self.formats, self.own = [], 0
+        self.styled = set()  # the numbers of formats that show texts in another way
 
     def open_numFmt(self, attributes):
         number, code = attributes.get("numFmtId", ""), attributes.get("formatCode", "")
@@ -519,6 +560,8 @@ class Styles(Part):
             raise broken(f"a format has more than {LONGEST_NAME:,} characters")
         is_date = re.search("[dmyhs]", NO_DATE.sub("", code).split(";")[0], re.IGNORECASE)
         self.shown[number[:10]] = PLAIN_CODES.get(code.strip().lower(), Date if is_date else Formatted)
+        if not shows_texts(code):
+            self.styled.add(number[:10])
         self.own += 1
         if self.own > MOST_OWN_FORMATS:
             raise too_many(MOST_OWN_FORMATS, "number formats")
@@ -530,6 +573,10 @@ class Styles(Part):
 
     def of_cells(self):
         return [self.shown.get(number, Formatted) for number in self.formats]
+
+    def of_texts(self):
+        """The formats of cells that show texts in another way."""
+        return {at for at, number in enumerate(self.formats) if number in self.styled}
 
 
 class Texts(Part):
@@ -614,7 +661,7 @@ class Strings(Texts):
 
     def __init__(self, needed):
         super().__init__()
-        self.needed, self.number, self.found, self.characters = needed, -1, Kept(), 0
+        self.needed, self.number, self.found, self.size = needed, -1, Kept(), 0
 
     def open_si(self, _):
         self.number += 1
@@ -623,9 +670,9 @@ class Strings(Texts):
     def close_si(self):
         if self.is_taken:
             words = unescaped(self.whole_text())
-            self.characters += len(words)
-            if self.characters > MOST_CHARACTERS:
-                raise too_many(MOST_CHARACTERS, "characters in its cells")
+            self.size += size_of(words)
+            if self.size > MOST_TEXT:
+                raise too_many(MOST_TEXT, "bytes of text in its cells")
             self.found.add(self.number, words)
 
     def wrong(self, words):
@@ -658,7 +705,7 @@ class Sheet(Texts):
         self.place, self.part, self.book = f"sheet {text.quoted(name)}", part, book
         self.last = None if most is None else most + 1  # how many rows it may have
         self.rows, self.needed, self.formats = [], Numbers(), {}
-        self.row = self.column = self.count_of_cells = self.characters = 0
+        self.row = self.column = self.count_of_cells = self.size = 0
         self.cells = None  # of a row; None outside
         self.has_data = False
 
@@ -750,12 +797,12 @@ class Sheet(Texts):
         if isinstance(words, int):
             self.needed.add(words)
         else:
-            self.add_characters(words)
+            self.add_text(words)
 
-    def add_characters(self, words):
-        self.characters += len(words)
-        if self.characters > MOST_CHARACTERS:
-            raise self.wrong(f"the sheet has more than {MOST_CHARACTERS:,} characters before this cell")
+    def add_text(self, words):
+        self.size += size_of(words)
+        if self.size > MOST_TEXT:
+            raise self.wrong(f"the sheet has more than {MOST_TEXT:,} bytes of text before this cell")
 
     def words(self):
         """The content of a cell, as it would stand in a text; of a shared string its number. A formula that was saved without its value
@@ -770,9 +817,9 @@ class Sheet(Texts):
         if kind == "s":
             if not WHOLE.fullmatch(value) or not 0 <= int(value) < MOST_ELEMENTS:
                 raise self.wrong(f"it has no string {text.quoted(value)}")
-            return int(value)
+            return StyledString(value) if self.is_styled() else int(value)
         if kind in ("str", "inlineStr"):
-            return unescaped(value)
+            return Styled(unescaped(value)) if self.is_styled() else unescaped(value)
         if kind == "e" and value:
             return value
         if kind == "b" and value in TRUTHS:
@@ -780,6 +827,11 @@ class Sheet(Texts):
         if kind == "d" and (found := DATE.fullmatch(value) or CLOCK.fullmatch(value)):
             return Date(found[1])
         raise self.wrong(f"{text.quoted(value)} isn't of its type, {text.quoted(kind)}")
+
+    def is_styled(self):
+        """Whether the cell's format shows a text in another way."""
+        styled = self.book.styled
+        return bool(styled) and WHOLE.fullmatch(self.style) is not None and int(self.style) in styled
 
     def number(self, value):
         """A number with the digits that Excel shows, or the date that it stands for."""
@@ -790,7 +842,7 @@ class Sheet(Texts):
         made = self.formats[self.style]
         if made is Date:
             return Date(self.date(float(value)))
-        return made(int(value) if WHOLE.fullmatch(value) else f"{float(value):.15g}")
+        return made(int(value) if WHOLE.fullmatch(value) else digits_of(float(value)))
 
     def format(self):
         """How the cell's format shows numbers."""
@@ -842,8 +894,8 @@ class Sheet(Texts):
                     words = strings.get(cell)
                     if words is None:
                         raise self.wrong(f"it has no string '{cell}'")
-                    self.cells[at] = words
-                    self.add_characters(words)
+                    self.cells[at] = Styled(words) if isinstance(cell, StyledString) else words
+                    self.add_text(words)
         return self.rows
 
 

@@ -89,7 +89,11 @@ def main(description, epilog):
     try:
         return args.call(args)
     except engine.Fault as fault:
-        raise command.Stop(str(fault)) from None
+        raise command.Stop(str(fault), status_of(fault)) from None
+
+
+def status_of(fault):
+    return command.FAILED if isinstance(fault, engine.Exhausted) else command.NO_INPUT
 
 
 def check_program(args):
@@ -402,7 +406,7 @@ def asked_of(args):
 def printed_of(name, printed):
     """The printed text; ends the tool if it is a fault."""
     if isinstance(printed, engine.Fault):
-        raise command.Stop(f"{text.safe(name)}: {printed}")
+        raise command.Stop(f"{text.safe(name)}: {printed}", status_of(printed))
     return printed
 
 
