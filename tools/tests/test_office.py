@@ -466,7 +466,9 @@ class SignedHeads(Office):
             with opener(disk), self.office.held():
                 given = self.gate()
                 await given.run()
-                self.assertEqual(operate.status(self.office, "dam-desk")["days"][0]["state"], "stopped")
+                found = operate.status(self.office, "dam-desk")
+                self.assertEqual(found["days"][0]["state"], "stopped")
+                self.assertRegex(list(operate.status_lines(found))[2], "^  stopped: LostEntries: the desk's journal has 2 entries")
                 with self.assertRaisesRegex(command.Stop, f"^{DAY} is stopped, and wasn't closed: LostEntries"):
                     operate.close(self.office, DAY, given.files)
             self.assertFalse(given.files.has(folder.CLOSE_NOW))
@@ -1152,6 +1154,16 @@ class Setup(Office):
             with self.subTest(text=text), self.assertRaises(command.Stop):
                 self.participants(text)
 
+    def test_a_table_of_excel_is_read(self):
+        for text in ("\ufeffparticipant,commands\r\nA,100\r\nGAS,\r\n", "\ufeffparticipant;commands\r\nA;100\r\nGAS;\r\n"):
+            self.assertEqual(self.participants(text), {"A": 100, "GAS": None})
+        with self.assertRaisesRegex(command.Stop, "commands '²' should be a number"):
+            self.participants("participant,commands\nA,²\n")
+        path = self.office.path.parent / "p.xlsx"
+        path.write_bytes(b"PK\x03\x04\xff")
+        with self.assertRaisesRegex(command.Stop, "isn't a CSV file in UTF-8"):
+            setup.participants_read(path)
+
     def test_a_table_without_the_column_is_named(self):
         for text in ("GAS\nWIND\n", "name,commands\nGAS,1\n", "", "Participant\nGAS\n"):
             with self.subTest(text=text), self.assertRaisesRegex(command.Stop, "no column participant"):
@@ -1404,7 +1416,7 @@ class Setup(Office):
         self.assertIn("note: 2099-11-28 closes after it has begun", err)
 
     def test_a_day_that_was_closed_early_doesnt_close_later(self):
-        days = [{"day": DAY, "state": state, "entries": 1, "closes": "T"} for state in (folder.OPEN, folder.CLOSED, folder.PUBLISHED)]
+        days = [{"day": DAY, "state": state, "stopped": None, "entries": 1, "closes": "T"} for state in (folder.OPEN, folder.CLOSED, folder.PUBLISHED)]
         found = {"served": True, "participants": 1, "revoked": [], "days": days}
         lines = list(operate.status_lines(found))[1:]
         self.assertEqual(lines, [f"{DAY}: open, 1 entry, closes T", f"{DAY}: closed, 1 entry", f"{DAY}: published, 1 entry"])

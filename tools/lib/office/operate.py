@@ -27,8 +27,8 @@ def state_of(files, desk, is_served=False):
     state = folder.CLOSED if is_closed else state
     if has(folder.RESULTS):
         state = folder.PUBLISHED if has(folder.OPEN_JOURNAL) else folder.RESULTS_THERE
-    if is_served and has(folder.STOPPED_DAY):
-        state = folder.STOPPED
+    stopped = stopped_why(files) if is_served and has(folder.STOPPED_DAY) else None
+    state = folder.STOPPED if stopped else state
     counts = dict.fromkeys(terms.shares, 0)
     for record in records:
         who = record.split(",")[1]
@@ -36,6 +36,7 @@ def state_of(files, desk, is_served=False):
     return {
         "day": terms.day,
         "state": state,
+        "stopped": stopped,
         "periods": terms.periods,
         "closes": terms.closes.isoformat(),
         "zone": terms.zone,
@@ -43,6 +44,11 @@ def state_of(files, desk, is_served=False):
         "commands": {who: {"entered": count, "share": terms.shares.get(who, 0)} for who, count in counts.items()},
         "journal_published": has(folder.RESULTS) and has(folder.OPEN_JOURNAL),
     }
+
+
+def stopped_why(files):
+    """Why the office that is served has stopped a day."""
+    return files.read(folder.STOPPED_DAY).decode(errors="replace").strip() or "the log says why"
 
 
 def shown_of(name, files, desk, is_served):
@@ -71,6 +77,8 @@ def status_lines(found):
             continue
         closes = f", closes {day['closes']}" if day["state"] in (folder.OPEN, folder.CLOSING, folder.STOPPED) else ""
         yield f"{day['day']}: {day['state']}, {text.counted(day['entries'], 'entry', 'entries')}{closes}"
+        if day["stopped"]:
+            yield f"  stopped: {day['stopped']}"
 
 
 def request(files, name):
@@ -83,7 +91,7 @@ def close(office, day, files):
     """Closes a day now. If the office runs, waits for the results. A stopped day isn't closed: its journal may lack entries."""
     is_served = office.is_served()
     if is_served and files.has(folder.STOPPED_DAY):
-        raise command.Stop(f"{day} is stopped, and wasn't closed: {files.read(folder.STOPPED_DAY).decode(errors='replace').strip()}")
+        raise command.Stop(f"{day} is stopped, and wasn't closed: {stopped_why(files)}")
     request(files, folder.CLOSE_NOW)
     if not is_served and not files.has(folder.RESULTS):
         return f"{day} will be closed once the office is served"

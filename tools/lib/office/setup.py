@@ -71,12 +71,16 @@ def closes_late(terms):
 
 
 def participants_read(path):
-    """The participants of a table with the column participant, and how many commands each may enter, if a column commands says it."""
+    """The participants of a table with the column participant, and how many commands each may enter, if a column commands says it. Excel
+    writes it with a byte order mark, and in many languages with semicolons."""
     try:
-        table = csv.DictReader(command.read_bytes(path).decode("ascii").splitlines(), strict=True)
+        lines = command.read_bytes(path).decode("utf-8-sig").splitlines()
+        table = csv.DictReader(lines, delimiter=";" if lines and ";" in lines[0] else ",", strict=True)
         rows, columns = list(table), table.fieldnames or ()
-    except (UnicodeDecodeError, csv.Error) as fault:
-        raise command.Stop(f"{command.shown(path)} isn't a table in ASCII: {fault}") from None
+    except UnicodeDecodeError:
+        raise command.Stop(f"{command.shown(path)} isn't a CSV file in UTF-8") from None
+    except csv.Error as fault:
+        raise command.Stop(f"{command.shown(path)} isn't a CSV file: {fault}") from None
     if "participant" not in columns:
         raise command.Stop(f"{command.shown(path)} has no column participant: name it in the first line")
     found = {}
@@ -86,7 +90,7 @@ def participants_read(path):
             words = "comes twice" if who in found else f"should be {text.A_PARTICIPANT}"
             raise command.Stop(f"{command.shown(path)} line {line}: the participant {text.quoted(who)} {words}")
         share = (row.get("commands") or "").strip()
-        if share and not (share.isdigit() and 0 < len(share) < 6):
+        if share and not (share.isascii() and share.isdigit() and len(share) < 6):
             raise command.Stop(f"{command.shown(path)} line {line}: commands {text.quoted(share)} should be a number")
         found[who] = int(share) if share else None
     if not 0 < len(found) <= folder.MOST_COMMANDS:
