@@ -132,7 +132,8 @@ class Contradictions(InFolder):
         said = f"the operator signed entry 1 of 2026-11-28 as {other}; and as {first}, in ab.jsonl line 1"
         self.assertEqual(lines[2:], [f"ab.jsonl line 2: {said}: two journals, or one journal twice"])
         self.assertEqual(last, "wrong: 2 receipts undecided; 1 contradiction; the head of 2026-11-28 with 18 entries")
-        # Equal entries after the fork are no contradiction, unless the receipts show the fork; two entries of a journal sealed twice are one.
+        # Equal entries after the fork are no contradiction, unless the receipts show the fork. Two entries of a journal sealed twice are
+        # one.
         path = self.lines("same.jsonl", "A", 2)
         self.lines("same.jsonl", "C", 2)
         self.told(4, "verify", path, "--head", "C.head", *KEYS)

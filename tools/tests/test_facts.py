@@ -174,6 +174,15 @@ class Facts(unittest.TestCase):
         said = re.findall(r"(\d+) of `must-fail/`", "".join(map(plain, PAGES)))
         self.assertEqual(said, [str(count)])
 
+    def test_the_parts_of_the_recorded_run(self):
+        """CHECK.md names those that came later."""
+        check, notes = (TOP / "docs/CHECK.md").read_text(), (TOP / "tests/NOTES.md").read_text()
+        parts = set(re.findall(r"^\| (\w+) \| `", check, re.MULTILINE))
+        recorded = set(re.findall(r"^(\w+) +[\d.]+ +[\d.]+ +\d+ passed", notes, re.MULTILINE)) - {"all"}
+        self.assertGreater(len(recorded), 9)
+        later = re.search(r"The parts? ([^.]*) came later", plain(TOP / "docs/CHECK.md"))
+        self.assertEqual(parts - recorded, set(re.findall(r"`(\w+)`", later[1])) if later else set())
+
     def test_the_number_of_walked_books(self):
         """Of each market, the tests draw as many books."""
         text = (TOP / "tests" / "rattle" / "dam_search" / "src" / "counts.rt.test").read_text()

@@ -5,6 +5,7 @@ import itertools
 import contextlib
 import io
 import os
+import re
 import shutil
 import signal
 import subprocess
@@ -184,7 +185,7 @@ class Many(unittest.TestCase):
         self.assertEqual(said.getvalue(), "dam: this run is not proved\n")
 
     def test_a_program_that_fails_without_words(self):
-        for line, status in ("exit 1", 1), ("kill -9 $$", -9):
+        for line, status in ("exit 1", 1), ("kill -9 $$", -9), ("exit 70", 70):
             silent, said = self.script("silent", line), f"the program ended with status {status}"
             (fault,) = dam_tools.clear_many([AUCTION], program=silent)
             self.assertEqual((str(fault), fault.status), (said, status))
@@ -192,6 +193,18 @@ class Many(unittest.TestCase):
                 with self.assertRaises(dam_tools.Fault) as raised:
                     call(AUCTION, silent)
                 self.assertEqual((str(raised.exception), raised.exception.status), (said, status))
+
+    def test_a_fault_has_each_status_of_the_page(self):
+        formats, python = ((support.TOP / "docs" / name).read_text() for name in ("FORMATS.md", "PYTHON.md"))
+        (table,) = re.findall(r"^## Statuses and faults\n\n((?:\|.*\n)+)", formats, re.MULTILINE)
+        statuses = [int(status) for status in re.findall(r"^\| (\d+) \|", table, re.MULTILINE)]
+        self.assertIn(70, statuses)
+        for status in filter(None, statuses):
+            with self.subTest(status), self.assertRaises(dam_tools.Fault) as raised:
+                dam_tools.clear(AUCTION, self.script("ends", f"exit {status}"))
+            self.assertEqual(raised.exception.status, status)
+        # so the page has all of them
+        self.assertRegex(python, r"\n\| `Fault\.status` \| the \[status\]\(FORMATS\.md#statuses-and-faults\) of a failed run, ")
 
     def test_limits_of_nodes_and_time(self):
         days = dam_tools.clear_many([AUCTION], program=self.script("nodes", f"{EMPTY}; echo $*"), nodes=7)

@@ -20,6 +20,11 @@ PAGES = [TOP / "README.md", TOP / "CHANGELOG.md", *sorted((TOP / "docs").glob("*
 PAGES += [TOP / "crates" / "CHECKLISTS.md", *(TOP / folder / "NOTES.md" for folder in ("crates", "tests", "tools", "package"))]
 MOST = 200  # characters of a cell
 WIDEST = 140  # columns of a line that isn't of a table
+# The files with comments, which are as wide at most.
+COMMENTED = ["check", "dam", "library/build", "library/dam.h", "library/heap.c"]
+COMMENTS = ["crates/*/src/**/*.rt", "crates/*/specs/**/*.antt", "crates/*/proofs/**/*.antt", "tests/**/*.test", "tests/**/*.py", "tests/*/run"]
+COMMENTS += ["tests/run-*", "tools/*", "tools/**/*.py", "tools/tests/*.sh", "bench/*.py", "docs/*.py", "package/*.py"]
+COMMENT = re.compile(r"\s*(#|//|--|/\*| \* )")
 # The words for which the house rule of English has others, apart from the table of that rule.
 OTHER_WORDS = re.compile(r"\b(anew|beside|dear|so many|want of|whoever)\b", re.IGNORECASE)
 # Pages whose sentences with 'what' aren't looked at: examples, and sentences that stand in sources.
@@ -114,6 +119,17 @@ class Pages(unittest.TestCase):
             for line in page.read_text().splitlines():
                 if not line.startswith("|"):
                     with self.subTest(page=page.name, line=line[:40]):
+                        self.assertLessEqual(len(line), WIDEST)
+
+    def test_lines_of_comments_are_not_too_wide(self):
+        self.assertIn(f"Lines of comments and pages have at most {WIDEST} columns", (TOP / "docs" / "CONTRIBUTING.md").read_text())
+        files = [path for path in map(TOP.joinpath, COMMENTED) if path.is_file()]
+        files += [path for pattern in COMMENTS for path in sorted(TOP.glob(pattern)) if path.is_file() and "out" not in path.parts]
+        self.assertGreater(len(files), 500)
+        for path in files:
+            for number, line in enumerate(path.read_text(errors="replace").splitlines(), 1):
+                if COMMENT.match(line):
+                    with self.subTest(path=str(path.relative_to(TOP)), line=number):
                         self.assertLessEqual(len(line), WIDEST)
 
     def test_pages_stay_short(self):

@@ -1,6 +1,6 @@
 #!/bin/sh
-# verify_receipt.sh RECEIPT PUBLIC_KEY: verifies a receipt under its own head, by FORMATS.md and with openssl alone. Prints 'right', with the
-# record and the reply, or 'wrong'. It is a second reading of the format: nothing of it is shared with tools/receipts.
+# verify_receipt.sh RECEIPT PUBLIC_KEY: verifies a receipt under its own head, by FORMATS.md and with openssl alone. Prints 'right', with
+# the record and the reply, or 'wrong'. It is a second reading of the format: nothing of it is shared with tools/receipts.
 #
 # It takes one receipt, in its written form. Of the record it checks only that it is printable and has nine fields, the first of which is a
 # command, and of a refusal only that its reason is a word. It doesn't check that the reply can be the book's, and compares no other head.
