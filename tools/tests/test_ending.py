@@ -82,6 +82,8 @@ class Failing(unittest.TestCase):
             "(_ for _ in ()).throw(OSError(12, 'Cannot allocate memory'))",
             "(_ for _ in ()).throw(ImportError('failed to map segment'))",
             "(_ for _ in ()).throw(RuntimeError('can\\'t start new thread'))",
+            "(_ for _ in ()).throw(SystemError('error return without exception set'))",
+            "(_ for _ in ()).throw(SystemError('<built-in function a> returned NULL without setting an exception'))",
         ):
             self.assertEqual(self.failed(call), said)
 

@@ -21,7 +21,7 @@ from lib.sheets import tables
 from lib.tool import command
 
 PACKAGES = {"plot": ["matplotlib"], "report": ["matplotlib", "jinja2"], "table": []}
-MARK = b"\xef\xbb\xbf"
+MARK, OLD = b"\xef\xbb\xbf", b"\xd0\xcf\x11\xe0\xa1\xb1\x1a\xe1"
 TOOLS_HERE = [name for name, packages in PACKAGES.items() if all(map(command.has, packages))]
 NOTE = "table: 1 of 94 commands was refused (of GAS): see --rows commands\n"
 
@@ -207,6 +207,8 @@ class OtherKinds(unittest.TestCase):
             self.archive("auction-day.csv"): ("an archive (.zip)", "unzip FILE unpacks it"),
             self.archive("[Content_Types].xml", "xl/workbook.xml"): (excel, table),
             self.archive("mimetype", "content.xml"): ("an OpenDocument workbook (.ods)", f"save it as .xlsx, from which {table}"),
+            OLD + "EncryptedPackage".encode("utf-16-le"): ("an Excel workbook with a password", "save it without the password"),
+            OLD + "Workbook".encode("utf-16-le"): ("an old Excel workbook (.xls)", f"save it as .xlsx, from which {table}"),
             AUCTION.read_text().encode("utf-16"): ("", marked),
         }
         tools = {

@@ -11,8 +11,9 @@ from . import place
 FAILED = 5
 INTERRUPTED = 130  # as shells have it for Ctrl-C
 
-# The messages of the system's loader and of Python's threads if there is no memory for them.
-NO_MEMORY = ("cannot allocate memory", "failed to map segment", "can't start new thread", "can't allocate", "out of memory")
+# The messages of the system's loader, of Python's threads and of code in C if there is no memory for them.
+NO_MEMORY = ("cannot allocate memory", "failed to map segment", "can't start new thread", "can't allocate", "out of memory",
+             "error return without exception set", "without setting an exception")  # fmt: skip
 # And those of both if the process may open no more files.
 NO_FILES = ("too many open files", "cannot open shared object file: error 24")
 # What a tool has to do before it ends like this: a call that gets the status and the message.

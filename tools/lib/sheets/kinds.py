@@ -9,6 +9,7 @@ from . import workbooks
 
 JOURNAL, RESULTS, REPLIES, DAY, ORDERS = "a journal", "results", "replies", "the text of a day", "a table of orders"
 EXCEL, OLD_EXCEL, OPEN = "an Excel workbook (.xlsx)", "an old Excel workbook (.xls)", "an OpenDocument workbook (.ods)"
+LOCKED, ENCRYPTED = "an Excel workbook with a password", "EncryptedPackage".encode("utf-16-le")  # in a container as old ones have
 PDF, COMPRESSED, ZIP = "a PDF", "a compressed file (.gz)", "an archive (.zip)"
 SIGNATURES = {
     b"PK\x03\x04": EXCEL,  # or another archive: its parts say so
@@ -18,12 +19,13 @@ SIGNATURES = {
 }
 PAGE = re.compile(rb"\s*<(?:!doctype html|html)\b", re.IGNORECASE)
 WEB_PAGE = "a web page (HTML)"
-FILES = {*SIGNATURES.values(), OPEN, ZIP, WEB_PAGE}  # the kinds of whole files
+FILES = {*SIGNATURES.values(), LOCKED, OPEN, ZIP, WEB_PAGE}  # the kinds of whole files
 PACKED = {COMPRESSED, ZIP}
 # The command that reads or converts a file of a kind that is given in place of a text.
 ADVICE = {
     EXCEL: place.as_here("tools/table --journal FILE makes a journal of it, if it is a table of orders"),
     OLD_EXCEL: place.as_here("save it as .xlsx, from which tools/table --journal FILE makes a journal, or as plain CSV"),
+    LOCKED: "save it without the password",
     OPEN: place.as_here("save it as .xlsx, from which tools/table --journal FILE makes a journal, or as plain CSV"),
     PDF: "pdftotext -layout FILE shows its text",
     COMPRESSED: "gunzip FILE unpacks it",
@@ -54,6 +56,8 @@ def kind_of(data):
     """The kind of text that these bytes look like by their first lines; None for any other."""
     for signature, kind in SIGNATURES.items():
         if data.startswith(signature):
+            if kind == OLD_EXCEL and ENCRYPTED in data:
+                return LOCKED
             return kind_of_archive(data) if kind == EXCEL else kind
     head = data[:HEAD].removeprefix(text.MARK)
     if PAGE.match(head):
