@@ -13,6 +13,7 @@ import time
 from pathlib import Path
 
 SECONDS = 40  # that an answer, or the end of a connection, may take
+MOST_KEPT, KEPT_SECONDS = 60 << 10, 15  # KiB of 150 slow downloads, and how long it may take until all is kept
 
 
 def said(office, data, wait=True, context=None):
@@ -241,6 +242,29 @@ def check_silent(office, counts):
         counts.check("silent connections don't stop the close", (office.files / "results.txt").exists() and office.process.poll() is None)
         files = len(os.listdir(f"/proc/{office.process.pid}/fd"))
         counts.check(f"and those that are too many are ended: {files} files", files < 1_100)
+
+
+def check_downloads(office, counts, context):
+    """Slow readers of what is published, over TLS: each keeps little memory."""
+    office.tool("publish", office.folder, office.day)
+    (office.files / "journal.csv").write_bytes(b"x" * (9 << 20))
+    with contextlib.ExitStack() as stack:
+        readers = []
+        for _ in range(150):
+            plain = socket.socket()
+            plain.setsockopt(socket.SOL_SOCKET, socket.SO_RCVBUF, 4_096)
+            plain.settimeout(SECONDS)
+            plain.connect(("127.0.0.1", office.port))
+            readers.append(stack.enter_context(context.wrap_socket(plain, server_hostname="localhost")))
+        before = peak(office)
+        for one in readers:
+            one.sendall(request("GET", f"/days/{office.day}/journal"))
+        for one in readers:
+            one.recv(1)  # the answer has begun
+        until = time.monotonic() + KEPT_SECONDS
+        while (kept := peak(office) - before) < MOST_KEPT and time.monotonic() < until:
+            time.sleep(0.5)
+        counts.check(f"slow downloads keep little memory: {kept} KiB", kept < MOST_KEPT)
 
 
 def check_many(office, counts, most):

@@ -6,6 +6,7 @@ import json
 import re
 import resource
 import signal
+import ssl
 import subprocess
 import sys
 import tempfile
@@ -70,6 +71,10 @@ def tls(args, counts):
                 office.start()
             hostile.check_tls(office, cert, counts)
             hostile.check_silent(office, counts)
+            office.stop()
+            office.log.write_text("")
+            office.start()  # with the memory of a new one
+            hostile.check_downloads(office, counts, ssl.create_default_context(cafile=cert))
 
 
 def disk(args, counts):
@@ -368,7 +373,9 @@ def check_published(args, counts, office):
     cleared = subprocess.run([args.dam, "clear"], input=journal, capture_output=True, check=True).stdout
     counts.check("the results are dam clear's", results == cleared)
     odd = {"If-Modified-Since": f"Fri, 01 Jan {10**20} 00:00:00 GMT"}
-    counts.check("an impossible date is refused", office.get(f"/days/{office.day}/results", odd)[0] == 400)
+    counts.check("an impossible date changes nothing", office.get(f"/days/{office.day}/results", odd)[2] == results)
+    status, headers, data = office.get(f"/days/{office.day}/results", method="HEAD")
+    counts.check("a head has the length alone", (status, int(headers["Content-Length"]), data) == (200, len(results), b""))
     counts.check(
         "the replies are dam replay's",
         replies == subprocess.run([args.dam, "replay"], input=journal, capture_output=True, check=True).stdout,

@@ -12,6 +12,7 @@ LOOK_SECONDS = 1
 ACCEPT_PAUSE = 0.1  # seconds until the next try, if a connection can't be accepted
 MOST_AHEAD = 4  # requests that a connection may send before the answers
 PIECE = 1 << 14  # bytes that are parsed without a look at these limits
+MOST_UNSENT = 1 << 16  # bytes of an answer in pieces that wait to be sent
 MOST_HEAD = 1 << 15  # bytes of a request's head
 MOST_LINE = 1 << 12  # bytes of a line of a head
 MOST_BUCKETS = 10_000
@@ -119,6 +120,7 @@ class Server(web.Server):
             self.counts.add("connections_refused_total")
             transport.abort()
         else:
+            transport.set_write_buffer_limits(MOST_UNSENT)
             self.mark(handler, False)
 
     def connection_lost(self, handler, exc=None):

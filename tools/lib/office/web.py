@@ -4,6 +4,7 @@ the participant's own data, nothing of another's."""
 import asyncio
 import functools
 import json
+import os
 import time
 from pathlib import Path
 
@@ -32,6 +33,7 @@ RECEIPTS_AT_ONCE = 8  # that are made before others get a turn
 RECEIPTS_OF_READ, COMMANDS_OF_READ, ORDERS_OF_READ, READS_OF_TABLE = 20, 200, 100, 100  # how much of an answer counts as one read
 BYTES_OF_READ = 10_000
 DAYS_OF_LOOK = 5
+PIECE = 1 << 14  # bytes of a file that are sent at once
 TABLES_AT_ONCE, TABLE_SECONDS = 2, 1  # that are read, each of another participant; seconds until one may send the next
 JSONL = "application/jsonl"
 HEADERS = {
@@ -403,9 +405,19 @@ class Web:
             raise Refused("NotFound", "there are no results yet")
         if not gate.published.has_journal:
             raise Refused("NotFound", "the operator hasn't published the day; its prices are under prices")
-        need_dates(request)
         files = {"results": folder.RESULTS, "journal": folder.JOURNAL, "replies": folder.REPLIES}
-        return web.FileResponse(gate.files.file(files[name]), headers={"Content-Type": "text/plain; charset=utf-8"})
+        return await self.sent(request, gate.files.file(files[name]))
+
+    async def sent(self, request, path):
+        """A file, in pieces: over TLS, aiohttp's own way keeps a megabyte of it for each reader that is slow."""
+        response = web.StreamResponse(headers={"Content-Type": "text/plain; charset=utf-8"})
+        with path.open("rb") as file:
+            response.content_length = os.fstat(file.fileno()).st_size
+            await response.prepare(request)
+            while request.method != "HEAD" and (piece := file.read(PIECE)):
+                await response.write(piece)
+        await response.write_eof()
+        return response
 
     async def health(self, request):
         is_right = self.office.is_right
@@ -441,14 +453,6 @@ class Web:
 def kind_of(request):
     """The type of a body. aiohttp's own reader of it takes as long as the rest of a request."""
     return request.headers.get("Content-Type", "").partition(";")[0].strip().lower()
-
-
-def need_dates(request):
-    """Refuses a date at which aiohttp fails when it sends a file: outside of this application, without an answer."""
-    try:
-        return request.if_modified_since, request.if_unmodified_since, request.if_range
-    except OverflowError:
-        raise Refused("Malformed", "a date in the head of the request is out of range") from None
 
 
 def query_number(request, name):
