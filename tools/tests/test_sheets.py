@@ -6,7 +6,7 @@ import tempfile
 import unittest
 from pathlib import Path
 
-from support import AUCTION, AUCTION_RESULTS, journal_of, printed, results_of, tool
+from support import AUCTION, AUCTION_RESULTS, TOP, journal_of, printed, results_of, tool
 
 from lib.base import clock, rules, text
 from lib.journal import journal
@@ -308,6 +308,9 @@ class Tolerance(unittest.TestCase):
         self.assertEqual((lines_now, notes), (lines, said))
         for code in ("utf-16", "utf-8-sig"):
             self.assertEqual(self.read(data.decode().replace(",", "\t").encode(code)), (lines, said[1:]))
+        page = " ".join((TOP / "docs" / "TABLES.md").read_text().split())
+        self.assertIn("`--journal` reads tables in UTF-8, UTF-16 or, with a note, Windows-1252, ", page)
+        self.assertIn("the sheet `orders`, or else the first that has the columns, ", page)  # of a workbook: the next test
 
     @WITH_EXCEL
     def test_the_sheet_that_is_read(self):
