@@ -31,6 +31,7 @@ EMPTY = "printf 'day,24\\nwelfare,0\\n'"  # the beginning of results, by a shell
 ECHO = """
 #include <stdint.h>
 #include <string.h>
+#include <unistd.h>
 struct answer { uint8_t status; size_t length; };
 struct answer dam_clear_seeded(const uint8_t *secret, size_t secret_length, const uint8_t *text, size_t length, uint32_t nodes,
                                uint8_t *buffer, size_t room) {
@@ -193,6 +194,16 @@ class Many(unittest.TestCase):
                 with self.assertRaises(dam_tools.Fault) as raised:
                     call(AUCTION, silent)
                 self.assertEqual((str(raised.exception), raised.exception.status), (said, status))
+
+    def test_threads_call_at_the_same_time(self):
+        """Each gets the answer to its own journal: by the program, and by a library that answers with the text."""
+        given = [AUCTION, QUARTERS] * 4
+        with concurrent.futures.ThreadPoolExecutor(len(given)) as threads:
+            found = threads.map(lambda path: dam_tools.clear(path, self.program).text, given)
+            self.assertEqual(list(found), list(map(printed, given)))
+            library = self.library(ECHO.replace("    return found;", "    usleep(1000);\n    return found;"))
+            texts = [str(number).encode() * 1_000 for number in range(100, 200)]
+            self.assertEqual(list(threads.map(lambda text: engine.cleared_by_library(library, text), texts)), texts)
 
     def test_a_fault_has_each_status_of_the_page(self):
         formats, python = ((support.TOP / "docs" / name).read_text() for name in ("FORMATS.md", "PYTHON.md"))
