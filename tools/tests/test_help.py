@@ -10,6 +10,7 @@ from pathlib import Path
 
 from support import TOP, tool
 
+from lib.base import place
 from lib.runs import engine
 from lib.tool import command
 
@@ -48,6 +49,30 @@ class Help(unittest.TestCase):
                     ran = subprocess.run(["sh", "-c", shown], cwd=folder, capture_output=True, text=True)
                     # The lint finds the commands that the examples' books refuse.
                     self.assertEqual(ran.returncode, command.DIFFERS if name == "lint" else 0, f"{line}\n{ran.stderr}")
+
+    def test_the_statuses_are_those_of_the_page(self):
+        page = (TOP / "docs" / "FORMATS.md").read_text().partition("\n## The statuses of the tools\n")[2].partition("\n## ")[0]
+        rows = dict(re.findall(r"^\| (\d+) \| (.*) \|$", page, re.MULTILINE))
+        tools_of = {status: set() for status in rows}
+        needs_program = set()
+        for name in place.TOOLS:
+            help_text = " ".join(tool(name, "--help")[1].decode().partition("\nstatuses: ")[2].split())
+            with self.subTest(name):
+                statuses = dict(re.findall(r"(?:^|; )(\d+) ([^;]*)", help_text))
+                self.assertLessEqual({"0", "2", "5", "130"}, set(statuses))
+                self.assertLessEqual(set(statuses), set(rows))
+                for status in statuses:
+                    tools_of[status].add(name)
+                if "program" in statuses["5"]:
+                    needs_program.add(name)
+        self.assertTrue(all(tools_of.values()), tools_of)
+        # a search of the audit, heads of receipts, and the results of an office
+        self.assertEqual(tools_of["4"], {"audit", "receipts", "office"})
+        for words in "a search timed out", "no extension connects two heads", "`tools/office`: no results yet":
+            self.assertIn(words, rows["4"])
+        self.assertEqual(tools_of["7"], {"lint"})
+        self.assertEqual(needs_program, {"whatif", "office"})
+        self.assertIn("a package or program is missing", rows["5"])
 
     def test_an_empty_word_is_no_word_that_is_left_out(self):
         """Such as a variable of a shell that isn't set: it would be taken for the default, or for the working folder."""
