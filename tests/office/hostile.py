@@ -13,7 +13,8 @@ import time
 from pathlib import Path
 
 SECONDS = 40  # that an answer, or the end of a connection, may take
-MOST_KEPT, KEPT_SECONDS = 60 << 10, 15  # KiB of 150 slow downloads, and how long it may take until all is kept
+MOST_IDLE = 20 << 10  # KiB of 150 connections over TLS
+MOST_KEPT, KEPT_SECONDS = 60 << 10, 15  # KiB of as many slow downloads, and how long it may take until all is kept
 
 
 def said(office, data, wait=True, context=None):
@@ -249,7 +250,7 @@ def check_downloads(office, counts, context):
     office.tool("publish", office.folder, office.day)
     (office.files / "journal.csv").write_bytes(b"x" * (9 << 20))
     with contextlib.ExitStack() as stack:
-        readers = []
+        readers, start = [], peak(office)
         for _ in range(150):
             plain = socket.socket()
             plain.setsockopt(socket.SOL_SOCKET, socket.SO_RCVBUF, 4_096)
@@ -257,6 +258,7 @@ def check_downloads(office, counts, context):
             plain.connect(("127.0.0.1", office.port))
             readers.append(stack.enter_context(context.wrap_socket(plain, server_hostname="localhost")))
         before = peak(office)
+        counts.check(f"a connection over TLS takes little memory: {before - start} KiB", before - start < MOST_IDLE)
         for one in readers:
             one.sendall(request("GET", f"/days/{office.day}/journal"))
         for one in readers:

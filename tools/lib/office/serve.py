@@ -1,6 +1,7 @@
 """Serving an office: its days, each with its gate, and the listener."""
 
 import asyncio
+import asyncio.sslproto
 import contextlib
 import ipaddress
 import logging
@@ -26,6 +27,7 @@ LOOK_SECONDS = 1  # between two looks for days that were added
 KNOWN_SECONDS, KNOWN_STEP = 2, 0.01  # that the journals of all days get to be read before it listens; between two looks
 STOP_SECONDS = 3  # that open requests get at the end
 BACKLOG = 128  # connections that wait to be accepted
+TLS_BYTES = 1 << 15  # that a connection reads at once; asyncio reserves eight times as many for each
 KEEP_SECONDS = 10  # that a connection stays open without a request
 DESK_BUILT = engine.TOP / "crates" / "dam_desk" / "out" / "dam_desk"
 
@@ -153,6 +155,7 @@ def is_loopback(host):
 
 def context_of(tls):
     """The context of TLS, from a certificate and its key."""
+    asyncio.sslproto.SSLProtocol.max_size = TLS_BYTES
     context = ssl.create_default_context(ssl.Purpose.CLIENT_AUTH)
     context.minimum_version = ssl.TLSVersion.TLSv1_2
     try:
