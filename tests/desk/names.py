@@ -1,7 +1,8 @@
 """Names of orders that collide in a book's map under the fixed seed, in a new file, in one that is opened again, and in a printed journal.
 
 A desk draws a seed of its own, so they take no more instructions than others, which valgrind counts. If a desk gets no random bytes for its
-seed, it takes the fixed one, and then they do: so the names collide."""
+seed, it takes the fixed one, and then they do: so the names collide. The others take about as many as were counted before: a step for each
+line that goes over all lines would take several times as many."""
 
 import errno
 import shutil
@@ -16,6 +17,7 @@ import costs
 from preload import Program, Refusal
 
 ABOUT = ["in a new file", "in a file that is opened again", "in a printed journal"]
+MILLIONS = [51.6, 26.7, 26.8]  # instructions that were counted with other names
 FIXED = Refusal("random", first=2, error=errno.ENOSYS)  # a file draws first
 
 
@@ -41,6 +43,10 @@ def run(counts, desk, dam, whole):
         took = f"names that collide {about} take {taken / by_others:.1f} times the instructions of others"
         print(took, flush=True)
         counts.check(took, taken < costs.TIMES * by_others)
+    for about, taken, millions in zip(ABOUT, usual, MILLIONS):
+        took = f"other names {about} take {taken / 1e6:.1f} million instructions"
+        print(took, flush=True)
+        counts.check(f"{took}, more than {costs.MOST_TIMES} times {millions} million", taken < costs.MOST_TIMES * millions * 1e6)
     took = f"with the fixed seed, they take {fixed.result() / usual[0]:.1f} times those"
     print(took, flush=True)
     counts.check(took, fixed.result() > costs.TIMES * usual[0])

@@ -1,5 +1,5 @@
-"""What names of orders that collide cost, and many cancels, as a number of instructions, which valgrind counts: it does not depend on what
-else the machine does.
+"""What names of orders that collide cost, many cancels, and full books, as a number of instructions, which valgrind counts: it does not
+depend on what else the machine does.
 
 Names that collide in a book's map under the fixed seed cost no more than others, since the program draws a seed of its own. If it gets no
 random bytes, it takes the fixed seed, and then they do: so the names collide, and each engine passes its seed on. So do
@@ -7,9 +7,13 @@ random bytes, it takes the fixed seed, and then they do: so the names collide, a
 
 An old order costs no more to cancel than a new one, and a name that is used again no more than another. A book that moved all later
 orders up at each cancel would take ten times as much. The cost is that of a journal that submits as many orders as a book holds, less that
-of the journal of the submits alone."""
+of the journal of the submits alone.
+
+A run on a full book, or of a full journal, takes about as many instructions as the program took when they were last counted. With a step
+for each order or command that goes over all others, it would take several times as much."""
 
 import errno
+import itertools
 import re
 import shutil
 import subprocess
@@ -22,6 +26,7 @@ ORDERS = rules.MOST_HOURLY
 TIMES = 3  # names that collide take less than 3 times the instructions of others; with the fixed seed 50 times or more
 CANCEL_TIMES = 2  # cancels take less than twice the instructions of others
 AGAIN = 2_990  # the orders that are cancelled, each with a submit after it, so that all fit a journal of 10,000 records
+MOST_TIMES = 3  # a run on a full book takes less than three times the instructions that were counted
 SECONDS = 1_200  # for a run of some seconds, on a machine that has much else to do
 DRAWN = Refusal("random")
 FIXED = Refusal("random", first=1, error=errno.ENOSYS)
@@ -42,8 +47,8 @@ def instructions(program, words, data, refusal):
     return int(COUNTED.search(log.read_text())[1].replace(",", ""))
 
 
-def journal(records, is_closed=True):
-    return "".join(["day,24,,,,,,,\n", *records, *["close,,,,,,,,\n"] * is_closed]).encode()
+def journal(records, is_closed=True, periods=24):
+    return "".join([f"day,{periods},,,,,,,\n", *records, *["close,,,,,,,,\n"] * is_closed]).encode()
 
 
 def submits(names):
@@ -113,3 +118,62 @@ def cancels(runs):
         times = (counts[one] - alone) / (counts[other] - alone)
         print(f"replay, {name}: {times:.2f} times the instructions of the same from the back", flush=True)
         runs.check(f"replay: {name} takes {times:.2f} times the instructions of the same from the back", times < CANCEL_TIMES)
+
+
+def codes():
+    """The codes of as many participants as a day may have, again and again."""
+    return itertools.cycle("ABCDEFGH"[: rules.MOST_DAY_PARTICIPANTS])
+
+
+def volumes(periods, volume):
+    return ";".join(f"{period}:{volume(period)}" for period in range(1, periods + 1))
+
+
+def book(periods, orders=ORDERS, blocks=rules.MOST_BLOCKS):
+    """As many orders, half of them of each side, and as many blocks, with a volume in each period."""
+    for at, code in zip(range(orders), codes()):
+        side, cents, period = ("buy", "sell")[at % 2], 4_000 + at * 7_919 % 4_001, 1 + at // 2 % periods
+        yield f"submit,{code},N-{at},hour,{side},{cents},{period}:{10 + at * 104_729 % 891},,\n"
+    for at, code in zip(range(blocks), codes()):
+        side, cents = ("buy", "sell")[at % 2], 5_500 + at * 617 % 1_001
+        yield f"submit,{code},K-{at},block,{side},{cents},{volumes(periods, lambda period: 5 + (at + 1) * period * 37 % 56)},,\n"
+
+
+def full_journal():
+    """A full book, an amend of each hourly order, and as many cancels as there may be before the close of a day."""
+    records = [*book(24), *(f"amend,{code},N-{at},,,{4_000 + at},{1 + at % 24}:7,,\n" for at, code in zip(range(ORDERS), codes()))]
+    left = rules.MOST_DAY_COMMANDS - len(records)
+    return records + [f"cancel,{code},N-{at},,,,,,\n" for at, code in zip(range(left), codes())]
+
+
+def long_amends():
+    """Amends of a block in each period of the longest day."""
+    periods = rules.GREATEST_PERIOD
+    yield f"submit,A,K-1,block,sell,5000,{volumes(periods, lambda period: period)},,\n"
+    for cents in range(1_000):
+        yield f"amend,A,K-1,,,{cents},{volumes(periods, lambda period: period + cents)},,\n"
+
+
+def works():
+    """Runs: the day's periods, the records, the words, and the millions of instructions that were counted."""
+    clear, day = ["clear", "--workers", "1"], ["day", "--workers", "1"]
+    limited = [*clear, "--cut", "0", "--nodes", "8000"]
+    return {
+        "replay of a full journal": (24, full_journal(), ["replay"], 30.1),
+        "clear of a full book": (24, book(24), clear, 18.5),
+        "clear of a full book of quarter-hours": (96, book(96), clear, 24.2),
+        "clear of 12 blocks within 8,000 nodes": (24, book(24, orders=480, blocks=12), limited, 60.9),
+        "day of a full journal": (24, full_journal(), day, 96.5),
+        "day of amends of 100 volumes": (rules.GREATEST_PERIOD, long_amends(), day, 60.8),
+    }
+
+
+def full(runs):
+    """Counts the instructions of runs on full books."""
+    tried = works()
+    asked = [(words, journal(records, words[0] != "day", periods)) for periods, records, words, _ in tried.values()]
+    counts = runs.pool.map(lambda it: instructions(runs.program, *it, DRAWN), asked)
+    for (about, (*_, millions)), count in zip(tried.items(), counts):
+        took = f"{count / 1e6:.1f} million instructions"
+        print(f"{about}: {took}", flush=True)
+        runs.check(f"{about}: {took}, more than {MOST_TIMES} times {millions} million", count < MOST_TIMES * millions * 1e6)

@@ -363,8 +363,9 @@ def main():
     if shutil.which("valgrind"):
         costs.names(runs)
         costs.cancels(runs)
+        costs.full(runs)
     else:
-        runs.leave_out("names that collide, and many cancels: valgrind, which counts instructions, is missing", 2)
+        runs.leave_out("names that collide, many cancels, and full books: valgrind, which counts instructions, is missing", 3)
     return runs.end()
 
 
