@@ -32,6 +32,7 @@ SYSTEM = "file: {}"
 IN_USE, MEMORY = b"file: another process has it\n", b"memory\n"
 SHORT = [0, 1, 7]  # bytes that a write moves at most
 MACHINE = 4  # the status
+LONGEST = 1 << 20  # bytes of a file, more than a desk's
 # After it a crash may leave each of its bytes torn, before the file is made whole again.
 GARBAGE = b"\n+cancel,A,NEVER,,,,,,\n\nx\n"
 
@@ -177,16 +178,25 @@ class Growths(Refusals):
         return self.wrong
 
 
-def limited(desk, given, bytes_):
-    """A run whose file may not grow beyond this length, and the file."""
+def limited(desk, given, bytes_, stdout=subprocess.PIPE):
+    """A run whose files may not grow beyond this length, and the desk's file."""
     def limit():
         signal.signal(signal.SIGXFSZ, signal.SIG_IGN)
         resource.setrlimit(resource.RLIMIT_FSIZE, (bytes_, bytes_))
 
     file = desk.folder() / "day.desk"
-    ran = subprocess.run([*desk.words, str(file)], input=b"".join(given.batches), stdout=subprocess.PIPE, stderr=subprocess.PIPE,
+    ran = subprocess.run([*desk.words, str(file)], input=b"".join(given.batches), stdout=stdout, stderr=subprocess.PIPE,
                          preexec_fn=limit, timeout=SECONDS)
     return ran, file
+
+
+def cut_off(desk, given, bytes_):
+    """A run whose answers go to a file that has room for so many bytes, the answers there, and the desk's file."""
+    with open(desk.folder() / "answers", "w+b") as answers:
+        answers.seek(LONGEST - bytes_)
+        ran, file = limited(desk, given, LONGEST, answers)
+        answers.seek(LONGEST - bytes_)
+        return ran, answers.read(), file
 
 
 def real(counts, desk, given):
@@ -197,6 +207,14 @@ def real(counts, desk, given):
         counts.check(f"a file of at most {bytes_} bytes: {ran}", (ran.returncode, ran.stdout, ran.stderr.decode()) == (MACHINE, b"", line))
         again = desk.run(file, given.batches)
         counts.check(f"a file of at most {bytes_} bytes, opened again", again.stdout.endswith(given.journal.printed(len(given.journal))))
+    printed = given.journal.printed(len(given.journal))
+    for bytes_ in (0, 1, 7, len(printed) - 1):
+        ran, answers, file = cut_off(desk, given, bytes_)
+        line = f"device: write after {bytes_} bytes\n"
+        counts.check(f"answers cut off after {bytes_} bytes: {ran}, {answers}",
+                     (ran.returncode, answers, ran.stderr.decode()) == (MACHINE, printed[:bytes_], line))
+        again = desk.run(file)
+        counts.check(f"answers cut off after {bytes_} bytes, opened again", again.stdout == printed)
     file = desk.folder() / "day.desk"
     with open("/dev/full", "wb") as full:
         ran = desk.run(file, given.batches, stdout=full)
