@@ -21,8 +21,8 @@ pub fn are_of_one_group(first: &Block, second: &Block) -> bool
 /// has one, and of its group no more than `MOST_OF_GROUP` are accepted. A selection is admissible if each place
 /// that it accepts is allowed.
 ///
-/// It looks only at the parent and the blocks of the group, by their places, since a search calls it for each
-/// decision to accept a block.
+/// It looks only at the parent and the blocks of the group, by their places, since `admissible` asks it of each accepted
+/// block, and a search asks that often.
 pub fn is_allowed<A: Allocator>(problem: &Problem<A>, selection: Selection, place: usize) -> bool
     requires { accepts selection place ≡ true }
     ensures { IsTrue result ↔ IsAllowed problem.now.blocks selection place }

@@ -21,8 +21,11 @@ pub const MOST_PERIODS: usize = LAST_PERIOD as usize;
 /// A block order with the participant and the name that it stands under.
 #[derive(PartialEq, Eq, Debug, Drop)]
 pub struct Block {
+    /// The participant that it is of.
     pub who: Participant,
+    /// Its name among the orders of the participant.
     pub name: Name,
+    /// Its side, limit, volumes, parent and group.
     pub order: BlockOrder,
 }
 
@@ -66,8 +69,11 @@ pub enum Place {
 /// An order of the book and where it stands in the problem.
 #[derive(PartialEq, Eq, Debug, Drop)]
 pub struct ProblemRow {
+    /// The participant that the order is of.
     pub who: Participant,
+    /// The order's name.
     pub name: Name,
+    /// Where it stands in the problem.
     pub at: Place,
 }
 

@@ -109,11 +109,13 @@ impl Selection {
     }
 }
 
-/// A selection and a welfare, in cents per MWh times tenths of a MW.
+/// A selection and a welfare.
 ///
 /// The type doesn't constrain them; the function that returns one states its meaning.
 #[derive(Clone, Copy, PartialEq, Eq, Debug)]
 pub struct Best {
+    /// The accepted blocks.
     pub selection: Selection,
+    /// The welfare, in cents per MWh times tenths of a MW.
     pub welfare: u64,
 }

@@ -14,7 +14,7 @@
 //! let rivals = curves.are_rivals(0, 1); // if true, no eligible selection accepts both
 //! let none = curves.rules_out(Selection::none().with(0), Selection::none().with(1)); // if true, none accepts 0 but not 1
 //! let limits = curves.limits(); // that every eligible selection keeps
-//! let room = limits.room_after(&limits.room(), 0, true); // None if no eligible selection accepts block 0
+//! let room = limits.room_after(&limits.room(), 0, true); // if None, no eligible selection accepts block 0
 //!
 //! let relaxed = Relaxed::build(alloc, &problem)?;
 //! let relaxed_welfare = relaxed.bound(Selection::none().with(0), 1); // block 0 accepted, the others open
@@ -23,15 +23,16 @@
 //! At any prices, the welfare of a selection is at most the surplus of all hourly orders and the gains of its blocks at
 //! these prices. That is a [`PriceBound`]; it bounds every selection. Two periods are in one class if every block has the
 //! same volume in both, so that any selection gives both the same net volume. [`ClassCurves`] has for each class the
-//! joint welfare of its hourly orders over the net volume, as segments (`dam_curve`). The line through a segment is above
-//! the whole curve, and the lines of all classes make a bound by prices.
+//! joint welfare of its hourly orders over the net volume, as segments (`dam_curve`). The line through a segment is nowhere
+//! below the curve, and the lines of all classes make a bound by prices.
 //!
 //! The relaxed welfare of a prefix ([`Relaxed::bound`]) lets each block after it be executed in part, in each period
 //! apart from the others. It is found by clearing each period, and bounds the completions of the prefix.
 //!
 //! `specs/` defines these words: bounds by prices and open selections, prefixes and their completions, the relaxed
 //! welfare, the live count, and the classes. A contract sees a [`ClassCurves`] or a [`Relaxed`] as the problem that it was
-//! built from, without its rows. Only tests show that a call reports out of memory only if memory was refused.
+//! built from, without its rows. Only tests show how tight bounds by prices are, which rivals
+//! and decisions are found, and that a call reports out of memory only if memory was refused.
 //!
 //! The crate doesn't know exclusive groups. Its code doesn't look at which selections are admissible. The only links it
 //! knows are which block descends from which.

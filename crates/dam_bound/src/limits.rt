@@ -102,8 +102,8 @@ impl Limits {
         Room { rooms }
     }
 
-    /// The room that is left after a decision on the block at the place; `None` if it takes more than there is under some
-    /// limit. Then no eligible selection has this decision beside those before it. Takes no memory.
+    /// The room that is left after a decision on the block at the place; `None` exactly if it takes more than there is under
+    /// some limit. Then no eligible selection has this decision beside those before it. Takes no memory.
     #[inline(always)]
     pub fn room_after(&self, room: &Room, place: usize, accept: bool) -> Option<Room>
         requires place { place < most_blocks }
@@ -118,6 +118,14 @@ impl Limits {
             → before place ≡ true → after place ≡ false → ((p : ℕ) → p ≢ place → after p ≡ before p)
             → accepts selection place ≡ accept
             → HasRoom self.now.limits selection after next.rooms) }
+        ensures lowered { IfSome result (λ next. (k : ℕ) (d : ℤ) → k < most_limits
+            → slice_index_or next.rooms k d ≡ slice_index_or room.now.rooms k d -ℤ room_taken accept
+            (slice_index_or (limit_in self.now.limits k).nets place (pos 0))) }
+        ensures left { IfSome result (λ next. (k : ℕ) → k < most_limits
+            → pos 0 ≤ℤ slice_index_or next.rooms k (pos 0)) }
+        ensures lacking { result ≡ None → (k : ℕ) × (k < most_limits)
+            × ((slice_index_or room.now.rooms k (pos 0) -ℤ room_taken accept
+            (slice_index_or (limit_in self.now.limits k).nets place (pos 0))) <ℤ pos 0) }
     {
         let next = self.lowered(room, place, accept);
         if next.least() < 0 { None } else { Some(next) }

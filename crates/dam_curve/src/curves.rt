@@ -182,8 +182,7 @@ fn place_before_end(place: usize, count: usize) -> usize
     }
 }
 
-/// The line of the segment that holds at the net volume, and at one above it if there is one; or at the nearer end if none
-/// does.
+/// The line of the last segment that holds at the net volume; of the one before it, if that is the last of the curve.
 #[inline(always)]
 fn line_in(segments: &[Segment], net: i64, near: usize) -> Line
     requires curve { (periods : List (List Step)) × (least : ℤ) × (most : ℤ)

@@ -7,7 +7,7 @@
 //!
 //! The line of a segment lies over the greatest welfare at each net volume, also where the segment doesn't hold. Where it
 //! holds, its price is the sum of the periods' clearing prices, except at its greatest net volume: there several prices
-//! support each period, and the segment keeps the sum of the clearing prices, too.
+//! may support a period, and the segment keeps the sum of the clearing prices, too.
 //!
 //! ```
 //! let supply = Supply::of(alloc, &steps)?; // the steps of a period, by one sort
@@ -23,8 +23,8 @@
 //! ```
 //!
 //! A contract sees the segments of all curves. It asks of a curve which periods it is of, and between which net volumes.
-//! Only tests show that a call reports out of memory only if memory was refused, or if more than 2^32 - 1 segments or hints
-//! would be held.
+//! Only tests show that a line touches the welfare, that the ends of a range of prices are prices, and that a call reports
+//! out of memory only if memory was refused, or if more than 2^32 - 1 segments or hints would be held.
 //!
 //! The crate doesn't know blocks or books.
 #![tactic(auto)]

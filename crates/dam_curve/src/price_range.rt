@@ -45,7 +45,7 @@ impl<A: Allocator> Curves<A> {
             highest: segments[segments.len() - 1].dot,
         }
     }
-    /// The range in which they lie at the net volumes from `least` to `most`; `None` if at none of these each of the
+    /// The range in which they lie at the net volumes from `least` to `most`; `None` only if at none of these each of the
     /// periods balances. Takes no memory.
     #[inline(always)]
     pub fn price_range_between(&self, curve: Curve, least: i64, most: i64) -> Option<PriceRange>

@@ -14,7 +14,7 @@ pub struct PieceAnswer {
     /// of a MW; 0 if nothing was read.
     pub read: u64,
     /// How many nodes were visited: those whose bound was compared with the incumbent read, and selections whose welfare
-    /// was looked at. No clause bounds it if the limit on nodes can't stop the walk.
+    /// was looked at. No clause bounds it for a walk by prices.
     pub visited: u32,
     /// Whether no node is left to visit. It is false only if `visited` is the limit.
     pub done: bool,

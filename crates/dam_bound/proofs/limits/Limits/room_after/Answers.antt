@@ -1,4 +1,5 @@
 -- Some room is below 0, or none is.
+use Rattle.std.specs.Prelude.{pos}
 use Rattle.std.proofs.Common.{arith}
 use Rattle.std.proofs.lemmas.Int.{ints}
 use Rattle.dam_bound.proofs.Limiting.{AreLowered, none_fits, still_rooms, still_has}
@@ -26,3 +27,20 @@ returns-else-least-lt0-clause-some c sel before after has on off same decided =
     record { many = c.lowered-next.ensures.small.many; each = c.lowered-next.ensures.lowered } in
     still_has c.requires.limits.0 c.args.self.now.limits c.args.accept c.args.place c.args.room.now.rooms c.lowered-next.result.rooms sel before after
     c.requires.place lowered has on off same decided
+
+pub returns-else-least-lt0-clause-lowered : goal.returns-else-least-lt0-clause-lowered
+returns-else-least-lt0-clause-lowered c k d below = c.lowered-next.ensures.lowered k d below
+
+pub returns-else-least-lt0-clause-left : goal.returns-else-least-lt0-clause-left
+returns-else-least-lt0-clause-left c k below =
+    let under = c.least.ensures.under k below in
+    let test = c.if-least-lt0.false in
+    omega (arith, ints, under, test)
+
+pub returns-then-least-lt0-clause-lacking : goal.returns-then-least-lt0-clause-lacking
+returns-then-least-lt0-clause-lacking c e =
+    let found = c.least.ensures.reached in
+    let here = c.lowered-next.ensures.lowered found.0 (pos 0) found.1 in
+    let least = found.2 in
+    let test = c.if-least-lt0.true in
+    (found.0, found.1, omega (arith, ints, here, least, test))
