@@ -8,10 +8,13 @@ use crate::options::{CUT, NODES, NumberOption, WORKERS};
 use clap::{Arg, ArgAction, Command, value_parser};
 use std::alloc::{AllocError, Global};
 
+/// The command that prints the book's reply to each command of a journal.
 pub const REPLAY: &str = "replay";
 
+/// The command that prints the results of a journal's closed book.
 pub const CLEAR: &str = "clear";
 
+/// The command that runs the commands of a journal as a day with participants, and prints its journal and its results.
 pub const DAY: &str = "day";
 
 /// How the program gets its journal.

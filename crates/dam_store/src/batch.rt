@@ -60,6 +60,7 @@ impl Batch {
         self.bytes[0] = b'-';
     }
 
+    /// Whether there are no lines.
     pub fn is_empty(&self) -> bool
         ensures { result ≡ (length self.now == 0) }
     {
