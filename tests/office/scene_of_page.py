@@ -2,6 +2,7 @@
 participant in the same tab, and the demo; light and dark, broad and narrow."""
 
 import asyncio
+import os
 import signal
 import subprocess
 import tempfile
@@ -113,6 +114,11 @@ async def unreached(page, counts):
     counts.check("a page asks until the office answers", await text(page, "message") == "")
 
 
+# When a day closes, at a minute and 30 s later.
+SECONDS = """['00', '30'].map((seconds) => { state.known.closes = state.known.closes.replace(/[0-9]+(?=[+Z])/, seconds);
+  showDay(); return byId('where').textContent; })"""
+
+
 async def sign_in(page, office, who):
     await page.until("!document.getElementById('sign-in').hidden")
     await write(page, "token", office.tokens[who])
@@ -149,6 +155,11 @@ async def first_sign_in(page, office, who, counts):
     counts.check("and an hourly order's after the next sign-in", await page.run(FIELDS) == HOURLY)
     head = await page.run("fetch(byId('head').href).then((answer) => answer.json())")
     counts.check("the head of the day is linked", head["day"] == office.day and "after the close" in await text(page, "receipts-help"))
+    counts.check("the page says who is signed in", await page.run(f"document.body.innerText.includes('Signed in as {who}')"))
+    ends = await page.run(SECONDS)
+    counts.check(f"a close within a minute has its seconds: {ends}", "12:00 (" in ends[0] and "12:00:30 (" in ends[1])
+    shown_figures = await page.run("[...document.querySelectorAll('#figures dt')].map((one) => one.textContent)")
+    counts.check(f"each figure says its unit: {shown_figures}", shown_figures[-1] == "entries in the journal")
     counts.check("only a demo can be closed", await page.run("document.getElementById('demo-close').hidden"))
 
 
@@ -227,6 +238,8 @@ async def enter_orders(page, who, counts):
     await choose(page, "parent", "RUN")
     await page.run("document.querySelector('#grid input[data-period=\"9\"]').focus()")
     await page.type("5")
+    await page.key("Enter", 13)
+    counts.check("Enter in a period goes to the next one", await page.run("document.activeElement.dataset.period") == "10")
     await click(page, "#enter")
     await until_rows(page, "orders-table", 3)
     counts.check("a link", (await rows(page, "commands-table"))[0][6:9] == ["75.00", "9: 5.0", "parent RUN"])
@@ -240,6 +253,7 @@ async def change_orders(page, counts):
         "an amend says how to change the rest",
         "cancel the order" in await text(page, "fixed") and await page.run("byId('fixed').checkVisibility()"),
     )
+    counts.check("and that the order keeps its place", "keeps its place" in await text(page, "fixed"))
     counts.check("fields that can't be changed look so", looks[0] == looks[1] != looks[2])
     await write(page, "price", "61")
     await page.key("Enter", 13)
@@ -257,7 +271,7 @@ async def change_orders(page, counts):
     await until_rows(page, "commands-table", 5)
     reason = "blocks name this one as their parent"
     counts.check("a refusal is in words", (await rows(page, "commands-table"))[0][1:4] == ["cancel", "RUN", f"refused: {reason}"])
-    counts.check("and the message names it", (await text(page, "message")).startswith(f"RUN wasn't cancelled: {reason}."))
+    counts.check("and the message names it", (await text(page, "message")).startswith(f"RUN wasn't cancelled: {reason}: MORE. Cancel it first."))
     await page.until("document.activeElement.id === 'orders-title'")
     counts.check("each reason is to the participant", await page.run(REASONS) == TOLD)
 
@@ -311,11 +325,18 @@ WRONG = (
     ("volume", "0.05", "at most 1 digit after the point"),
     ("volume", "", "Write a number from 0.1"),
     ("name", "A_B", "1 to 12 of the characters A to Z, 0 to 9 and -"),
+    ("name", "PLANT-NORTH-08", "It has 14 characters: write at most 12"),  # and isn't cut, which would make another name of it
     ("name", "", "Write a name"),
 )
 # A field that is wrong: whether it has the focus and is marked, and what is said of it where it is described.
 MARKED = """(() => { const one = byId('%s'); return [document.activeElement === one && one.ariaInvalid,
   one.getAttribute('aria-describedby').split(' ').map((id) => byId(id).textContent).join(' ')]; })()"""
+
+
+# Pastes a text into a place of the grid.
+PASTE = """{ const clipboardData = new DataTransfer(); const place = cells()[%d];
+  clipboardData.setData('text', '%s');
+  place.dispatchEvent(new ClipboardEvent('paste', { clipboardData, bubbles: true, cancelable: true })); }"""
 
 
 async def faults(page, counts, pictures):
@@ -340,7 +361,8 @@ async def faults(page, counts, pictures):
     gone = await page.run("[byId('name-fault').textContent, byId('message').textContent, byId('name').ariaInvalid]")
     counts.check(f"a fault goes when its field is changed: {gone}", gone == ["", "", None])
     await click(page, "input[value=block]")
-    for name, words, fault in (("group", "G_1", "1 to 12 of the characters"), ("fill-volume", "0", "from 0.1 to 9999.9 MW")):
+    wrong = [("group", "G_1", "1 to 12 of the characters"), ("group", "EVENING-PEAK-1", "14 characters")]
+    for name, words, fault in (*wrong, ("fill-volume", "0", "from 0.1 to 9999.9 MW")):
         await write(page, name, words)
         await click(page, "#enter" if name == "group" else "#fill")
         is_marked, told = await page.run(MARKED % name)
@@ -354,7 +376,7 @@ async def faults(page, counts, pictures):
         await page.run(f"cells()[4].value = '{filled}'")
         await click(page, "#enter")
         told = await text(page, "fill-fault")
-        unfilled = "30 MW for 11 to 12 isn't filled in: press Fill in, or empty the box."
+        unfilled = "30 MW for periods 11 to 12 isn't filled in: press Fill in, or empty the box."
         counts.check(f"a volume that isn't filled in isn't lost: {told}", told == unfilled and await focused(page) == "fill-volume")
     await choose(page, "fill-volume", "")
     await click(page, "#enter")
@@ -367,6 +389,14 @@ async def faults(page, counts, pictures):
         (await text(page, "grid-fault")).startswith("Period 5: It should be from 0.1")
         and await page.run("document.activeElement === cells()[4]"),
     )
+    await page.run(PASTE % (4, "1\\r\\n\\r\\n2,5\\r\\n"))
+    pasted, told = await page.run("[cells().map((one) => one.value).join('|'), byId('grid-fault').textContent]")
+    counts.check(f"cells of a spreadsheet are pasted: {pasted} {told}", pasted == "|" * 4 + "1||2,5" + "|" * 17 and told == "")
+    await page.run(PASTE % (22, "1\\t2\\t3"))
+    pasted, told = await page.run("[cells().map((one) => one.value).join(''), byId('grid-fault').textContent]")
+    too_many = "3 volumes from period 23 on go past the last period, 24: nothing is pasted."
+    counts.check(f"but not past the last period: {told}", told == too_many and pasted == "12,5")
+    await click(page, "#clear")
     await write(page, "fill-volume", "5")
     await choose(page, "fill-from", 9)
     await choose(page, "fill-to", 8)
@@ -430,13 +460,20 @@ async def lose_an_answer(page, counts):
 
 # --- tables
 
+# The office asks to wait once.
+HASTY = """{ window.real = fetch; fetch = async (...words) => { await new Promise((done) => setTimeout(done, 1000));
+  if (window.hasty) return real(...words); window.hasty = true;
+  return new Response('{"fault": "TooFast", "words": "too many requests"}', { status: 429 }); }; }"""
 
-async def read_table(page, room, words):
+
+async def read_table(page, room, words, time=None):
     path = Path(room, "orders.csv")
     path.write_text(words)
     root = (await page.call("DOM.getDocument"))["root"]["nodeId"]
     node = (await page.call("DOM.querySelector", nodeId=root, selector="#file"))["nodeId"]
     await page.call("DOM.setFileInputFiles", nodeId=node, files=[str(path)])
+    if time is not None:
+        os.utime(path, (time, time))
     await click(page, "#upload-form button")
 
 
@@ -445,8 +482,19 @@ async def upload(page, who, room, counts):
     await read_table(page, room, "participant;order\n")
     await page.until("byId('file-fault').textContent.includes('no column')")
     counts.check("a table that can't be read is told at the file", await focused(page) == "file")
+    nothing = "Nothing of orders.csv was entered. Correct it, and choose it again."
+    counts.check("the message says that nothing was entered", await text(page, "message") == nothing)
+    counts.check("and the file is to be chosen again", await page.run("byId('file').value") == "")
+    await read_table(page, room, TABLE.format(who=who), time=1)  # it is written after it was chosen
+    await page.until("byId('file-fault').textContent.includes('has changed')")
+    counts.check("also one that has changed", await page.run("byId('message').textContent + byId('file').value") == nothing)
+    await page.run(HASTY)
     await read_table(page, room, await page.run("template()"))
+    told = await page.run("[byId('message').textContent, byId('read-file').disabled]")
+    counts.check(f"a table that is being read is told: {told}", told == ["The table is being read.", True])
     await said(page, "was read")
+    counts.check("also if the office asks to wait", await page.run("window.hasty && !byId('read-file').disabled"))
+    await page.run("fetch = real; undefined")
     example = [row[2:] for row in await rows(page, "read-table")]
     counts.check(
         f"the template is a table: {example}",
@@ -494,18 +542,19 @@ async def results(page, office, who, other, counts):
     found = {row[0]: row[1:] for row in statement}
     in_book = ["UNIT-8", "RUN", "MORE", "T-1", "T-2", "T-3", "ONCE"]
     counts.check(f"each order has its result, in the order of the book: {list(found)}", [row[0] for row in statement] == in_book)
-    unit = ["hourly", "sell", "61.00", "50.1", "30.0", "61.00", "+1,830.00", "executed in part"]
+    unit = ["hourly", "sell", "8", "61.00", "50.1", "30.0", "61.00", "+1,830.00", "executed in part"]
     counts.check(
         f"in a trader's words: {found['UNIT-8']}",
-        found["UNIT-8"][:8] == unit and found["ONCE"][7] == "not executed" and all(row[8] for row in found.values()),
+        found["UNIT-8"][:9] == unit and found["ONCE"][8] == "not executed" and all(row[9] for row in found.values()),
     )
+    counts.check("a block has its runs of periods", [found[name][2] for name in ("T-1", "T-2")] == ["1-3", "1; 3"])
     numbers = [row[0] for row in commands]
     counts.check("commands have their own numbers", numbers == [str(number) for number in range(len(commands), 0, -1)])
     counts.check("and no other", "command 2" not in await text(page, "statement"))
     counts.check("each period has its price", len(prices) == 24 and prices[7] == ["8 (07:00)", "61.00", "30.0"])
     counts.check(f"also one without trade: {prices[8]}", prices[8] == ["9 (08:00)", "1,750.00 (nominal)", "0.0"])
     totals = await page.run("[...document.querySelectorAll('#totals dd')].map((one) => one.textContent)")
-    executed = [float(row[6].replace(",", "").replace("\u2212", "-")) for row in found.values() if row[6]]
+    executed = [float(row[7].replace(",", "").replace("\u2212", "-")) for row in found.values() if row[7]]
     counts.check(f"the totals are the sums: {totals}", totals == expected_totals(executed))
     position = await rows(page, "position")
     counts.check(f"the position has each period of one's own: {position}", ["8 (07:00)", "0.0", "30.0", "\u221230.0"] in position)
@@ -593,9 +642,9 @@ async def length_scene(page, office, periods, counts):
     await page.until("!document.getElementById('results').hidden")
     (row,), prices = await rows(page, "statement"), await rows(page, "prices")
     energy = f"{9_999.9 * periods * float(rules.DAYS[periods]):,.1f}"
-    counts.check(f"{energy} MWh of {periods} periods: {row}", row[4:6] == [energy, "0.0"] and row[8] == "paradoxically rejected")
+    counts.check(f"{energy} MWh of {periods} periods: {row}", row[5:7] == [energy, "0.0"] and row[9] == "paradoxically rejected")
     words = "at the prices, but with it, a block would lose, a period wouldn't balance, or the welfare wouldn't be greater"
-    counts.check(f"its reason tells nothing of other orders: {row[9]}", row[9].endswith(words))
+    counts.check(f"its reason tells nothing of other orders: {row[10]}", row[10].endswith(words))
     begins = [f"{number} ({clock.begins(periods, number)})" for number in range(1, periods + 1)]
     counts.check(f"the prices of {periods} periods", [one[0] for one in prices] == begins)
 
@@ -638,7 +687,7 @@ async def demo_scene(url, counts, pictures):
         await page.until("document.activeElement.id === 'results-title'")
         counts.check("a demo that is closed can't be closed again", await page.run("byId('demo-close').hidden"))
         (night,), prices = await rows(page, "statement"), await rows(page, "prices")
-        counts.check(f"a block over a night has a price in the demo: {night}", night[5:7] == ["25.0", "48.00"] and night[8] == "accepted")
+        counts.check(f"a block over a night has a price in the demo: {night}", night[6:8] == ["25.0", "48.00"] and night[9] == "accepted")
         counts.check("each period of the demo has trade", len(prices) == 24 and not any("nominal" in row[2] for row in prices))
         counts.check("no script of the demo fails", not page.faults)
 

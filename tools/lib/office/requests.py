@@ -127,11 +127,14 @@ def table_records(data, who, periods, orders=()):
         else:
             orders = order_table.read_tables([("", cells)], periods, held=(who, orders))
             commands, notes = [submit for _, submit in orders.submits], orders.notes
+            if not commands:
+                raise Wrong("the table has no order below its first line")
     except order_table.Wrong as fault:
         raise Wrong(CODE.sub("", str(fault))) from None
-    others = sum(command.who != who for command in commands)
+    others = [command for command in commands if command.who != who]
     if others:
-        raise Wrong(f"the table has {text.counted(others, 'command')} of other participants than {who}")
+        of_others = f"the table has {text.counted(len(others), 'command')} of other participants than {who}"
+        raise Wrong(f"{of_others}: the first one is of {others[0].name} of {others[0].who}")
     if not commands:
         raise Wrong("the table has no command")
     return list(map(journal.command_line, commands)), notes

@@ -182,7 +182,9 @@ const secondsLeft = () => (state.known.until ? Math.max(0, state.known.until - p
 
 function showDay() {
   const day = state.known;
-  const closes = new Date(day.closes).toLocaleString("en-GB", { timeZone: day.zone, dateStyle: "medium", timeStyle: "short" });
+  const ends = new Date(day.closes);
+  const timeStyle = ends.getUTCSeconds() ? "medium" : "short"; // a demo closes at a second
+  const closes = ends.toLocaleString("en-GB", { timeZone: day.zone, dateStyle: "medium", timeStyle });
   const when = isOpen() ? `It closes on ${closes} (${day.zone}).` : `It is ${day.state === "stopped" ? "stopped" : "closed"}.`;
   byId("where").textContent = `Delivery day ${day.day}, ${day.periods} periods. ${when}`;
   for (const part of document.querySelectorAll(".zone")) part.textContent = day.zone;
@@ -190,7 +192,7 @@ function showDay() {
     ["time left", isOpen() ? left(secondsLeft()) : ENDS[day.state] ?? "closed", "left"],
     ["your orders in the book", shown(state.orders.length, 0)],
     ["your commands", `${shown(state.next - 1, 0)} of ${shown(state.share, 0)}`],
-    ["entries of all", shown(day.entries, 0)],
+    ["entries in the journal", shown(day.entries, 0)],
   ]);
   for (const part of lefts()) part.classList.toggle("late", isOpen() && day.seconds_left < 60);
   for (const part of document.querySelectorAll(".left")) part.textContent = left(secondsLeft());
@@ -298,15 +300,11 @@ function showOrders() {
 
 // --- entering
 
-async function put(commands) {
-  const body = JSON.stringify(commands);
-  const number = state.next; // of all tries, also if a look finds the command entered in the meantime
+// The answer of a request, which is sent again if none comes, or if the office can't answer it yet.
+async function answered(path, how) {
   for (let time = 1; ; time += 1) {
     try {
-      const text = await ask(`${own("commands")}/${number}`, { method: "PUT", body, headers: { "Content-Type": "application/json" } });
-      const receipts = text.trim().split("\n").map((line) => JSON.parse(line));
-      state.next = Math.max(state.next, number + receipts.length);
-      return receipts;
+      return await ask(path, how);
     } catch (fault) {
       if (time === RETRIES || fault.fault === "Left" || ![0, 429, 503].includes(fault.status)) throw fault;
       say(`${sentence(fault.message)}; trying again`, "wrong");
@@ -315,10 +313,19 @@ async function put(commands) {
   }
 }
 
+async function put(commands) {
+  const body = JSON.stringify(commands);
+  const number = state.next; // of all tries, also if a look finds the command entered in the meantime
+  const text = await answered(`${own("commands")}/${number}`, { method: "PUT", body, headers: { "Content-Type": "application/json" } });
+  const receipts = text.trim().split("\n").map((line) => JSON.parse(line));
+  state.next = Math.max(state.next, number + receipts.length);
+  return receipts;
+}
+
 // What became of commands, in words.
 function outcomeWords(commands, receipts) {
   const refused = commands.map((command, at) => [command, receipts[at].reply]).filter(([, reply]) => reply !== "done");
-  const words = ([command, reply]) => `${command.order} wasn't ${DONE[command.what]}: ${reasonOf(reply, command)}.`;
+  const words = ([command, reply]) => `${command.order} wasn't ${DONE[command.what]}: ${reasonOf(reply, command)}${childrenWords(reply, command)}.`;
   const lines = refused.slice(0, MOST_REFUSED).map(words);
   if (refused.length > MOST_REFUSED) lines.push(`${refused.length - MOST_REFUSED} more were refused: your commands below have the reasons.`);
   if (refused.length) lines.push(`The book's ${refused.length === 1 ? "refusal is" : "refusals are"} on the disk, ${refused.length > 1 ? "each " : ""}with a signed receipt.`);
@@ -399,7 +406,7 @@ function showKind() {
 // A volume that was written, and not filled in, would be lost.
 function unfilledRule(words) {
   const [from, to] = ["fill-from", "fill-to"].map((id) => byId(id).value);
-  const where = from === to ? from : `${from} to ${to}`;
+  const where = from === to ? `period ${from}` : `periods ${from} to ${to}`;
   return words ? { fault: `${words} MW for ${where} isn't filled in: press Fill in, or empty the box.` } : { value: null };
 }
 
@@ -415,6 +422,22 @@ function fill() {
     }
   }
   byId("fill-volume").value = "";
+}
+
+// Volumes that were copied from cells of a spreadsheet, put into the periods from this one on.
+function paste(event) {
+  const given = event.clipboardData.getData("text").replace(/\r?\n$/, "").split(/\t|\r?\n/);
+  if (given.length < 2) return;
+  event.preventDefault();
+  say("");
+  const from = cells().indexOf(event.target);
+  const places = cells().slice(from, from + given.length);
+  const isFitting = places.length === given.length;
+  mark(event.target, isFitting ? "" : `${given.length} volumes from period ${from + 1} on go past the last period, ${cells().length}: nothing is pasted.`);
+  for (const [at, input] of isFitting ? places.entries() : []) {
+    input.value = given[at].trim();
+    mark(input, "");
+  }
 }
 
 const WRITTEN = ["name", "price", "volume", "group", "fill-volume"]; // the fields that are empty in a new form
@@ -493,6 +516,15 @@ const TEMPLATE = [
 const templateRows = () => TEMPLATE.map((row, at) => (at ? [who() || "GAS", ...row] : row));
 const template = () => templateRows().map((row) => `${row.join(",")}\n`).join("");
 
+// A browser doesn't read a file that was written since it was chosen.
+async function bytesOf(file) {
+  try {
+    return await file.arrayBuffer();
+  } catch {
+    throw new Fault(0, "Changed", "the file has changed since you chose it");
+  }
+}
+
 async function upload(event) {
   event.preventDefault();
   say("");
@@ -501,8 +533,11 @@ async function upload(event) {
   const [file] = byId("file").files;
   mark(byId("file"), file ? "" : "Choose a file.");
   if (!file) return byId("file").focus();
+  say("The table is being read.");
+  byId("read-file").disabled = true;
   try {
-    const { records, notes } = await json(own("tables"), { method: "POST", body: file, headers: { "Content-Type": "application/octet-stream" } });
+    const how = { method: "POST", body: await bytesOf(file), headers: { "Content-Type": "application/octet-stream" } };
+    const { records, notes } = JSON.parse(await answered(own("tables"), how));
     state.read = records.map(commandOf);
     const rows = state.read.map((command, at) => [String(at + 1), command.what === "submit" ? "enter" : command.what, command.order, ...orderCells(command)]);
     byId("read-table").replaceChildren(table("What the table says; nothing is entered yet", [["", "n"], ["does"], ["order"], ...ORDER_HEADS], rows));
@@ -512,8 +547,13 @@ async function upload(event) {
     byId("enter-all").focus();
   } catch (fault) {
     if (fault.fault === "Left") return;
+    const isToBeChosen = fault.status === 400 || fault.fault === "Changed"; // it is changed then, and a browser doesn't read it
+    say(`Nothing of ${file.name} was entered.${isToBeChosen ? " Correct it, and choose it again." : ""}`, "wrong", "file");
+    if (isToBeChosen) byId("upload-form").reset();
     mark(byId("file"), fault.message);
     byId("file").focus();
+  } finally {
+    byId("read-file").disabled = false;
   }
 }
 
@@ -593,6 +633,12 @@ byId("fill-volume").addEventListener("keydown", (event) => {
   event.preventDefault(); // it doesn't enter the order
   fill();
 });
+byId("grid").addEventListener("keydown", (event) => {
+  if (event.key !== "Enter") return;
+  event.preventDefault(); // it goes to the next period, as in a spreadsheet, and doesn't enter half an order
+  (cells()[cells().indexOf(event.target) + 1] ?? byId("enter")).focus();
+});
+byId("grid").addEventListener("paste", paste);
 byId("clear").addEventListener("click", () => {
   say("");
   for (const input of cells()) {
@@ -603,7 +649,10 @@ byId("clear").addEventListener("click", () => {
 byId("order-form").addEventListener("submit", enterOrder);
 byId("template").addEventListener("click", () => save(template(), "text/csv", "orders.csv"));
 byId("upload-form").addEventListener("submit", upload);
-byId("file").addEventListener("change", () => mark(byId("file"), ""));
+byId("file").addEventListener("change", () => {
+  mark(byId("file"), "");
+  if (state.about === "file") say("");
+});
 byId("enter-all").addEventListener("click", enterAll);
 byId("drop").addEventListener("click", () => { drop(); say(""); byId("file").focus(); });
 

@@ -84,15 +84,20 @@ function commandOf(record) {
   return { ...changed, kind, side, ...(kind === "block" ? { parent, group } : {}) };
 }
 
-function runs(volumes) {
+// The runs of periods with the same volume.
+function runsOf(volumes) {
   const groups = [];
   for (const [period, volume] of volumes) {
     const last = groups.at(-1);
     if (last && last.volume === volume && last.to === period - 1) last.to = period;
     else groups.push({ from: period, to: period, volume });
   }
-  return groups.map(({ from, to, volume }) => `${from === to ? from : `${from}-${to}`}: ${grouped(volume, 1)}`).join("; ");
+  return groups;
 }
+
+const runWords = ({ from, to }) => (from === to ? String(from) : `${from}-${to}`);
+const runs = (volumes) => runsOf(volumes).map((run) => `${runWords(run)}: ${grouped(run.volume, 1)}`).join("; ");
+const periodsOf = (volumes) => runsOf(volumes.map(([period]) => [period, 0])).map(runWords).join("; ");
 
 // The cells of an order or a command, and their heads.
 const ORDER_HEADS = [["kind"], ["side"], ["limit, EUR/MWh", "n"], ["volume by period, MW", "given"], ["links"]];
@@ -115,6 +120,12 @@ const TO_YOU = {
 function reasonOf(reply, command) {
   const code = reply.split(",")[1];
   return TO_YOU[code]?.(command) ?? REASONS[code] ?? reply;
+}
+
+// Of a parent that wasn't cancelled: which of the participant's blocks name it.
+function childrenWords(reply, { order }) {
+  const children = state.orders.filter(({ parent }) => parent === order).map((child) => child.order);
+  return reply === "refused,HasChildren" && children.length ? `: ${children.join(", ")}. Cancel ${children.length === 1 ? "it" : "them"} first` : "";
 }
 
 function replyWords(reply, command, later) {
@@ -154,7 +165,8 @@ const limitRule = numberRule(2, RULES.least_price, RULES.greatest_price, "EUR/MW
 const volumeRule = numberRule(1, 1, RULES.greatest_volume, "MW");
 
 function nameRule(words) {
-  const isName = words.length <= RULES.longest_name && /^[A-Z0-9-]+$/.test(words);
+  const isName = /^[A-Z0-9-]+$/.test(words);
+  if (isName && words.length > RULES.longest_name) return { fault: `It has ${words.length} characters: write at most ${RULES.longest_name}.` };
   return isName ? { value: words } : { fault: `Write ${words ? "" : "a name: "}1 to ${RULES.longest_name} of the characters A to Z, 0 to 9 and -.` };
 }
 
