@@ -18,7 +18,7 @@ from preload import Program, Refusal
 
 ABOUT = ["in a new file", "in a file that is opened again", "in a printed journal"]
 MILLIONS = [51.6, 26.7, 26.8]  # instructions that were counted with other names
-FIXED = Refusal("random", first=2, error=errno.ENOSYS)  # a file draws first
+FIXED = Refusal("random", first=3, error=errno.ENOSYS)  # a file draws twice before
 
 
 def instructions(program, desk, records, refusal):

@@ -21,7 +21,7 @@ from images import Moment
 MODE = "M"
 # The errors of each kind of call.
 ERRORS = {
-    OPEN: "ENOSPC EACCES EROFS EMFILE EIO", LOCK: "EAGAIN EACCES ENOLCK EIO EINTR", STAT: "EIO EACCES", ADVICE: "EIO",
+    OPEN: "ENOSPC EACCES EROFS EMFILE EIO", LOCK: "EAGAIN EACCES ENOLCK EIO EINTR EOPNOTSUPP", STAT: "EIO EACCES", ADVICE: "EIO ENOSYS",
     MODE: "EIO EROFS", READ: "EIO EINTR", WRITE: "ENOSPC EIO EROFS EDQUOT EINTR", SYNC: "ENOSPC EIO EROFS EDQUOT EINTR",
     CUT: "ENOSPC EIO EROFS", INPUT: "EIO EINTR EAGAIN", OUTPUT: "EIO ENOSPC EPIPE EINTR EAGAIN",
 }  # fmt: skip
@@ -150,23 +150,27 @@ class Refusals(crashes.Crashes):
         return self.wrong
 
 
+def hostile(desk, file, batches, plan):
+    """Runs the desk with calls refused by the library of tests/hostile, and returns the run and the number of such calls."""
+    calls = file.with_suffix(".calls")
+    calls.write_bytes(bytes(16))
+    more = {"LD_PRELOAD": f"{desk.library}:{desk.room}/refuse.so", "HOSTILE": plan, "HOSTILE_CALLS": str(calls)}
+    return desk.run(file, batches, more=more), struct.unpack("@2L", calls.read_bytes())[0]
+
+
 class Growths(Refusals):
-    """The same with calls for memory refused, by the library of tests/hostile."""
+    """The same with calls for memory refused."""
 
     def run_memory(self, numbers):
         first, last = numbers
         file = self.file()
-        calls = file.with_suffix(".calls")
-        calls.write_bytes(bytes(16))
-        more = {"LD_PRELOAD": f"{self.desk.library}:{self.desk.room}/refuse.so", "HOSTILE": f"memory {first} {last} 0 0",
-                "HOSTILE_CALLS": str(calls)}  # fmt: skip
-        ran = self.desk.run(file, self.given.batches, more=more)
+        ran, made = hostile(self.desk, file, self.given.batches, f"memory {first} {last} 0 0")
         about = f"{self.about}: growth {first}" + (" and all later ones" if last != first else "")
         if not (self.is_whole(None, ran) or (ran.status, ran.stderr) == (MACHINE, MEMORY) and self.is_front(ran.stdout, True)):
             self.wrong.append(f"{about}: status {ran.status}, {ran.stderr[:60]!r}, {ran.stdout[-60:]!r}")
         self.look_after(about, ran, file)
         self.runs += 1
-        return struct.unpack("@2L", calls.read_bytes())[0]
+        return made
 
     def run(self):
         made = self.run_memory((EVERY, EVERY))
@@ -224,6 +228,23 @@ def real(counts, desk, given):
     counts.check("a full device: the first batch is in the file", count in given.borders and count > 0)
 
 
+def random_bytes(counts, desk, given):
+    """Draws of random bytes refused: all, that of the library that opens a file, and that of the seed, which then is the fixed one."""
+    whole = given.journal.printed(len(given.journal))
+    for error in (errno.ENOSYS, errno.EPERM, errno.EOPNOTSUPP):
+        own = f"{os.strerror(error)} (os error {error})\n".encode()
+        for first, last, status, printed, line in [
+            (1, EVERY, MACHINE, b"", b"file: it can't be opened without random bytes: " + own),
+            (2, 2, MACHINE, b"", b"file: " + own),
+            (3, 3, 0, whole, b""),
+        ]:
+            file = desk.folder() / "day.desk"
+            ran, made = hostile(desk, file, given.batches, f"random {first} {last} {error} 0")
+            about = f"random bytes refused from draw {first} to {last} of {made} with {errno.errorcode[error]}"
+            counts.check(f"{about}: {ran}", made >= first and (ran.status, ran.stdout, ran.stderr) == (status, printed, line))
+            counts.check(f"{about}: the file is there: {file.exists()}", file.exists() == (first > 1))
+
+
 def inputs(dam, whole):
     """Yields each input, with the file that it begins with, or None."""
     given = journals.batched(dam, "refused", journals.drawn, 9, most=4)
@@ -256,5 +277,7 @@ def run(counts, desk, dam, whole):
             counts.failed += len(wrong)
             print("\n".join(f"differs: {line}" for line in wrong[: crashes.SHOWN]), end="\n" if wrong else "", flush=True)
             runs, files = runs + row.runs, files + row.files
-    real(counts, desk, next(iter(inputs(dam, False)))[1])
+    given = next(iter(inputs(dam, False)))[1]
+    real(counts, desk, given)
+    random_bytes(counts, desk, given)
     print(f"refusals: {runs:,} runs with a call refused, {files:,} files that a crash may leave after them", flush=True)

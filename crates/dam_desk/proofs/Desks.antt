@@ -9,11 +9,11 @@ use Rattle.dam_store.specs.declared.fault.StoreFault.{StoreFault}
 use Rattle.dam_store.specs.declared.fault.StoreFault.TheVariants as store
 use Rattle.dam_store.specs.declared.store.Store.{Store}
 use Rattle.dam_desk.specs.Journal.{Journal, State, AreLines, AreWhole, OpensTo, Reads, journal_text, next}
-use Rattle.dam_desk.specs.Desk.{Finishes, IsDesk, IsEnding, IsGiven, MayLeave, Served, Takes, end_answer}
+use Rattle.dam_desk.specs.Desk.{Finishes, IsAnswered, IsDesk, IsEnding, IsGiven, MayLeave, OpensAfter, Served, Takes, end_answer}
 use Rattle.dam_desk.specs.Faults.{IsWritingFault, is_read, of_store}
 use Rattle.dam_desk.specs.declared.desk.Desk.{Desk}
 use Rattle.dam_desk.specs.declared.fault.DeskFault.{DeskFault}
-use Rattle.dam_desk.specs.declared.fault.DeskFault.TheVariants.{InUse, NotAFile, Database, Io, Store as Stores, NotAJournal, Respelled, Read, Write, Memory}
+use Rattle.dam_desk.specs.declared.fault.DeskFault.TheVariants.{File, Store as Stores, NotAJournal, Respelled, Read, Write, Memory}
 use Rattle.dam_desk.specs.inside.Intake.{HasRead}
 use Rattle.dam_desk.specs.declared.state.Intake.{Intake}
 use Rattle.dam_desk.proofs.Runs.{answers_both}
@@ -26,6 +26,7 @@ served_none state given first old outcomes opens = record {
   safe = [];
   others = [];
   lines = record { rest = given; split = refl; whole = tt };
+  whole = inl refl;
   answers = [];
   middle = state;
   answered = (refl, refl);
@@ -47,6 +48,11 @@ served_pending intake state given old outcomes read opens = record {
   safe = [];
   others = read.lines;
   lines = record { rest = read.begun ++ []; split = read.split; whole = read.whole };
+  whole = inr (record {
+    split = read.split;
+    whole = read.whole;
+    unended = ap (λ (b : List ℕ). has_byte 10 b) (append-nil read.begun) ∙ read.now.unended;
+  });
   answers = [];
   middle = state;
   answered = (refl, refl);
@@ -72,6 +78,7 @@ served_written intake state given old new outcomes count read written opens = re
     split = read.split ∙ ap (λ (ls : List (List ℕ)). text_of ls ++ (read.begun ++ [])) (sym (append-nil read.lines));
     whole = subst AreWhole (sym (append-nil read.lines)) read.whole;
   };
+  whole = inl refl;
   answers = intake.answers.items;
   middle = read.last;
   answered = read.answers;
@@ -104,6 +111,42 @@ lines_both given bytes lines more begun rest first then = record {
   split = split_more given bytes lines more begun rest first.split then.split;
   whole = all_both (λ line. has_byte 10 line ≡ false) lines more first.whole then.whole;
   unended = then.unended;
+}
+
+-- all lines that end in the bytes were read
+pub opens_after : (intake : Intake) (state : State) (given file : List ℕ) → (read : HasRead intake state given [])
+    → OpensTo read.last.journal file → OpensAfter state given file
+opens_after intake state given file read opens = record {
+  lines = read.lines;
+  begun = read.begun;
+  split = record {
+    split = read.split ∙ ap (λ (t : List ℕ). text_of read.lines ++ t) (append-nil read.begun);
+    whole = read.whole;
+    unended = read.now.unended;
+  };
+  answers = intake.answers.items;
+  last = read.last;
+  answered = read.answers;
+  opens = opens;
+}
+
+pub opens_batch : (intake : Intake) (state : State) (given file : List ℕ) → (read : HasRead intake state given [])
+    → OpensTo state.journal file ⊎ OpensTo read.last.journal file → OpensTo state.journal file ⊎ OpensAfter state given file
+opens_batch intake state given file read (inl before) = inl before
+opens_batch intake state given file read (inr after) = inr (opens_after intake state given file read after)
+
+-- all lines that came in are answered
+pub answered_so_far : {D : Type 0} {g : Ghosts D} (desk : Desk D g) (state : State) (given first : List ℕ) (old new : Option (List ℕ))
+    → Takes desk state given first old new → IsAnswered state given first old new (MayLeave desk)
+answered_so_far desk state given first old new taken = record {
+  lines = taken.lines;
+  begun = taken.begun;
+  split = taken.split;
+  answers = taken.answers;
+  last = taken.last;
+  answered = taken.answered;
+  written = taken.written;
+  safe = taken.safe;
 }
 
 -- before any line
@@ -145,6 +188,14 @@ ending_more given bytes lines more begun state text first (inl none) = inl none
 ending_more given bytes lines more begun state text first (inr end) =
     inr (end.0, lines_both given bytes lines more begun end.0 first end.1, end.2)
 
+whole_more : (given bytes : List ℕ) (lines safe others : List (List ℕ)) (begun rest : List ℕ) → AreLines given lines begun
+    → (others ≡ []) ⊎ AreLines (begun ++ bytes) (safe ++ others) rest
+    → (others ≡ []) ⊎ AreLines (given ++ bytes) ((lines ++ safe) ++ others) rest
+whole_more given bytes lines safe others begun rest first (inl none) = inl none
+whole_more given bytes lines safe others begun rest first (inr all) =
+    inr (subst (λ (ls : List (List ℕ)). AreLines (given ++ bytes) ls rest) (sym (append_assoc lines safe others))
+    (lines_both given bytes lines (safe ++ others) begun rest first all))
+
 -- the next bytes, in which a fault ended the desk
 pub served_more : {D : Type 0} {g : Ghosts D} (desk : Desk D g) (state : State) (given bytes first : List ℕ) (old mid new : Option (List ℕ))
     (outcomes : List ℕ → Type 0) → (taken : Takes desk state given first old mid)
@@ -162,6 +213,7 @@ served_more desk state given bytes first old mid new outcomes taken then =
         whole = subst AreWhole (sym (append_assoc taken.lines then.safe then.others))
             (all_both (λ line. has_byte 10 line ≡ false) taken.lines (then.safe ++ then.others) taken.split.whole then.lines.whole);
       };
+      whole = whole_more given bytes taken.lines then.safe then.others taken.begun then.lines.rest taken.split then.whole;
       answers = taken.answers ++ then.answers;
       middle = then.middle;
       answered = answers_both state taken.lines taken.answers taken.last then.safe then.answers then.middle taken.answered then.answered;
@@ -193,6 +245,7 @@ served_so_far desk state given first old mid new count taken ending ends written
         split = taken.split.split ∙ ap (λ (ls : List (List ℕ)). text_of ls ++ taken.begun) (sym (append-nil taken.lines));
         whole = subst AreWhole (sym (append-nil taken.lines)) taken.split.whole;
       };
+      whole = inl refl;
       answers = taken.answers;
       middle = taken.last;
       answered = taken.answered;
@@ -216,6 +269,7 @@ served_first desk state begun first old new count opens written = record {
   safe = [];
   others = [];
   lines = record { rest = begun ++ []; split = refl; whole = tt };
+  whole = inl refl;
   answers = [];
   middle = state;
   answered = (refl, refl);
@@ -256,10 +310,7 @@ is_given (Some bytes) (Some left) given consumes = (left, consumes)
 pub written_fault : (old new : Option (List ℕ)) (text : List ℕ) (fault : DeskFault) → IsWritingFault old new text fault
     → (count : ℕ) × Appends old new (take count text)
 written_fault old new text (Write written) fault = (written, fault.1)
-written_fault old new text InUse fault = absurd fault
-written_fault old new text NotAFile fault = absurd fault
-written_fault old new text Database fault = absurd fault
-written_fault old new text (Io error) fault = absurd fault
+written_fault old new text (File why) fault = absurd fault
 written_fault old new text (Stores why) fault = absurd fault
 written_fault old new text (NotAJournal why) fault = absurd fault
 written_fault old new text Respelled fault = absurd fault
@@ -327,10 +378,7 @@ all_given old mid new given buffer count before last none ended =
     (append-nil given)
 
 pub writing_no_read : (old new : Option (List ℕ)) (text : List ℕ) (fault : DeskFault) → IsWritingFault old new text fault → is_read fault ≡ false
-writing_no_read old new text InUse is = absurd is
-writing_no_read old new text NotAFile is = absurd is
-writing_no_read old new text Database is = absurd is
-writing_no_read old new text (Io error) is = absurd is
+writing_no_read old new text (File why) is = absurd is
 writing_no_read old new text (Stores fault) is = absurd is
 writing_no_read old new text (NotAJournal fault) is = absurd is
 writing_no_read old new text Respelled is = absurd is

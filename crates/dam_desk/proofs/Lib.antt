@@ -5,6 +5,7 @@ mod Texts
 mod Runs
 mod Steps
 mod Growth
+mod Ends
 mod Desks
 mod Saying
 mod Opening

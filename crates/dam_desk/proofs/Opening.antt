@@ -1,6 +1,7 @@
 -- A desk that was opened, or wasn't.
-use Rattle.std.proofs.Common.{◌≡◌, ◌⊎◌, inl, inr, ℕ, List, [], Option, Some, true, false, IsTrue, refl, sym, ap, ◌∙◌, subst}
+use Rattle.std.proofs.Common.{◌≡◌, ◌⊎◌, inl, inr, ℕ, List, [], Option, true, false, IsTrue, refl, sym, ap, ◌∙◌, subst}
 use Rattle.std.proofs.lemmas.Bool.{both_ways}
+use Rattle.sqlite_disk.specs.Disk.{MoreFaults}
 use Rattle.sqlite_disk.specs.declared.Disk.{Ghosts}
 use Rattle.dam_store.specs.Faults.{is_failed_write as store_failed_write, is_failure, is_refusal, IsRefused}
 use Rattle.dam_store.specs.Journal.{StandsFor, stands_for, text_of}
@@ -8,12 +9,11 @@ use Rattle.dam_store.specs.Store.{IsUntouched, disk_of, held}
 use Rattle.dam_store.specs.declared.fault.StoreFault.{StoreFault}
 use Rattle.dam_store.specs.declared.fault.StoreFault.TheVariants as store
 use Rattle.dam_desk.specs.Desk.{IsOpened, IsUnopened}
-use Rattle.dam_desk.specs.Faults.{IsOpenFault, IsTextFault, is_failed_write, of_store}
-use Rattle.dam_desk.specs.Journal.{Journal, journal_text}
+use Rattle.dam_desk.specs.Faults.{IsFileFault, IsOpenFault, IsTextFault, is_failed_call, is_failed_write, is_read, is_write, of_store}
 use Rattle.dam_desk.specs.declared.day.Day.{Day}
 use Rattle.dam_desk.specs.declared.desk.Desk.{Desk}
 use Rattle.dam_desk.specs.declared.fault.DeskFault.{DeskFault}
-use Rattle.dam_desk.specs.declared.fault.DeskFault.TheVariants.{InUse, NotAFile, Database, Io, Store, NotAJournal, Respelled, Read, Write, Memory}
+use Rattle.dam_desk.specs.declared.fault.DeskFault.TheVariants.{File, Store, NotAJournal, Respelled, Read, Write, Memory}
 use Rattle.dam_desk.specs.inside.Intake.{HasJournal, IsReopened}
 
 same_lines : (lines other : List (List ℕ)) (file : List ℕ) → StandsFor lines file → StandsFor other file → lines ≡ other
@@ -55,7 +55,7 @@ kind file why other (inr (inl refused)) = inr refused
 kind file why other (inr (inr memory)) = absurd (other memory)
 
 pub store_cause : (file : List ℕ) (why : StoreFault) → IsKind file why → IsOpenFault file (of_store why)
-store_cause file store.Memory is = tt
+store_cause file store.Memory is = inr tt
 store_cause file store.NotAJournal is = kind file store.NotAJournal (λ same. cc) is
 store_cause file store.TooLong is = kind file store.TooLong (λ same. cc) is
 store_cause file store.Full is = kind file store.Full (λ same. cc) is
@@ -65,13 +65,10 @@ store_cause file (store.Write error) is = kind file (store.Write error) (λ same
 store_cause file (store.Sync error) is = kind file (store.Sync error) (λ same. cc) is
 
 pub text_cause : (file : List ℕ) (lines : List (List ℕ)) → StandsFor lines file → (why : DeskFault) → IsTextFault (text_of lines) why
-    → IsOpenFault file why
+    → IsFileFault file why
 text_cause file lines stands Memory is = tt
 text_cause file lines stands (Store fault) is = absurd is
-text_cause file lines stands InUse is = absurd is
-text_cause file lines stands NotAFile is = absurd is
-text_cause file lines stands Database is = absurd is
-text_cause file lines stands (Io error) is = absurd is
+text_cause file lines stands (File why) is = absurd is
 text_cause file lines stands (NotAJournal fault) is = (lines, stands, is)
 text_cause file lines stands Respelled is = (lines, stands, is)
 text_cause file lines stands Read is = absurd is
@@ -98,18 +95,101 @@ write_of (store.Read error) failed = failed
 write_of (store.Write error) failed = refl
 write_of (store.Sync error) failed = refl
 
--- the end of the file wasn't repaired
-pub unopened_late : {D : Type 0} (g : Ghosts D) (old mid new : D) (why : StoreFault) → IsUntouched g old mid
-    → (store_failed_write why ≡ true) ⊎ ((why ≡ store.Memory) × (new ≡ mid))
-    → (IsTrue (g.is_clean new) → (file : List ℕ) → g.may_leave new file → stands_for file ≡ stands_for (g.seen mid))
-    → IsUnopened g old new (of_store why)
-unopened_late g old mid new why untouched failed crash = record {
-  cause = λ honest.
-      store_cause (g.seen old) why (elim failed [ inl wrote ↦ inl (write_failure why wrote) | inr memory ↦ inr (inr memory.0) ]);
-  untouched = λ unwritten.
-      elim failed [
-        | inl wrote ↦ absurd (both_ways (is_failed_write (of_store why)) unwritten (write_of why wrote))
-        | inr memory ↦ subst (IsUntouched g old) (sym memory.1) untouched
-      ];
-  crash = λ honest file left. inr (crash honest file left ∙ ap stands_for untouched.seen);
+pub call_of : (why : StoreFault) → is_failed_call (of_store why) ≡ is_failure why
+call_of store.Memory = refl
+call_of store.NotAJournal = refl
+call_of store.TooLong = refl
+call_of store.Full = refl
+call_of store.Broken = refl
+call_of (store.Read error) = refl
+call_of (store.Write error) = refl
+call_of (store.Sync error) = refl
+
+abbrev IsNoStream : DeskFault → Type 0
+IsNoStream why = (is_read why ≡ false) × (is_write why ≡ false)
+
+store_no_stream : (why : StoreFault) → IsNoStream (of_store why)
+store_no_stream store.Memory = (refl, refl)
+store_no_stream store.NotAJournal = (refl, refl)
+store_no_stream store.TooLong = (refl, refl)
+store_no_stream store.Full = (refl, refl)
+store_no_stream store.Broken = (refl, refl)
+store_no_stream (store.Read error) = (refl, refl)
+store_no_stream (store.Write error) = (refl, refl)
+store_no_stream (store.Sync error) = (refl, refl)
+
+-- a text's fault is no failed call, neither of the disk nor of a stream
+text_no_call : (text : List ℕ) (why : DeskFault) → IsTextFault text why → (is_failed_call why ≡ false) × IsNoStream why
+text_no_call text Memory is = (refl, (refl, refl))
+text_no_call text (Store fault) is = absurd is
+text_no_call text (File why) is = absurd is
+text_no_call text (NotAJournal fault) is = (refl, (refl, refl))
+text_no_call text Respelled is = (refl, (refl, refl))
+text_no_call text Read is = absurd is
+text_no_call text (Write written) is = absurd is
+
+early_kind : (file : List ℕ) (why : StoreFault) → (is_refusal why ≡ true → IsRefused file why)
+    → (is_failure why ≡ true) ⊎ ((is_refusal why ≡ true) ⊎ (why ≡ store.Memory)) → IsKind file why
+early_kind file why refusal (inl failed) = inl failed
+early_kind file why refusal (inr (inl refused)) = inr (inl (refusal refused))
+early_kind file why refusal (inr (inr memory)) = inr (inr memory)
+
+-- no store was found
+pub unopened_early : {D : Type 0} (g : Ghosts D) (old new : D) (why : StoreFault) → IsUntouched g old new
+    → (is_failure why ≡ true → MoreFaults (g.faults old) (g.faults new)) → (is_failure why ≡ false → g.faults new ≡ g.faults old)
+    → (is_refusal why ≡ true → IsTrue (g.is_clean new) → IsRefused (g.seen old) why)
+    → (is_failure why ≡ true) ⊎ ((is_refusal why ≡ true) ⊎ (why ≡ store.Memory)) → IsUnopened g old new (of_store why)
+unopened_early g old new why untouched more same refusal kinds = record {
+  cause = λ honest. store_cause (g.seen old) why (early_kind (g.seen old) why (λ refused. refusal refused honest) kinds);
+  failed = λ failed. more (sym (call_of why) ∙ failed);
+  none_failed = λ none. same (sym (call_of why) ∙ none);
+  no_stream = store_no_stream why;
+  untouched = λ unwritten. untouched;
+  no_journal = λ honest none. untouched;
+  crash = λ honest file left. inl (untouched.crash file left);
 }
+
+module _ {D : Type 0} (g : Ghosts D) (old mid : D) (text : List ℕ) (untouched : IsUntouched g old mid) (same : g.faults mid ≡ g.faults old)
+    (read : IsTrue (g.is_clean mid) → (lines : List (List ℕ)) × StandsFor lines (g.seen old) × (text ≡ text_of lines)) where
+  -- the lines that were found aren't a written journal
+  pub unopened_text : (why : DeskFault) → IsTextFault text why → IsUnopened g old mid why
+  unopened_text why fault =
+      let no_call = text_no_call text why fault in
+      record {
+        cause = λ honest.
+            let lines = read honest in
+            inr (text_cause (g.seen old) lines.0 lines.1 why (subst (λ (t : List ℕ). IsTextFault t why) lines.2 fault));
+        failed = λ failed. absurd (both_ways (is_failed_call why) no_call.0 failed);
+        none_failed = λ none. same;
+        no_stream = no_call.1;
+        untouched = λ unwritten. untouched;
+        no_journal = λ honest none. untouched;
+        crash = λ honest file left. inl (untouched.crash file left);
+      }
+
+  -- the end of the file wasn't repaired
+  pub unopened_late : (new : D) (why : StoreFault) (day : Option Day) (replies : List ℕ) → IsReopened text day replies
+      → g.is_clean new ≡ g.is_clean mid → (is_failure why ≡ true → MoreFaults (g.faults mid) (g.faults new))
+      → (store_failed_write why ≡ true) ⊎ ((why ≡ store.Memory) × (new ≡ mid))
+      → (IsTrue (g.is_clean new) → (file : List ℕ) → g.may_leave new file → stands_for file ≡ stands_for (g.seen mid))
+      → IsUnopened g old new (of_store why)
+  unopened_late new why day replies is clean more failed crash = record {
+    cause = λ honest.
+        store_cause (g.seen old) why (elim failed [ inl wrote ↦ inl (write_failure why wrote) | inr memory ↦ inr (inr memory.0) ]);
+    failed = λ call. subst (λ (n : ℕ). MoreFaults n (g.faults new)) same (more (sym (call_of why) ∙ call));
+    none_failed = λ none.
+        elim failed [
+          | inl wrote ↦ absurd (both_ways (is_failed_call (of_store why)) none (call_of why ∙ write_failure why wrote))
+          | inr memory ↦ ap g.faults memory.1 ∙ same
+        ];
+    no_stream = store_no_stream why;
+    untouched = λ unwritten.
+        elim failed [
+          | inl wrote ↦ absurd (both_ways (is_failed_write (of_store why)) unwritten (write_of why wrote))
+          | inr memory ↦ subst (IsUntouched g old) (sym memory.1) untouched
+        ];
+    no_journal = λ honest none.
+        let lines = read (sym clean ∙ honest) in
+        absurd (none is.journal (lines.0, lines.1, sym lines.2 ∙ is.same_text, is.reads));
+    crash = λ honest file left. inr (crash honest file left ∙ ap stands_for untouched.seen);
+  }

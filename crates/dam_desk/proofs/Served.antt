@@ -2,13 +2,19 @@
 use Rattle.std.proofs.Common.{◌≡◌, ◌++◌, List, ℕ, Option, Result, Ok, Err, IfErr, OnErr, IsTrue, sym, subst}
 use Rattle.sqlite_disk.specs.declared.Disk.{Ghosts}
 use Rattle.dam_store.specs.Store.{disk_of}
-use Rattle.dam_desk.specs.Desk.{AreSettled, Finishes, IsServed, MayLeave, Served, at_first}
+use Rattle.dam_desk.specs.Desk.{AreSettled, Finishes, IsAnswered, IsServed, MayLeave, Served, Takes, at_first}
 use Rattle.dam_desk.specs.Journal.{Journal, State, AreAnswers, AreReplies, Reads, replies_text}
 use Rattle.dam_desk.specs.declared.desk.Desk.{Desk}
+use Rattle.dam_desk.proofs.Desks.{answered_so_far}
 
-pub err_to : {X Y : Type 0} (r : Result X Y) (P : Type 0) (Q : Y → Type 0) → ((y : Y) → P → Q y) → OnErr r P → IfErr r Q
-err_to (Ok x) P Q then p = tt
-err_to (Err y) P Q then p = then y p
+pub err_then : {X Y : Type 0} (r : Result X Y) (P Q : Y → Type 0) → ((y : Y) → P y → Q y) → IfErr r P → IfErr r Q
+err_then (Ok x) P Q then p = tt
+err_then (Err y) P Q then p = then y p
+
+pub err_both : {X Y : Type 0} (r : Result X Y) (P : Y → Type 0) (Q : Type 0) (R : Y → Type 0) → ((y : Y) → P y → Q → R y) → IfErr r P
+    → OnErr r Q → IfErr r R
+err_both (Ok x) P Q R then p q = tt
+err_both (Err y) P Q R then p q = then y p q
 
 module _ {D : Type 0} {g : Ghosts D} (desk : Desk D g) (disk : D) (same : disk ≡ disk_of desk.store) (journal : Option Journal) (first : List ℕ) (replies_are : first ≡ replies_text journal) (given : List ℕ) (old new : Option (List ℕ)) where
   abbrev pub Left : List ℕ → Type 0
@@ -22,6 +28,12 @@ module _ {D : Type 0} {g : Ghosts D} (desk : Desk D g) (disk : D) (same : disk �
   pub served_still : Served (at_first journal) given first old new (MayLeave desk)
       → Served (at_first journal) given (replies_text journal) old new Left
   served_still served = moved (λ t outcomes. Served (at_first journal) given t old new outcomes) served
+
+  pub answered_still : Takes desk (at_first journal) given first old new
+      → IsAnswered (at_first journal) given (replies_text journal) old new Left
+  answered_still taken =
+      moved (λ t outcomes. IsAnswered (at_first journal) given t old new outcomes)
+      (answered_so_far desk (at_first journal) given first old new taken)
 
   pub is_served : ((state last : State) (lines : List (List ℕ)) (answers : List ℕ) → Reads state.journal → AreAnswers state lines answers last
       → Reads last.journal)

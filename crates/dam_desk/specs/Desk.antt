@@ -1,5 +1,5 @@
 -- A desk, as its contracts see it: what it prints, and what its file keeps through a crash.
-use Rattle.std.specs.Prelude.{◌≡◌, ◌⊎◌, ℕ, List, [], ◌∷◌, ◌++◌, take, false, Option, None, Some, IsTrue}
+use Rattle.std.specs.Prelude.{◌≡◌, ◌⊎◌, ℕ, List, [], ◌∷◌, ◌++◌, take, true, false, Option, None, Some, IsTrue}
 use Rattle.std.specs.Io.KnownBytes.{Appends}
 use Rattle.sqlite_disk.specs.declared.Disk.{Ghosts}
 use Rattle.dam_book.specs.Book.{commands_of, entries_of, run, IsLegalHistory}
@@ -9,7 +9,8 @@ use Rattle.dam_results.specs.Replies.{replies_to}
 use Rattle.dam_store.specs.Journal.{StandsFor, stands_for, text_of}
 use Rattle.dam_store.specs.Store.{disk_of, held, IsUntouched}
 use Rattle.dam_desk.specs.Answers.{fault_line}
-use Rattle.dam_desk.specs.Faults.{is_failed_write, IsOpenFault}
+use Rattle.sqlite_disk.specs.Disk.{MoreFaults}
+use Rattle.dam_desk.specs.Faults.{is_failed_call, is_failed_write, is_read, is_write, IsOpenFault}
 use Rattle.dam_desk.specs.Journal.{Journal, State, AreAnswers, AreLines, AreReplies, FirstLines, OpensTo, Reads, journal_text, next, replies_text}
 use Rattle.dam_desk.specs.declared.desk.Desk.{Desk}
 use Rattle.dam_desk.specs.declared.fault.DeskFault.{DeskFault}
@@ -42,11 +43,15 @@ pub record IsOpened {D : Type 0} {g : Ghosts D} (desk : Desk D g) (disk : D) (re
   pub fresh : IsDesk desk (at_first journal) []
   pub same_replies : replies ≡ replies_text journal
 
--- A desk wasn't opened on a disk, for this cause. The file is as it was, unless a write or a sync failed. Then it still stands for what it
--- stood for, whatever a crash leaves.
+-- A desk wasn't opened on a disk, for this cause. If that is a failed call of the disk, one has failed, and else none. The file is as it
+-- was, unless it opens to a journal and a write or a sync failed. Then it still stands for what it stood for, whatever a crash leaves.
 pub record IsUnopened {D : Type 0} (g : Ghosts D) (old new : D) (why : DeskFault) : Type 0 where
   pub cause : IsTrue (g.is_clean new) → IsOpenFault (g.seen old) why
+  pub failed : is_failed_call why ≡ true → MoreFaults (g.faults old) (g.faults new)
+  pub none_failed : is_failed_call why ≡ false → g.faults new ≡ g.faults old
+  pub no_stream : (is_read why ≡ false) × (is_write why ≡ false)
   pub untouched : is_failed_write why ≡ false → IsUntouched g old new
+  pub no_journal : IsTrue (g.is_clean new) → ((journal : Option Journal) → ¬ (OpensTo journal (g.seen old))) → IsUntouched g old new
   pub crash : IsTrue (g.is_clean new) → (file : List ℕ) → g.may_leave new file
       → g.may_leave old file ⊎ (stands_for file ≡ stands_for (g.seen old))
 
@@ -64,6 +69,16 @@ pub record Takes {D : Type 0} {g : Ghosts D} (desk : Desk D g) (state : State) (
   pub now : IsDesk desk last begun
   pub safe : (file : List ℕ) → MayLeave desk file → OpensTo last.journal file
 
+-- The file opens to the journal after all lines of the bytes that were given.
+pub record OpensAfter (state : State) (given file : List ℕ) : Type 0 where
+  pub lines : List (List ℕ)
+  pub begun : List ℕ
+  pub split : AreLines given lines begun
+  pub answers : List ℕ
+  pub last : State
+  pub answered : AreAnswers state lines answers last
+  pub opens : OpensTo last.journal file
+
 -- the answer to a line of this number that the input ends in; none if it has no bytes
 abbrev pub end_answer : ℕ → List ℕ → List ℕ
 end_answer number [] = []
@@ -74,13 +89,14 @@ abbrev pub IsEnding : List ℕ → List (List ℕ) → State → List ℕ → Ty
 IsEnding given lines state text =
     (text ≡ []) ⊎ ((begun : List ℕ) × AreLines given lines begun × (text ≡ end_answer (next state.answered) begun))
 
--- The first lines of the bytes are safe, and others after them may be. Nothing was written but the first text, the answers to the safe
+-- The first lines of the bytes are safe, and the others may be: all of them, or none. Nothing was written but the first text, the answers to the safe
 -- lines, and that to a line in which the input ended, or a beginning of these. Whatever a crash leaves opens to the journal after the
 -- safe lines, or after the others too.
 pub record Served (state : State) (given first : List ℕ) (old new : Option (List ℕ)) (outcomes : List ℕ → Type 0) : Type 0 where
   pub safe : List (List ℕ)
   pub others : List (List ℕ)
   pub lines : FirstLines given (safe ++ others)
+  pub whole : (others ≡ []) ⊎ AreLines given (safe ++ others) lines.rest
   pub answers : List ℕ
   pub middle : State
   pub answered : AreAnswers state safe answers middle
@@ -92,6 +108,17 @@ pub record Served (state : State) (given first : List ℕ) (old new : Option (Li
   pub count : ℕ
   pub written : Appends old new (take count (first ++ (answers ++ ending)))
   pub crash : (file : List ℕ) → outcomes file → OpensTo middle.journal file ⊎ OpensTo last.journal file
+
+-- All lines of the bytes that were given were answered, and whatever a crash leaves opens to the journal after them.
+pub record IsAnswered (state : State) (given first : List ℕ) (old new : Option (List ℕ)) (outcomes : List ℕ → Type 0) : Type 0 where
+  pub lines : List (List ℕ)
+  pub begun : List ℕ
+  pub split : AreLines given lines begun
+  pub answers : List ℕ
+  pub last : State
+  pub answered : AreAnswers state lines answers last
+  pub written : Appends old new (first ++ answers)
+  pub safe : (file : List ℕ) → outcomes file → OpensTo last.journal file
 
 -- The input was answered, to its end: its lines, and the beginning of a line in which it ended. Whatever a crash leaves opens to the
 -- journal after them.

@@ -1,6 +1,7 @@
 -- The faults that end a desk, and the statuses of the program.
 use Rattle.std.specs.Prelude.{◌≡◌, ◌≢◌, ◌⊎◌, ◌≤◌, ℕ, Bool, true, false, List, length, take, Option}
 use Rattle.std.specs.Io.KnownBytes.{Appends}
+use Rattle.sqlite_disk.specs.Disk.{MoreFaults}
 use Rattle.dam_book.specs.declared.command.Command.{Command}
 use Rattle.dam_results.specs.Faults.{IsJournalFault}
 use Rattle.dam_results.specs.Journal.{ReadsAs}
@@ -9,10 +10,17 @@ use Rattle.dam_results.specs.declared.journal.JournalFault.{JournalFault}
 use Rattle.dam_results.specs.declared.journal.JournalFault.TheVariants as journal
 use Rattle.dam_store.specs.Faults.{is_failed_write as store_failed_write, is_failure, IsRefused}
 use Rattle.dam_store.specs.Journal.{StandsFor, text_of}
+use Rattle.dam_store.specs.declared.fault.FileFault.{FileFault}
+use Rattle.dam_store.specs.declared.fault.FileFault.TheVariants as files
 use Rattle.dam_store.specs.declared.fault.StoreFault.{StoreFault}
 use Rattle.dam_store.specs.declared.fault.StoreFault.TheVariants as store
 use Rattle.dam_desk.specs.declared.fault.DeskFault.{DeskFault}
-use Rattle.dam_desk.specs.declared.fault.DeskFault.TheVariants.{NotAFile, Database, Store, NotAJournal, Respelled, Read, Write, Memory}
+use Rattle.dam_desk.specs.declared.fault.DeskFault.TheVariants.{File, Store, NotAJournal, Respelled, Read, Write, Memory}
+
+-- the fault of a desk whose file has that fault
+abbrev pub of_file : FileFault → DeskFault
+of_file files.Memory = Memory
+of_file fault = File fault
 
 -- the fault of a desk whose store has that fault
 abbrev pub of_store : StoreFault → DeskFault
@@ -29,6 +37,11 @@ abbrev pub is_failed_write : DeskFault → Bool
 is_failed_write (Store fault) = store_failed_write fault
 is_failed_write fault = false
 
+-- a call of the disk failed
+abbrev pub is_failed_call : DeskFault → Bool
+is_failed_call (Store fault) = is_failure fault
+is_failed_call fault = false
+
 -- the reader failed
 abbrev pub is_read : DeskFault → Bool
 is_read Read = true
@@ -42,11 +55,15 @@ IsTextFault text Respelled =
 IsTextFault text Memory = Unit {0}
 IsTextFault text fault = ⊥
 
--- why a desk isn't opened on a file: a call failed, memory ran out, or the file is refused or its lines aren't a written journal
+-- why a file's journal isn't read: the file is refused, its lines aren't a written journal, or memory ran out
+abbrev pub IsFileFault : List ℕ → DeskFault → Type 0
+IsFileFault file Memory = Unit {0}
+IsFileFault file (Store fault) = IsRefused file fault
+IsFileFault file fault = (lines : List (List ℕ)) × StandsFor lines file × IsTextFault (text_of lines) fault
+
+-- why a desk isn't opened on a file: a call of the disk failed, or the journal isn't read
 abbrev pub IsOpenFault : List ℕ → DeskFault → Type 0
-IsOpenFault file Memory = Unit {0}
-IsOpenFault file (Store fault) = (is_failure fault ≡ true) ⊎ IsRefused file fault
-IsOpenFault file fault = (lines : List (List ℕ)) × StandsFor lines file × IsTextFault (text_of lines) fault
+IsOpenFault file fault = (is_failed_call fault ≡ true) ⊎ IsFileFault file fault
 
 -- 1 if the file is at fault, 4 if the machine is
 abbrev pub store_status : StoreFault → ℕ
@@ -55,10 +72,15 @@ store_status store.TooLong = 1
 store_status store.Full = 1
 store_status fault = 4
 
+-- the same for the file's fault
+abbrev pub file_status : FileFault → ℕ
+file_status files.NotAFile = 1
+file_status files.Database = 1
+file_status fault = 4
+
 -- the same for the fault that ends a desk
 abbrev pub fault_status : DeskFault → ℕ
-fault_status NotAFile = 1
-fault_status Database = 1
+fault_status (File fault) = file_status fault
 fault_status (Store fault) = store_status fault
 fault_status (NotAJournal fault) = 1
 fault_status Respelled = 1
@@ -68,6 +90,17 @@ fault_status fault = 4
 abbrev pub is_write : DeskFault → Bool
 is_write (Write written) = true
 is_write fault = false
+
+-- Why an open desk ends before its input does, and the counts of the disk's failed calls before and after: the reader failed, the writer
+-- failed, memory ran out, the file has no room for the lines, or a write or a sync of the file failed. Only with the last one a call of the
+-- disk has failed.
+abbrev pub IsEndFault : ℕ → ℕ → DeskFault → Type 0
+IsEndFault before after Read = after ≡ before
+IsEndFault before after (Write written) = after ≡ before
+IsEndFault before after Memory = after ≡ before
+IsEndFault before after (Store store.Full) = after ≡ before
+IsEndFault before after (Store fault) = (store_failed_write fault ≡ true) × MoreFaults before after
+IsEndFault before after fault = ⊥
 
 -- the writer took exactly as many first bytes of the text as the fault says
 abbrev pub IsWritingFault : Option (List ℕ) → Option (List ℕ) → List ℕ → DeskFault → Type 0

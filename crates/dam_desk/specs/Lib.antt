@@ -5,4 +5,5 @@ pub mod Answers
 pub mod Journal
 pub mod Faults
 pub mod Desk
+pub mod Run
 pub mod inside

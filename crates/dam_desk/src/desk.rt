@@ -1,11 +1,11 @@
 //! A desk: a journal in a store, and the book that it makes.
-ghost use Rattle.std.specs.Prelude.{◌≡◌, ◌++◌, [], ℕ, List, take, true, false, IsTrue, IfErr, OnOk, OnErr};
+ghost use Rattle.std.specs.Prelude.{◌≡◌, ◌⊎◌, ◌++◌, [], ℕ, List, take, true, false, IsTrue, IfErr, OnOk, OnErr};
 ghost use Rattle.std.specs.Io.KnownBytes.{Appends};
 ghost use Rattle.dam_store.specs.Store.{disk_of, held, is_broken};
-ghost use Rattle.dam_desk.specs.Desk.{IsDesk, KeepsLines, MayLeave, Served, Takes, end_answer};
+ghost use Rattle.dam_desk.specs.Desk.{IsDesk, KeepsLines, MayLeave, OpensAfter, Served, Takes, end_answer};
 ghost use Rattle.dam_desk.specs.Journal.{State, OpensTo, next};
 ghost use Rattle.dam_desk.specs.Lines.{kept};
-ghost use Rattle.dam_desk.specs.Faults.{is_read, is_write};
+ghost use Rattle.dam_desk.specs.Faults.{IsEndFault, is_read, is_write};
 
 use crate::answer::write_fault;
 use crate::fault::{DeskFault, LineFault};
@@ -43,6 +43,13 @@ impl<D: Disk> Desk<D> {
         ensures crash { is_broken self.old.store ≡ false
             → IsTrue (D.Disk.is_clean (disk_of self.new.store))
             → KeepsLines (D.Disk.may_leave (disk_of self.new.store)) (held self.old.store) }
+        // All lines that end in the bytes are one batch: a crash at any moment leaves the journal before them, or after all.
+        ensures one_batch { (state : State) (begun : List ℕ) → IsDesk self.old state begun
+            → is_broken self.old.store ≡ false → (file : List ℕ) → MayLeave self.new file
+            → OpensTo state.journal file ⊎ OpensAfter state (begun ++ bytes.now) file }
+        ensures cause { is_broken self.old.store ≡ false
+            → IfErr result (IsEndFault (D.Disk.faults (disk_of self.old.store))
+            (D.Disk.faults (disk_of self.new.store))) }
         ensures clean { D.Disk.is_clean (disk_of self.new.store)
             ≡ D.Disk.is_clean (disk_of self.old.store) }
         ensures taken { (state : State) (begun : List ℕ) → IsDesk self.old state begun
@@ -67,6 +74,7 @@ impl<D: Disk> Desk<D> {
             → OnOk result (Appends (W.contents writer.old) (W.contents writer.new)
             (end_answer (next self.now.intake.answered) begun)) }
         ensures no_read { IfErr result (λ fault. is_read fault ≡ false) }
+        ensures cause { (count : ℕ) → IfErr result (IsEndFault count count) }
         ensures err { (begun : List ℕ) → self.now.intake.line ≡ kept begun
             → OnErr result ((count : ℕ) × Appends (W.contents writer.old) (W.contents writer.new)
             (take count (end_answer (next self.now.intake.answered) begun))) }

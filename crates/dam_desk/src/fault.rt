@@ -2,10 +2,8 @@ ghost use Rattle.std.specs.Prelude.{◌≡◌};
 ghost use Rattle.dam_desk.specs.Faults.{fault_status};
 
 use dam_results::JournalFault;
-use dam_store::StoreFault;
-use sqlite_std_file::OpenError;
+use dam_store::{FileFault, StoreFault};
 use std::alloc::AllocError;
-use std::io;
 use thiserror::Error;
 
 /// Why a line enters nothing.
@@ -34,18 +32,9 @@ pub(crate) enum LineFault {
 /// Why a desk ends before its input does.
 #[derive(Debug, Drop, Error)]
 pub(crate) enum DeskFault {
-    /// Another process has the file.
-    #[error("file: another process has it")]
-    InUse,
-    /// It isn't a regular file, or it has a second name.
-    #[error("file: it isn't a regular file with one name")]
-    NotAFile,
-    /// The files of a database have its name.
-    #[error("file: a database's files have its name")]
-    Database,
-    /// The system refused a call for the file.
+    /// The file isn't opened or read.
     #[error("file: {0}")]
-    Io(io::Error),
+    File(FileFault),
     /// It holds no store, or the store failed.
     #[error("file: {0}")]
     Store(StoreFault),
@@ -61,7 +50,7 @@ pub(crate) enum DeskFault {
     /// Standard output failed after it had taken this many bytes of the text.
     #[error("device: write after {0} bytes")]
     Write(usize),
-    /// Memory ran out.
+    /// Memory ran out. Each call that needs some may fail so, since no clause says how much there is.
     #[error("memory")]
     Memory,
 }
@@ -77,25 +66,17 @@ impl From<AllocError> for DeskFault {
     }
 }
 
-impl From<OpenError> for DeskFault {
-    fn from(error: OpenError) -> DeskFault {
-        match error {
-            OpenError::Busy => DeskFault::InUse,
-            OpenError::HotJournal => DeskFault::Database,
-            OpenError::OutOfMemory => DeskFault::Memory,
-            OpenError::Io(error) if error.kind() == io::ErrorKind::Unsupported => {
-                DeskFault::NotAFile
-            }
-            OpenError::Io(error) => io_fault(error),
-        }
-    }
-}
+impl From<FileFault> for DeskFault {
+    ghost use Rattle.std.specs.Prelude.{◌≡◌};
+    ghost use Rattle.dam_desk.specs.Faults.{of_file};
 
-/// The fault of a call that the system refused.
-pub(crate) fn io_fault(error: io::Error) -> DeskFault {
-    match error.kind() {
-        io::ErrorKind::OutOfMemory => DeskFault::Memory,
-        _ => DeskFault::Io(error),
+    ghost from_gives = { λ fault gives. gives ≡ of_file fault };
+
+    fn from(fault: FileFault) -> DeskFault {
+        match fault {
+            FileFault::Memory => DeskFault::Memory,
+            _ => DeskFault::File(fault),
+        }
     }
 }
 
@@ -132,8 +113,7 @@ pub(crate) fn status(fault: &DeskFault) -> u8
     ensures { result ≡ fault_status fault.now }
 {
     match fault {
-        DeskFault::NotAFile
-        | DeskFault::Database
+        DeskFault::File(FileFault::NotAFile | FileFault::Database)
         | DeskFault::NotAJournal(_)
         | DeskFault::Respelled
         | DeskFault::Store(StoreFault::NotAJournal | StoreFault::TooLong | StoreFault::Full) => 1,

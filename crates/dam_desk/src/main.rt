@@ -1,6 +1,10 @@
 //! `dam-desk`, which keeps the journal of a day in a file, and answers each command once it is safe there.
 #![tactic(auto)]
 
+ghost use Rattle.std.specs.Prelude.{◌≡◌};
+ghost use Rattle.std.specs.Process.{exit_status};
+ghost use Rattle.dam_desk.specs.Faults.{fault_status};
+
 mod answer;
 mod day;
 mod desk;
@@ -21,11 +25,10 @@ mod state;
 mod words;
 
 use dam_book::Seed;
-use dam_store::open_file;
 use fault::{DeskFault, status};
 use held::{file_bytes, held_text};
 use output::write_text;
-use run::run;
+use run::serve_file;
 use sqlite_std_file::Wary;
 use std::process::ExitCode;
 use words::{Job, USAGE, job_of, words};
@@ -40,7 +43,7 @@ fn main(rt: HostRuntime) -> ExitCode {
         Err(fault) => return report(&rt, &DeskFault::from(fault)),
     };
     let done = match job_of(words.as_slice()) {
-        Some(Job::Serve(path)) => serve_file(&rt, path),
+        Some(Job::Serve(path)) => serve_standard(&rt, path),
         Some(Job::Journal(path)) => print_journal(&rt, path),
         Some(Job::Help) => write_text(&mut rt.stdout(), USAGE.as_bytes()),
         None => return refuse(&rt),
@@ -52,15 +55,8 @@ fn main(rt: HostRuntime) -> ExitCode {
 }
 
 /// Serves the journal in a file, from standard input to standard output.
-fn serve_file(rt: &HostRuntime, path: &str) -> Result<(), DeskFault> {
-    let disk = open_file(rt, path, Wary)?;
-    let ended = run(
-        rt.alloc(),
-        Seed::drawn(rt),
-        disk,
-        &mut rt.stdin(),
-        &mut rt.stdout(),
-    );
+fn serve_standard(rt: &HostRuntime, path: &str) -> Result<(), DeskFault> {
+    let ended = serve_file(rt, path, Wary, &mut rt.stdin(), &mut rt.stdout())?;
     ended.done
 }
 
@@ -73,12 +69,16 @@ fn print_journal(rt: &HostRuntime, path: &str) -> Result<(), DeskFault> {
 }
 
 /// Prints the fault's line, and gives its status.
-fn report(rt: &HostRuntime, fault: &DeskFault) -> ExitCode {
+fn report(rt: &HostRuntime, fault: &DeskFault) -> ExitCode
+    ensures { exit_status result ≡ fault_status fault.now }
+{
     let _ = eprintln!(rt; "{fault}");
     ExitCode::from(status(fault))
 }
 
-fn refuse(rt: &HostRuntime) -> ExitCode {
+fn refuse(rt: &HostRuntime) -> ExitCode
+    ensures { exit_status result ≡ 2 }
+{
     let _ = eprint!(rt; "command line\n{USAGE}");
     ExitCode::from(REFUSED_LINE)
 }

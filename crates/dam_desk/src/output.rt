@@ -6,6 +6,8 @@ use crate::fault::DeskFault;
 use std::io::Write;
 
 /// Writes the text, and flushes the writer once after its last byte. It isn't called for a text of no bytes.
+///
+/// No clause speaks of the flush: a writer's clauses say of it only that the bytes stay.
 pub(crate) fn write_text<W: Write>(writer: &mut W, text: &[u8]) -> Result<(), DeskFault>
     ensures done { OnOk result (Appends (W.contents writer.old) (W.contents writer.new) text.now) }
     ensures fault { IfErr result

@@ -1,14 +1,17 @@
 //! The run of a desk, from its disk before to its disk after.
-ghost use Rattle.std.specs.Prelude.{◌≡◌, ◌⊎◌, ℕ, List, Option, IsTrue, IfSome, IfErr, OnOk};
-ghost use Rattle.dam_desk.specs.Desk.{IsGiven, IsServed, IsUnopened, Served, at_first};
-ghost use Rattle.dam_desk.specs.Journal.{Journal, OpensTo, replies_text};
+ghost use Rattle.std.specs.Prelude.{◌≡◌, ◌⊎◌, true, IsTrue, IfOk, IfErr, OnOk, OnErr};
+ghost use Rattle.dam_desk.specs.Desk.{IsUnopened};
+ghost use Rattle.dam_desk.specs.Faults.{IsEndFault, is_read};
+ghost use Rattle.dam_desk.specs.Run.{EndsAnswered, EndsSafe, EndsServed};
 
 use crate::fault::DeskFault;
 use crate::laws::{journals_grow, journals_settle, replies_are_answers};
 use crate::open::open;
 use crate::serve::serve;
 use dam_book::Seed;
+use dam_store::open_file;
 use sqlite_disk::Disk;
+use sqlite_std_file::{FileFrom, Start};
 use std::alloc::Global;
 use std::io::{Read, Write};
 
@@ -29,21 +32,20 @@ pub(crate) fn run<D: Disk + Drop, R: Read, W: Write>(
 ) -> Ended<D>
     requires usable { IsTrue (D.Disk.is_usable disk) }
     // At the end of the input, the replies that were printed are those of the journal in the file.
-    ensures served { OnOk result.done ((journal : Option Journal)
-        × (IsTrue (D.Disk.is_clean result.disk) → OpensTo journal (D.Disk.seen disk))
-        × (given : List ℕ) × IfSome (R.remaining reader.old) (λ bytes. bytes ≡ given)
-        × IsServed journal given (W.contents writer.old) (W.contents writer.new)
-        (λ file. IsTrue (D.Disk.is_clean result.disk) × D.Disk.may_leave result.disk file)) }
+    ensures served { OnOk result.done (EndsServed D.Disk (D.Disk.seen disk) result.disk
+        (R.remaining reader.old) (W.contents writer.old) (W.contents writer.new)) }
     ensures no_fault { OnOk result.done (D.Disk.faults result.disk ≡ D.Disk.faults disk) }
+    // If a read fails, all lines that had come in are answered.
+    ensures answered { IfErr result.done (λ why. is_read why ≡ true
+        → EndsAnswered D.Disk (D.Disk.seen disk) result.disk
+        (R.remaining reader.old) (R.remaining reader.new)
+        (W.contents writer.old) (W.contents writer.new)) }
     // If the desk ends before, it wasn't opened and printed nothing, or what was answered is safe.
     ensures faulty { IfErr result.done (λ why.
         (IsUnopened D.Disk disk result.disk why × (writer.new ≡ writer.old))
-        ⊎ ((journal : Option Journal)
-        × (IsTrue (D.Disk.is_clean result.disk) → OpensTo journal (D.Disk.seen disk))
-        × (given : List ℕ) × IsGiven (R.remaining reader.old) given
-        × Served (at_first journal) given (replies_text journal)
-        (W.contents writer.old) (W.contents writer.new)
-        (λ file. IsTrue (D.Disk.is_clean result.disk) × D.Disk.may_leave result.disk file))) }
+        ⊎ (IsEndFault (D.Disk.faults disk) (D.Disk.faults result.disk) why
+        × EndsSafe D.Disk (D.Disk.seen disk) result.disk
+        (R.remaining reader.old) (W.contents writer.old) (W.contents writer.new))) }
 {
     journals_grow();
     replies_are_answers();
@@ -61,4 +63,29 @@ pub(crate) fn run<D: Disk + Drop, R: Read, W: Write>(
             disk: refused.disk,
         },
     }
+}
+
+/// Serves the journal in the file at `path`. `S` stands for the bytes that the file holds.
+pub(crate) fn serve_file<S: Start, R: Read, W: Write>(
+    rt: &HostRuntime,
+    path: &str,
+    start: S,
+    reader: &mut R,
+    writer: &mut W,
+) -> Result<Ended<FileFrom<S>>, DeskFault>
+    ensures served { IfOk result (λ ended. OnOk ended.done
+        (EndsServed ⟦<FileFrom<S> as Disk>⟧ S.Start.db ended.disk
+        (R.remaining reader.old) (W.contents writer.old) (W.contents writer.new))) }
+    ensures answered { IfOk result (λ ended. IfErr ended.done (λ why. is_read why ≡ true
+        → EndsAnswered ⟦<FileFrom<S> as Disk>⟧ S.Start.db ended.disk
+        (R.remaining reader.old) (R.remaining reader.new)
+        (W.contents writer.old) (W.contents writer.new))) }
+    ensures faulty { IfOk result (λ ended. IfErr ended.done (λ why. (writer.new ≡ writer.old)
+        ⊎ (IsEndFault 0 (⟦<FileFrom<S> as Disk>⟧.faults ended.disk) why
+        × EndsSafe ⟦<FileFrom<S> as Disk>⟧ S.Start.db ended.disk
+        (R.remaining reader.old) (W.contents writer.old) (W.contents writer.new)))) }
+    ensures unopened { OnErr result (writer.new ≡ writer.old) }
+{
+    let disk = open_file(rt, path, start)?;
+    Ok(run(rt.alloc(), Seed::drawn(rt), disk, reader, writer))
 }

@@ -2,7 +2,7 @@ ghost use Rattle.std.specs.Prelude.{◌≡◌, ◌++◌, ℕ, List, true, false,
 ghost use Rattle.std.specs.Io.KnownBytes.{Consumes};
 ghost use Rattle.dam_store.specs.Store.{disk_of, held, is_broken};
 ghost use Rattle.dam_desk.specs.Desk.{Finishes, IsDesk, IsGiven, KeepsLines, MayLeave, Served, Takes};
-ghost use Rattle.dam_desk.specs.Faults.{is_read};
+ghost use Rattle.dam_desk.specs.Faults.{IsEndFault, is_read};
 ghost use Rattle.dam_desk.specs.Journal.{State};
 
 use crate::desk::Desk;
@@ -41,6 +41,8 @@ pub(crate) fn serve<D: Disk, R: Read, W: Write>(
         → (given : List ℕ) × Consumes (R.remaining reader.old) (R.remaining reader.new) given
         × Takes desk.new state (begun ++ given) replies.now
         (W.contents writer.old) (W.contents writer.new)) }
+    ensures cause { IfErr result (IsEndFault (D.Disk.faults (disk_of desk.old.store))
+        (D.Disk.faults (disk_of desk.new.store))) }
     // If the desk ends before, what was answered is safe.
     ensures faulty { (state : State) (begun : List ℕ) → IsDesk desk.old state begun
         → OnErr result ((given : List ℕ) × IsGiven (R.remaining reader.old) given

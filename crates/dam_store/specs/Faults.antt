@@ -1,9 +1,42 @@
--- What a fault of a store says.
-use Rattle.std.specs.Prelude.{◌≡◌, ◌<◌, ◌≤◌, ℕ, Bool, true, false, List, length, take, None, bytes_eq}
+-- What the faults of a file and a store say.
+use Rattle.std.specs.Prelude.{◌≡◌, ◌<◌, ◌≤◌, ◌&&◌, if◌then◌else◌, ℕ, Bool, true, false, is_none, List, length, take, None, bytes_eq}
+use Rattle.std.specs.IoError.{error_kind, raw_os_error}
+use Rattle.std.specs.declared.io.Error.{Error}
+use Rattle.std.specs.declared.io.ErrorKind.{ErrorKind}
+use Rattle.std.specs.declared.io.ErrorKind.TheVariants.{OutOfMemory, Unsupported}
+use Rattle.sqlite_std_file.specs.declared.pair.OpenError.{OpenError}
+use Rattle.sqlite_std_file.specs.declared.pair.OpenError.TheVariants as opening
 use Rattle.dam_store.specs.Limits.{most_bytes}
 use Rattle.dam_store.specs.Journal.{head_line, is_unmade, lines_in, stands_for, written}
+use Rattle.dam_store.specs.declared.fault.FileFault.{FileFault}
+use Rattle.dam_store.specs.declared.fault.FileFault.TheVariants as files
 use Rattle.dam_store.specs.declared.fault.StoreFault.{StoreFault}
 use Rattle.dam_store.specs.declared.fault.StoreFault.TheVariants.{NotAJournal, TooLong, Full, Read, Write, Sync}
+
+-- the system has no memory
+abbrev pub is_want_of_memory : ErrorKind → Bool
+is_want_of_memory OutOfMemory = true
+is_want_of_memory kind = false
+
+-- the system or the library doesn't do this
+abbrev pub is_unsupported : ErrorKind → Bool
+is_unsupported Unsupported = true
+is_unsupported kind = false
+
+-- the library refused the kind of a file; an error of the system has a number
+abbrev pub is_other_kind : Error → Bool
+is_other_kind error = is_none (raw_os_error error) && is_unsupported (error_kind error)
+
+-- the fault of a call for a file with this error
+abbrev pub of_io : Error → FileFault
+of_io error = if is_want_of_memory (error_kind error) then files.Memory else files.Io error
+
+-- the fault of a file whose opening has this error
+abbrev pub of_open : OpenError → FileFault
+of_open opening.Busy = files.InUse
+of_open opening.HotJournal = files.Database
+of_open opening.OutOfMemory = files.Memory
+of_open (opening.Io error) = if is_other_kind error then files.NotAFile else of_io error
 
 -- a call of the disk failed
 abbrev pub is_failure : StoreFault → Bool

@@ -3,7 +3,7 @@ ghost use Rattle.sqlite_disk.specs.Disk.{CountsFault, MoreFaults};
 ghost use Rattle.dam_store.specs.Limits.{most_bytes};
 ghost use Rattle.dam_store.specs.Journal.{marked, written, lines_in, StandsForEither};
 ghost use Rattle.dam_store.specs.Store.{disk_of, is_broken, held, IsSafe, IsTidy};
-ghost use Rattle.dam_store.specs.Faults.{is_failure};
+ghost use Rattle.dam_store.specs.Faults.{is_failed_write, is_failure};
 ghost use Rattle.dam_store.specs.inside.Shape.{IsClosed};
 ghost use Rattle.dam_store.specs.inside.Synced.{IsSynced, CrashLeaves};
 ghost use Rattle.dam_store.specs.declared.fault.StoreFault.TheVariants.{Full, Broken};
@@ -31,6 +31,7 @@ fn write_lines<D: Disk>(disk: &mut D, end: usize, batch: &Batch) -> Result<(), S
     ensures clean { D.Disk.is_clean disk.new ≡ D.Disk.is_clean disk.old }
     ensures faults { CountsFault result (D.Disk.faults disk.old) (D.Disk.faults disk.new) }
     ensures failure { IfErr result (λ fault. is_failure fault ≡ true) }
+    ensures failed { IfErr result (λ fault. is_failed_write fault ≡ true) }
 {
     let bytes = batch.after_gate();
     put(disk, end + 1, bytes)?;
@@ -61,7 +62,7 @@ impl<D: Disk> Store<D> {
         ensures failure { IfErr result (λ fault. is_failure fault ≡ true
             → (is_broken self.new ≡ true) × MoreFaults (D.Disk.faults (disk_of self.old)) (D.Disk.faults (disk_of self.new))) }
         ensures no_other { IfErr result
-            (λ fault. (is_failure fault ≡ true) ⊎ (fault ≡ Full) ⊎ ((fault ≡ Broken) × (is_broken self.old ≡ true))) }
+            (λ fault. (is_failed_write fault ≡ true) ⊎ (fault ≡ Full) ⊎ ((fault ≡ Broken) × (is_broken self.old ≡ true))) }
         ensures stays_broken { is_broken self.old ≡ true → is_broken self.new ≡ true }
         ensures clean { D.Disk.is_clean (disk_of self.new) ≡ D.Disk.is_clean (disk_of self.old) }
     {

@@ -10,7 +10,10 @@ use crate::limits::MOST_BYTES;
 use sqlite_disk::Disk;
 use std::alloc::Global;
 
-/// Writes bytes and syncs the file. Nothing is retried.
+/// Writes bytes and syncs the file.
+///
+/// Nothing is retried. After a failed sync `is_usable` forbids every call. After a failed write no clause can say that the write
+/// isn't tried again, because a disk's clauses count failed calls from below only (`MoreFaults`): that is seen in the body.
 pub(crate) fn put<D: Disk>(disk: &mut D, at: usize, bytes: &[u8]) -> Result<(), StoreFault>
     requires usable { IsTrue (D.Disk.is_usable disk.old) }
     requires some { 0 < length bytes.now }

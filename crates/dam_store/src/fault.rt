@@ -1,6 +1,33 @@
+ghost use Rattle.std.specs.Prelude.{◌≡◌};
+ghost use Rattle.dam_store.specs.Faults.{is_other_kind};
+
+use sqlite_std_file::OpenError;
 use std::alloc::AllocError;
-use std::io;
+use std::io::{self, ErrorKind};
 use thiserror::Error;
+
+/// Why the disk of a file wasn't opened.
+#[derive(Debug, Drop, Error)]
+pub enum FileFault {
+    /// Another process has the file.
+    #[error("another process has it")]
+    InUse,
+    /// It isn't a regular file, or it has a second name.
+    #[error("it isn't a regular file with one name")]
+    NotAFile,
+    /// The files of a database have its name.
+    #[error("a database's files have its name")]
+    Database,
+    /// The system gives no random bytes, which opening needs. The file wasn't touched.
+    #[error("it can't be opened without random bytes: {0}")]
+    NoRandomBytes(io::Error),
+    /// The system refused a call for the file.
+    #[error("{0}")]
+    Io(io::Error),
+    /// Memory ran out.
+    #[error("out of memory")]
+    Memory,
+}
 
 /// Why bytes weren't added to a batch.
 #[derive(Clone, Copy, PartialEq, Eq, Debug, Error)]
@@ -53,4 +80,42 @@ impl From<AllocError> for StoreFault {
     fn from(_error: AllocError) -> StoreFault {
         StoreFault::Memory
     }
+}
+
+impl From<io::Error> for FileFault {
+    ghost use Rattle.std.specs.Prelude.{◌≡◌};
+    ghost use Rattle.dam_store.specs.Faults.{of_io};
+
+    ghost from_gives = { λ error fault. fault ≡ of_io error };
+
+    fn from(error: io::Error) -> FileFault {
+        match error.kind() {
+            ErrorKind::OutOfMemory => FileFault::Memory,
+            _ => FileFault::Io(error),
+        }
+    }
+}
+
+impl From<OpenError> for FileFault {
+    ghost use Rattle.std.specs.Prelude.{◌≡◌};
+    ghost use Rattle.dam_store.specs.Faults.{of_open};
+
+    ghost from_gives = { λ error fault. fault ≡ of_open error };
+
+    fn from(error: OpenError) -> FileFault {
+        match error {
+            OpenError::Busy => FileFault::InUse,
+            OpenError::HotJournal => FileFault::Database,
+            OpenError::OutOfMemory => FileFault::Memory,
+            OpenError::Io(error) if is_other_kind(&error) => FileFault::NotAFile,
+            OpenError::Io(error) => FileFault::from(error),
+        }
+    }
+}
+
+/// Whether the library refused the kind of the file. An error of the system has a number.
+fn is_other_kind(error: &io::Error) -> bool
+    ensures { result ≡ is_other_kind error.now }
+{
+    error.raw_os_error().is_none() && error.kind() == ErrorKind::Unsupported
 }

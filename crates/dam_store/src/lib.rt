@@ -17,7 +17,7 @@ mod store;
 mod text;
 
 pub use batch::Batch;
-pub use fault::{LineFault, StoreFault};
+pub use fault::{FileFault, LineFault, StoreFault};
 pub use file::open_file;
 pub use limits::MOST_BYTES;
 pub use store::{Found, Store, Unopened};

@@ -1,14 +1,27 @@
--- The end of the file wasn't repaired.
-use Rattle.std.proofs.Common.{sym, subst}
+-- No store was found, or its end wasn't repaired.
+use Rattle.std.proofs.Common.{List, ℕ, sym, subst}
 use Rattle.dam_desk.specs.Desk.{IsUnopened}
 use Rattle.dam_desk.specs.declared.fault.DeskFault.{DeskFault}
-use Rattle.dam_desk.proofs.Opening.{unopened_late}
+use Rattle.dam_desk.specs.inside.Intake.{IsReopened}
+use Rattle.dam_desk.proofs.Opening.{unopened_early, unopened_late}
 use Rattle.dam_desk.proofs.open.open.Goals as goal
+
+pub returns-in-Err-clause-refused : goal.returns-in-Err-clause-refused
+returns-in-Err-clause-refused g c =
+    let new = c.in-Err.unopened.disk in
+    let why = c.in-Err.unopened.why in
+    let found = c.in-Err.ensures in
+    subst (λ (w : DeskFault). IsUnopened g.D.Disk c.args.disk new w) (sym c.from-why.ensures)
+    (unopened_early g.D.Disk c.args.disk new why found.refused_untouched found.failure found.no_failure found.refusal found.no_other)
 
 pub returns-in-Err-open-clause-refused : goal.returns-in-Err-open-clause-refused
 returns-in-Err-open-clause-refused g c =
     let new = c.in-Err-open.unopened.disk in
     let why = c.in-Err-open.unopened.why in
+    let found = c.in-Ok.ensures in
+    let late = c.in-Err-open.ensures in
+    let reopened = c.in-Ok-reopen.reopened in
+    let is = subst (λ (t : List ℕ). IsReopened t reopened.0 reopened.1.items) c.as_slice.ensures.value c.in-Ok-reopen.ensures.journal in
     subst (λ (w : DeskFault). IsUnopened g.D.Disk c.args.disk new w) (sym c.from-why-in-Err-open.ensures)
-    (unopened_late g.D.Disk c.args.disk c.in-Ok.found.disk new why c.in-Ok.ensures.untouched c.in-Err-open.ensures.failed
-    c.in-Err-open.ensures.crash_unopened)
+    (unopened_late g.D.Disk c.args.disk c.in-Ok.found.disk c.in-Ok.found.text.items found.untouched found.no_fault found.text new why
+    reopened.0 reopened.1.items is late.clean_unopened late.failure late.failed late.crash_unopened)

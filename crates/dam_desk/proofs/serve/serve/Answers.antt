@@ -1,10 +1,11 @@
 -- What the desk held at first is kept by each batch.
-use Rattle.std.proofs.Common.{rules, ◌<◌, ◌++◌, [], List, ℕ, inl, inr, length, take, refl, sym, ◌∙◌, subst, arith, append_assoc, append-nil}
+use Rattle.std.proofs.Common.{rules, ◌<◌, ◌++◌, [], List, ℕ, IfErr, inl, inr, length, take, refl, sym, ◌∙◌, subst, arith, append_assoc, append-nil}
 use Rattle.std.proofs.KnownBytes.{Appends-nil, Consumes-kept, Consumes-nil, Consumes-trans}
 use Rattle.std.proofs.lemmas.Result.{on_ok_weaker}
 use Rattle.std.specs.Io.KnownBytes.{Appends}
 use Rattle.dam_store.specs.Store.{disk_of, held}
 use Rattle.dam_desk.specs.Desk.{MayLeave, Served, Takes, end_answer}
+use Rattle.dam_desk.specs.Faults.{IsEndFault}
 use Rattle.dam_desk.specs.Journal.{next}
 use Rattle.dam_desk.proofs.Crashes.{keeps_first, grown_more}
 use Rattle.dam_desk.proofs.Desks.{all_given, finishes, is_given, on_err_any, on_err_then, served_first, served_more, served_so_far, takes_more, takes_start, written_fault}
@@ -154,3 +155,8 @@ returns-in-Err-clause-answered g c state begun is failed =
 pub returns-clause-answered : goal.returns-clause-answered
 returns-clause-answered g c state begun is failed =
     let so_far = c.loop.invariant.taken state begun is in (so_far.0, so_far.1, so_far.2)
+
+pub returns-then-count-eq0-clause-cause : goal.returns-then-count-eq0-clause-cause
+returns-then-count-eq0-clause-cause g c =
+    let count = g.D.Disk.faults (disk_of c.args.desk.now.store) in
+    subst (λ (n : ℕ). IfErr c.end.result (IsEndFault count n)) (sym c.loop.invariant.no_fault) (c.end.ensures.cause count)

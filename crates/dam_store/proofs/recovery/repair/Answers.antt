@@ -1,5 +1,5 @@
-use Rattle.std.proofs.Common.{◌≡◌, [], true, sym, ◌∙◌, subst}
-use Rattle.dam_store.specs.Journal.{StandsFor, is_unmade}
+use Rattle.std.proofs.Common.{◌≡◌, true, sym, ◌∙◌, subst}
+use Rattle.dam_store.specs.Journal.{is_unmade}
 use Rattle.dam_store.specs.inside.Shape.{IsEnd}
 use Rattle.dam_store.proofs.Unmade.{unmade_stands}
 use Rattle.dam_store.proofs.recovery.repair.Goals as goal

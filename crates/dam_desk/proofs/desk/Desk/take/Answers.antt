@@ -1,12 +1,12 @@
 -- The records of the answered lines are in the file once their answers are written.
-use Rattle.std.proofs.Common.{◌++◌, [], List, ℕ, take, ap, ◌∙◌, subst, append-nil}
+use Rattle.std.proofs.Common.{◌++◌, [], List, ℕ, inl, inr, take, ap, ◌∙◌, subst, append-nil}
 use Rattle.std.proofs.lemmas.Result.{on_ok_weaker}
 use Rattle.std.specs.Io.KnownBytes.{Appends}
 use Rattle.dam_store.specs.Store.{held}
 use Rattle.dam_store.specs.Journal.{text_of}
 use Rattle.dam_desk.specs.inside.Intake.{entered_text}
 use Rattle.dam_desk.proofs.Crashes.{either_keeps}
-use Rattle.dam_desk.proofs.Desks.{on_err_any, on_err_then, opens_either, opens_store, served_none, served_pending, served_written, store_grown, written_part}
+use Rattle.dam_desk.proofs.Desks.{on_err_any, on_err_then, opens_after, opens_batch, opens_either, opens_store, served_none, served_pending, served_written, store_grown, written_part}
 use Rattle.dam_desk.proofs.desk.Desk.take.Goals as goal
 
 pub returns-in_err-append-clause-crash : goal.returns-in_err-append-clause-crash
@@ -66,3 +66,28 @@ returns-clause-faulty g c state begun is ready =
     (subst (λ (t : List ℕ). Appends old new (take part.0 t)) c.as_slice.ensures.value part.1)
     (opens_store c.append.new.self read.last.journal reads text c.in_ok-append.ensures.safe))
     (written_part old new c.as_slice.result.now c.write_text.result c.write_text.ensures.fault)
+
+pub returns-in_err-take-clause-one_batch : goal.returns-in_err-take-clause-one_batch
+returns-in_err-take-clause-one_batch g c state begun is ready file may =
+    inl (opens_store c.args.self.now.store state.journal is.reads is.file (c.is_broken-safe.ensures.safe ready) file may)
+
+pub returns-in_err-batch-clause-one_batch : goal.returns-in_err-batch-clause-one_batch
+returns-in_err-batch-clause-one_batch g c state begun is ready file may =
+    inl (opens_store c.args.self.now.store state.journal is.reads is.file (c.is_broken-safe.ensures.safe ready) file may)
+
+pub returns-in_err-append-clause-one_batch : goal.returns-in_err-append-clause-one_batch
+returns-in_err-append-clause-one_batch g c state begun is ready file may =
+    let read = c.in_ok-take.ensures state begun is.intake in
+    opens_batch c.take.new.self state (begun ++ c.args.bytes.now) file read
+    (opens_either c.args.self.now.store c.append.new.self c.in_ok-batch.batch (entered_text c.take.new.self) state.journal read.last.journal
+    is.reads (c.journals_grow.ensures.reads state read.last read.lines c.take.new.self.answers.items is.reads read.answers)
+    c.append.ensures.clean is.file c.in_ok-batch.ensures read.text (c.append.ensures.crash ready) file may)
+
+pub returns-clause-one_batch : goal.returns-clause-one_batch
+returns-clause-one_batch g c state begun is ready file may =
+    let read = c.in_ok-take.ensures state begun is.intake in
+    let reads = c.journals_grow.ensures.reads state read.last read.lines c.take.new.self.answers.items is.reads read.answers in
+    let text = store_grown c.args.self.now.store c.append.new.self c.in_ok-batch.batch (entered_text c.take.new.self) state.journal read.last.journal
+    c.append.ensures.clean is.file c.in_ok-batch.ensures read.text c.in_ok-append.ensures.acknowledged in
+    inr (opens_after c.take.new.self state (begun ++ c.args.bytes.now) file read
+    (opens_store c.append.new.self read.last.journal reads text c.in_ok-append.ensures.safe file may))
