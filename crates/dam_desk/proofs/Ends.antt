@@ -1,6 +1,6 @@
 -- Why an open desk ends.
-use Rattle.std.proofs.Common.{◌≡◌, ◌⊎◌, inl, inr, ℕ, Bool, List, Option, true, false, refl, subst}
-use Rattle.std.proofs.lemmas.Bool.{both_ways}
+use Rattle.std.proofs.Common.{◌≡◌, ◌⊎◌, inl, inr, ℕ, Bool, List, Option, Result, Ok, Err, IfErr, IsErrAnd, true, false, refl, sym, subst}
+use Rattle.std.proofs.lemmas.Bool.{both_ways, cases_Bool}
 use Rattle.sqlite_disk.specs.Disk.{MoreFaults}
 use Rattle.dam_store.specs.Faults.{is_failed_write}
 use Rattle.dam_store.specs.declared.fault.StoreFault.{StoreFault}
@@ -10,53 +10,66 @@ use Rattle.dam_desk.specs.declared.fault.DeskFault.{DeskFault}
 use Rattle.dam_desk.specs.declared.fault.DeskFault.TheVariants.{File, Store, NotAJournal, Respelled, Read, Write, Memory}
 
 -- a write or a sync failed, or the lines have no room
-abbrev IsAppendFault : ℕ → ℕ → StoreFault → Type 0
-IsAppendFault before after fault =
-    ((is_failed_write fault ≡ true) × MoreFaults before after) ⊎ ((fault ≡ store.Full) × (after ≡ before))
+abbrev IsAppendFault : Bool → ℕ → ℕ → StoreFault → Type 0
+IsAppendFault is_clean before after fault =
+    ((is_failed_write fault ≡ true) × MoreFaults before after) ⊎ ((fault ≡ store.Full) × ((is_clean ≡ false) × (after ≡ before)))
 
-append_fault : (before after : ℕ) (fault : StoreFault) (broken : Bool) → broken ≡ false
+append_fault : (is_clean : Bool) (before after : ℕ) (fault : StoreFault) (broken : Bool) → broken ≡ false
     → (is_failed_write fault ≡ true) ⊎ ((fault ≡ store.Full) ⊎ ((fault ≡ store.Broken) × (broken ≡ true)))
-    → (is_failed_write fault ≡ true → MoreFaults before after) → (fault ≡ store.Full → after ≡ before) → IsAppendFault before after fault
-append_fault before after fault broken ready (inl failed) more same = inl (failed, more failed)
-append_fault before after fault broken ready (inr (inl full)) more same = inr (full, same full)
-append_fault before after fault broken ready (inr (inr earlier)) more same = absurd (both_ways broken ready earlier.1)
+    → (is_failed_write fault ≡ true → MoreFaults before after) → (fault ≡ store.Full → (is_clean ≡ false) × (after ≡ before))
+    → IsAppendFault is_clean before after fault
+append_fault is_clean before after fault broken ready (inl failed) more full = inl (failed, more failed)
+append_fault is_clean before after fault broken ready (inr (inl same)) more full = inr (same, full same)
+append_fault is_clean before after fault broken ready (inr (inr earlier)) more full = absurd (both_ways broken ready earlier.1)
 
-unless_full : (before after : ℕ) (fault : StoreFault) → (fault ≡ store.Full → ⊥) → IsAppendFault before after fault
-    → (is_failed_write fault ≡ true) × MoreFaults before after
-unless_full before after fault other (inl failed) = failed
-unless_full before after fault other (inr full) = absurd (other full.0)
+unless_full : (is_clean : Bool) (before after : ℕ) (fault : StoreFault) → (fault ≡ store.Full → ⊥)
+    → IsAppendFault is_clean before after fault → (is_failed_write fault ≡ true) × MoreFaults before after
+unless_full is_clean before after fault other (inl failed) = failed
+unless_full is_clean before after fault other (inr full) = absurd (other full.0)
 
-end_append : (before after : ℕ) (fault : StoreFault) → IsAppendFault before after fault → IsEndFault before after (of_store fault)
-end_append before after store.Memory is =
-    absurd (both_ways false refl (unless_full before after store.Memory (λ same. cc) is).0)
-end_append before after store.NotAJournal is = unless_full before after store.NotAJournal (λ same. cc) is
-end_append before after store.TooLong is = unless_full before after store.TooLong (λ same. cc) is
-end_append before after store.Full (inl failed) = absurd (both_ways false refl failed.0)
-end_append before after store.Full (inr full) = full.1
-end_append before after store.Broken is = unless_full before after store.Broken (λ same. cc) is
-end_append before after (store.Read error) is = unless_full before after (store.Read error) (λ same. cc) is
-end_append before after (store.Write error) is = unless_full before after (store.Write error) (λ same. cc) is
-end_append before after (store.Sync error) is = unless_full before after (store.Sync error) (λ same. cc) is
+end_append : (is_clean : Bool) (before after : ℕ) (fault : StoreFault) → IsAppendFault is_clean before after fault
+    → IsEndFault is_clean before after (of_store fault)
+end_append is_clean before after store.Memory is =
+    absurd (both_ways false refl (unless_full is_clean before after store.Memory (λ same. cc) is).0)
+end_append is_clean before after store.NotAJournal is = unless_full is_clean before after store.NotAJournal (λ same. cc) is
+end_append is_clean before after store.TooLong is = unless_full is_clean before after store.TooLong (λ same. cc) is
+end_append is_clean before after store.Full (inl failed) = absurd (both_ways false refl failed.0)
+end_append is_clean before after store.Full (inr full) = full.1
+end_append is_clean before after store.Broken is = unless_full is_clean before after store.Broken (λ same. cc) is
+end_append is_clean before after (store.Read error) is = unless_full is_clean before after (store.Read error) (λ same. cc) is
+end_append is_clean before after (store.Write error) is = unless_full is_clean before after (store.Write error) (λ same. cc) is
+end_append is_clean before after (store.Sync error) is = unless_full is_clean before after (store.Sync error) (λ same. cc) is
+
+pub refuted : (b : Bool) → (b ≡ true → ⊥) → b ≡ false
+refuted b never = elim (cases_Bool b) [ inl is ↦ absurd (never is) | inr isnt ↦ isnt ]
 
 -- an append failed
-pub end_store : (before after : ℕ) (fault : StoreFault) (broken : Bool) → broken ≡ false
+pub end_store : (is_clean : Bool) (before after : ℕ) (fault : StoreFault) (broken : Bool) → broken ≡ false
     → (is_failed_write fault ≡ true) ⊎ ((fault ≡ store.Full) ⊎ ((fault ≡ store.Broken) × (broken ≡ true)))
-    → (is_failed_write fault ≡ true → MoreFaults before after) → (fault ≡ store.Full → after ≡ before) → IsEndFault before after (of_store fault)
-end_store before after fault broken ready kinds more same =
-    end_append before after fault (append_fault before after fault broken ready kinds more same)
+    → (is_failed_write fault ≡ true → MoreFaults before after) → (fault ≡ store.Full → (is_clean ≡ false) × (after ≡ before))
+    → IsEndFault is_clean before after (of_store fault)
+end_store is_clean before after fault broken ready kinds more full =
+    end_append is_clean before after fault (append_fault is_clean before after fault broken ready kinds more full)
 
 -- the writer failed
-pub end_writing : (before after : ℕ) (old new : Option (List ℕ)) (text : List ℕ) (fault : DeskFault) → after ≡ before
-    → IsWritingFault old new text fault → IsEndFault before after fault
-end_writing before after old new text (File why) same is = absurd is
-end_writing before after old new text (Store why) same is = absurd is
-end_writing before after old new text (NotAJournal why) same is = absurd is
-end_writing before after old new text Respelled same is = absurd is
-end_writing before after old new text Read same is = absurd is
-end_writing before after old new text (Write written) same is = same
-end_writing before after old new text Memory same is = absurd is
+pub end_writing : (is_clean : Bool) (before after : ℕ) (old new : Option (List ℕ)) (text : List ℕ) (fault : DeskFault) → after ≡ before
+    → IsWritingFault old new text fault → IsEndFault is_clean before after fault
+end_writing is_clean before after old new text (File why) same is = absurd is
+end_writing is_clean before after old new text (Store why) same is = absurd is
+end_writing is_clean before after old new text (NotAJournal why) same is = absurd is
+end_writing is_clean before after old new text Respelled same is = absurd is
+end_writing is_clean before after old new text Read same is = absurd is
+end_writing is_clean before after old new text (Write written) same is = same
+end_writing is_clean before after old new text Memory same is = absurd is
 
-pub end_counts : {before after : ℕ} {was is : ℕ} (fault : DeskFault) → before ≡ was → after ≡ is → IsEndFault before after fault
-    → IsEndFault was is fault
-end_counts {before} {after} {was} {is} fault first then ends =
-    subst (λ (n : ℕ). IsEndFault n is fault) first (subst (λ (n : ℕ). IsEndFault before n fault) then ends)
+pub end_counts : {is_clean was_clean : Bool} {before after was is : ℕ} (fault : DeskFault) → is_clean ≡ was_clean → before ≡ was → after ≡ is
+    → IsEndFault is_clean before after fault → IsEndFault was_clean was is fault
+end_counts {is_clean} {was_clean} {before} {after} {was} {is} fault same first then ends =
+    subst (λ (b : Bool). IsEndFault b was is fault) same
+    (subst (λ (n : ℕ). IsEndFault is_clean n is fault) first (subst (λ (n : ℕ). IsEndFault is_clean before n fault) then ends))
+
+-- a result with this fault
+pub err_is : {X : Type 0} (r : Result X DeskFault) (P : DeskFault → Type 0) (fault : DeskFault) → IsErrAnd r (λ why. why ≡ fault) → P fault
+    → IfErr r P
+err_is (Ok x) P fault same p = tt
+err_is (Err why) P fault same p = subst P (sym same) p

@@ -6,6 +6,7 @@ mod Runs
 mod Steps
 mod Growth
 mod Ends
+mod Room
 mod Desks
 mod Saying
 mod Opening

@@ -89,9 +89,9 @@ abbrev pub IsEnding : List ℕ → List (List ℕ) → State → List ℕ → Ty
 IsEnding given lines state text =
     (text ≡ []) ⊎ ((begun : List ℕ) × AreLines given lines begun × (text ≡ end_answer (next state.answered) begun))
 
--- The first lines of the bytes are safe, and the others may be: all of them, or none. Nothing was written but the first text, the answers to the safe
--- lines, and that to a line in which the input ended, or a beginning of these. Whatever a crash leaves opens to the journal after the
--- safe lines, or after the others too.
+-- The first lines of the bytes are safe, and the others may be: all of them, or none. Nothing was written but the first text, the answers
+-- to the safe lines, and that to a line in which the input ended, or a beginning of these. Whatever a crash leaves opens to the journal
+-- after the safe lines, or after the others too.
 pub record Served (state : State) (given first : List ℕ) (old new : Option (List ℕ)) (outcomes : List ℕ → Type 0) : Type 0 where
   pub safe : List (List ℕ)
   pub others : List (List ℕ)

@@ -92,15 +92,15 @@ is_write (Write written) = true
 is_write fault = false
 
 -- Why an open desk ends before its input does, and the counts of the disk's failed calls before and after: the reader failed, the writer
--- failed, memory ran out, the file has no room for the lines, or a write or a sync of the file failed. Only with the last one a call of the
--- disk has failed.
-abbrev pub IsEndFault : ℕ → ℕ → DeskFault → Type 0
-IsEndFault before after Read = after ≡ before
-IsEndFault before after (Write written) = after ≡ before
-IsEndFault before after Memory = after ≡ before
-IsEndFault before after (Store store.Full) = after ≡ before
-IsEndFault before after (Store fault) = (store_failed_write fault ≡ true) × MoreFaults before after
-IsEndFault before after fault = ⊥
+-- failed, memory ran out, or a write or a sync of the file failed. Only with the last one a call of the disk has failed. The file is full
+-- only for a disk that gave a wrong answer, which was taken as true.
+abbrev pub IsEndFault : Bool → ℕ → ℕ → DeskFault → Type 0
+IsEndFault is_clean before after Read = after ≡ before
+IsEndFault is_clean before after (Write written) = after ≡ before
+IsEndFault is_clean before after Memory = after ≡ before
+IsEndFault is_clean before after (Store store.Full) = (is_clean ≡ false) × (after ≡ before)
+IsEndFault is_clean before after (Store fault) = (store_failed_write fault ≡ true) × MoreFaults before after
+IsEndFault is_clean before after fault = ⊥
 
 -- the writer took exactly as many first bytes of the text as the fault says
 abbrev pub IsWritingFault : Option (List ℕ) → Option (List ℕ) → List ℕ → DeskFault → Type 0

@@ -1,5 +1,5 @@
 //! A desk: a journal in a store, and the book that it makes.
-ghost use Rattle.std.specs.Prelude.{◌≡◌, ◌⊎◌, ◌++◌, [], ℕ, List, take, true, false, IsTrue, IfErr, OnOk, OnErr};
+ghost use Rattle.std.specs.Prelude.{◌≡◌, ◌⊎◌, ◌++◌, [], ℕ, Bool, List, take, true, false, IsTrue, IfErr, OnOk, OnErr};
 ghost use Rattle.std.specs.Io.KnownBytes.{Appends};
 ghost use Rattle.dam_store.specs.Store.{disk_of, held, is_broken};
 ghost use Rattle.dam_desk.specs.Desk.{IsDesk, KeepsLines, MayLeave, OpensAfter, Served, Takes, end_answer};
@@ -47,9 +47,10 @@ impl<D: Disk> Desk<D> {
         ensures one_batch { (state : State) (begun : List ℕ) → IsDesk self.old state begun
             → is_broken self.old.store ≡ false → (file : List ℕ) → MayLeave self.new file
             → OpensTo state.journal file ⊎ OpensAfter state (begun ++ bytes.now) file }
-        ensures cause { is_broken self.old.store ≡ false
-            → IfErr result (IsEndFault (D.Disk.faults (disk_of self.old.store))
-            (D.Disk.faults (disk_of self.new.store))) }
+        ensures cause { (state : State) (begun : List ℕ) → IsDesk self.old state begun
+            → is_broken self.old.store ≡ false
+            → IfErr result (IsEndFault (D.Disk.is_clean (disk_of self.new.store))
+            (D.Disk.faults (disk_of self.old.store)) (D.Disk.faults (disk_of self.new.store))) }
         ensures clean { D.Disk.is_clean (disk_of self.new.store)
             ≡ D.Disk.is_clean (disk_of self.old.store) }
         ensures taken { (state : State) (begun : List ℕ) → IsDesk self.old state begun
@@ -74,7 +75,8 @@ impl<D: Disk> Desk<D> {
             → OnOk result (Appends (W.contents writer.old) (W.contents writer.new)
             (end_answer (next self.now.intake.answered) begun)) }
         ensures no_read { IfErr result (λ fault. is_read fault ≡ false) }
-        ensures cause { (count : ℕ) → IfErr result (IsEndFault count count) }
+        ensures cause { (is_clean : Bool) (count : ℕ)
+            → IfErr result (IsEndFault is_clean count count) }
         ensures err { (begun : List ℕ) → self.now.intake.line ≡ kept begun
             → OnErr result ((count : ℕ) × Appends (W.contents writer.old) (W.contents writer.new)
             (take count (end_answer (next self.now.intake.answered) begun))) }

@@ -43,7 +43,8 @@ pub(crate) fn run<D: Disk + Drop, R: Read, W: Write>(
     // If the desk ends before, it wasn't opened and printed nothing, or what was answered is safe.
     ensures faulty { IfErr result.done (λ why.
         (IsUnopened D.Disk disk result.disk why × (writer.new ≡ writer.old))
-        ⊎ (IsEndFault (D.Disk.faults disk) (D.Disk.faults result.disk) why
+        ⊎ (IsEndFault (D.Disk.is_clean result.disk)
+        (D.Disk.faults disk) (D.Disk.faults result.disk) why
         × EndsSafe D.Disk (D.Disk.seen disk) result.disk
         (R.remaining reader.old) (W.contents writer.old) (W.contents writer.new))) }
 {
@@ -81,7 +82,8 @@ pub(crate) fn serve_file<S: Start, R: Read, W: Write>(
         (R.remaining reader.old) (R.remaining reader.new)
         (W.contents writer.old) (W.contents writer.new))) }
     ensures faulty { IfOk result (λ ended. IfErr ended.done (λ why. (writer.new ≡ writer.old)
-        ⊎ (IsEndFault 0 (⟦<FileFrom<S> as Disk>⟧.faults ended.disk) why
+        ⊎ (IsEndFault (⟦<FileFrom<S> as Disk>⟧.is_clean ended.disk)
+        0 (⟦<FileFrom<S> as Disk>⟧.faults ended.disk) why
         × EndsSafe ⟦<FileFrom<S> as Disk>⟧ S.Start.db ended.disk
         (R.remaining reader.old) (W.contents writer.old) (W.contents writer.new)))) }
     ensures unopened { OnErr result (writer.new ≡ writer.old) }

@@ -41,8 +41,9 @@ pub(crate) fn serve<D: Disk, R: Read, W: Write>(
         → (given : List ℕ) × Consumes (R.remaining reader.old) (R.remaining reader.new) given
         × Takes desk.new state (begun ++ given) replies.now
         (W.contents writer.old) (W.contents writer.new)) }
-    ensures cause { IfErr result (IsEndFault (D.Disk.faults (disk_of desk.old.store))
-        (D.Disk.faults (disk_of desk.new.store))) }
+    ensures cause { (state : State) (begun : List ℕ) → IsDesk desk.old state begun
+        → IfErr result (IsEndFault (D.Disk.is_clean (disk_of desk.new.store))
+        (D.Disk.faults (disk_of desk.old.store)) (D.Disk.faults (disk_of desk.new.store))) }
     // If the desk ends before, what was answered is safe.
     ensures faulty { (state : State) (begun : List ℕ) → IsDesk desk.old state begun
         → OnErr result ((given : List ℕ) × IsGiven (R.remaining reader.old) given

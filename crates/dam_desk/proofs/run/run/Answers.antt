@@ -49,7 +49,7 @@ returns-in-Ok-clause-faulty g c =
     let disk = c.into_disk.result in
     let first = c.as_slice.ensures.value ∙ is.same_replies in
     err_both c.serve-done.result _ _ _ (λ why cause part. inr (
-      end_counts why c.in-Ok.ensures.no_fault (sym (ap g.D.Disk.faults c.into_disk.ensures)) cause,
+      end_counts why (sym (ap g.D.Disk.is_clean c.into_disk.ensures)) c.in-Ok.ensures.no_fault (sym (ap g.D.Disk.faults c.into_disk.ensures)) cause,
       record {
         journal = is.journal;
         begins = λ honest. is.opens (sym c.serve-done.ensures.clean ∙ sym (ap g.D.Disk.is_clean c.into_disk.ensures) ∙ honest);
@@ -58,4 +58,5 @@ returns-in-Ok-clause-faulty g c =
         served = served_still c.serve-done.new.desk disk c.into_disk.ensures is.journal c.as_slice.result.now first part.0
             (g.W.Write.contents c.args.writer.now) (g.W.Write.contents c.serve-done.new.writer) part.2;
       },
-    )) c.serve-done.ensures.cause (c.serve-done.ensures.faulty (at_first is.journal) [] is.fresh)
+    )) (c.serve-done.ensures.cause (at_first is.journal) [] is.fresh)
+    (c.serve-done.ensures.faulty (at_first is.journal) [] is.fresh)

@@ -9,6 +9,7 @@ use Rattle.dam_desk.specs.Faults.{IsEndFault}
 use Rattle.dam_desk.specs.Journal.{next}
 use Rattle.dam_desk.proofs.Crashes.{keeps_first, grown_more}
 use Rattle.dam_desk.proofs.Desks.{all_given, finishes, is_given, on_err_any, on_err_then, served_first, served_more, served_so_far, takes_more, takes_start, written_fault}
+use Rattle.dam_desk.proofs.Ends.{end_counts, err_is}
 use Rattle.dam_desk.proofs.serve.serve.Goals as goal
 
 pub returns-in_err-take-clause-crash : goal.returns-in_err-take-clause-crash
@@ -157,6 +158,18 @@ returns-clause-answered g c state begun is failed =
     let so_far = c.loop.invariant.taken state begun is in (so_far.0, so_far.1, so_far.2)
 
 pub returns-then-count-eq0-clause-cause : goal.returns-then-count-eq0-clause-cause
-returns-then-count-eq0-clause-cause g c =
+returns-then-count-eq0-clause-cause g c state begun is =
     let count = g.D.Disk.faults (disk_of c.args.desk.now.store) in
-    subst (λ (n : ℕ). IfErr c.end.result (IsEndFault count n)) (sym c.loop.invariant.no_fault) (c.end.ensures.cause count)
+    let clean = g.D.Disk.is_clean (disk_of c.loop.desk.store) in
+    subst (λ (n : ℕ). IfErr c.end.result (IsEndFault clean count n)) (sym c.loop.invariant.no_fault) (c.end.ensures.cause clean count)
+
+pub returns-in_err-take-clause-cause : goal.returns-in_err-take-clause-cause
+returns-in_err-take-clause-cause g c state begun is =
+    let so_far = c.loop.invariant.taken state begun is in
+    let new = c.take.new.self.store in
+    let fault = c.in_err-take.field-0.0 in
+    err_is c.from_residual-in_err-take.result
+    (IsEndFault (g.D.Disk.is_clean (disk_of new)) (g.D.Disk.faults (disk_of c.args.desk.now.store)) (g.D.Disk.faults (disk_of new))) fault
+    c.from_residual-in_err-take.ensures.1
+    (end_counts fault refl c.loop.invariant.no_fault refl
+    (c.in_err-take.ensures.cause so_far.2.last so_far.2.begun so_far.2.now c.loop.invariant.ready))

@@ -1,12 +1,16 @@
 -- The records of the answered lines are in the file once their answers are written.
-use Rattle.std.proofs.Common.{◌++◌, [], List, ℕ, inl, inr, take, ap, ◌∙◌, subst, append-nil}
+use Rattle.std.proofs.Common.{◌++◌, [], List, ℕ, inl, inr, take, sym, ap, ◌∙◌, subst, append-nil}
 use Rattle.std.proofs.lemmas.Result.{on_ok_weaker}
 use Rattle.std.specs.Io.KnownBytes.{Appends}
-use Rattle.dam_store.specs.Store.{held}
+use Rattle.dam_store.specs.Store.{disk_of, held, is_broken}
 use Rattle.dam_store.specs.Journal.{text_of}
+use Rattle.dam_desk.specs.Faults.{IsEndFault, of_store}
 use Rattle.dam_desk.specs.inside.Intake.{entered_text}
 use Rattle.dam_desk.proofs.Crashes.{either_keeps}
-use Rattle.dam_desk.proofs.Desks.{on_err_any, on_err_then, opens_after, opens_batch, opens_either, opens_store, served_none, served_pending, served_written, store_grown, written_part}
+use Rattle.dam_desk.proofs.Ends.{end_store, err_is, refuted}
+use Rattle.dam_desk.proofs.Opening.{write_failure}
+use Rattle.dam_desk.proofs.Room.{has_room}
+use Rattle.dam_desk.proofs.Desks.{with_batch, on_err_any, on_err_then, opens_after, opens_batch, opens_either, opens_store, served_none, served_pending, served_written, store_grown, written_part}
 use Rattle.dam_desk.proofs.desk.Desk.take.Goals as goal
 
 pub returns-in_err-append-clause-crash : goal.returns-in_err-append-clause-crash
@@ -91,3 +95,25 @@ returns-clause-one_batch g c state begun is ready file may =
     c.append.ensures.clean is.file c.in_ok-batch.ensures read.text c.in_ok-append.ensures.acknowledged in
     inr (opens_after c.take.new.self state (begun ++ c.args.bytes.now) file read
     (opens_store c.append.new.self read.last.journal reads text c.in_ok-append.ensures.safe file may))
+
+pub returns-in_err-append-clause-cause : goal.returns-in_err-append-clause-cause
+returns-in_err-append-clause-cause g c state begun is ready =
+    let fault = c.in_err-append.field-0.0 in
+    let append = c.in_err-append.ensures in
+    let old = c.args.self.now.store in
+    let new = c.append.new.self in
+    let read = c.in_ok-take.ensures state begun is.intake in
+    let reads = c.journals_grow.ensures.reads state read.last read.lines c.take.new.self.answers.items is.reads read.answers in
+    let clean = g.D.Disk.is_clean (disk_of new) in
+    err_is c.from_residual-in_err-append.result (IsEndFault clean (g.D.Disk.faults (disk_of old)) (g.D.Disk.faults (disk_of new))) (of_store fault)
+    c.from_residual-in_err-append.ensures.1
+    (end_store clean (g.D.Disk.faults (disk_of old)) (g.D.Disk.faults (disk_of new)) fault (is_broken old) ready append.no_other
+    (λ failed. (append.failure (write_failure fault failed)).1) (λ same.
+    let full = append.full same in (
+      refuted clean (λ honest.
+          let was = sym append.clean ∙ honest in
+          has_room (held old ++ c.in_ok-batch.batch) read.last.journal reads
+          (with_batch (held old) c.in_ok-batch.batch (entered_text c.take.new.self) state.journal read.last.journal (is.file was)
+          c.in_ok-batch.ensures read.text) (full.2 was)),
+      ap g.D.Disk.faults full.0,
+    )))
