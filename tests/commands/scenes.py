@@ -108,7 +108,10 @@ OFFICE = Scene(
     then={
         "dam-office demo": SAW,
         "curl -f -X PUT": 'grep -q UNIT-8 "$SHOWN" && grep -q \'"reply":"done"\' GAS.jsonl',
-        "receipts/GAS": 'grep -q "^right: 2 receipts" "$SHOWN"',
+        "receipts/GAS": """
+            grep -q "^right: 2 receipts" "$SHOWN"
+            curl -f -H @token.txt https://localhost:$PORT/days/$DAY/statement/GAS | grep -q '"order": "UNIT-8".*"why": "'
+            """,
         "for size in": 'test "$(ls extension-*.json | wc -l)" -ge 2 && grep -q "^right: 2 receipts" "$SHOWN"',
         "from dam_tools.office": f"""
             curl -f -H @token.txt https://localhost:$PORT/days/$DAY/orders/GAS | grep -q UNIT-8
@@ -130,7 +133,7 @@ PAGES = {
             "./dam prove && library/build && tools/package": OF_THE_PACKAGE_PART,
             "apt install ": AS_ROOT,
             "cp -r /usr/share/doc/dam/examples .": OF_A_PACKAGE,
-            "tools/audit examples/sunny-day.csv tests/cases": OF_A_CLONE,
+            "tools/audit --best examples/sunny-day.csv tests/cases": OF_A_CLONE,
         },
         for_spans="""
             cp examples/sunny-day.csv day.csv
@@ -145,7 +148,7 @@ PAGES = {
             cp operator.pem.pub KEY
             """,
         spans={
-            "tools/audit examples/sunny-day.csv tests/cases/sunny-day.stdout": DONE,
+            "tools/audit --best examples/sunny-day.csv tests/cases/sunny-day.stdout": DONE,
             "dam clear < day.csv > results.txt": DONE,
             "dam-table --journal orders.xlsx": Span(says="has no orders"),
             "dam-table --all day.xlsx day.csv results.txt": REFUSED,

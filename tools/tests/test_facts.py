@@ -224,6 +224,14 @@ class Facts(unittest.TestCase):
             with self.subTest(number):
                 self.assertAlmostEqual(number / count, 1, delta=0.1)
 
+    def test_the_crates_of_the_kit(self):
+        """The page names each crate outside this repository that one of crates.txt uses, and the kit's `std`."""
+        listed = dict(line.split("#")[0].split(":") for line in (TOP / "crates.txt").read_text().splitlines() if ":" in line.split("#")[0])
+        own = {name.split()[0] for name in listed}
+        used = {name for names in listed.values() for name in names.split()} - own
+        said = re.search(r"Crates of the kit, with all crates that they use: (.*?) The protection", plain(TOP / "docs" / "ASSURANCE.md"))
+        self.assertEqual(sorted(re.findall(r"`(\w+)`", said[1])), sorted(used | {"std"}))
+
     def test_the_numbers_of_definitions(self):
         """They are said in round numbers."""
         tool, text = loaded("reading-list"), plain(TOP / "docs" / "ASSURANCE.md")
