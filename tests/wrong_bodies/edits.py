@@ -1,6 +1,7 @@
 """The edits of must-fail/ and wrong-bodies/: each makes a wrong text of a right one.
 
-A file of must-fail/ is one edit. A file of wrong-bodies/ has several, each below a line with its name, or is one, too. The file
+A file of must-fail/ is one edit. A file of wrong-bodies/ has several, each below a line with its name and in the order of their first source
+files and their names, or is one, too. The file
 tests/rattle/wrong-bodies.edit has those that contracts allow and a test finds. There a line 'test: CRATE TEST' names the test, and the
 paths begin with crates/CRATE/."""
 
@@ -12,6 +13,7 @@ from source import functions_of, outside
 
 FOLDERS = ("must-fail", "wrong-bodies")
 NAMED = re.compile(r"^name:[ \t]*(.*?)[ \t]*$", re.MULTILINE)
+FIRST_FILE = re.compile(r"(?:^file:[ \t]*(.*?)[ \t]*$|\Z)", re.MULTILINE)
 TEST_LINE = re.compile(r"^test: (\w+) ([\w:]+)\n", re.MULTILINE)
 CRATE_PATH = re.compile(r"^file: crates/(\w+)/", re.MULTILINE)
 
@@ -25,6 +27,7 @@ class Edit:
 
     def __init__(self, name, place, text, folder, fault=None):
         self.name, self.place, self.folder = name, place, folder
+        self.rank = FIRST_FILE.search(text)[1] or "", name
         self.texts, self.fault = {}, fault
         try:
             self.texts = {} if fault else texts_made(text, folder)
@@ -66,6 +69,9 @@ def edits_in(path, folder, may_be_several):
             found.append(Edit(name, path, body, folder, "a line stands before the first 'name:' line"))
         else:
             found.append(Edit(named, f"{path}:{line}", body, folder, None if named else "a 'name:' line names nothing"))
+    for one, other in zip(found, found[1:]):
+        if other.fault is None and other.rank < one.rank:
+            other.fault = f"it stands after {one.name}, and not in the order of files and names"
     return found
 
 

@@ -68,6 +68,17 @@ class Edits(unittest.TestCase):
         self.assertEqual([it.name for it in found], ["high", "low"])
         self.assertEqual([it.name for it in edits_of(self.crate, ("wrong-bodies",))], ["high"])
 
+    def test_those_of_one_file_are_in_the_order_of_sources_and_names(self):
+        write(f"{self.crate}/src/above.rt", LIB)
+        low, high = edit("MOST - 4", "2"), edit("MOST - 1", "MOST")
+        above = edit("MOST - 4", "2", "src/above.rt")
+        good = f"name: z\n{above}name: high\n{high}name: low\n{low}"
+        for text, misplaced in (good, {}), (f"name: low\n{low}name: high\n{high}", {"high": "low"}), (f"{good}name: a\n{above}", {"a": "low"}):
+            write(f"{self.crate}/wrong-bodies/all.edit", text)
+            faults = {it.name: it.fault for it in edits_of(self.crate, ("wrong-bodies",)) if it.fault}
+            wanted = {name: f"it stands after {other}, and not in the order of files and names" for name, other in misplaced.items()}
+            self.assertEqual(faults, wanted)
+
     def test_files_that_would_not_be_tried_are_faults(self):
         write(f"{self.crate}/must-fail/low.edit", edit("MOST - 4", "2"))
         write(f"{self.crate}/wrong-bodies/low.edit", edit("MOST - 4", "3"))
@@ -79,7 +90,7 @@ class Edits(unittest.TestCase):
 
     def test_a_file_of_several_edits(self):
         low, high = edit("MOST - 4", "2"), edit("MOST - 1", "MOST")
-        write(f"{self.crate}/wrong-bodies/all.edit", f"name: low\n{low}\nname: high\n{high}")
+        write(f"{self.crate}/wrong-bodies/all.edit", f"name: high\n{high}\nname: low\n{low}")
         write(f"{self.crate}/wrong-bodies/alone.edit", edit("MOST - 4", "3"))
         alone, highest, lowest = edits_of(self.crate, ("must-fail", "wrong-bodies"))
         self.assertEqual([it.name for it in (alone, highest, lowest)], ["alone", "high", "low"])
@@ -87,7 +98,7 @@ class Edits(unittest.TestCase):
         self.assertEqual(highest.texts, texts_made(high, self.crate))
         self.assertEqual(alone.texts, texts_made(edit("MOST - 4", "3"), self.crate))
         places = [(it.place, it.fault) for it in (alone, highest, lowest)]
-        self.assertEqual(places, [("wrong-bodies/alone.edit", None), ("wrong-bodies/all.edit:6", None), ("wrong-bodies/all.edit:1", None)])
+        self.assertEqual(places, [("wrong-bodies/alone.edit", None), ("wrong-bodies/all.edit:1", None), ("wrong-bodies/all.edit:6", None)])
 
     def test_faults_of_a_file_of_several_edits(self):
         body = edit("MOST - 4", "2")

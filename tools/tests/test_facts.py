@@ -13,6 +13,9 @@ from lib.crates.specs import Repository
 PAGES = [TOP / "README.md", TOP / "CHANGELOG.md", TOP / "library" / "dam.h", *sorted((TOP / "docs").glob("*.md"))]
 PAGES += sorted((TOP / "crates").glob("*/*.md"))
 FORMATS = (TOP / "docs" / "FORMATS.md").read_text()
+CHECKLISTS = TOP / "crates" / "CHECKLISTS.md"
+# A comment's line that has the limit on blocks or on nodes as a number.
+OF_BLOCKS = re.compile(r"\s*//.*(?:\b67[_,]?108[_,]?864\b|\b24\b.{0,60}\bblocks?\b|\bblocks?\b.{0,60}\b24\b)")
 NUMBER = r"(-?\d[\d,]*)"
 CONSTANT = re.compile(r"^pub const (\w+): \w+ = (-?[\d_]+);$", re.MULTILINE)
 FUNCTION = re.compile(r"^\s*(?:pub(?:\(crate\))? )?(?:extern \"C\" )?fn \w+", re.MULTILINE)
@@ -182,6 +185,25 @@ class Facts(unittest.TestCase):
         self.assertGreater(len(recorded), 9)
         later = re.search(r"The parts? ([^.]*) came later", plain(TOP / "docs/CHECK.md"))
         self.assertEqual(parts - recorded, set(re.findall(r"`(\w+)`", later[1])) if later else set())
+
+    def test_the_laws_that_state_limits_as_numbers(self):
+        laws = sorted((TOP / "crates").glob("*/src/laws.rt"))
+        wanted = {path.parts[-3] for path in laws if re.search(r"^    ensures \w+_is \{", path.read_text(), re.MULTILINE)}
+        said = re.search(r"the laws `limits` of ([^.]*?) state each limit", plain(CHECKLISTS))[1]
+        self.assertGreater(len(wanted), 4)
+        self.assertEqual(set(re.findall(r"`(\w+)`", said)), wanted)
+
+    def test_the_comments_that_state_the_limit_on_blocks(self):
+        """Or on nodes, which follows from it."""
+        crates = TOP / "crates"
+        sources = {path: path.read_text().splitlines() for path in crates.glob("*/src/**/*.rt")}
+        wanted = {str(path.relative_to(crates)) for path, lines in sources.items() if any(map(OF_BLOCKS.match, lines))}
+        said = set()
+        for part in re.search(r"\| Comments and examples \| (.*) \|", CHECKLISTS.read_text())[1].split("; "):
+            folder, _, names = part.rpartition(": ")
+            said |= {folder.strip("`") + name for name in re.findall(r"`([^`]*)`", names)}
+        self.assertGreater(len(wanted), 4)
+        self.assertEqual(said, wanted)
 
     def test_the_number_of_walked_books(self):
         """Of each market, the tests draw as many books."""
