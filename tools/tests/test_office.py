@@ -557,6 +557,8 @@ class Numbers(Office):
                 self.assertEqual(await self.refused(given, "GAS", 2, first), ("NumberUsed", {"number": 2, "next": 4}))
                 self.assertEqual(await self.refused(given, "GAS", 3, second, first), ("NumberUsed", {"number": 3, "next": 4}))
                 self.assertEqual(await self.refused(given, "GAS", 4, first, first, first), ("ShareUsed", {"next": 4}))
+                with self.assertRaisesRegex(gate.Refused, "^you may enter 5 commands on this day, and have entered 3$"):
+                    await given.submit("GAS", 4, commands(first, first, first))
                 self.assertEqual((await self.refused(given, "OTHER", 1, "cancel,OTHER,A,,,,,,"))[0], "ShareUsed")
                 self.assertEqual(await given.submit("A", 1, commands("cancel,A,A,,,,,,")), [4])
         self.assertEqual(disk.records, [first, second, third, "cancel,A,A,,,,,,"])
@@ -847,6 +849,8 @@ class Requests(unittest.TestCase):
             (table.replace(b",8,", b",25,"), "there is no period 25$"),
             (table.replace(b",8,", b",2026-08-10,"), "such as 8, 8-20 or 1;3;5-7, from 1 to 24: a spreadsheet has taken it for a date"),
             (b"", "empty"),
+            (b"%PDF-1.4", r"^this is a PDF: save the table as \.xlsx or as CSV$"),
+            (b"\xd0\xcf\x11\xe0\xa1\xb1\x1a\xe1" + "EncryptedPackage".encode("utf-16-le"), "password: save it without the password$"),
         ):
             with self.assertRaisesRegex(requests.Wrong, words):
                 requests.table_records(data, "GAS", 24)

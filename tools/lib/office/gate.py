@@ -103,8 +103,9 @@ class Gate:
             raise Refused("Closed", "the day is closed, and this command isn't in its journal")
         if self.newest.is_failing:  # a start wouldn't miss entries that are acknowledged now
             raise Refused("Unavailable", "the office's disk can't be written: send the same command again later", seconds=1)
-        if first + len(commands) - 1 > self.ledger.share(who):
-            raise Refused("ShareUsed", f"you may enter {self.ledger.share(who)} commands on this day", next=self.ledger.count(who) + 1)
+        share, count = self.ledger.share(who), self.ledger.count(who)
+        if first + len(commands) - 1 > share:
+            raise Refused("ShareUsed", f"you may enter {share} commands on this day, and have entered {count}", next=count + 1)
         return self.wait(Waiting(who, first, commands, asyncio.get_running_loop().create_future(), is_right))
 
     def wait(self, waiting):

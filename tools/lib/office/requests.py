@@ -6,7 +6,7 @@ import re
 from ..base import rules, text
 from ..journal import book, journal
 from ..lint import lint
-from ..sheets import command_table, order_table
+from ..sheets import command_table, kinds, order_table
 from .folder import MOST_COMMANDS
 
 RECORDS, JSON = "text/csv", "application/json"
@@ -119,6 +119,9 @@ def volumes_of(value, command):
 def table_records(data, who, periods, orders=()):
     """The records of a table of orders or of commands of this participant, whose orders in the book are pairs of a name and a kind; and
     notes on how it was read. Nothing is entered."""
+    kind = kinds.kind_of(data)
+    if kind in kinds.FILES - {kinds.EXCEL, kinds.LOCKED}:  # a participant may have no tool that converts it
+        raise Wrong(f"this is {kind}: save the table as .xlsx or as CSV")
     try:
         cells = order_table.cells_of(data)
         if command_table.is_command_table(cells):

@@ -346,7 +346,8 @@ function failureWords(commands, { status, message }) {
   return `${sentence(message)}. We don't know whether ${subject.replace("The ", "the ")} ${was} ${does}: look in Your orders once it's back.`;
 }
 
-// Enters commands, and looks again. Only if it isn't known what became of them, the look is waited for.
+// Enters commands, and looks again. Only if it isn't known what became of them, the look is waited for. Returns whether all are done; null
+// if the office refused them, or no answer came.
 async function enter(commands) {
   const parts = document.querySelectorAll("#signed-in button, #days");
   const { visit } = state;
@@ -364,7 +365,7 @@ async function enter(commands) {
   } catch (fault) {
     if (fault.fault !== "Left") say(failureWords(commands, fault), "wrong", UNSURE.includes(fault.status) ? "unsure" : "");
     await again();
-    return false;
+    return null;
   } finally {
     for (const part of parts) part.disabled = false;
   }
@@ -558,10 +559,18 @@ async function upload(event) {
 }
 
 async function enterAll() {
-  const commands = state.read;
+  const { read, visit } = state;
+  state.read = []; // the day may close in the meantime
+  const isDone = await enter(read);
+  if (visit !== state.visit) return;
+  if (isDone === null && isOpen()) {
+    state.read = read; // it can be entered again
+    byId("enter-all").focus();
+    return;
+  }
   drop();
-  if (!(await enter(commands))) byId("commands-list").open = true;
-  if (state.token) byId("commands-title").focus();
+  if (!isDone) byId("commands-list").open = true;
+  byId("commands-title").focus();
 }
 
 function drop() {
