@@ -473,6 +473,7 @@ async def read_table(page, room, words, time=None):
     node = (await page.call("DOM.querySelector", nodeId=root, selector="#file"))["nodeId"]
     await page.call("DOM.setFileInputFiles", nodeId=node, files=[str(path)])
     if time is not None:
+        await page.run("byId('file').files[0].text()")  # the browser notes the file's time after it was chosen
         os.utime(path, (time, time))
     await click(page, "#upload-form button")
 
@@ -554,6 +555,8 @@ async def results(page, office, who, other, counts):
         found["UNIT-8"][:9] == unit and found["ONCE"][8] == "not executed" and all(row[9] for row in found.values()),
     )
     counts.check("a block has its runs of periods", [found[name][2] for name in ("T-1", "T-2")] == ["1-3", "1; 3"])
+    wraps = await page.run("getComputedStyle(document.querySelector('#statement td[data-head=periods]')).whiteSpace")
+    counts.check("many runs don't make the table broader", wraps == "normal")
     numbers = [row[0] for row in commands]
     counts.check("commands have their own numbers", numbers == [str(number) for number in range(len(commands), 0, -1)])
     counts.check("and no other", "command 2" not in await text(page, "statement"))

@@ -64,7 +64,7 @@ async function showResults() {
   const places = new Map(state.orders.map(({ order }, at) => [order, at])); // in the book
   const rows = statement.rows.filter(({ outcome }) => outcome).sort((one, other) => places.get(one.order) - places.get(other.order));
   state.results = rows;
-  const heads = [["order"], ["kind"], ["side"], ["periods"], ["limit, EUR/MWh", "n"], ["offered, MWh", "n"], ["executed, MWh", "n"], ["average price, EUR/MWh", "n"]];
+  const heads = [["order"], ["kind"], ["side"], ["periods", "list"], ["limit, EUR/MWh", "n"], ["offered, MWh", "n"], ["executed, MWh", "n"], ["average price, EUR/MWh", "n"]];
   heads.push(["you receive (+) or pay (\u2212), EUR", "n"], ["outcome", "outcome"], ["reason", "why"]);
   const made = rows.length ? table("Your orders that were in the book at the close", heads, rows.map(resultCells)) : "You had no order in the book at the close.";
   byId("statement").replaceChildren(made);
