@@ -2,7 +2,10 @@
 
 import ast
 import re
+import runpy
+import sys
 import unittest
+from unittest import mock
 
 from support import TOP, loaded, worked
 
@@ -245,6 +248,14 @@ class Facts(unittest.TestCase):
         for number, count in zip(map(found, said.groups()), (tests, len(proved), heads)):
             with self.subTest(number):
                 self.assertAlmostEqual(number / count, 1, delta=0.1)
+
+    def test_the_books_that_every_selection_is_tried_of(self):
+        bench = TOP / "bench"
+        with mock.patch.object(sys, "path", [str(bench), *sys.path]):
+            drawn = runpy.run_path(str(bench / "make_blocks.py"))
+        said = re.search(r"for (\d+) such books of 24 blocks, and with `--thin` (\d+) others, most of them thin", plain(TOP / "docs" / "CHECK.md"))
+        self.assertEqual([found(number) for number in said.groups()], [len(drawn["BOOKS"]), len(drawn["MORE"])])
+        self.assertGreater(sum(made.is_thin for made in drawn["MORE"]), len(drawn["MORE"]) / 2)
 
     def test_the_crates_of_the_kit(self):
         """The page names each crate outside this repository that one of crates.txt uses, and the kit's `std`."""
