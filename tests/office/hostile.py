@@ -230,6 +230,19 @@ def check_tables(office, counts):
     counts.check("and another's in the meantime", (other, 200) in answers)
 
 
+def check_charges(office, counts):
+    """Each command of a request counts, however short it is, and the length of an answer too."""
+    who = office.who[2]
+    day, bearer = f"/days/{office.day}", office.bearer(who)
+    put = f"{day}/commands/{who}"
+    code, _, text = office.get(f"{put}/1", bearer, "PUT", f"cancel,{who},A,,,,,,\n" * 3_300)
+    counts.check("many short commands are entered", code == 200 and text.count(b"\n") == 3_300)
+    counts.check("and each counts", office.get(f"{put}/3301", bearer, "PUT", f"cancel,{who},A,,,,,,")[0] == 429)
+    code, _, text = office.get(f"{day}/receipts/{who}", bearer)
+    counts.check("all receipts are given", code == 200 and text.count(b"\n") == 3_300)
+    counts.check("and their length counts", office.get(f"{day}/orders/{who}", bearer)[0] == 429)
+
+
 def check_silent(office, counts):
     """More connections than the office takes, which never begin TLS: it neither ends nor misses the close."""
     with contextlib.ExitStack() as stack:

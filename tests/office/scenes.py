@@ -52,6 +52,7 @@ def strangers(args, counts):
         hostile.check_slow(office, counts)
         hostile.check_paths(office, counts)
         hostile.check_tables(office, counts)
+        hostile.check_charges(office, counts)
         hostile.check_many(office, counts, 10_000 if args.all else 1_300)
         hostile.check_tokens(office, counts)
         who = office.who[0]

@@ -17,6 +17,7 @@ import signal
 import stat
 import tempfile
 import threading
+import tracemalloc
 import unittest
 from pathlib import Path
 from unittest import mock
@@ -311,6 +312,40 @@ class Crashes(Office):
             self.assertEqual(len(found.texts), 1)
         files.file(folder.OPEN_JOURNAL).write_bytes(b"")
         self.assertEqual(json.loads(found.statement_text("GAS")), {"day": {"welfare_eur": 1, "periods": 24}, "rows": rows[:1]})
+
+    def test_the_statements_of_a_full_day_take_little_memory(self):
+        self.make()
+        files = self.office.days()[DAY]
+        volumes = [period + 0.5 for period in range(100)]
+        rows = [{"participant": "GAS", "code": None, "why": None, "volume_mw": volumes} for _ in range(2_000)]
+        files.file(folder.STATEMENT).write_text(json.dumps({"day": {}, "rows": rows}))
+        files.file(folder.RESULTS).write_bytes(b"")
+        found = clearing.Published(files)
+        tracemalloc.start()
+        self.addCleanup(tracemalloc.stop)
+        self.assertEqual(json.loads(found.statement_text("A"))["rows"], [])
+        kept, size = tracemalloc.get_traced_memory()[0], files.file(folder.STATEMENT).stat().st_size
+        self.assertLess(kept, 2 * size)
+        self.assertEqual(json.loads(found.statement_text("GAS"))["rows"], rows)
+
+    async def test_many_receipts_are_written_in_turns(self):
+        self.make()
+        turns, seen = [0], set()
+
+        async def others():
+            while True:
+                turns[0] += 1
+                await asyncio.sleep(0)
+
+        with opener(Disk()):
+            async with self.running(self.gate()) as given:
+                await given.submit("GAS", 1, commands(*(f"cancel,GAS,{number},,,,,," for number in range(100))))
+                task = asyncio.create_task(others())
+                with mock.patch.object(heads, "line", lambda value: seen.add(turns[0]) or b"\n"):
+                    answer = await web.Web.receipts(None, given, list(range(1, 101)))
+                task.cancel()
+        self.assertEqual(len(answer.body), 100)
+        self.assertGreater(len(seen), 10)
 
     async def test_a_desk_that_contradicts_the_ledger_stops_the_day(self):
         self.make()
@@ -1084,6 +1119,54 @@ class Tokens(Office):
         lines = [(made["event"], made["kind"]) for made in map(json.loads, stream.getvalue().splitlines())]
         self.assertEqual(lines, [("defect", "OSError"), ("defect", "ValueError")] * 2)
         self.assertNotIn("stranger", stream.getvalue())
+
+    def test_a_network_of_ipv6_has_one_limit(self):
+        addresses = "192.0.2.1", "192.0.2.2", "::1", "2001:db8::1", "2001:db8::ffff:1:2:3", "2001:db8:0:1::1", "fe80::1%eth0"
+        sources = list(map(guards.source, addresses))
+        self.assertEqual(len(set(sources)), 6)
+        self.assertEqual(sources[3], sources[4])
+
+    async def test_the_length_of_the_records_of_a_table_counts(self):
+        self.make()
+        office = serving.Office(self.office, serving.Programs("dam", "dam-desk"), observed.Log(io.StringIO()))
+        office.gates[DAY] = self.gate()
+        office.gates[DAY].is_known.set()
+        made = web.Web(office)
+        made.reads = guards.Buckets(0.001, web.MOST_READS, lambda: 0.0)
+        headers = {"Authorization": f"Bearer {office.register.renew('GAS')}"}
+
+        async def read(*_):
+            return ["x" * 2_000_000], []
+
+        content = argparse.Namespace(is_eof=lambda: True)
+        asked = argparse.Namespace(headers=headers, match_info={"who": "GAS", "day": DAY}, content_length=1, content=content)
+        asked.transport, asked.read = content, mock.AsyncMock(return_value=b"x")
+        with mock.patch.object(reader, "read", read):
+            answer = await made.table(asked)
+        self.assertEqual(json.loads(answer.text)["notes"], [])
+        self.assertLess(made.reads.left("GAS"), web.MOST_READS - web.READS_OF_TABLE - 150)
+
+    async def test_limits_of_strangers_are_those_of_their_network(self):
+        self.make()
+        office = serving.Office(self.office, serving.Programs("dam", "dam-desk"), observed.Log(io.StringIO()))
+        made = web.Web(office)
+        protocol = argparse.Namespace(is_deaf=False)
+
+        def asked(number, who):
+            headers = {"Authorization": "Bearer GAS.wrong"}
+            return argparse.Namespace(remote=f"2001:db8::{number:x}", headers=headers, match_info=who, protocol=protocol)
+
+        found = []
+        for number in range(web.MOST_GUESSES + 5):
+            with self.assertRaises(gate.Refused) as caught:
+                made.participant(asked(number, {"who": "GAS"}))
+            found.append(caught.exception.fault)
+        self.assertEqual((found[0], found[-1]), ("Token", "TooFast"))
+        made.looks = guards.Buckets(0.001, 3, lambda: 0.0)
+        for number in range(3):
+            made.slow_down(asked(number, {}))
+        with self.assertRaises(gate.Refused):
+            made.slow_down(asked(4, {}))
 
     def test_guesses_are_slowed_down_and_others_are_not(self):
         now = [0.0]

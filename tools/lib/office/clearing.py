@@ -76,10 +76,11 @@ class Published:
             rows = {}
             for row in found["rows"]:
                 rows.setdefault(row["participant"], []).append(row)
-            self.rows = found["day"], rows
+            # as text: their objects take several times as much memory, as long as the office runs
+            self.rows = found["day"], {owner: json.dumps(own) for owner, own in rows.items()}
         if self.rows is None:
             return None
-        day, rows = self.rows[0], self.rows[1].get(who, [])
+        day, rows = self.rows[0], json.loads(self.rows[1].get(who, "[]"))
         if self.has_journal:
             return {"day": day, "rows": [{**row, "why": own_names(row["why"], who)} for row in rows]}
         return {"day": {name: value for name, value in day.items() if name not in SUMS}, "rows": list(map(guarded, rows))}

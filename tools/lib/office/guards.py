@@ -2,6 +2,7 @@
 
 import asyncio
 import contextlib
+import ipaddress
 
 from aiohttp import web, web_protocol
 
@@ -16,7 +17,15 @@ MOST_UNSENT = 1 << 16  # bytes of an answer in pieces that wait to be sent
 MOST_HEAD = 1 << 15  # bytes of a request's head
 MOST_LINE = 1 << 12  # bytes of a line of a head
 MOST_BUCKETS = 10_000
+NETWORK = 64  # bits of an IPv6 address that all addresses of one connection to the network have
 TEXTS = {"Content-Type": "text/plain", "X-Content-Type-Options": "nosniff", "Cache-Control": "no-store", "Server": "dam-office"}
+
+
+def source(address):
+    """The name of an address for limits: of IPv6 that of its network, since one stranger has all addresses of that."""
+    if not address or ":" not in address:
+        return address
+    return str(ipaddress.IPv6Network((address.partition("%")[0], NETWORK), strict=False))
 
 
 class Buckets:

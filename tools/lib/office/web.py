@@ -19,7 +19,7 @@ from ..report import style
 from ..seal import heads
 from . import folder, requests, tables
 from .gate import STOPPED_WORDS, Refused, without_tokens
-from .guards import Buckets
+from .guards import Buckets, source
 
 MOST_BODY = 1 << 20  # bytes
 BODY_SECONDS = 15  # for a body to come
@@ -76,8 +76,8 @@ def fault(name, words, seconds=None, **more):
     return web.json_response({"fault": name, "words": words, **more}, status=STATUSES[name], headers=headers)
 
 
-def jsonl(values):
-    return web.Response(body=b"".join(map(heads.line, values)), content_type=JSONL)
+def jsonl(lines):
+    return web.Response(body=b"".join(lines), content_type=JSONL)
 
 
 class Web:
@@ -175,7 +175,7 @@ class Web:
     def charge_days(self, request):
         """An answer about all days counts as several."""
         if not self.behind_proxy:
-            self.looks.charge(request.remote, len(self.office.gates) // DAYS_OF_LOOK)
+            self.looks.charge(source(request.remote), len(self.office.gates) // DAYS_OF_LOOK)
 
     def text(self, who, text):
         """An answer of a participant's own data, which is charged by its length."""
@@ -186,7 +186,7 @@ class Web:
         """Limits how often an address asks for what all may see; other requests are limited by participant."""
         if self.behind_proxy or "who" in request.match_info:
             return
-        if seconds := self.looks.take(request.remote):
+        if seconds := self.looks.take(source(request.remote)):
             request.protocol.is_deaf = True  # else the rest of many requests at once would be read too
             raise Refused("TooFast", "too many requests", seconds=seconds)
 
@@ -205,7 +205,7 @@ class Web:
             raise without_tokens() from None
         if not is_right:
             self.counts.add("wrong_tokens_total")
-            if not self.behind_proxy and (seconds := self.guesses.take(request.remote)):
+            if not self.behind_proxy and (seconds := self.guesses.take(source(request.remote))):
                 request.protocol.is_deaf = True
                 raise Refused("TooFast", "too many wrong tokens", seconds=seconds)
             raise Refused("Token", "the token isn't of this participant")
@@ -260,6 +260,7 @@ class Web:
         began = time.monotonic()
         first = int(request.match_info["number"])
         commands = await self.read(body, kind_of(request), who, first)
+        self.commands.charge(who, max(0, len(commands) - 1 - len(body) // BYTES_OF_COMMAND))  # of short ones, each counts
         entries = await self.entered(gate, who, first, commands, request)
         answer = await self.receipts(gate, entries)
         self.counts.took(time.monotonic() - began)
@@ -282,7 +283,7 @@ class Web:
     async def receipts(self, gate, entries, head=None):
         made = []
         for place, entry in enumerate(entries, 1):
-            made.append(gate.ledger.seal.receipt(entry, head) if head else gate.ledger.receipt(entry))
+            made.append(heads.line(gate.ledger.seal.receipt(entry, head) if head else gate.ledger.receipt(entry)))
             if place % RECEIPTS_AT_ONCE == 0:
                 await asyncio.sleep(0)
         return jsonl(made)
@@ -298,7 +299,9 @@ class Web:
         """All receipts of a participant, under the newest head."""
         gate, who = self.asked(request)
         self.reads.charge(who, gate.ledger.count(who) // RECEIPTS_OF_READ)
-        return await self.receipts(gate, list(gate.ledger.own.get(who, ())), gate.ledger.head())
+        answer = await self.receipts(gate, list(gate.ledger.own.get(who, ())), gate.ledger.head())
+        self.reads.charge(who, len(answer.body) // BYTES_OF_READ)
+        return answer
 
     async def own_commands(self, request):
         gate, who = self.asked(request)
@@ -334,7 +337,7 @@ class Web:
                 records, notes = await tables.read(body, who, gate.terms.periods, orders)
         finally:
             self.reading.discard(who)
-        return web.json_response({"records": records, "notes": notes})
+        return self.text(who, json.dumps({"records": records, "notes": notes}))
 
     async def statement(self, request):
         gate, who = self.asked(request)
@@ -385,11 +388,11 @@ class Web:
         self.need_known(gate)
         ledger = gate.ledger
         if "since" not in request.query:
-            return jsonl([ledger.head()])
+            return jsonl([heads.line(ledger.head())])
         since = query_number(request, "since")
         if since > ledger.size:
             raise Refused("NotFound", "there is no such head yet")
-        return jsonl([ledger.seal.extension(ledger.head(since), ledger.head())])
+        return jsonl([heads.line(ledger.seal.extension(ledger.head(since), ledger.head()))])
 
     async def prices(self, request):
         """The results without the orders: the day, the welfare, and each period's price and volume."""
