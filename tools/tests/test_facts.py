@@ -175,6 +175,19 @@ class Facts(unittest.TestCase):
         name, path, edit = re.search(r"This is `(\w+)` of `(\S+)`:\n\n```text\n(.*?)```", text, re.DOTALL).groups()
         self.assertIn(f"name: {name}\n{edit}", (TOP / path).read_text())
 
+    def test_the_first_task(self):
+        """The quoted contract, code, edit and line are those of the function."""
+        task = (TOP / "docs/CONTRIBUTING.md").read_text().partition("## A first task")[2].partition("\n## ")[0]
+        source = TOP / re.search(r"\(`(crates/\S+)`\)", task)[1]
+        code, clause = re.search(r"`(usize::\S+)`. Its contract says so: `(ensures [^`]+)`", task).groups()
+        before, found, _ = source.read_text().partition(code)
+        self.assertTrue(found)
+        above, _, contract = before.rpartition("\n    pub fn ")
+        self.assertIn(clause, contract)
+        self.assertEqual(len(above.splitlines()) + 1, int(re.search(rf"src/{source.name}:(\d+):5:", task)[1]))
+        name, path = re.search(r"the edit `(\w+)` in `(\S+)`", task).groups()
+        self.assertIn(f"name: {name}\nfile: src/{source.name}\nold: {code}\n", (TOP / path).read_text())
+
     def test_the_number_of_wrong_bodies(self):
         count = len(list((TOP / "crates").glob("*/must-fail/*.edit")))
         said = re.findall(r"(\d+) of `must-fail/`", "".join(map(plain, PAGES)))

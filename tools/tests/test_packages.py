@@ -44,6 +44,10 @@ class Packages(unittest.TestCase):
             with self.subTest(package=package):
                 self.assertEqual(used - {package}, allowed(package))
 
+    def test_the_notes_have_each_package(self):
+        rows = re.findall(r"^\| (`.*?`) \|", (TOP / "tools" / "NOTES.md").read_text(), re.MULTILINE)
+        self.assertEqual(sorted(re.findall(r"`(\w+)`", "".join(rows))), PACKAGES)
+
     def test_no_package_needs_itself(self):
         left = {package: allowed(package) for package in PACKAGES}
         while left:
