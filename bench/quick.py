@@ -9,8 +9,8 @@ once. A settlement is compared with a plain pass that compares each receipt with
 by one bisection over the buys' own limits, with one over the sells inside, and then both ends of the price by two look-ups among the sells.
 A curve is the greatest welfare of a class of periods over the net volume. The first selection takes no memory but the stack's.
 
-A day of `dam` takes fewer instructions than a day of the baseline (97 and 117 million), and less memory, although it has the orders of two
-books. A replay takes 33 million instructions, and the baseline 86; the times that are compared also have the start of a process in them."""
+A day of `dam` takes fewer instructions than a day of the baseline (95 and 118 million), and less memory, although it has the orders of two
+books. A replay takes 32 million instructions, and the baseline 86; the times that are compared also have the start of a process in them."""
 
 import statistics
 import sys

@@ -1,6 +1,7 @@
 """Facts that several pages need: each page has the same numbers as the code, and explanations stand on one page."""
 
 import ast
+import csv
 import re
 import runpy
 import sys
@@ -220,6 +221,21 @@ class Facts(unittest.TestCase):
             said |= {folder.strip("`") + name for name in re.findall(r"`([^`]*)`", names)}
         self.assertGreater(len(wanted), 4)
         self.assertEqual(said, wanted)
+
+    def test_the_figures_of_the_notes_on_the_gate(self):
+        """They are those of the bench, or nearly so if they are said in words."""
+        texts = [(TOP / "bench" / "measured" / f"{part}.csv").read_text() for part in ("quick", "looks")]
+        quick, looks = ({row[0]: row for row in csv.reader(text.splitlines())} for text in texts)
+        day = "dam day compared with the baseline with threads, "
+        factor, memory = quick[f"{day}9,999 commands, processor time"][1], quick[f"{day}peak memory"][4]
+        ours, plain_ones = re.match(r"([\d.]+ MiB) and ([\d.]+ MiB);", memory).groups()
+        notes = plain(TOP / "crates/dam_gate/NOTES.md")
+        wanted = f"takes {ours}, and {factor.split()[0]} times the CPU time of the plain program, which takes {plain_ones}"
+        self.assertIn(wanted, notes)
+        self.assertIn("A call takes about a microsecond, with 100 orders in the book or 4,000;", notes)
+        for held in ("100", "4,000"):
+            count, unit = looks[f"a call, {held} orders held"][1].split()
+            self.assertLess(abs(float(count) / {"ns": 1_000, "us": 1}[unit] - 1), 0.5)
 
     def test_the_number_of_walked_books(self):
         """Of each market, the tests draw as many books."""
