@@ -1,4 +1,5 @@
 mod Lists
+mod AfterDay
 mod Readings
 mod Crashes
 mod Texts

@@ -22,6 +22,7 @@ pub(crate) struct Day {
     header: Vec<u8>,
     /// The line of the day, which `dam replay` prints first.
     line: Vec<u8>,
+    ghost valid: { is_day periods ≡ true },
     ghost header_is: { header.items ≡ row_line (day_row periods) },
     ghost line_is: { line.items ≡ day_line periods },
 }

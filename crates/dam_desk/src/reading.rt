@@ -1,5 +1,5 @@
 //! What a line of the input says. It is read as a journal, after the record of the day, if there is one.
-ghost use Rattle.std.specs.Prelude.{◌≡◌, ◌≤◌, ◌++◌, ◌∷◌, [], ℕ, List, Option, None, Some, length, IfOk, IfErr, MatchOption, MatchResult};
+ghost use Rattle.std.specs.Prelude.{◌≡◌, ◌≤◌, ◌++◌, ◌∷◌, [], ℕ, List, Option, None, Some, true, length, IfSome, IfOk, IfErr, MatchOption, MatchResult};
 ghost use Rattle.dam_book.specs.Book.{is_day};
 ghost use Rattle.dam_book.specs.declared.command.Command.{Command};
 ghost use Rattle.dam_results.specs.Faults.{IsJournalFault};
@@ -108,12 +108,10 @@ fn only_command(journal: PackedJournal) -> Option<PackedCommand>
 /// What a text says as which a line is read after `before` bytes: the record of the day, or none.
 fn read_text(alloc: Global, text: &[u8], before: usize) -> Result<Said, AllocError>
     requires { before ≤ length text.now }
-    ensures { (day : Option ℕ) (line : List ℕ) → text.now ≡ text_after day line
-        → before ≡ length (record_of day) → length line ≤ most_line → IfOk result (Says day line) }
+    ensures { (day : Option ℕ) (line : List ℕ) → IfSome day (λ periods. is_day periods ≡ true)
+        → text.now ≡ text_after day line → before ≡ length (record_of day) → length line ≤ most_line → IfOk result (Says day line) }
 {
-    if let Some(periods) = read_day(alloc, &text[before..])? {
-        return Ok(Said::Day(periods));
-    }
+    // A command is the usual line. After the record of the day, a day isn't read as one.
     let fault = match read(alloc, text) {
         Ok(_) if before == 0 => LineFault::NotOneRecord,
         Ok(journal) => match only_command(journal) {
@@ -122,7 +120,10 @@ fn read_text(alloc: Global, text: &[u8], before: usize) -> Result<Said, AllocErr
         },
         Err(fault) => line_fault(before, fault)?,
     };
-    Ok(Said::Fault(fault))
+    match read_day(alloc, &text[before..])? {
+        Some(periods) => Ok(Said::Day(periods)),
+        None => Ok(Said::Fault(fault)),
+    }
 }
 
 /// The text as which a line is read: after the record of the day.
@@ -138,7 +139,8 @@ fn text_of(alloc: Global, header: &[u8], line: &[u8]) -> Result<Vec<u8>, AllocEr
 /// What a line says after the record of the day, which has no bytes if there is no day yet. Of a line that is too long,
 /// `line` has the first `MOST_LINE + 1` bytes.
 pub(crate) fn read_line(alloc: Global, header: &[u8], line: &[u8]) -> Result<Said, AllocError>
-    ensures { (day : Option ℕ) (text : List ℕ) → header.now ≡ record_of day → line.now ≡ kept text
+    ensures { (day : Option ℕ) (text : List ℕ) → IfSome day (λ periods. is_day periods ≡ true)
+        → header.now ≡ record_of day → line.now ≡ kept text
         → IfOk result (Says day text) }
 {
     if line.len() > MOST_LINE {

@@ -1,17 +1,23 @@
--- The line is no day, and its text has a fault, or not one record.
+-- The line is a command; or it is no day, and its text has a fault, or not one record.
 use Rattle.std.proofs.Common.{◌++◌, ◌∷◌, [], List, ℕ, inl, inr, length, subst}
 use Rattle.dam_results.specs.Journal.{ReadsAs}
 use Rattle.dam_results.specs.Faults.{IsJournalFault}
 use Rattle.dam_desk.specs.Lines.{record_of}
+use Rattle.dam_desk.proofs.AfterDay.{says_command}
 use Rattle.dam_desk.proofs.Readings.{alone, not_one_alone, not_one_after, same_fault}
 use Rattle.dam_desk.proofs.reading.read_text.Goals as goal
 use Rattle.dam_desk.proofs.reading.read_text.Goals.{in-Ok, in-Ok-read-2, in-Err-1, in-Ok-2+in-None, in-Err+in_ok-fault-in-Err}
 
-pub returns : goal.returns
-returns c day line is before_is few =
+pub returns-in-Some : goal.returns-in-Some
+returns-in-Some c day line valid is before_is few =
+    says_command day line c.args.text.now c.args.before c.in-Ok.field-0.periods c.in-Ok.field-0.commands.items c.in-Some.command valid is before_is
+    c.if-before-eq0.false few c.in-Ok.ensures.ok c.in-Some.ensures
+
+pub returns-in-None-2 : goal.returns-in-None-2
+returns-in-None-2 c day line valid is before_is few =
     let text = c.args.text.now in
     let before = c.args.before in
-    let none = rw c.in_default.is at c.in_ok-periods.ensures in
+    let none = rw c.in-None-2.is at c.in_ok-periods.ensures in
     let no_day : (q : ℕ) → ¬ (ReadsAs (line ++ 10 ∷ []) q []) = subst (λ (t : List ℕ). (q : ℕ) → ¬ (ReadsAs t q [])) (alone day line text before is before_is) none in
     inr (
       record { short = few; other = λ q day_line. no_day q day_line.1 },

@@ -2,12 +2,13 @@ use Rattle.std.proofs.Common.{Bor, List, ℕ, Option, sym, ap, ◌∙◌}
 use Rattle.dam_desk.specs.Lines.{record_of}
 use Rattle.dam_desk.specs.inside.Intake.{periods_of}
 use Rattle.dam_desk.specs.declared.day.Day.{Day}
+use Rattle.dam_desk.proofs.AfterDay.{valid_day}
 use Rattle.dam_desk.proofs.state.Intake.read.Goals as goal
 use Rattle.dam_desk.proofs.state.Intake.read.Goals.{in-Some, in-None}
 
 pub returns : goal.returns
 returns c text line =
-    c.read_line.ensures (periods_of c.args.self.now.day) text (elim c.match-self.branch [
+    c.read_line.ensures (periods_of c.args.self.now.day) text (valid_day c.args.self.now.day) (elim c.match-self.branch [
       | in-Some w ↦ ap (λ (h : Bor (List ℕ)). h.now) w.header-is ∙ w.header-header.ensures
           ∙ ap (λ (d : Option Day). record_of (periods_of d)) (sym w.in-Some.is)
       | in-None w ↦ ap (λ (h : Bor (List ℕ)). h.now) w.header-is
