@@ -130,6 +130,9 @@ def check_messages(office, counts):
     ):
         answer = said(office, data, wait=False)
         counts.check(f"{words} is refused", status(answer) in (400, 404, 413, 431, None) and b"<script>" not in answer)
+    for odd in (": x", ": -9"):  # it comes before the length
+        answer = said(office, request("PUT", path, [token, "Content-Type: text/csv", odd], body))
+        counts.check(f"a length behind {odd} is refused: {status(answer)}", status(answer) == 400)
     answer = said(office, request("GET", "/days", ["Expect: <script>alert(1)</script>"]))
     counts.check("an expectation isn't said again", status(answer) == 200 and b"<script>" not in answer)
     for method, odd in ("GET", "/nothing"), ("DELETE", "/days"):

@@ -1133,13 +1133,13 @@ class Tokens(Office):
         office.gates[DAY].is_known.set()
         made = web.Web(office)
         made.reads = guards.Buckets(0.001, web.MOST_READS, lambda: 0.0)
-        headers = {"Authorization": f"Bearer {office.register.renew('GAS')}"}
+        headers = {"Authorization": f"Bearer {office.register.renew('GAS')}", "Content-Length": "1"}
 
         async def read(*_):
             return ["x" * 2_000_000], []
 
         content = argparse.Namespace(is_eof=lambda: True)
-        asked = argparse.Namespace(headers=headers, match_info={"who": "GAS", "day": DAY}, content_length=1, content=content)
+        asked = argparse.Namespace(headers=headers, match_info={"who": "GAS", "day": DAY}, content=content)
         asked.transport, asked.read = content, mock.AsyncMock(return_value=b"x")
         with mock.patch.object(reader, "read", read):
             answer = await made.table(asked)

@@ -234,9 +234,11 @@ class Web:
 
     def length(self, request):
         """The length of a body, which is known before it is read."""
-        length = request.content_length
-        if length is None:
+        # aiohttp puts the value of a header without a name before the next one: a length below 0 would fill the bucket
+        word = request.headers.get("Content-Length", "")
+        if not (word.isascii() and word.isdigit()):
             raise Refused("Malformed", "the request needs a Content-Length")
+        length = int(word)
         if length > MOST_BODY:
             raise web.HTTPRequestEntityTooLarge(MOST_BODY, length)
         return length
