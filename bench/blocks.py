@@ -1,8 +1,9 @@
 #!/usr/bin/env python3
-"""The search on deep books with 24 blocks. 60 have realistic blocks and 3,800 hourly orders: base (baseload), peaks (base, peak and night),
-shaped (an hourly profile), odd (one odd profile among baseload) and random (a random volume in each period), on days of 24 and of 96
-periods, with limits within 5 to 1,000 cents of the mean price. 28 are those of the families that are hard for a search, with 500 and 4,000
-hourly orders on days of 24 and of 96 periods.
+"""The search on deep books with 24 blocks, on days of 24 and of 96 periods: 60 with realistic blocks and 3,800 hourly orders, and 28 of
+the families that are hard for a search.
+
+The blocks are base (baseload), peaks (base, peak and night), shaped (an hourly profile), odd (one odd profile among baseload) and random (a
+random volume in each period), with limits within 5 to 1,000 cents of the mean price. The families have 500 and 4,000 hourly orders.
 
 `dam clear` by the default plan takes turns with itself on the same book without its blocks, with the program of before, with the whole run
 of the twin, with two workers and cut 3 as in the default plan, and with an enumeration of all selections with numpy, `tools/audit --best`

@@ -1,8 +1,8 @@
 #!/usr/bin/env python3
-"""The search on hard books, with 24 blocks and 500 or 4,000 hourly orders on days of 24 periods, under three plans, compared with a plain
-twin of the search, and with HiGHS, which finds the same selection by adding cuts that exclude losing selections.
+"""The search on hard books with 24 blocks, on days of 24 periods, under three plans, compared with a plain twin of the search and with
+HiGHS.
 
-A plan is a number of workers and a cut; `2 3` is the default. No run has a limit on nodes: with one that can stop a search, `dam` counts
+HiGHS finds the same selection by adding cuts that exclude losing selections. A plan is a number of workers and a cut; `2 3` is the default. No run has a limit on nodes: with one that can stop a search, `dam` counts
 nodes by a weaker bound, and is slower. The twin's bounds are by prices, as those of `dam` are, and a selection is a set of bits in both.
 `dam` reads and prints more than the twin does, which counts in a search of a few milliseconds. HiGHS is asked only for the greatest
 welfare, and not for the tie rule. A run ends after 60 s, and HiGHS after 20 s, or after the seconds of LIMIT and HIGHS_LIMIT in the

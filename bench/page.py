@@ -19,6 +19,7 @@ from pathlib import Path
 HERE = Path(__file__).resolve().parent
 PAGE = HERE.parent / "docs" / "MEASURED.md"
 KEPT = HERE / "measured"
+WRITTEN = ["docs/MEASURED.md", "docs/growth.svg", "bench/measured"]  # by the bench itself
 PARTS = ["quick", "families", "blocks", "thin", "growth", "workers", "looks", "desk", "office"]
 PEERS = {"families": "HiGHS", "blocks": "HiGHS and CBC each", "thin": "HiGHS and CBC each"}  # the peers of each part
 COLUMNS = ["what", "figure", "target", "holds", "details"]
@@ -26,11 +27,11 @@ RUN_COLUMNS = ["part", "date", "commit", "machine", "load", "kit", "notes"]
 # The figures that the page shows of each part, apart from those that miss a target; the others stand in the files alone. Of two groups the
 # first names the row of a table, and the second its column.
 SHOWN = {
-    "quick": r"(?:dam (?:replay|clear)|settle) .*(?:wall time|plain pass)|Hour::clear, 4,000.*",
+    "quick": r"(?:dam (?:replay|clear)|settle) .*(?:wall time|plain pass)",
     "families": r"(\w+) (\d+), plan 2 3: dam clear",
     "blocks": r"(\w+) (\d+), spread 50, seed 1: dam clear",
-    "thin": r"(base|peaks|shaped|odd|random) 96, ([\d,]+) orders, spread (?:0|20|50), seed 1: dam clear",
-    "workers": r".*4 workers as fast as 1",
+    "thin": r"(base|peaks|shaped|odd|random) 96, (500|1,500) orders, spread (?:0|20|50), seed 1: dam clear",
+    "workers": r"(?:base|odd) .*4 workers as fast as 1",
     "looks": r"a look compared with a plain one, while [03] threads.*|a call, 4,000 orders held|dam day.*",
     "desk": r"dam replay compared with a desk.*wall time|records that a desk keeps.*|opening .* on disk.*wall time|memory of a desk.*records",
     "office": r".*",
@@ -42,7 +43,7 @@ CELLS = {
     "thin": ("`dam clear` by the default plan, 96 periods", "{} hourly orders"),
 }
 # The figures of many books together, which the page shows of any part.
-TOGETHER = r"(?:deep|all thin) books together: .*"
+TOGETHER = r"(?:deep|all thin) books together: (?!.*(?:twin|the enumeration)).*"
 PICTURES = {
     "growth": "A node stands for all selections with its decisions. The further a family lies below the dashed line, the more its "
     "bound saves.\n\n"
@@ -53,9 +54,8 @@ HEAD = """# Measured figures
 
 `bench/run` runs the benchmarks, and `bench/page.py` writes this page. A time is the median of several runs, or of one of over a second; an
 office's whole day is run once. Compared programs run alternately. `A compared with B` is A's time divided by B's, or A's rate by B's. The
-docstring of each part's script describes its method. The load is the load average of the minute before; on a busy machine, figures are
-unreliable. A commit `with changes` had changes that weren't committed. The baseline and the twin are [plain Rust
-programs](../crates/NOTES.md#words).
+docstring of each part's script describes its method. The load is the load average of the minute before. The baseline and the twin are
+[plain Rust programs](../crates/NOTES.md#words).
 
 A CSV file has every figure of a part, with its target; this page shows some, and the missed targets by kind.
 `grep MISSED bench/measured/*.csv` prints each.
@@ -79,7 +79,7 @@ def processor():
 def run_of(part):
     """The day, the commit, the machine and the kit of a part's figures, and other facts about them."""
     commit = printed(["git", "rev-parse", "--short", "HEAD"]) or "unknown"
-    if printed(["git", "status", "--porcelain", "--", "..", f":!{PAGE}", f":!{KEPT}"]):
+    if printed(["git", "status", "--porcelain", "--", ":/", *(f":(top,exclude){name}" for name in WRITTEN)]):
         commit += " with changes"
     machine = f"{os.cpu_count()} processors ({processor()})"
     load, limit, before = (os.environ.get(name, "") for name in ("LOAD", "HIGHS_LIMIT", "BEFORE_IS"))

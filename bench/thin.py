@@ -1,7 +1,10 @@
 #!/usr/bin/env python3
-"""The search on thin markets with 24 blocks, in which each block moves the prices: 200, 500 and 1,500 hourly orders on days of 24 and of 96
-periods, every kind of block, limits within 50 cents of the mean price, links and groups, and the ten hardest books of a random search. Next
-to them wide books, with a volume of each block in every period, and mixed ones, with baseload, peak, night and other spans.
+"""The search on thin markets with 24 blocks, in which each block moves the prices, and on wide books, with a volume of each block in every
+period.
+
+The thin ones have 200, 500 and 1,500 hourly orders on days of 24 and of 96 periods, every kind of block, limits within 50 cents of the mean
+price, links and groups; ten are the hardest of a random search. Next to the wide books stand mixed ones, with baseload, peak, night and
+other spans.
 
 `dam clear` by the default plan takes turns with itself on the same book without its blocks, with the program of before, and with an
 enumeration of all selections with numpy, `tools/audit --best` by four threads, which also checks the results. A run ends after 60 s, or
