@@ -9,7 +9,7 @@ use Rattle.dam_store.specs.declared.fault.StoreFault.{StoreFault}
 use Rattle.dam_store.specs.declared.fault.StoreFault.TheVariants as store
 use Rattle.dam_store.specs.declared.store.Store.{Store}
 use Rattle.dam_desk.specs.Journal.{Journal, State, AreLines, AreWhole, OpensTo, Reads, journal_text, next}
-use Rattle.dam_desk.specs.Desk.{Finishes, IsAnswered, IsDesk, IsEnding, IsGiven, MayLeave, OpensAfter, Served, Takes, end_answer}
+use Rattle.dam_desk.specs.Desk.{Finishes, IsAnswered, IsDesk, IsEnding, MayLeave, OpensAfter, Served, Takes, end_answer}
 use Rattle.dam_desk.specs.Faults.{IsWritingFault, is_read, of_store}
 use Rattle.dam_desk.specs.declared.desk.Desk.{Desk}
 use Rattle.dam_desk.specs.declared.fault.DeskFault.{DeskFault}
@@ -301,11 +301,6 @@ finishes desk state given first old mid new taken written =
       safe = taken.safe;
     }
 
-pub is_given : (old new : Option (List ℕ)) (given : List ℕ) → Consumes old new given → IsGiven old given
-is_given None new given consumes = tt
-is_given (Some bytes) None given consumes = absurd consumes
-is_given (Some bytes) (Some left) given consumes = (left, consumes)
-
 -- a fault of the writer comes after some of the text
 pub written_fault : (old new : Option (List ℕ)) (text : List ℕ) (fault : DeskFault) → IsWritingFault old new text fault
     → (count : ℕ) × Appends old new (take count text)
@@ -370,6 +365,12 @@ on_err_then (Ok x) P Q then p = tt
 on_err_then (Err y) P Q then p = then p
 
 -- a read of no bytes at the end of the input
+pub nothing_more : (old mid new : Option (List ℕ)) (given buffer : List ℕ) (count : ℕ) → Consumes old mid given → Consumes mid new (take count buffer)
+    → count ≡ 0 → Consumes old new given
+nothing_more old mid new given buffer count before last none =
+    subst (λ (bytes : List ℕ). Consumes old new bytes) (append-nil given)
+    (Consumes-trans old mid new given (take 0 buffer) before (subst (λ (n : ℕ). Consumes mid new (take n buffer)) none last))
+
 pub all_given : (old mid new : Option (List ℕ)) (given buffer : List ℕ) (count : ℕ) → Consumes old mid given → Consumes mid new (take count buffer)
     → count ≡ 0 → IsAtEnd new → IfSome old (λ bytes. bytes ≡ given)
 all_given old mid new given buffer count before last none ended =

@@ -1,10 +1,14 @@
 -- A run that was served, by the disk that it leaves.
-use Rattle.std.proofs.Common.{◌≡◌, ◌++◌, List, ℕ, Option, Result, Ok, Err, IfErr, OnErr, IsTrue, sym, subst}
+use Rattle.std.proofs.Common.{◌≡◌, ◌⊎◌, ◌++◌, List, ℕ, Option, Result, Ok, Err, IfErr, OnErr, IsTrue, inl, inr, sym, subst}
+use Rattle.sqlite_disk.specs.Disk.{Only}
 use Rattle.sqlite_disk.specs.declared.Disk.{Ghosts}
 use Rattle.dam_store.specs.Store.{disk_of}
-use Rattle.dam_desk.specs.Desk.{AreSettled, Finishes, IsAnswered, IsServed, MayLeave, Served, Takes, at_first}
+use Rattle.dam_desk.specs.Desk.{AreSettled, Finishes, IsAnswered, IsServed, IsUnopened, MayLeave, Served, Takes, at_first}
+use Rattle.dam_desk.specs.Faults.{IsEndFault}
+use Rattle.dam_desk.specs.Run.{EndsSafe, EndsUnopened}
 use Rattle.dam_desk.specs.Journal.{Journal, State, AreAnswers, AreReplies, Reads, replies_text}
 use Rattle.dam_desk.specs.declared.desk.Desk.{Desk}
+use Rattle.dam_desk.specs.declared.fault.DeskFault.{DeskFault}
 use Rattle.dam_desk.proofs.Desks.{answered_so_far}
 
 pub err_then : {X Y : Type 0} (r : Result X Y) (P Q : Y → Type 0) → ((y : Y) → P y → Q y) → IfErr r P → IfErr r Q
@@ -51,3 +55,17 @@ module _ {D : Type 0} {g : Ghosts D} (desk : Desk D g) (disk : D) (same : disk �
         replayed = replies.2;
         settled = settle all.last.journal (grow (at_first journal) all.last all.lines all.answers reads all.answered);
       }
+
+-- the end of a run on a disk that had these bytes, all synced, and for which no call had failed
+pub at_rest : {D : Type 0} {g : Ghosts D} (old new : D) (start : List ℕ) (why : DeskFault) (same : Type 0) (input left printed now : Option (List ℕ))
+    → g.seen old ≡ start → Only start (g.may_leave old) → g.faults old ≡ 0
+    → (IsUnopened g old new why × same)
+    ⊎ (IsEndFault (g.is_clean new) (g.faults old) (g.faults new) why × EndsSafe g (g.seen old) new input left printed now)
+    → (EndsUnopened g start new why × same)
+    ⊎ (IsEndFault (g.is_clean new) 0 (g.faults new) why × EndsSafe g start new input left printed now)
+at_rest {D} {g} old new start why same input left printed now seen synced none (inl unopened) =
+    inl (record { old = old; seen = seen; synced = synced; no_fault = none; unopened = unopened.0 }, unopened.1)
+at_rest {D} {g} old new start why same input left printed now seen synced none (inr end) = inr (
+  subst (λ (n : ℕ). IsEndFault (g.is_clean new) n (g.faults new) why) none end.0,
+  subst (λ (bytes : List ℕ). EndsSafe g bytes new input left printed now) seen end.1,
+)

@@ -154,8 +154,3 @@ pub record IsServed (journal : Option Journal) (given : List ℕ) (old new : Opt
   pub among : AreReplies (at_first journal) finishes.lines replies
   pub replayed : replies_text finishes.last.journal ≡ replies_text journal ++ replies
   pub settled : AreSettled finishes.last.journal
-
--- a reader with these bytes gave some of the first ones
-abbrev pub IsGiven : Option (List ℕ) → List ℕ → Type 0
-IsGiven None given = Unit {0}
-IsGiven (Some bytes) given = (rest : List ℕ) × (bytes ≡ given ++ rest)

@@ -2,7 +2,7 @@
 ghost use Rattle.std.specs.Prelude.{◌≡◌, ◌⊎◌, true, IsTrue, IfOk, IfErr, OnOk, OnErr};
 ghost use Rattle.dam_desk.specs.Desk.{IsUnopened};
 ghost use Rattle.dam_desk.specs.Faults.{IsEndFault, is_read};
-ghost use Rattle.dam_desk.specs.Run.{EndsAnswered, EndsSafe, EndsServed};
+ghost use Rattle.dam_desk.specs.Run.{EndsAnswered, EndsSafe, EndsServed, EndsUnopened};
 
 use crate::fault::DeskFault;
 use crate::laws::{journals_grow, journals_settle, replies_are_answers};
@@ -46,7 +46,8 @@ pub(crate) fn run<D: Disk + Drop, R: Read, W: Write>(
         ⊎ (IsEndFault (D.Disk.is_clean result.disk)
         (D.Disk.faults disk) (D.Disk.faults result.disk) why
         × EndsSafe D.Disk (D.Disk.seen disk) result.disk
-        (R.remaining reader.old) (W.contents writer.old) (W.contents writer.new))) }
+        (R.remaining reader.old) (R.remaining reader.new)
+        (W.contents writer.old) (W.contents writer.new))) }
 {
     journals_grow();
     replies_are_answers();
@@ -81,11 +82,15 @@ pub(crate) fn serve_file<S: Start, R: Read, W: Write>(
         → EndsAnswered ⟦<FileFrom<S> as Disk>⟧ S.Start.db ended.disk
         (R.remaining reader.old) (R.remaining reader.new)
         (W.contents writer.old) (W.contents writer.new))) }
-    ensures faulty { IfOk result (λ ended. IfErr ended.done (λ why. (writer.new ≡ writer.old)
+    ensures no_fault { IfOk result (λ ended. OnOk ended.done
+        (⟦<FileFrom<S> as Disk>⟧.faults ended.disk ≡ 0)) }
+    ensures faulty { IfOk result (λ ended. IfErr ended.done (λ why.
+        (EndsUnopened ⟦<FileFrom<S> as Disk>⟧ S.Start.db ended.disk why × (writer.new ≡ writer.old))
         ⊎ (IsEndFault (⟦<FileFrom<S> as Disk>⟧.is_clean ended.disk)
         0 (⟦<FileFrom<S> as Disk>⟧.faults ended.disk) why
         × EndsSafe ⟦<FileFrom<S> as Disk>⟧ S.Start.db ended.disk
-        (R.remaining reader.old) (W.contents writer.old) (W.contents writer.new)))) }
+        (R.remaining reader.old) (R.remaining reader.new)
+        (W.contents writer.old) (W.contents writer.new)))) }
     ensures unopened { OnErr result (writer.new ≡ writer.old) }
 {
     let disk = open_file(rt, path, start)?;

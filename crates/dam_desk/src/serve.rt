@@ -1,7 +1,7 @@
 ghost use Rattle.std.specs.Prelude.{◌≡◌, ◌++◌, ℕ, List, true, false, IsTrue, IfSome, IfErr, OnOk, OnErr};
 ghost use Rattle.std.specs.Io.KnownBytes.{Consumes};
 ghost use Rattle.dam_store.specs.Store.{disk_of, held, is_broken};
-ghost use Rattle.dam_desk.specs.Desk.{Finishes, IsDesk, IsGiven, KeepsLines, MayLeave, Served, Takes};
+ghost use Rattle.dam_desk.specs.Desk.{Finishes, IsDesk, KeepsLines, MayLeave, Served, Takes};
 ghost use Rattle.dam_desk.specs.Faults.{IsEndFault, is_read};
 ghost use Rattle.dam_desk.specs.Journal.{State};
 
@@ -46,7 +46,7 @@ pub(crate) fn serve<D: Disk, R: Read, W: Write>(
         (D.Disk.faults (disk_of desk.old.store)) (D.Disk.faults (disk_of desk.new.store))) }
     // If the desk ends before, what was answered is safe.
     ensures faulty { (state : State) (begun : List ℕ) → IsDesk desk.old state begun
-        → OnErr result ((given : List ℕ) × IsGiven (R.remaining reader.old) given
+        → OnErr result ((given : List ℕ) × Consumes (R.remaining reader.old) (R.remaining reader.new) given
         × Served state (begun ++ given) replies.now
         (W.contents writer.old) (W.contents writer.new) (MayLeave desk.new)) }
 {

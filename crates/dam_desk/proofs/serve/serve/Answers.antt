@@ -8,7 +8,7 @@ use Rattle.dam_desk.specs.Desk.{MayLeave, Served, Takes, end_answer}
 use Rattle.dam_desk.specs.Faults.{IsEndFault}
 use Rattle.dam_desk.specs.Journal.{next}
 use Rattle.dam_desk.proofs.Crashes.{keeps_first, grown_more}
-use Rattle.dam_desk.proofs.Desks.{all_given, finishes, is_given, on_err_any, on_err_then, served_first, served_more, served_so_far, takes_more, takes_start, written_fault}
+use Rattle.dam_desk.proofs.Desks.{all_given, finishes, nothing_more, on_err_any, on_err_then, served_first, served_more, served_so_far, takes_more, takes_start, written_fault}
 use Rattle.dam_desk.proofs.Ends.{end_counts, err_is}
 use Rattle.dam_desk.proofs.serve.serve.Goals as goal
 
@@ -67,13 +67,12 @@ loop-init g c = record {
 
 pub returns-in_err-write_text-clause-faulty : goal.returns-in_err-write_text-clause-faulty
 returns-in_err-write_text-clause-faulty g c state begun is =
-    let input = g.R.Read.remaining c.args.reader.now in
     let old = g.W.Write.contents c.args.writer.now in
     let new = g.W.Write.contents c.write_text.new.writer in
     let part = written_fault old new c.args.replies.now _ c.in_err-write_text.ensures.fault in
     on_err_any c.from_residual.result _ (
       [],
-      is_given input input [] (Consumes-nil input),
+      Consumes-nil (g.R.Read.remaining c.args.reader.now),
       served_first c.args.desk.now state begun c.args.replies.now old new part.0 (c.is_safe-safe.ensures.opens state begun is c.requires) part.1,
     )
 
@@ -83,7 +82,8 @@ returns-in-Err-clause-faulty g c state begun is =
     let old = g.W.Write.contents c.args.writer.now in
     let now = g.W.Write.contents c.loop.writer in (
       so_far.0,
-      is_given (g.R.Read.remaining c.args.reader.now) (g.R.Read.remaining c.loop.reader) so_far.0 so_far.1,
+      Consumes-kept (g.R.Read.remaining c.args.reader.now) (g.R.Read.remaining c.loop.reader) (g.R.Read.remaining c.read.new.self) so_far.0 so_far.1
+          c.in-Err.ensures.bytes,
       served_so_far c.loop.desk state (begun ++ so_far.0) c.args.replies.now old now now 0 so_far.2 [] (inl refl) (Appends-nil now),
     )
 
@@ -93,7 +93,7 @@ returns-clause-faulty g c state begun is =
     let old = g.W.Write.contents c.args.writer.now in
     let now = g.W.Write.contents c.loop.writer in (
       so_far.0,
-      is_given (g.R.Read.remaining c.args.reader.now) (g.R.Read.remaining c.loop.reader) so_far.0 so_far.1,
+      so_far.1,
       served_so_far c.loop.desk state (begun ++ so_far.0) c.args.replies.now old now now 0 so_far.2 [] (inl refl) (Appends-nil now),
     )
 
@@ -121,7 +121,8 @@ returns-then-count-eq0-clause-faulty g c state begun is =
     let ending = end_answer (next so_far.2.last.answered) so_far.2.begun in
     on_err_then c.end.result ((count : ℕ) × Appends mid new (take count (end_answer (next c.loop.desk.intake.answered) so_far.2.begun))) _ (λ part. (
       so_far.0,
-      is_given (g.R.Read.remaining c.args.reader.now) (g.R.Read.remaining c.loop.reader) so_far.0 so_far.1,
+      nothing_more (g.R.Read.remaining c.args.reader.now) (g.R.Read.remaining c.loop.reader) (g.R.Read.remaining c.read.new.self) so_far.0
+          c.read.new.buf c.in-Ok.count so_far.1 c.in-Ok.ensures.bytes.0 c.if-count-eq0.true,
       served_so_far c.loop.desk state (begun ++ so_far.0) c.args.replies.now old mid new part.0 so_far.2 ending
           (inr (so_far.2.begun, so_far.2.split, refl))
           (subst (λ (n : ℕ). Appends mid new (take part.0 (end_answer (next n) so_far.2.begun))) so_far.2.now.intake.answered part.1),
@@ -138,7 +139,7 @@ returns-in_err-take-clause-faulty g c state begun is =
     let left = g.R.Read.remaining c.read.new.self in
     on_err_any c.from_residual-in_err-take.result _ (
       so_far.0 ++ more,
-      is_given input left (so_far.0 ++ more) (Consumes-trans input (g.R.Read.remaining c.loop.reader) left so_far.0 more so_far.1 c.in-Ok.ensures.bytes.0),
+      Consumes-trans input (g.R.Read.remaining c.loop.reader) left so_far.0 more so_far.1 c.in-Ok.ensures.bytes.0,
       subst (λ (given : List ℕ). Served state given c.args.replies.now old new (MayLeave c.take.new.self)) (append_assoc begun so_far.0 more)
           (served_more c.loop.desk state (begun ++ so_far.0) more c.args.replies.now old mid new _ so_far.2
           (c.in_err-take.ensures.faulty so_far.2.last so_far.2.begun so_far.2.now c.loop.invariant.ready)),
