@@ -231,7 +231,7 @@ class Tool(unittest.TestCase):
         limit = functools.partial(resource.setrlimit, resource.RLIMIT_NOFILE, (5, 5))
         ran = subprocess.run(words, capture_output=True, text=True, preexec_fn=limit)
         said = "whatif: the day as it was: /bin/true can't be run: Too many open files\n"
-        self.assertEqual((ran.returncode, ran.stdout, ran.stderr), (command.NO_INPUT, "", said))
+        self.assertEqual((ran.returncode, ran.stdout, ran.stderr), (command.FAILED, "", said))
 
     def test_bad_input_is_one_line(self):
         out = Path(self.folder, "out.csv")
