@@ -331,7 +331,7 @@ def behind_the_cells(rng, content):
 def text_in_a_wrong_place(rng, content):
     marks = ["<sheetData", "</row>", "</sheetData>", "<c ", "<v>", "<f>", "</c>", "<is>", "</is>", "<mergeCell", "<t>"]
     at = place_in(rng, content, marks)
-    text = rng.choice(["G1", "&#160;", "0", "<![CDATA[<row>]]>"])
+    text = rng.choice(["PAIR", "&#160;", "0", "<![CDATA[<row>]]>"])
     return f"{content[:at]}{text}{content[at:]}", "stands in"
 
 

@@ -278,10 +278,10 @@ async def change_orders(page, counts):
 
 # The reasons that name a command's order or its parent, or the market's limits.
 REASONS = """['NameTaken', 'UnknownOrder', 'UnknownParent', 'ParentNotBlock', 'HourlyFull', 'BlocksFull', 'Closed']
-  .map((code) => reasonOf(`refused,${code}`, { order: 'X1', parent: 'CH-11' }))"""
+  .map((code) => reasonOf(`refused,${code}`, { order: 'RUN', parent: 'CH-11' }))"""
 TOLD = [
-    "you already have an order X1",
-    "you have no order X1: it was cancelled, refused, or never entered",
+    "you already have an order RUN",
+    "you have no order RUN: it was cancelled, refused, or never entered",
     "its parent CH-11 isn't in the book",
     "its parent CH-11 is an hourly order",
     "this auction takes 4,000 hourly orders from all participants together, and it has them",

@@ -103,7 +103,7 @@ impl Limits {
     }
 
     /// The room that is left after a decision on the block at the place; `None` exactly if it takes more than there is under
-    /// some limit. Then no eligible selection has this decision beside those before it. Takes no memory.
+    /// some limit. Then eligible selections never add this decision to those before it. Takes no memory.
     #[inline(always)]
     pub fn room_after(&self, room: &Room, place: usize, accept: bool) -> Option<Room>
         requires place { place < most_blocks }

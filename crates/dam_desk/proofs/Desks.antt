@@ -374,9 +374,7 @@ nothing_more old mid new given buffer count before last none =
 pub all_given : (old mid new : Option (List ℕ)) (given buffer : List ℕ) (count : ℕ) → Consumes old mid given → Consumes mid new (take count buffer)
     → count ≡ 0 → IsAtEnd new → IfSome old (λ bytes. bytes ≡ given)
 all_given old mid new given buffer count before last none ended =
-    Consumes-whole old new (given ++ take 0 buffer) (λ (bytes : List ℕ). bytes ≡ given)
-    (Consumes-trans old mid new given (take 0 buffer) before (subst (λ (n : ℕ). Consumes mid new (take n buffer)) none last)) ended
-    (append-nil given)
+    Consumes-whole old new given (λ (bytes : List ℕ). bytes ≡ given) (nothing_more old mid new given buffer count before last none) ended refl
 
 pub writing_no_read : (old new : Option (List ℕ)) (text : List ℕ) (fault : DeskFault) → IsWritingFault old new text fault → is_read fault ≡ false
 writing_no_read old new text (File why) is = absurd is

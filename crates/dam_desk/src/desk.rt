@@ -43,7 +43,8 @@ impl<D: Disk> Desk<D> {
         ensures crash { is_broken self.old.store ≡ false
             → IsTrue (D.Disk.is_clean (disk_of self.new.store))
             → KeepsLines (D.Disk.may_leave (disk_of self.new.store)) (held self.old.store) }
-        // All lines that end in the bytes are one batch: a crash at any moment leaves the journal before them, or after all.
+        // All lines that end in the bytes are one batch: a crash leaves the journal before them, or
+        // after all.
         ensures one_batch { (state : State) (begun : List ℕ) → IsDesk self.old state begun
             → is_broken self.old.store ≡ false → (file : List ℕ) → MayLeave self.new file
             → OpensTo state.journal file ⊎ OpensAfter state (begun ++ bytes.now) file }

@@ -109,7 +109,8 @@ fn only_command(journal: PackedJournal) -> Option<PackedCommand>
 fn read_text(alloc: Global, text: &[u8], before: usize) -> Result<Said, AllocError>
     requires { before ≤ length text.now }
     ensures { (day : Option ℕ) (line : List ℕ) → IfSome day (λ periods. is_day periods ≡ true)
-        → text.now ≡ text_after day line → before ≡ length (record_of day) → length line ≤ most_line → IfOk result (Says day line) }
+        → text.now ≡ text_after day line → before ≡ length (record_of day)
+        → length line ≤ most_line → IfOk result (Says day line) }
 {
     // A command is the usual line. After the record of the day, a day isn't read as one.
     let fault = match read(alloc, text) {

@@ -35,7 +35,7 @@ pub(crate) fn serve<D: Disk, R: Read, W: Write>(
         → OnOk result ((given : List ℕ) × IfSome (R.remaining reader.old) (λ bytes. bytes ≡ given)
         × Finishes state (begun ++ given) replies.now
         (W.contents writer.old) (W.contents writer.new) (MayLeave desk.new)) }
-    // A read may fail at any time. If it does, all lines that have come in are answered, so they are at each read.
+    // A read may fail at any time. If it does, all lines that have come in are answered.
     ensures answered { (state : State) (begun : List ℕ) → IsDesk desk.old state begun
         → IfErr result (λ fault. is_read fault ≡ true
         → (given : List ℕ) × Consumes (R.remaining reader.old) (R.remaining reader.new) given
@@ -46,7 +46,8 @@ pub(crate) fn serve<D: Disk, R: Read, W: Write>(
         (D.Disk.faults (disk_of desk.old.store)) (D.Disk.faults (disk_of desk.new.store))) }
     // If the desk ends before, what was answered is safe.
     ensures faulty { (state : State) (begun : List ℕ) → IsDesk desk.old state begun
-        → OnErr result ((given : List ℕ) × Consumes (R.remaining reader.old) (R.remaining reader.new) given
+        → OnErr result ((given : List ℕ)
+        × Consumes (R.remaining reader.old) (R.remaining reader.new) given
         × Served state (begun ++ given) replies.now
         (W.contents writer.old) (W.contents writer.new) (MayLeave desk.new)) }
 {

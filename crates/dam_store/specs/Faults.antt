@@ -13,10 +13,10 @@ use Rattle.dam_store.specs.declared.fault.FileFault.TheVariants as files
 use Rattle.dam_store.specs.declared.fault.StoreFault.{StoreFault}
 use Rattle.dam_store.specs.declared.fault.StoreFault.TheVariants.{NotAJournal, TooLong, Full, Read, Write, Sync}
 
--- the system has no memory
-abbrev pub is_want_of_memory : ErrorKind → Bool
-is_want_of_memory OutOfMemory = true
-is_want_of_memory kind = false
+-- the system is out of memory
+abbrev pub is_out_of_memory : ErrorKind → Bool
+is_out_of_memory OutOfMemory = true
+is_out_of_memory kind = false
 
 -- the system or the library doesn't do this
 abbrev pub is_unsupported : ErrorKind → Bool
@@ -29,7 +29,7 @@ is_other_kind error = is_none (raw_os_error error) && is_unsupported (error_kind
 
 -- the fault of a call for a file with this error
 abbrev pub of_io : Error → FileFault
-of_io error = if is_want_of_memory (error_kind error) then files.Memory else files.Io error
+of_io error = if is_out_of_memory (error_kind error) then files.Memory else files.Io error
 
 -- the fault of a file whose opening has this error
 abbrev pub of_open : OpenError → FileFault

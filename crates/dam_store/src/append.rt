@@ -58,11 +58,14 @@ impl<D: Disk> Store<D> {
         ensures broken { is_broken self.old ≡ true → disk_of self.new ≡ disk_of self.old }
         ensures full { IfErr result (λ fault. fault ≡ Full
             → (disk_of self.new ≡ disk_of self.old) × (is_broken self.new ≡ false)
-            × (IsTrue (D.Disk.is_clean (disk_of self.old)) → most_bytes ≤ length (written (held self.old ++ batch.now)))) }
+            × (IsTrue (D.Disk.is_clean (disk_of self.old))
+            → most_bytes ≤ length (written (held self.old ++ batch.now)))) }
         ensures failure { IfErr result (λ fault. is_failure fault ≡ true
-            → (is_broken self.new ≡ true) × MoreFaults (D.Disk.faults (disk_of self.old)) (D.Disk.faults (disk_of self.new))) }
+            → (is_broken self.new ≡ true)
+            × MoreFaults (D.Disk.faults (disk_of self.old)) (D.Disk.faults (disk_of self.new))) }
         ensures no_other { IfErr result
-            (λ fault. (is_failed_write fault ≡ true) ⊎ (fault ≡ Full) ⊎ ((fault ≡ Broken) × (is_broken self.old ≡ true))) }
+            (λ fault. (is_failed_write fault ≡ true) ⊎ (fault ≡ Full)
+            ⊎ ((fault ≡ Broken) × (is_broken self.old ≡ true))) }
         ensures stays_broken { is_broken self.old ≡ true → is_broken self.new ≡ true }
         ensures clean { D.Disk.is_clean (disk_of self.new) ≡ D.Disk.is_clean (disk_of self.old) }
     {
