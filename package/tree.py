@@ -57,7 +57,7 @@ def taken(clone):
         ("tools/dam_tools", PYTHON, ".py", ".typed"),
         ("tools/lib", f"{PYTHON}/lib"),
         ("docs", f"{DOC}/docs", ".md", ".svg", ".png"),
-        ("examples", f"{DOC}/examples", ".csv", ".sh", ".service", ".timer", ".yml"),
+        ("examples", f"{DOC}/examples", ".csv", ".sh", ".service", ".timer", ".yml", ".conf"),
         ("bench/measured", f"{DOC}/bench/measured", ".csv"),
         ("crates", f"{DOC}/crates", "/README.md", "/NOTES.md"),
     ):

@@ -22,7 +22,7 @@ import unittest
 from pathlib import Path
 from unittest import mock
 
-from support import AUCTION, AUCTION_RESULTS, FIRST, QUARTERS, QUARTERS_RESULTS, SUNNY, SUNNY_RESULTS, TOOLS, tool
+from support import AUCTION, AUCTION_RESULTS, FIRST, QUARTERS, QUARTERS_RESULTS, SUNNY, SUNNY_RESULTS, TOOLS, TOP, tool
 
 from dam_tools import office as client
 from lib.base import rules
@@ -466,11 +466,31 @@ class SignedHeads(Office):
         path = await self.entered(disk)
         whole = path.read_bytes()
         disk.records.pop()
-        for data in (b"", whole[:-40], bytes(len(whole)), whole.replace(b'"size":3', b'"size":4')):
+        for data in (b"", whole[:-40], bytes(len(whole))):
             path.write_bytes(data)
             self.assertIsNone(await self.started(disk))
         path.write_bytes(whole)
         self.assertIn("LostEntries", await self.started(disk))
+
+    async def test_a_start_with_another_key_stops(self):
+        """Also with a head that was changed: no crash leaves one. The day goes on with its own key, or without the head."""
+        disk = Disk()
+        path = await self.entered(disk)
+        kept, own = path.read_bytes(), self.key
+        for name in (folder.SIGNED, folder.HEAD):
+            path = path.replace(path.with_name(name))
+            self.key = signing.made()
+            self.assertEqual(await self.started(disk), f"OtherKey: the head in {name} isn't signed by operator.pem, or was changed")
+            self.assertEqual(path.read_bytes(), kept)
+            self.key = own
+            path.write_bytes(kept.replace(b'"size":3', b'"size":2'))
+            self.assertIn("OtherKey", await self.started(disk))
+            path.write_bytes(kept)
+            self.assertIsNone(await self.started(disk))
+        path.unlink()
+        path.with_name(folder.SIGNED).unlink()  # which the last start wrote
+        self.key = signing.made()
+        self.assertIsNone(await self.started(disk))
 
     async def test_nothing_is_entered_while_the_newest_head_isnt_kept(self):
         self.make()
@@ -1223,6 +1243,26 @@ class Setup(Office):
         path.write_text(text)
         return setup.participants_read(path)
 
+    def test_a_public_key_of_another_key_is_seen(self):
+        """By a start, and by a further day before it is made and a token is printed."""
+        self.participants("participant\nGAS\n")
+        words = ["--close", "12:00", "--participants", self.office.path.parent / "p.csv"]
+        self.assertEqual(tool("office", "init", self.office.path, "--day", "2099-11-29", *words)[0], command.DONE)
+        public = self.office.file(folder.PUBLIC)
+        kept = public.read_bytes()
+        self.participants("participant\nGAS\nWIND\n")
+        for other in (signing.public_text(signing.made()), b"", kept[:-30]):
+            public.write_bytes(other)
+            with self.subTest(other=other):
+                with self.assertRaisesRegex(command.Stop, "operator.pem.pub isn't the public key of operator.pem"):
+                    serving.Office(self.office, serving.Programs("dam", "dam-desk"), observed.Log(io.StringIO()))
+                status, out, err = tool("office", "init", self.office.path, "--day", "2099-11-30", *words)
+                self.assertEqual((status, out), (command.NO_INPUT, b""))
+                self.assertIn("isn't the public key of operator.pem", err)
+                self.assertEqual(list(self.office.days()), ["2099-11-29"])
+        public.write_bytes(kept.replace(b"\n", b"\r\n"))
+        self.assertEqual(self.office.public_text(self.office.key()).split(), kept.decode().split())
+
     def test_shares_never_exceed_the_journal(self):
         self.assertEqual(self.participants("participant\nA\nGAS\n"), {"A": None, "GAS": None})
         found = self.participants("participant,commands\nA,100\nGAS,\nOIL,\n")
@@ -1487,11 +1527,50 @@ class Setup(Office):
             with self.subTest(dam=dam, desk=desk), self.assertRaisesRegex(command.Stop, f"the program {missing} can't be run: ") as caught:
                 serving.programs(dam, desk)
             self.assertEqual(caught.exception.status, command.FAILED)
-        self.assertEqual(serving.programs("true", "false"), ("true", "false"))
+
+    def test_a_program_that_isnt_dam_is_seen_at_the_start(self):
+        made = self.office.path.parent / "dam"
+        made.touch(mode=0o755)
+        prints = "test $1 = clear && cat > /dev/null && printf 'day,24\\nwelfare,0\\n'"
+        for lines, fault in (
+            ("#!/bin/sh\n", "it printed no results"),
+            ("#!/bin/sh\ncat", "it printed no results"),
+            (f"#!/bin/sh\n{prints}; exit 4", "it ended with status 4"),
+            ("#!/bin/sh\nkill -9 $$", "it was ended by signal 9"),
+            ("#!/bin/sh\nexec sleep 60", "it took more than 0.2 s"),
+            ("#!/nowhere/sh\n", "No such file or directory"),
+        ):
+            made.write_text(lines)
+            seconds = mock.patch.object(serving, "TRIAL_SECONDS", 0.2 if "sleep" in lines else SECONDS)
+            with seconds, self.subTest(lines), self.assertRaisesRegex(command.Stop, f"didn't clear an empty day: .*: {fault}$") as caught:
+                serving.programs(made, "true")
+            self.assertEqual(caught.exception.status, command.FAILED)
+        made.write_text(f"#!/bin/sh\n{prints}")
+        self.assertEqual(serving.programs(made, "false"), (str(made), "false"))
 
     def test_how_a_program_ended(self):
         self.assertEqual(how_ended(4), "ended with status 4")
         self.assertEqual(how_ended(-9), "was ended by signal 9")
+
+    def test_the_proxy_of_the_examples_has_the_limits_of_the_office(self):
+        """It is in front of the port of the unit, and limits addresses as an office without a proxy does."""
+        text = (TOP / "examples" / "operating" / "nginx.conf").read_text()
+        self.assertNotIn("--port", (TOP / "examples" / "operating" / "dam-office.service").read_text())
+        port = re.search(r"^PORT = (\d+)$", (TOOLS / "office").read_text(), re.MULTILINE)[1]
+        for line in (
+            f"    server 127.0.0.1:{port};",
+            f"zone=office_requests:10m rate={web.LOOKS_A_SECOND}r/s;",
+            f"    limit_req zone=office_requests burst={web.MOST_LOOKS} nodelay;",
+            f"    client_max_body_size {web.MOST_BODY >> 20}m;",
+            f"    client_header_timeout {guards.IDLE_SECONDS}s;",
+            f"    client_body_timeout {web.BODY_SECONDS}s;",
+            "    add_header {} {} always;".format(*web.SECURE, *web.SECURE.values()),
+        ):
+            with self.subTest(line):
+                self.assertIn(line, text)
+        pause, kept = re.search(r"^    keepalive_timeout (\d+)s; # .* idle for (\d+) s$", text, re.MULTILINE).groups()
+        self.assertLess(int(pause), int(kept))
+        self.assertEqual(int(kept), serving.KEEP_SECONDS)
 
     def test_a_close_after_the_day_has_begun_is_noted(self):
         for close, is_late in (("23:59", False), ("2026-11-28T23:59", False), ("2026-11-29T00:00", True), ("2026-12-03T12:00", True)):

@@ -34,8 +34,8 @@ A crash, of the office, the desk or both, at any moment, neither loses an acknow
 - A receipt of entry N is under the head of the first N entries. The tree of these, the salts (on the disk before the first entry) and
   Ed25519 give the same bytes each time. So a receipt is the same after a crash, and no head contradicts an earlier one. If a
   desk shows a journal that doesn't begin with the ledger, or at a start one without the entries of the newest signed head in the folder,
-  the day stops. That file isn't synced, and lags by 0.2 s: it shows most losses, and no crash of a right disk makes it newer than the
-  journal.
+  the day stops. So it does if another key signed that head. The head's file isn't synced, and lags by 0.2 s: it shows most losses, and no
+  crash of a right disk makes it newer than the journal.
 - The close is an entry too: after it there is no other, whatever the clock says. Its time is in the day's terms, and a request to close
   early is a file. So an office that starts after the time closes before it enters anything.
 - The files of a closed day are made from its journal, each under a temporary name, synced and then renamed: first the head, then the

@@ -148,6 +148,15 @@ class Folder:
 
         return receipts.key_read(self.file(KEY), signing.private)
 
+    def public_text(self, key):
+        """The public half of the office's key, as its file has it. Ends the tool if the file is of another key."""
+        from ..seal import signing
+
+        found = self.file(PUBLIC).read_bytes()
+        if found.split() != signing.public_text(key).split():
+            raise command.Stop(f"{command.shown(self.file(PUBLIC))} isn't the public key of {KEY}: put back the file that was changed")
+        return found.decode("ascii")
+
     def days(self):
         """The folder of each day, by its name."""
         with contextlib.suppress(FileNotFoundError):

@@ -6,17 +6,22 @@ import os
 import threading
 
 from ..seal import heads, signing
+from . import folder
+from .ledger import Contradiction
 
 PAUSE = 0.2  # seconds
 
 
 def read(path, key):
-    """The head in a file that this key has signed. None without the file, or if it isn't whole: a crash may leave it so."""
+    """The head in a file. None without the file, or if it isn't whole: a crash may leave it so. Ends with a contradiction if it is whole,
+    and this key hasn't signed it: the office would sign a day with two keys."""
     try:
         head, _ = heads.parsed(path.read_bytes(), heads.head_read)
     except (FileNotFoundError, heads.Wrong):
         return None
-    return head if signing.is_signed(key.public_key(), head) else None
+    if not signing.is_signed(key.public_key(), head):
+        raise Contradiction(f"OtherKey: the head in {path.name} isn't signed by {folder.KEY}, or was changed")
+    return head
 
 
 class Newest:

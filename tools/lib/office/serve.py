@@ -20,6 +20,7 @@ from aiohttp import web
 from ..runs import engine
 from ..tool import command
 from . import folder, guards, observed, tokens
+from .desk import how_ended
 from .gate import Clock, Gate
 from .web import Web
 
@@ -29,6 +30,8 @@ STOP_SECONDS = 3  # that open requests get at the end
 BACKLOG = 128  # connections that wait to be accepted
 TLS_BYTES = 1 << 15  # that a connection reads at once; asyncio reserves eight times as many for each
 KEEP_SECONDS = 10  # that a connection stays open without a request
+EMPTY_DAY = b"day,24,,,,,,,\nclose,,,,,,,,\n"
+TRIAL_SECONDS = 600  # that it may take to clear: a clone may compile its program first
 DESK_BUILT = engine.TOP / "crates" / "dam_desk" / "out" / "dam_desk"
 
 
@@ -73,9 +76,26 @@ def desk_program(named=None, may_compile=False):
     return runnable(path or (compiled("dam_desk") if may_compile else None), "dam-desk", "--desk")
 
 
+def try_dam(path):
+    """Clears an empty day: a program that can't, or is another one, ends the office now, not at the close."""
+    try:
+        ran = subprocess.run([path, "clear"], input=EMPTY_DAY, stdout=subprocess.PIPE, timeout=TRIAL_SECONDS)
+    except OSError as wrong:
+        fault = wrong.strerror
+    except subprocess.TimeoutExpired:
+        fault = f"it took more than {TRIAL_SECONDS} s"
+    else:
+        if not ran.returncode and engine.RESULTS.match(ran.stdout):
+            return
+        fault = f"it {how_ended(ran.returncode)}" if ran.returncode else "it printed no results"
+    raise command.Stop(f"the program dam didn't clear an empty day: {command.shown(path)}: {fault}", command.FAILED)
+
+
 def programs(dam=None, desk=None, may_compile=False):
     """The programs that an office runs."""
-    return Programs(dam_program(dam, may_compile), desk_program(desk, may_compile))
+    found = Programs(dam_program(dam, may_compile), desk_program(desk, may_compile))
+    try_dam(found.dam)
+    return found
 
 
 @contextlib.contextmanager
@@ -93,7 +113,8 @@ class Office:
     def __init__(self, files, found, log=None):
         self.files, self.programs = files, found
         self.log, self.counts, self.clock = log or observed.Log(), observed.Counts(), Clock()
-        self.key, self.public_key = files.key(), files.file(folder.PUBLIC).read_text(encoding="ascii")
+        self.key = files.key()
+        self.public_key = files.public_text(self.key)
         self.register = tokens.Register(files.file(folder.PARTICIPANTS))
         self.register.read()
         self.gates, self.tasks = {}, []

@@ -116,6 +116,7 @@ def make_office(office):
         key = signing.made()
         folder.put(office.file(folder.PUBLIC), signing.public_text(key))
         folder.put(office.file(folder.KEY), signing.private_text(key))
+    office.public_text(office.key())
     if not office.file(folder.PARTICIPANTS).exists():
         folder.put(office.file(folder.PARTICIPANTS), folder.as_json({}))
     os.makedirs(office.file(folder.DAYS), exist_ok=True)

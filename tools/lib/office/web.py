@@ -397,7 +397,7 @@ class Web:
         return jsonl([heads.line(ledger.seal.extension(ledger.head(since), ledger.head()))])
 
     async def prices(self, request):
-        """The results without the orders: the day, the welfare, and each period's price and volume."""
+        """The results without the orders and the welfare: the day, and each period's price and volume."""
         gate = self.gate(request)
         if not gate.published.has_results:
             raise Refused("NotFound", "there are no results yet")
