@@ -191,7 +191,12 @@ async def leave(page, office, who, other, room, counts):
     await sign_in(page, office, other)
     counts.check("nothing of a participant is left", await page.run(LEFT) == NOTHING_LEFT)
     counts.check("and it has no orders or commands", await rows(page, "orders-table") == await rows(page, "commands-table") == [])
-    await click(page, "#sign-out")
+    await write(page, "name", "HALF")
+    await asyncio.to_thread(office.tool, "revoke", office.folder, other)
+    await page.until("!document.getElementById('sign-in').hidden")
+    told = await text(page, "message")
+    ended = "Your token isn't valid any more: the operator has renewed or revoked it.\nYour unfinished order HALF wasn't sent."
+    counts.check(f"a token that ends is told, and what was being written: {told}", told == ended)
     await sign_in(page, office, who)
     await page.until("document.querySelectorAll('#orders-table tbody tr').length")
 
@@ -317,11 +322,16 @@ WRONG = (
     ("price", "-500.01", "from -500.00 to 4000.00 EUR/MWh"),
     ("price", "60.555", "at most 2 digits after the point, and thousands without a separator"),
     ("price", "sixty", "Write a number from -500.00"),
+    ("price", "1,234.5", "Write thousands without a separator."),
+    ("price", "-1.234,50", "Write thousands without a separator."),
+    ("price", "60 EUR", "Write the number without a unit."),
     ("price", "", "Write a number from -500.00"),
     ("volume", "1000000", "It should be from 0.1 to 9999.9 MW"),
     ("volume", "10000", "It should be from 0.1 to 9999.9 MW"),
     ("volume", "0", "It should be from 0.1 to 9999.9 MW"),
-    ("volume", "-5", "It should be from 0.1 to 9999.9 MW"),
+    ("volume", "-5", "It should be from 0.1 to 9999.9 MW, without a sign: choose the side instead."),
+    ("volume", "1 000", "Write thousands without a separator."),
+    ("volume", "5MW", "Write the number without a unit."),
     ("volume", "0.05", "at most 1 digit after the point"),
     ("volume", "", "Write a number from 0.1"),
     ("name", "A_B", "1 to 12 of the characters A to Z, 0 to 9 and -"),
@@ -378,6 +388,10 @@ async def faults(page, counts, pictures):
         told = await text(page, "fill-fault")
         unfilled = "30 MW for periods 11 to 12 isn't filled in: press Fill in, or empty the box."
         counts.check(f"a volume that isn't filled in isn't lost: {told}", told == unfilled and await focused(page) == "fill-volume")
+    await choose(page, "fill-to", 10)
+    await click(page, "#enter")
+    told = await text(page, "fill-fault")
+    counts.check(f"also if its periods are the wrong way round: {told}", told == "Period 11 is after period 10: 30 MW isn't filled in.")
     await choose(page, "fill-volume", "")
     await click(page, "#enter")
     counts.check("a block without volumes", "at least one period" in await text(page, "grid-fault"))
@@ -425,6 +439,12 @@ NEVER = """{ window.real = fetch; window.timeout = setTimeout; setTimeout = (doe
   window.unanswered = 0; fetch = async () => { unanswered += 1; throw new TypeError('lost'); }; }"""
 # What is told of an order of which nobody knows whether it was entered.
 UNSURE = "The office can't be reached. We don't know whether GONE was entered: look in Your orders once it's back."
+# And once the office answers.
+NOT_YET = "The office answers again. GONE isn't among your commands so far: send it again, and it is entered once alone."
+# Enters a command as another tab does, under the number that this one would use.
+OTHER = """fetch(`${own('commands')}/${state.next}`, { method: 'PUT', headers: { Authorization: `Bearer ${state.token}`,
+  'Content-Type': 'application/json' }, body: JSON.stringify([%s]) }).then((answer) => answer.ok)"""
+GONE = "{ what: 'submit', order: 'GONE', kind: 'hour', side: 'sell', price: 100, volumes: [[1, 10]] }"
 
 
 async def lose_an_answer(page, counts):
@@ -450,12 +470,98 @@ async def lose_an_answer(page, counts):
     counts.check("and so does its message", await page.run("unanswered > 0") and await text(page, "message") == UNSURE)
     await page.run("fetch = real; setTimeout = timeout; change(null)")
     await page.run("look()")
-    counts.check("also once the office answers", await text(page, "message") == UNSURE)
+    counts.check(f"until the office answers: {await text(page, 'message')}", await text(page, "message") == NOT_YET)
+    counts.check("an order that comes late", await page.run(OTHER % GONE))
+    await said(page, "GONE entered, on the disk, with a signed receipt.")
+    counts.check("is told by the next look", await page.run("byId('message').className") == "right")
+    await page.run("enter([{ what: 'cancel', order: 'GONE' }])")
+    before += 2
     twice = "(async (one) => await enter([one]) && await enter([one]))({ what: 'amend', order: 'ONCE', price: 100, volumes: [[1, 10]] })"
     counts.check("commands can follow at once", await page.run(twice))
     await page.run("enter([{ what: 'cancel', order: 'a' }])")
     counts.check("a command that the office refuses is named", (await text(page, "message")).startswith("a wasn't cancelled: "))
     await until_rows(page, "commands-table", before + 3)
+    await two_tabs(page, counts)
+
+
+ONCE = "{ what: 'amend', order: 'ONCE', price: %d, volumes: [[1, 10]] }"
+
+
+async def two_tabs(page, counts):
+    """What another tab of the participant does in the meantime is told before it is lost."""
+    await click(page, '[aria-label="Amend ONCE"]')
+    await page.run("look()")
+    counts.check("an order that stays as it is isn't overtaken", await text(page, "overtaken") == "")
+    counts.check("another tab amends", await page.run(OTHER % (ONCE % 900)))
+    await page.until("byId('overtaken').textContent")
+    told = await text(page, "overtaken")
+    words = "ONCE was changed in the meantime: in the book its limit is 9.00 EUR/MWh, and its volumes by period are 1: 1.0 MW."
+    counts.check(f"an order that is changed meanwhile: {told}", told == words)
+    await write(page, "price", "2")
+    await click(page, "#enter")
+    await page.until("byId('sure').open")
+    counts.check("isn't amended without a question", "Amend it to the values of this form?" in await text(page, "sure-words"))
+    await click(page, "#no")
+    await page.until("document.activeElement.id === 'price'")
+    counts.check("to which no is an answer", (await rows(page, "commands-table"))[0][6] == "9.00")
+    await click(page, "#enter")
+    await page.until("byId('sure').open")
+    await click(page, "#yes")
+    await said(page, "ONCE amended")
+    counts.check("and so is yes", await text(page, "overtaken") == "")
+    await page.until("byId('commands-table').querySelector('tbody tr').cells[6].textContent === '2.00'")
+    await page.run("state.next = 1; enter([%s])" % (ONCE % 100))  # as if no look had seen a command
+    same = "ONCE wasn't amended: another command of yours came first. Look in Your commands, and send it again."
+    counts.check(f"commands at the same time: {await text(page, 'message')}", await text(page, "message") == same)
+    counts.check("and sent again", await page.run("enter([%s])" % (ONCE % 100)))
+    counts.check("another tab enters", await page.run(OTHER % GONE))
+    await page.until("inBook('GONE')")
+    await click(page, '[aria-label="Amend GONE"]')
+    counts.check("another tab cancels", await page.run(OTHER % "{ what: 'cancel', order: 'GONE' }"))
+    await page.until("byId('overtaken').textContent === `GONE isn't in the book any more.`")
+    await click(page, "#keep")
+    counts.check("a form that is left has no such words", await text(page, "overtaken") == "")
+    await silence(page, counts)
+
+
+# Answers no more, until it is told to.
+HELD = """{ window.real = fetch; fetch = async (path, how) => { await new Promise((done, fail) => { (window.release ??= []).push(done);
+  how?.signal?.addEventListener('abort', () => fail(how.signal.reason)); }); return real(path, how); }; }"""
+
+
+async def silence(page, counts):
+    """An office that takes the connection and doesn't answer."""
+    await page.run("look()")
+    await page.run(HELD)
+    await page.run("enter([%s]); undefined" % (ONCE % 200))
+    await said(page, "ONCE is being sent: the office hasn't answered yet.")
+    await page.until("state.looks === state.visit")
+    await said(page, "The office can't be reached.")
+    counts.check("a look isn't waited for without end", await page.run("byId('message').className") == "wrong")
+    await page.run("fetch = real; release.forEach((done) => done()); undefined")
+    await said(page, "ONCE amended")
+    await page.until("byId('commands-table').querySelector('tbody tr').cells[6].textContent === '2.00'")
+    asks = "(() => { const one = new Event('beforeunload', { cancelable: true }); dispatchEvent(one); return one.defaultPrevented; })()"
+    counts.check("a page without orders that are half written can be left", not await page.run(asks))
+    await write(page, "name", "HALF")
+    counts.check("one with such isn't without a question", await page.run(asks))
+    await other_day(page, counts)
+    await page.run("change(null)")
+
+
+async def other_day(page, counts):
+    """Another day isn't shown before the participant knows that an order is lost."""
+    await page.run("say(''); options(byId('days'), [state.day, '2099-01-01'].map((day) => [day, day]))")
+    for answer, told in (("no", ""), ("yes", "There is no such day.")):
+        await page.run("byId('days').value = '2099-01-01'; byId('days').dispatchEvent(new Event('change'))")
+        asked = await page.run("[byId('sure').open, byId('sure-words').textContent]")
+        words = f"Your unfinished order HALF wasn't sent. Leave {await page.run('state.day')} without it?"
+        counts.check(f"another day is asked for: {asked}", asked == [True, words])
+        await click(page, f"#{answer}")
+        await page.until(f"!byId('sure').open && byId('message').textContent === '{told}'")
+        kept = await page.run("[byId('days').value === state.day, byId('name').value]")
+        counts.check(f"{answer} is an answer: {kept}", kept == [True, "HALF"])
+    await page.run("options(byId('days'), [[state.day, state.day]])")
 
 
 # --- tables
@@ -570,9 +676,12 @@ async def results(page, office, who, other, counts):
     saved = (await page.run("csv(state.results)")).splitlines()
     counts.check(f"the results can be saved: {saved[1]}", saved[1].startswith("UNIT-8,hour,sell,61,8,50.1,,,in part,30,1830,at-the-price,"))
     counts.check("a cell isn't a formula", await page.run("[field('-A'), field(-1), field('a,\"b')].join(' ')") == "'-A -1 \"a,\"\"b\"")
+    days = await page.run("[...byId('days').options].map((one) => one.textContent)")
+    counts.check(f"the list of days says that it is closed: {days}", days == [f"{office.day} (results)"])
     counts.check("a demo's button isn't there", await page.run("byId('demo-close').hidden"))
     wrong = await page.run(STOPS)
     counts.check(f"the keyboard stops at tables that scroll, and at no others: {wrong}", wrong == [])
+    counts.check("ties are explained", "in the order of the book" in await text(page, "results"))
     counts.check("nothing of another's", f"{other}," not in await page.run("document.body.textContent"))
     counts.check("orders can't be entered any more", await page.run("document.getElementById('entry').hidden"))
     counts.check("the journal isn't offered", await page.run("byId('journal').hidden") and "hasn't" in await text(page, "no-journal"))
@@ -617,8 +726,9 @@ async def scene(office, counts, pictures, room):
         await results(page, office, who, other, counts)
         await shown(page, counts, pictures, "results")
         await sign_in_again(page, office, who, counts)
-        # a wrong token, a table that can't be read and many tables are answers that the browser notes
-        found = [fault for fault in page.faults if not any(status in fault for status in ("400", "401", "429"))]
+        # a wrong token, a table that can't be read, a day that there isn't, a number that is used and many tables are answers that the
+        # browser notes
+        found = [fault for fault in page.faults if not any(status in fault for status in ("400", "401", "404", "409", "429"))]
         counts.check(f"no script fails, and the policy refuses nothing: {found}", not found)
 
 
@@ -652,7 +762,7 @@ async def length_scene(page, office, periods, counts):
     (row,), prices = await rows(page, "statement"), await rows(page, "prices")
     energy = f"{9_999.9 * periods * float(rules.DAYS[periods]):,.1f}"
     counts.check(f"{energy} MWh of {periods} periods: {row}", row[5:7] == [energy, "0.0"] and row[9] == "paradoxically rejected")
-    words = "at the prices, but with it, a block would lose, a period wouldn't balance, or the welfare wouldn't be greater"
+    words = "at the prices, but if it were accepted, a block would lose, a period wouldn't balance, or the welfare wouldn't be greater"
     counts.check(f"its reason tells nothing of other orders: {row[10]}", row[10].endswith(words))
     begins = [f"{number} ({clock.begins(periods, number)})" for number in range(1, periods + 1)]
     counts.check(f"the prices of {periods} periods", [one[0] for one in prices] == begins)

@@ -899,7 +899,7 @@ class Requests(unittest.TestCase):
         changes = b"what,participant,order,price_eur_mwh,periods,volume_mw\namend,GAS,A,12.50,8-9,30\ncancel,GAS,B,,,\n"
         self.assertEqual(requests.table_records(changes, "GAS", 24)[0], ["amend,GAS,A,,,1250,8:300;9:300,,", "cancel,GAS,B,,,,,,"])
         for data, words in (
-            (table.replace(b"GAS", b"OIL"), "1 command of other participants than GAS: the first one is of A of OIL$"),
+            (table.replace(b"GAS", b"OIL"), "1 command of other participants than GAS: the first one is for A of OIL$"),
             (table[: table.index(b"GAS")], "^the table has no order below its first line$"),
             (table.replace(b",8,", b",25,"), "there is no period 25$"),
             (table.replace(b",8,", b",2026-08-10,"), "such as 8, 8-20 or 1;3;5-7, from 1 to 24: a spreadsheet has taken it for a date"),

@@ -123,6 +123,10 @@ class Times(unittest.TestCase):
             ("07:00-24:01", "no period of the day ends at 24:01"),
             ("08:00-07:00", "'08:00-07:00': 07:00 isn't after 08:00"),
             ("07:00", "'07:00' should be two clock times, such as 07:00-08:00"),
+            ("8:00", "'8:00' should be two clock times, such as 08:00-09:00"),
+            ("23:00", "'23:00' should be two clock times, such as 23:00-24:00"),
+            ("24:00", "'24:00' should be two clock times, such as 07:00-08:00"),
+            ("8:60", "'8:60' should be two clock times, such as 07:00-08:00"),
             ("08:00-09:00;07:00-08:00", "the periods '08:00-09:00;07:00-08:00' should increase"),
             ("2026-08-20", "a spreadsheet has taken it for a date, so make the cell one of text"),
         ):

@@ -24,7 +24,7 @@ NAMES = r"[A-Z0-9-]+(?:, [A-Z0-9-]+)*(?: and [A-Z0-9-]+)?"
 OWN_GAIN = re.compile(rf"(?:with {NAMES} it )?would gain (?:nothing|[0-9.,]+ EUR) at the prices")
 # How it goes on, by its code, until the journal is published. The published words compare the result with another selection: its welfare,
 # its losses and the periods that don't balance tell others' limits and volumes. Five reasons are one, since each tells something too.
-MOST_GAIN = "but with it, a block would lose, a period wouldn't balance, or the welfare wouldn't be greater"
+MOST_GAIN = "but if it were accepted, a block would lose, a period wouldn't balance, or the welfare wouldn't be greater"
 HIDDEN = {
     decisions.GROUP: "but another block of its group, or of the group of a block that it needs, is accepted",
     decisions.PARENT: "but a block that it needs would lose even with it",

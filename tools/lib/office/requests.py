@@ -137,7 +137,7 @@ def table_records(data, who, periods, orders=()):
     others = [command for command in commands if command.who != who]
     if others:
         of_others = f"the table has {text.counted(len(others), 'command')} of other participants than {who}"
-        raise Wrong(f"{of_others}: the first one is of {others[0].name} of {others[0].who}")
+        raise Wrong(f"{of_others}: the first one is for {others[0].name} of {others[0].who}")
     if not commands:
         raise Wrong("the table has no command")
     return list(map(journal.command_line, commands)), notes

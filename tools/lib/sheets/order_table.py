@@ -22,6 +22,7 @@ MOST_ERRORS = 20
 MOST_ROWS = rules.MOST_RECORDS - 1  # after the first one: as many as a journal has commands
 ALIKE = 0.75  # a column whose name is at least so similar to one that is missing is probably meant to be that
 TIMES = re.compile(r"([0-9]{1,2}:[0-9]{2})-([0-9]{1,2}:[0-9]{2})")
+TIME = re.compile(r"([0-9]{1,2}):([0-5][0-9])")
 DATE = re.compile(r"[0-9]{4}-[0-9]{2}-[0-9]{2}")
 
 # Why the book refuses an order that is right in itself.
@@ -152,6 +153,13 @@ def read_numbers(cell, periods):
         raise Wrong(f"{text.quoted(cell)} should be {fault}{hint}") from None
 
 
+def an_hour_from(cell):
+    """The clock times of an hour: the one that begins at a cell, if it is a time."""
+    found = TIME.fullmatch(cell)
+    hour, minute = (int(found[1]), found[2]) if found and int(found[1]) < 24 else (7, "00")
+    return f"{hour:02}:{minute}-{hour + 1:02}:{minute}"
+
+
 def read_times(cell, periods):
     """The periods between clock times."""
     numbers, spans_of_time = [], parts(cell)
@@ -159,7 +167,7 @@ def read_times(cell, periods):
     for part in spans_of_time:
         found = TIMES.fullmatch(part)
         if not found:
-            raise Wrong(f"{text.quoted(part)} should be two clock times, such as 07:00-08:00")
+            raise Wrong(f"{text.quoted(part)} should be two clock times, such as {an_hour_from(part)}")
         try:
             numbers += clock.periods_between(periods, *(time.zfill(5) for time in found.groups()))
         except ValueError as fault:

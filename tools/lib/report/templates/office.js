@@ -3,11 +3,14 @@
 const REASONS = {{ reasons }};
 const RULES = {{ rules }};
 const LOOK = 2000; // milliseconds between two looks at the day
+const PATIENCE = 10_000; // milliseconds that a look waits for an answer
+const SLOW = 1000; // milliseconds after which it is told that an answer is waited for
 const RETRIES = 5; // of a command whose answer didn't come: the same number can't enter it twice
 const MOST_REFUSED = 10; // that a message names
 const TOLD = [[600, "10 minutes"], [60, "1 minute"]]; // when the time left is announced
 const NOBODY = {
-  token: "", next: 1, count: -1, share: "", orders: [], changes: null, draft: null, read: [], results: [], awaits: false, last: { kind: "hour", side: "buy" },
+  token: "", next: 1, count: -1, share: "", orders: [], changes: null, amended: null, draft: null, read: [], results: [], awaits: false, unsure: null,
+  last: { kind: "hour", side: "buy" },
 };
 const OWN = ["orders-table", "commands-table", "statement", "prices", "position", "totals", "figures", "groups", "unsent"]; // what is shown of it
 const state = {
@@ -134,6 +137,13 @@ function signOut() {
   byId("token").focus();
 }
 
+// The office doesn't know the token any more.
+function endToken() {
+  const words = ["Your token isn't valid any more: the operator has renewed or revoked it.", ...toLose()];
+  signOut();
+  say(words.join("\n"), "wrong");
+}
+
 function show() {
   byId("sign-in").hidden = state.token !== "";
   byId("signed-in").hidden = state.token === "";
@@ -162,6 +172,21 @@ async function days() {
   }
 }
 
+// Another day is chosen: asks first if an order or a table would be lost.
+async function changeDay() {
+  const lost = toLose();
+  const chosen = byId("days").value;
+  byId("days").value = state.day;
+  if (lost.length && !(await sure(`${lost.join(" ")} Leave ${state.day} without it?`, `Leave ${state.day}`))) return;
+  try {
+    await choose(chosen);
+    byId("days").value = chosen;
+    await look();
+  } catch (fault) {
+    sayFault(fault);
+  }
+}
+
 async function choose(day) {
   state.visit += 1;
   const known = await json(`/days/${day}`);
@@ -186,6 +211,7 @@ function showDay() {
   const timeStyle = ends.getUTCSeconds() ? "medium" : "short"; // a demo closes at a second
   const closes = ends.toLocaleString("en-GB", { timeZone: day.zone, dateStyle: "medium", timeStyle });
   const when = isOpen() ? `It closes on ${closes} (${day.zone}).` : `It is ${day.state === "stopped" ? "stopped" : "closed"}.`;
+  for (const option of byId("days").options) if (option.value === day.day) option.textContent = `${day.day} (${day.state})`;
   byId("where").textContent = `Delivery day ${day.day}, ${day.periods} periods. ${when}`;
   for (const part of document.querySelectorAll(".zone")) part.textContent = day.zone;
   figures([
@@ -226,7 +252,7 @@ async function look() {
   state.looks = visit;
   try {
     const before = state.known;
-    const found = await json(`/days/${state.day}`);
+    const found = await json(`/days/${state.day}`, { signal: AbortSignal.timeout(PATIENCE) });
     found.until = performance.now() + 1000 * found.seconds_left;
     state.known = found;
     if (before.state === "open" && !isOpen()) end();
@@ -237,23 +263,31 @@ async function look() {
     if (state.about === "look") say("");
     if (isNew) tellResults();
   } catch (fault) {
-    if (fault.fault === "Token") signOut();
-    if (fault.status !== 429 && state.about !== "unsure") sayFault(fault, "look"); // after many requests, the next look comes soon enough
+    if (fault.fault === "Token") endToken();
+    else if (fault.status !== 429 && state.about !== "unsure") sayFault(fault, "look"); // after many requests, the next look comes soon enough
   } finally {
     if (state.looks === visit) state.looks = null;
   }
 }
 
-// The day is closed or stopped: says so, with the orders that were being written.
-function end() {
+// Of each order and table that was being written: that it wasn't sent.
+function unsentLines() {
   const { fields, grid } = state.changes ? state.draft : draft();
-  const unsent = state.about === "unsure" ? [byId("message").textContent] : [];
+  const unsent = [];
   if (state.changes) unsent.push(`The change of ${state.changes} wasn't sent.`);
   const isWritten = WRITTEN.some((id) => fields[id]) || grid.some(Boolean);
   if (isWritten) unsent.push(`Your unfinished order${fields.name && ` ${fields.name}`} wasn't sent.`);
   const count = state.read.length;
   if (count) unsent.push(`The ${counted(count, "row")} of your table ${count === 1 ? "wasn't" : "weren't"} sent.`);
-  byId("unsent").textContent = unsent.join("\n");
+  return unsent;
+}
+
+const toLose = () => (isOpen() ? unsentLines() : []);
+
+// The day is closed or stopped: says so, with what was being written.
+function end() {
+  const unsure = state.about === "unsure" ? [`${unsureWords(state.unsure.commands)}.`] : [];
+  byId("unsent").textContent = [...unsure, ...unsentLines()].join("\n");
   state.count = -1;
   state.awaits = true;
   if (byId("sure").open) byId("sure").close("");
@@ -270,6 +304,7 @@ async function lookAtCommands() {
   const [{ orders }, all] = await Promise.all([json(own("orders")), json(own("commands"))]);
   Object.assign(state, { orders, next: Math.max(state.next, all.next), count: all.next - 1 });
   showOrders();
+  if (state.about === "unsure") tellUnsure(all.commands);
   const later = laterWords(all.commands);
   const rows = all.commands.reverse().map(({ number, entry, record, reply }) => {
     const command = commandOf(record);
@@ -296,15 +331,18 @@ function showOrders() {
   const blocks = state.orders.filter((order) => order.kind === "block");
   options(byId("parent"), [["", "none"], ...blocks.map((order) => [order.order, order.order])]);
   byId("groups").replaceChildren(...[...new Set(blocks.map((order) => order.group).filter(Boolean))].map((value) => element("option", { value })));
+  byId("overtaken").textContent = overtakenWords();
 }
 
 // --- entering
 
-// The answer of a request, which is sent again if none comes, or if the office can't answer it yet.
-async function answered(path, how) {
+// The answer of a request, which is sent again if none comes, or if the office can't answer it yet. The words are said while it is waited for.
+async function answered(path, how, words) {
+  const { visit } = state;
   for (let time = 1; ; time += 1) {
+    const waits = setTimeout(() => visit === state.visit && say(words), SLOW);
     try {
-      return await ask(path, how);
+      return await ask(path, how).finally(() => clearTimeout(waits));
     } catch (fault) {
       if (time === RETRIES || fault.fault === "Left" || ![0, 429, 503].includes(fault.status)) throw fault;
       say(`${sentence(fault.message)}; trying again`, "wrong");
@@ -313,10 +351,11 @@ async function answered(path, how) {
   }
 }
 
-async function put(commands) {
-  const body = JSON.stringify(commands);
-  const number = state.next; // of all tries, also if a look finds the command entered in the meantime
-  const text = await answered(`${own("commands")}/${number}`, { method: "PUT", body, headers: { "Content-Type": "application/json" } });
+// The number is that of all tries, also if a look finds the command entered in the meantime.
+async function put(commands, number) {
+  const how = { method: "PUT", body: JSON.stringify(commands), headers: { "Content-Type": "application/json" } };
+  const { subject, is } = namesOf(commands);
+  const text = await answered(`${own("commands")}/${number}`, how, `${subject} ${is} being sent: the office hasn't answered yet.`);
   const receipts = text.trim().split("\n").map((line) => JSON.parse(line));
   state.next = Math.max(state.next, number + receipts.length);
   return receipts;
@@ -338,12 +377,37 @@ function outcomeWords(commands, receipts) {
 
 const UNSURE = [0, 503]; // of an answer after which a command may be entered
 
-// Of commands that the office refuses, or of which no answer came.
-function failureWords(commands, { status, message }) {
+// What a message calls commands.
+function namesOf(commands) {
   const [{ what, order }] = commands;
-  const [subject, was, does] = commands.length === 1 ? [order, "was", DONE[what]] : [`The ${commands.length} commands`, "were", "entered"];
-  if (!UNSURE.includes(status)) return `${subject} ${was}n't ${does}: ${message}.`;
-  return `${sentence(message)}. We don't know whether ${subject.replace("The ", "the ")} ${was} ${does}: look in Your orders once it's back.`;
+  if (commands.length === 1) return { subject: order, is: "is", was: "was", done: DONE[what] };
+  return { subject: `The ${commands.length} commands`, is: "are", was: "were", done: "entered" };
+}
+
+// Of commands that the office refuses, or of which no answer came.
+function failureWords(commands, { status, fault, message }) {
+  const { subject, was, done } = namesOf(commands);
+  const why = fault === "NumberUsed" ? "another command of yours came first. Look in Your commands, and send it again" : message;
+  if (!UNSURE.includes(status)) return `${subject} ${was}n't ${done}: ${why}.`;
+  return `${sentence(message)}. ${unsureWords(commands)} once it's back.`;
+}
+
+function unsureWords(commands) {
+  const { subject, was, done } = namesOf(commands);
+  return `We don't know whether ${subject.replace("The ", "the ")} ${was} ${done}: look in Your orders`;
+}
+
+// Says what became of commands of which no answer came. A command that isn't there yet may be sent again: it keeps its number.
+function tellUnsure(all) {
+  const { commands, number } = state.unsure;
+  const own = all.slice(number - 1, number - 1 + commands.length);
+  const found = own.filter(({ record }, at) => commandOf(record).what === commands[at].what && commandOf(record).order === commands[at].order);
+  if (found.length === commands.length) return say(...outcomeWords(commands, found));
+  const { subject, is } = namesOf(commands);
+  const words = found.length
+    ? `${found.length} of ${subject.replace("The ", "the ")} are in the book so far: look in Your commands.`
+    : `The office answers again. ${subject} ${is}n't among your commands so far: send it again, and it is entered once alone.`;
+  say(words, "wrong", "unsure");
 }
 
 // Enters commands, and looks again. Only if it isn't known what became of them, the look is waited for. Returns whether all are done; null
@@ -357,13 +421,17 @@ async function enter(commands) {
     await look();
   };
   for (const part of parts) part.disabled = true;
+  const number = state.next;
   try {
-    const [words, kind] = outcomeWords(commands, await put(commands));
+    const [words, kind] = outcomeWords(commands, await put(commands, number));
     say(words, kind);
     again();
     return kind === "right";
   } catch (fault) {
-    if (fault.fault !== "Left") say(failureWords(commands, fault), "wrong", UNSURE.includes(fault.status) ? "unsure" : "");
+    if (fault.fault !== "Left") {
+      state.unsure = { commands, number };
+      say(failureWords(commands, fault), "wrong", UNSURE.includes(fault.status) ? "unsure" : "");
+    }
     await again();
     return null;
   } finally {
@@ -406,9 +474,11 @@ function showKind() {
 
 // A volume that was written, and not filled in, would be lost.
 function unfilledRule(words) {
-  const [from, to] = ["fill-from", "fill-to"].map((id) => byId(id).value);
+  const [from, to] = ["fill-from", "fill-to"].map((id) => Number(byId(id).value));
+  if (!words) return { value: null };
+  if (from > to) return { fault: `Period ${from} is after period ${to}: ${words} MW isn't filled in.` };
   const where = from === to ? `period ${from}` : `periods ${from} to ${to}`;
-  return words ? { fault: `${words} MW for ${where} isn't filled in: press Fill in, or empty the box.` } : { value: null };
+  return { fault: `${words} MW for ${where} isn't filled in: press Fill in, or empty the box.` };
 }
 
 function fill() {
@@ -460,7 +530,8 @@ function restore({ kind, fields, grid }) {
 // with the kind, side and periods of the last one.
 function change(order) {
   if (order && !state.changes) state.draft = draft();
-  state.changes = order?.order ?? null;
+  Object.assign(state, { changes: order?.order ?? null, amended: order });
+  byId("overtaken").textContent = "";
   for (const id of [...WRITTEN, "parent"]) byId(id).value = "";
   for (const input of cells()) input.value = "";
   for (const input of byId("order-form").querySelectorAll("[aria-invalid]")) mark(input, "");
@@ -493,11 +564,25 @@ function fillWith({ order, kind, price, volumes, parent, group }) {
   for (const [period, volume] of volumes) byId("grid").querySelector(`input[data-period="${period}"]`).value = fixed(volume, 1);
 }
 
+const inBook = (name) => state.orders.find(({ order }) => order === name);
+const isAsBefore = (order) => orderCells(order).join() === orderCells(state.amended).join();
+
+// What became of the order that is being changed, by another tab or program; empty if it is as it was.
+function overtakenWords() {
+  if (!state.changes) return "";
+  const order = inBook(state.changes);
+  if (!order) return `${state.changes} isn't in the book any more.`;
+  const [, , limit, volumes] = orderCells(order);
+  return isAsBefore(order) ? "" : `${state.changes} was changed in the meantime: in the book its limit is ${limit} EUR/MWh, and its volumes by period are ${volumes} MW.`;
+}
+
 async function enterOrder(event) {
   event.preventDefault();
   say("");
   const made = command();
   if (!made) return say("Nothing was sent: look at the marked fields.", "wrong", "fields");
+  const overtaken = inBook(state.changes) ? overtakenWords() : "";
+  if (overtaken && !(await sure(`${overtaken} Amend it to the values of this form?`, `Amend ${state.changes}`))) return byId("price").focus();
   if (await enter([made])) {
     if (made.what === "submit") state.last = { kind: made.kind, side: made.side };
     change(null);
@@ -538,7 +623,7 @@ async function upload(event) {
   byId("read-file").disabled = true;
   try {
     const how = { method: "POST", body: await bytesOf(file), headers: { "Content-Type": "application/octet-stream" } };
-    const { records, notes } = JSON.parse(await answered(own("tables"), how));
+    const { records, notes } = JSON.parse(await answered(own("tables"), how, byId("message").textContent));
     state.read = records.map(commandOf);
     const rows = state.read.map((command, at) => [String(at + 1), command.what === "submit" ? "enter" : command.what, command.order, ...orderCells(command)]);
     byId("read-table").replaceChildren(table("What the table says; nothing is entered yet", [["", "n"], ["does"], ["order"], ...ORDER_HEADS], rows));
@@ -626,7 +711,7 @@ byId("sign-in-form").addEventListener("submit", (event) => { event.preventDefaul
 byId("sign-out").addEventListener("click", signOut);
 byId("receipts").addEventListener("click", download);
 byId("results-table").addEventListener("click", () => save(csv(state.results), "text/csv", `${who()}-${state.day}.csv`));
-byId("days").addEventListener("change", () => choose(byId("days").value).then(look, (fault) => { byId("days").value = state.day; sayFault(fault); }));
+byId("days").addEventListener("change", changeDay);
 byId("close-now").addEventListener("click", closeNow);
 for (const id of ["yes", "no"]) byId(id).addEventListener("click", () => byId("sure").close(id));
 byId("kinds").addEventListener("change", showKind);
@@ -665,6 +750,9 @@ byId("file").addEventListener("change", () => {
 byId("enter-all").addEventListener("click", enterAll);
 byId("drop").addEventListener("click", () => { drop(); say(""); byId("file").focus(); });
 
+addEventListener("beforeunload", (event) => {
+  if (state.token && state.known && toLose().length) event.preventDefault(); // the browser asks
+});
 setInterval(look, LOOK);
 setInterval(tick, 500);
 begin();

@@ -148,15 +148,21 @@ function laterWords(commands) {
 
 // --- the fields of the form: each has a rule, which gives its value or its fault in words
 
+const HAS_UNIT = /\d\s*[a-z\u20ac]/i;
+const HAS_THOUSANDS = /\d[\s.,'\u2019]\d{3}/;
+
 function numberRule(digits, least, greatest, unit) {
   const ends = [least, greatest].map((value) => fixed(value, digits)).join(" to ");
   const range = `from ${ends} ${unit}`;
   const rule = (words) => {
     const [, sign, whole, rest = ""] = /^([-\u2212]?)(\d+)(?:[.,](\d+))?$/.exec(words) ?? [];
+    if (whole === undefined && HAS_UNIT.test(words)) return { fault: "Write the number without a unit." };
+    if (whole === undefined && HAS_THOUSANDS.test(words)) return { fault: "Write thousands without a separator." };
     if (whole === undefined) return { fault: `Write a number ${range}${words ? `, such as ${fixed(greatest / 8, digits)}` : ""}.` };
     if (rest.length > digits) return { fault: `Write at most ${counted(digits, "digit")} after the point${rest.length === 3 ? ", and thousands without a separator" : ""}.` };
     const value = Number(`${sign && "-"}${whole}${rest.padEnd(digits, "0")}`);
-    return least <= value && value <= greatest ? { value } : { fault: `It should be ${range}.` };
+    const side = value < 0 && least > 0 ? ", without a sign: choose the side instead" : "";
+    return least <= value && value <= greatest ? { value } : { fault: `It should be ${range}${side}.` };
   };
   return Object.assign(rule, { ends });
 }

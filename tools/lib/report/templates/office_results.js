@@ -46,7 +46,7 @@ function position(rows) {
 function showPosition(rows) {
   const heads = [["period"], ["bought, MW", "n"], ["sold, MW", "n"], ["net, MW", "n"]];
   const cells = position(rows).map(([period, { buy, sell }]) => [periodWords(period), grouped(buy, 1), grouped(sell, 1), signed((buy - sell) / 10, 1)]);
-  byId("position").replaceChildren(...(cells.length ? [table("What you bought (+) and sold (\u2212) in each period", heads, cells, false)] : []));
+  byId("position").replaceChildren(...(cells.length ? [table("What you bought and sold in each period; net is bought less sold", heads, cells, false)] : []));
 }
 
 function showPrices(text) {
