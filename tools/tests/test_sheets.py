@@ -2,6 +2,7 @@
 
 import csv
 import io
+import os
 import tempfile
 import unittest
 from pathlib import Path
@@ -382,6 +383,18 @@ class Tolerance(unittest.TestCase):
             for words in (["--template", path, path], ["--template", path, "--journal"], ["--template", "a.csv"], ["--journal"]):
                 self.assertEqual(tool("table", *words)[0], command.COMMAND_LINE)
             self.assertEqual(tool("table", "--template", "/nowhere/a.xlsx")[0], command.NO_INPUT)
+
+    @WITH_EXCEL
+    def test_a_template_that_was_filled_in_stays(self):
+        with tempfile.TemporaryDirectory() as folder:
+            path, link = Path(folder, "orders.xlsx"), Path(folder, "link.xlsx")
+            path.write_bytes(b"filled in")
+            link.symlink_to("gone.xlsx")
+            for place in (path, link):
+                status, out, err = tool("table", "--template", place)
+                said = f"table: {place} is there already, and may have been filled in: write to another file\n"
+                self.assertEqual((status, out, err), (command.COMMAND_LINE, b"", said))
+            self.assertEqual((path.read_bytes(), sorted(os.listdir(folder))), (b"filled in", ["link.xlsx", "orders.xlsx"]))
 
 
 class Statement(unittest.TestCase):

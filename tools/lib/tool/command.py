@@ -251,6 +251,12 @@ def is_same(path, other):
         return False
 
 
+def refuse_to_replace(path):
+    """Ends the tool if there is a file that somebody may have filled in."""
+    if os.path.lexists(path):
+        raise Stop(f"{shown(path)} is there already, and may have been filled in: write to another file", COMMAND_LINE)
+
+
 def refuse_inputs(path, *inputs):
     """Ends the tool if it is to write over a file that it reads; the inputs that aren't given are None."""
     if any(other is not None and is_same(path, other) for other in inputs):
