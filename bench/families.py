@@ -2,11 +2,11 @@
 """The search on hard books with 24 blocks, on days of 24 periods, under three plans, compared with a plain twin of the search and with
 HiGHS.
 
-HiGHS finds the same selection by adding cuts that exclude losing selections. A plan is a number of workers and a cut; `2 3` is the default. No run has a limit on nodes: with one that can stop a search, `dam` counts
-nodes by a weaker bound, and is slower. The twin's bounds are by prices, as those of `dam` are, and a selection is a set of bits in both.
-`dam` reads and prints more than the twin does, which counts in a search of a few milliseconds. HiGHS is asked only for the greatest
-welfare, and not for the tie rule. A run ends after 60 s, and HiGHS after 20 s, or after the seconds of LIMIT and HIGHS_LIMIT in the
-environment."""
+HiGHS finds the same selection by adding cuts that exclude losing selections. A plan is a number of workers and a cut; `2 3` is the
+default. No run has a limit on nodes: with one that can stop a search, `dam` counts nodes by a weaker bound, and is slower. The twin's
+bounds are by prices, as those of `dam` are, and a selection is a set of bits in both. `dam` reads and prints more than the twin does, which
+counts in a search of a few milliseconds. HiGHS is asked only for the greatest welfare, and not for the tie rule. A run ends after 60 s, and
+HiGHS after 20 s, or after the seconds of LIMIT and HIGHS_LIMIT in the environment."""
 
 # families.py [ORDERS [FAMILY..]]: only with this number of orders, and only these families. `bench/run families` builds the files.
 
