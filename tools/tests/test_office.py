@@ -676,9 +676,10 @@ class Closing(Office):
             await given.run()
         self.assertEqual((disk.records, given.state), (["close,,,,,,,,"], "results"))
 
-    async def test_a_published_day_is_that_of_its_head(self):
+    async def closed(self):
+        """A closed day with its files."""
         self.make()
-        with opener(Disk()):
+        with opener(Disk()), mock.patch.object(clearing, "output", mock.AsyncMock(return_value=b"{}")):
             given = self.gate()
             task = asyncio.create_task(given.run())
             await given.is_ready.wait()
@@ -686,7 +687,53 @@ class Closing(Office):
             given.close()
             await task
             await clearing.sign(given)
-        given.files.file(folder.STATEMENT).write_text("{}")
+            await clearing.state(given)
+        return given
+
+    async def test_a_start_sees_results_and_a_statement_that_were_changed(self):
+        files = (await self.closed()).files
+        kept = {name: files.read(name) for name in (folder.RESULTS, folder.STATEMENT, folder.SUMS)}
+
+        async def fault():
+            again = self.gate()
+            await again.run()
+            return again.fault
+
+        self.assertIsNone(await fault())
+        for name, damages in (
+            (folder.RESULTS, (b"x", kept[folder.RESULTS] + b"\n")),
+            (folder.STATEMENT, (b"", b"{} ", b"\xff")),
+            (folder.SUMS, (b"", b"[]", b"{}", b"\xff", kept[folder.SUMS][:-9])),
+        ):
+            for damage in damages:
+                files.file(name).write_bytes(damage)
+                with self.subTest(name=name, damage=damage):
+                    self.assertEqual(await fault(), f"{name} isn't as it was made")
+            files.file(name).write_bytes(kept[name])
+        self.assertIsNone(await fault())
+        files.drop(folder.SUMS)  # as before there were sums
+        self.assertIsNone(await fault())
+
+    async def test_a_statement_has_its_sum_at_any_crash(self):
+        given = await self.closed()
+        kept, put = given.files.read(folder.SUMS), folder.put
+        given.files.drop(folder.SUMS)
+        given.files.drop(folder.STATEMENT)
+
+        def ends(path, data):
+            if path.name == folder.STATEMENT:
+                raise OSError(errno.ENOSPC, "full")
+            put(path, data)
+
+        with mock.patch.object(clearing, "output", mock.AsyncMock(return_value=b"{}")):
+            with mock.patch.object(folder, "put", ends), self.assertRaises(OSError):
+                await clearing.state(given)
+            self.assertEqual((given.files.read(folder.SUMS), given.published.is_whole), (kept, False))
+            await clearing.state(given)
+        self.assertEqual((given.files.read(folder.SUMS), given.published.is_whole), (kept, True))
+
+    async def test_a_published_day_is_that_of_its_head(self):
+        given = await self.closed()
         begins, ends, load = threading.Event(), threading.Event(), clearing.load
 
         def slow(*words):

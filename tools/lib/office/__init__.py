@@ -39,4 +39,5 @@ A crash, of the office, the desk or both, at any moment, neither loses an acknow
 - The close is an entry too: after it there is no other, whatever the clock says. Its time is in the day's terms, and a request to close
   early is a file. So an office that starts after the time closes before it enters anything.
 - The files of a closed day are made from its journal, each under a temporary name, synced and then renamed: first the head, then the
-  results. An office that starts makes those that are missing."""
+  results. An office that starts makes those that are missing, and stops the day if one was changed: the head shows it of the journal and
+  the replies, and a file of sums of the others."""

@@ -2,6 +2,7 @@
 published only if the operator says so."""
 
 import asyncio
+import hashlib
 import itertools
 import json
 import os
@@ -125,7 +126,25 @@ def load(files, ledger):
         raise Contradiction(f"{folder.JOURNAL}, {folder.REPLIES} or {folder.HEAD} is missing or damaged") from None
     if heads.line(ledger.head()) != head:
         raise Contradiction("the published head isn't of the journal next to it, or isn't of this key")
+    check_sums(files)
     return ledger
+
+
+def sum_of(data):
+    return hashlib.sha256(data).hexdigest()
+
+
+def check_sums(files):
+    """Ends with a contradiction if the results or the statement were changed since they were made."""
+    try:
+        sums = json.loads(files.read(folder.SUMS))
+        changed = [name for name in (folder.RESULTS, folder.STATEMENT) if sums[name] != sum_of(files.read(name))]
+    except FileNotFoundError:  # they were made without sums
+        return
+    except (ValueError, KeyError, TypeError):
+        changed = [folder.SUMS]
+    if changed:
+        raise Contradiction(f"{changed[0]} isn't as it was made")
 
 
 async def publish(gate):
@@ -167,6 +186,8 @@ async def state(gate):
         tool = str(place.FOLDER / "table")
         paths = (str(gate.files.file(name)) for name in (folder.JOURNAL, folder.RESULTS))
         made = await output(sys.executable, "-I", "-B", tool, "--rows", "statement", "--json", "--quiet", *paths)
+        sums = {folder.RESULTS: sum_of(gate.files.read(folder.RESULTS)), folder.STATEMENT: sum_of(made)}
+        folder.put(gate.files.file(folder.SUMS), folder.as_json(sums))  # first: a statement that is there has its sum
         folder.put(gate.files.file(folder.STATEMENT), made)
 
 

@@ -16,6 +16,7 @@ from ..tool import command
 KEY, PUBLIC, PARTICIPANTS, LOCK, DAYS = "operator.pem", "operator.pem.pub", "participants.json", "lock", "days"
 TERMS, SALTS, DESK = "terms.json", "salts.json", "desk"  # of a day; the last one is the desk's file
 HEAD, JOURNAL, REPLIES, RESULTS, STATEMENT = "head.json", "journal.csv", "replies.txt", "results.txt", "statement.json"
+SUMS = "sums.json"  # of the results and the statement, as they were made
 SIGNED = "signed-head.json"  # the newest head, while a day is open; HEAD is the last one
 CLOSE_NOW, OPEN_JOURNAL = "close-now", "publish-journal"  # the operator's requests
 STOPPED_DAY = "stopped"  # why the office that is served has stopped the day
