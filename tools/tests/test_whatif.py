@@ -449,9 +449,12 @@ class Tools(unittest.TestCase):
     def test_no_program_and_one_that_fails(self):
         status, out, err = tool("whatif", "limit", "--program", "/nowhere/dam", self.journal, "--participant", "GEN", "--order", "UNIT")
         self.assertEqual((status, out, err), (3, b"", "whatif: /nowhere/dam can't be run: No such file or directory\n"))
-        self.program = self.script("fails", "echo memory >&2; exit 4")
-        for words in (["--order", "UNIT"], ["--all"]):
-            self.assertEqual(self.whatif("limit", self.journal, "--participant", "GEN", *words), (3, b"", "whatif: memory\n"))
+        limit = ["limit", self.journal, "--participant", "GEN"]
+        for end, status in (("exit 1", 3), ("exit 3", 3), ("exit 4", 5), ("exit 5", 5), ("exit 70", 5), ("kill -9 $$", 5)):
+            self.program = self.script("fails", f"echo words >&2; {end}")
+            for words in [*limit, "--order", "UNIT"], [*limit, "--all"], ["change", self.journal, "-"]:
+                with self.subTest(end=end, words=words):
+                    self.assertEqual(self.whatif(*words, data=TABLE + b"cancel,GEN,UNIT,,,,,\n"), (status, b"", "whatif: words\n"))
 
     def test_a_program_that_cant_be_started(self):
         """It isn't a fault of a file if memory or open files run out."""

@@ -32,6 +32,7 @@ MOST_NODES, MOST_ANSWER = 67_108_864, 300_000  # of library/dam.h
 ONE_WORKER = ("clear", "--workers=1", "--cut=0")  # as the library searches: many days share the processors
 RESULTS = re.compile(rb"day,[0-9]+\nwelfare,-?[0-9]+\n")  # the beginning of the results of a day
 LATE, SHORT = "late", "short"  # instead of the status of a run that took too long, or that memory or open files were short for
+FAILURES = (4, 5, 70)  # statuses of `dam` and its launcher that aren't about the journal: see docs/FORMATS.md
 RELAYED = set()  # lines of runs that were passed on
 AHEAD = 2  # texts for each job that wait for a thread
 MOST_AHEAD = 1_024  # texts that wait for an executor
@@ -43,6 +44,10 @@ class Fault(Exception):
     def __init__(self, words, status=None):
         super().__init__(words)
         self.status = status
+
+    def is_failure(self):
+        """Whether the run failed for another reason than the journal: memory, a device, a signal, or a missing program."""
+        return self.status is not None and (self.status < 0 or self.status in FAILURES)
 
 
 class TimedOut(Fault):

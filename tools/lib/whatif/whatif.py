@@ -93,7 +93,7 @@ def main(description, epilog):
 
 
 def status_of(fault):
-    return command.FAILED if isinstance(fault, engine.Exhausted) else command.NO_INPUT
+    return command.FAILED if isinstance(fault, engine.Exhausted) or fault.is_failure() else command.NO_INPUT
 
 
 def check_program(args):
