@@ -215,7 +215,8 @@ async def enter_orders(page, who, counts):
     await until_rows(page, "orders-table", 1)
     first = (await rows(page, "commands-table"))[0]
     counts.check(f"an hourly order: {first}", first == ["1", "enter", "UNIT-8", "done", "hourly", "sell", "60.50", "8: 50.1", "", "2"])
-    counts.check("the entry names the order", await text(page, "message") == "UNIT-8 entered, on the disk, with a signed receipt.")
+    entered = "UNIT-8 entered: sell, 50.1 MW in period 8, at 60.50 EUR/MWh. It is on the disk, with a signed receipt."
+    counts.check("the entry says the order", await text(page, "message") == entered)
     counts.check(
         "the next order has its side, and the focus is on its name",
         await page.run("byId('side').value + document.activeElement.id") == "sellname",
@@ -233,6 +234,8 @@ async def enter_orders(page, who, counts):
     await write(page, "group", "eve")
     await click(page, "#enter")
     await until_rows(page, "orders-table", 2)
+    entered = "RUN entered: block, buy, in periods 8-9, at -3.00 EUR/MWh. It is on the disk, with a signed receipt."
+    counts.check("its message", await text(page, "message") == entered)
     counts.check("a block", (await rows(page, "commands-table"))[0][4:9] == ["block", "buy", "-3.00", "8-9: 30.0", "group EVE"])
     counts.check(
         "the next order is a block too",
@@ -265,7 +268,8 @@ async def change_orders(page, counts):
     await until_rows(page, "commands-table", 4)
     first, *_, last = await rows(page, "commands-table")
     counts.check("an amend", first[1:4] + first[6:8] == ["amend", "UNIT-8", "done", "61.00", "8: 50.1"])
-    counts.check("the message names it", (await text(page, "message")).startswith("UNIT-8 amended, on the disk"))
+    amended = "UNIT-8 amended: 50.1 MW in period 8, at 61.00 EUR/MWh. It is on the disk, with a signed receipt."
+    counts.check("the message says it", await text(page, "message") == amended)
     counts.check("what is changed says by which command of one's own", last[3] == "done; changed by your command 4" and last[-1] == "2")
     await click(page, '[aria-label="Cancel RUN"]')
     await click(page, "#no")
@@ -440,7 +444,7 @@ NEVER = """{ window.real = fetch; window.timeout = setTimeout; setTimeout = (doe
 # What is told of an order of which nobody knows whether it was entered.
 UNSURE = "The office can't be reached. We don't know whether GONE was entered: look in Your orders once it's back."
 # And once the office answers.
-NOT_YET = "The office answers again. GONE isn't among your commands so far: send it again, and it is entered once alone."
+NOT_YET = "The office answers again. GONE isn't among your commands so far: send it again, it can't be entered twice."
 # Enters a command as another tab does, under the number that this one would use.
 OTHER = """fetch(`${own('commands')}/${state.next}`, { method: 'PUT', headers: { Authorization: `Bearer ${state.token}`,
   'Content-Type': 'application/json' }, body: JSON.stringify([%s]) }).then((answer) => answer.ok)"""
@@ -457,7 +461,7 @@ async def lose_an_answer(page, counts):
     await page.key("Enter", 13)
     await page.until("window.lost")
     await page.run("look()")
-    await said(page, "ONCE entered, on the disk")
+    await said(page, "ONCE entered: ")
     counts.check("a command whose answer is lost is entered once", len(await rows(page, "commands-table")) == before + 1)
     await page.run(NEVER)
     await write(page, "name", "GONE")
@@ -472,7 +476,7 @@ async def lose_an_answer(page, counts):
     await page.run("look()")
     counts.check(f"until the office answers: {await text(page, 'message')}", await text(page, "message") == NOT_YET)
     counts.check("an order that comes late", await page.run(OTHER % GONE))
-    await said(page, "GONE entered, on the disk, with a signed receipt.")
+    await said(page, "GONE entered: sell, 1.0 MW in period 1, at 1.00 EUR/MWh. It is on the disk, with a signed receipt.")
     counts.check("is told by the next look", await page.run("byId('message').className") == "right")
     await page.run("enter([{ what: 'cancel', order: 'GONE' }])")
     before += 2
@@ -633,6 +637,13 @@ async def upload(page, who, room, counts):
     await until_rows(page, "commands-table", before + 3)
     counts.check("a table is entered", [row[3] for row in (await rows(page, "commands-table"))[:3]] == ["done"] * 3)
     counts.check("and the message counts it", await text(page, "message") == "3 commands done, on the disk, each with a signed receipt.")
+    again = "{ what: 'submit', order: 'T-1', kind: 'hour', side: 'sell', price: 100, volumes: [[1, 10]] }"
+    await page.run(f"enter(Array(5).fill({again}))")
+    lines = ["T-1 wasn't entered: you already have an order T-1."] * 3
+    lines.append("2 more were refused: your commands below have the reasons.")
+    lines.append("The book's refusals are on the disk, each with a signed receipt.")
+    counts.check("many refusals don't cover a small screen", await text(page, "message") == "\n".join(lines))
+    await until_rows(page, "commands-table", before + 8)
 
 
 # --- the close

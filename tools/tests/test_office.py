@@ -984,7 +984,8 @@ class Requests(unittest.TestCase):
             read(child)
         with self.assertRaisesRegex(requests.Wrong, "1 command of other"):
             read(table.replace(b"GAS", b"OIL") % 8)
-        with mock.patch.object(reader, "MOST_SECONDS", 0.001), self.assertRaisesRegex(gate.Refused, "can't be read"):
+        words = "can't be read within 0.001 s: it is too large, or the office is busy$"
+        with mock.patch.object(reader, "MOST_SECONDS", 0.001), self.assertRaisesRegex(gate.Refused, words):
             read(table % 8)
         with tempfile.TemporaryDirectory() as room:
             shutil.copytree(TOOLS / "lib", Path(room, "lib"), ignore=shutil.ignore_patterns("__pycache__"))

@@ -26,7 +26,7 @@ async def read(data, who, periods, orders=()):
     try:
         made = await clearing.output(sys.executable, "-I", "-B", __file__, who, str(periods), data=given, seconds=MOST_SECONDS)
     except clearing.Failed:
-        raise Refused("Malformed", f"the table can't be read within {MOST_SECONDS} s") from None
+        raise Refused("Malformed", f"the table can't be read within {MOST_SECONDS} s: it is too large, or the office is busy") from None
     value = json.loads(made)
     if "wrong" in value:
         raise requests.Wrong(value["wrong"])

@@ -6,7 +6,7 @@ const LOOK = 2000; // milliseconds between two looks at the day
 const PATIENCE = 10_000; // milliseconds that a look waits for an answer
 const SLOW = 1000; // milliseconds after which it is told that an answer is waited for
 const RETRIES = 5; // of a command whose answer didn't come: the same number can't enter it twice
-const MOST_REFUSED = 10; // that a message names
+const MOST_REFUSED = 3; // that a message names
 const TOLD = [[600, "10 minutes"], [60, "1 minute"]]; // when the time left is announced
 const NOBODY = {
   token: "", next: 1, count: -1, share: "", orders: [], changes: null, amended: null, draft: null, read: [], results: [], awaits: false, unsure: null,
@@ -368,10 +368,10 @@ function outcomeWords(commands, receipts) {
   const lines = refused.slice(0, MOST_REFUSED).map(words);
   if (refused.length > MOST_REFUSED) lines.push(`${refused.length - MOST_REFUSED} more were refused: your commands below have the reasons.`);
   if (refused.length) lines.push(`The book's ${refused.length === 1 ? "refusal is" : "refusals are"} on the disk, ${refused.length > 1 ? "each " : ""}with a signed receipt.`);
-  const [{ what, order }] = commands;
+  const [first] = commands;
   const done = commands.length - refused.length;
-  const right = commands.length === 1 ? `${order} ${DONE[what]}` : `${counted(done, "command")} done`;
-  if (done) lines.unshift(`${right}, on the disk, ${done > 1 ? "each " : ""}with a signed receipt.`);
+  const right = commands.length === 1 ? `${first.order} ${DONE[first.what]}${termsOf(first)}. It is` : `${counted(done, "command")} done,`;
+  if (done) lines.unshift(`${right} on the disk, ${done > 1 ? "each " : ""}with a signed receipt.`);
   return [lines.join("\n"), refused.length ? "wrong" : "right"];
 }
 
@@ -400,13 +400,13 @@ function unsureWords(commands) {
 // Says what became of commands of which no answer came. A command that isn't there yet may be sent again: it keeps its number.
 function tellUnsure(all) {
   const { commands, number } = state.unsure;
-  const own = all.slice(number - 1, number - 1 + commands.length);
-  const found = own.filter(({ record }, at) => commandOf(record).what === commands[at].what && commandOf(record).order === commands[at].order);
-  if (found.length === commands.length) return say(...outcomeWords(commands, found));
+  const own = all.slice(number - 1, number - 1 + commands.length).map((one) => ({ ...commandOf(one.record), reply: one.reply }));
+  const found = own.filter(({ what, order }, at) => what === commands[at].what && order === commands[at].order);
+  if (found.length === commands.length) return say(...outcomeWords(found, found)); // as the book has them
   const { subject, is } = namesOf(commands);
   const words = found.length
     ? `${found.length} of ${subject.replace("The ", "the ")} are in the book so far: look in Your commands.`
-    : `The office answers again. ${subject} ${is}n't among your commands so far: send it again, and it is entered once alone.`;
+    : `The office answers again. ${subject} ${is}n't among your commands so far: send it again, it can't be entered twice.`;
   say(words, "wrong", "unsure");
 }
 

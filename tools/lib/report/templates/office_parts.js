@@ -107,6 +107,14 @@ function orderCells({ kind, side, price, volumes, parent, group }) {
   return [{ hour: "hourly", block: "block" }[kind], side, price === undefined ? "" : grouped(price, 2), volumes ? runs(volumes) : "", links];
 }
 
+// What a command says, so that a side or period that wasn't meant is seen at once.
+function termsOf({ what, kind, side, price, volumes }) {
+  if (what === "cancel") return "";
+  const [[period, volume]] = volumes;
+  const where = volumes.length === 1 ? `${grouped(volume, 1)} MW in period ${period}` : `in periods ${periodsOf(volumes)}`;
+  return `: ${[kind === "block" && "block", side, where].filter(Boolean).join(", ")}, at ${grouped(price, 2)} EUR/MWh`;
+}
+
 // Why the book refuses a command, in words to its participant; the other reasons as they are.
 const TO_YOU = {
   NameTaken: ({ order }) => `you already have an order ${order}`,
