@@ -37,6 +37,12 @@ LONGEST = 1 << 20  # bytes of a file, more than a desk's
 GARBAGE = b"\n+cancel,A,NEVER,,,,,,\n\nx\n"
 
 
+def is_counted(ran):
+    """Whether the fault of the output, if the run ended with it, says how many bytes the whole output has."""
+    found = re.fullmatch(rb"device: write after (\d+) bytes\n", ran.stderr)
+    return not found or int(found[1]) == len(ran.stdout)
+
+
 def line_of(kind, error, stderr):
     """Whether this is the line of the fault."""
     if kind == LOCK and error in (errno.EAGAIN, errno.EACCES):
@@ -111,7 +117,7 @@ class Refusals(crashes.Crashes):
         """Whether the run ended with the fault of the refused call, or as if there was none, if a signal interrupted the call."""
         if refusal.error == errno.EINTR and ran.status == 0:
             return self.is_whole(refusal, ran)
-        is_line = line_of(refusal.kind, refusal.error, ran.stderr)
+        is_line = line_of(refusal.kind, refusal.error, ran.stderr) and is_counted(ran)
         return ran.status == MACHINE and is_line and self.is_front(ran.stdout, True)
 
     def is_whole(self, _, ran):
@@ -121,8 +127,8 @@ class Refusals(crashes.Crashes):
         """Whether the run wasn't disturbed by a short write. A write of nothing is a fault."""
         if refusal.most:
             return self.is_whole(refusal, ran)
-        lines = [b"file: the file can't be written: write zero\n"] if refusal.kind == WRITE else [b"device: write after 0 bytes\n"]
-        return ran.status == MACHINE and ran.stderr in lines and self.is_front(ran.stdout, True)
+        line = b"file: the file can't be written: write zero\n" if refusal.kind == WRITE else b"device: write after %d bytes\n" % len(ran.stdout)
+        return ran.status == MACHINE and ran.stderr == line and self.is_front(ran.stdout, True)
 
     def rows(self, made):
         for kind, errors in ERRORS.items():

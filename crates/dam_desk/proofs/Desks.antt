@@ -1,5 +1,5 @@
 -- What a desk wrote, and what its file opens to.
-use Rattle.std.proofs.Common.{◌≡◌, ◌⊎◌, inl, inr, List, ℕ, suc, ◌+◌, [], ◌∷◌, ◌++◌, Option, Some, None, Result, Ok, Err, IfErr, IfSome, OnErr, IsTrue, false, length, take, refl, sym, ap, ◌∙◌, subst, append_assoc, append-nil, arith}
+use Rattle.std.proofs.Common.{◌≡◌, ◌⊎◌, inl, inr, List, ℕ, suc, ◌+◌, ◌-◌, ◌^◌, ◌<◌, min, [], ◌∷◌, ◌++◌, Option, Some, None, Result, Ok, Err, IfErr, IfSome, IsTrue, false, length, take, refl, sym, ap, ◌∙◌, subst, append_assoc, append-nil, length-append, arith}
 use Rattle.std.specs.Io.KnownBytes.{Appends, Consumes, IsAtEnd}
 use Rattle.std.proofs.KnownBytes.{Appends-nil, Appends-trans, Consumes-trans, Consumes-whole}
 use Rattle.sqlite_disk.specs.declared.Disk.{Ghosts}
@@ -10,7 +10,7 @@ use Rattle.dam_store.specs.declared.fault.StoreFault.TheVariants as store
 use Rattle.dam_store.specs.declared.store.Store.{Store}
 use Rattle.dam_desk.specs.Journal.{Journal, State, AreLines, AreWhole, OpensTo, Reads, journal_text, next}
 use Rattle.dam_desk.specs.Desk.{Finishes, IsAnswered, IsDesk, IsEnding, MayLeave, OpensAfter, Served, Takes, end_answer}
-use Rattle.dam_desk.specs.Faults.{IsWritingFault, is_read, of_store}
+use Rattle.dam_desk.specs.Faults.{IsWritingFault, SaysCount, fault_after, is_read, of_store}
 use Rattle.dam_desk.specs.declared.desk.Desk.{Desk}
 use Rattle.dam_desk.specs.declared.fault.DeskFault.{DeskFault}
 use Rattle.dam_desk.specs.declared.fault.DeskFault.TheVariants.{File, Store as Stores, NotAJournal, Respelled, Read, Write, Memory}
@@ -19,10 +19,38 @@ use Rattle.dam_desk.specs.declared.state.Intake.{Intake}
 use Rattle.dam_desk.proofs.Runs.{answers_both}
 use Rattle.dam_desk.proofs.Texts.{all_both, text_more}
 
+-- a sum that 64 bits hold isn't cut
+after_count : (before part printed written : ℕ) → printed ≡ before → written ≡ part → before + part < 2 ^ 64
+    → min (printed + written) (2 ^ 64 - 1) ≡ before + part
+after_count before part printed written one other small =
+    omega (arith, one, other, small)
+
+pub store_says : (count : ℕ) (fault : StoreFault) → SaysCount count (of_store fault)
+store_says count store.Memory = tt
+store_says count store.NotAJournal = tt
+store_says count store.TooLong = tt
+store_says count store.Full = tt
+store_says count store.Broken = tt
+store_says count (store.Read error) = tt
+store_says count (store.Write error) = tt
+store_says count (store.Sync error) = tt
+
+-- the fault of a part says how much of the whole was taken
+pub says_after : (before part printed : ℕ) (fault : DeskFault) → (before < 2 ^ 64 → printed ≡ before) → SaysCount part fault
+    → SaysCount (before + part) (fault_after printed fault)
+says_after before part printed (Write written) so_far says =
+    λ small. after_count before part printed written (so_far (omega arith)) (says (omega arith)) small
+says_after before part printed (File why) so_far says = tt
+says_after before part printed (Stores why) so_far says = tt
+says_after before part printed (NotAJournal why) so_far says = tt
+says_after before part printed Respelled so_far says = tt
+says_after before part printed Read so_far says = tt
+says_after before part printed Memory so_far says = tt
+
 -- nothing was taken
-pub served_none : (state : State) (given first : List ℕ) (old : Option (List ℕ)) (outcomes : List ℕ → Type 0)
-    → ((file : List ℕ) → outcomes file → OpensTo state.journal file) → Served state given first old old outcomes
-served_none state given first old outcomes opens = record {
+pub served_none : (state : State) (given first : List ℕ) (why : DeskFault) (old : Option (List ℕ)) (outcomes : List ℕ → Type 0)
+    → SaysCount 0 why → ((file : List ℕ) → outcomes file → OpensTo state.journal file) → Served state given first why old old outcomes
+served_none state given first why old outcomes said opens = record {
   safe = [];
   others = [];
   lines = record { rest = given; split = refl; whole = tt };
@@ -37,14 +65,15 @@ served_none state given first old outcomes opens = record {
   ends = inl refl;
   count = 0;
   written = Appends-nil old;
+  said = said;
   crash = λ file may. inl (opens file may);
 }
 
 -- the lines were read, and their records may be in the file
-pub served_pending : (intake : Intake) (state : State) (given : List ℕ) (old : Option (List ℕ)) (outcomes : List ℕ → Type 0)
-    → (read : HasRead intake state given []) → ((file : List ℕ) → outcomes file → OpensTo state.journal file ⊎ OpensTo read.last.journal file)
-    → Served state given [] old old outcomes
-served_pending intake state given old outcomes read opens = record {
+pub served_pending : (intake : Intake) (state : State) (given : List ℕ) (why : DeskFault) (old : Option (List ℕ)) (outcomes : List ℕ → Type 0)
+    → SaysCount 0 why → (read : HasRead intake state given []) → ((file : List ℕ) → outcomes file → OpensTo state.journal file ⊎ OpensTo read.last.journal file)
+    → Served state given [] why old old outcomes
+served_pending intake state given why old outcomes said read opens = record {
   safe = [];
   others = read.lines;
   lines = record { rest = read.begun ++ []; split = read.split; whole = read.whole };
@@ -63,14 +92,15 @@ served_pending intake state given old outcomes read opens = record {
   ends = inl refl;
   count = 0;
   written = Appends-nil old;
+  said = said;
   crash = opens;
 }
 
 -- their records are safe, and some of the answers were written
-pub served_written : (intake : Intake) (state : State) (given : List ℕ) (old new : Option (List ℕ)) (outcomes : List ℕ → Type 0) (count : ℕ)
-    → (read : HasRead intake state given []) → Appends old new (take count intake.answers.items)
-    → ((file : List ℕ) → outcomes file → OpensTo read.last.journal file) → Served state given [] old new outcomes
-served_written intake state given old new outcomes count read written opens = record {
+pub served_written : (intake : Intake) (state : State) (given : List ℕ) (why : DeskFault) (old new : Option (List ℕ)) (outcomes : List ℕ → Type 0)
+    (count : ℕ) → SaysCount count why → (read : HasRead intake state given []) → Appends old new (take count intake.answers.items)
+    → ((file : List ℕ) → outcomes file → OpensTo read.last.journal file) → Served state given [] why old new outcomes
+served_written intake state given why old new outcomes count said read written opens = record {
   safe = read.lines;
   others = [];
   lines = record {
@@ -89,6 +119,7 @@ served_written intake state given old new outcomes count read written opens = re
   ends = inl refl;
   count = count;
   written = subst (Appends old new) (ap (take count) (sym (append-nil intake.answers.items))) written;
+  said = said;
   crash = λ file may. inl (opens file may);
 }
 
@@ -182,6 +213,36 @@ takes_more desk later state given bytes first old mid new taken then = record {
   safe = then.safe;
 }
 
+-- the same, and this is how many bytes were written of the first text and the answers, if 64 bits hold that
+pub record TakesAll {D : Type 0} {g : Ghosts D} (desk : Desk D g) (state : State) (given first : List ℕ) (printed : ℕ)
+    (old new : Option (List ℕ)) : Type 0 where
+  pub takes : Takes desk state given first old new
+  pub count : length (first ++ takes.answers) < 2 ^ 64 → printed ≡ length (first ++ takes.answers)
+
+pub all_start : {D : Type 0} {g : Ghosts D} (desk : Desk D g) (state : State) (begun first : List ℕ) (printed : ℕ) (old new : Option (List ℕ))
+    → IsDesk desk state begun → ((file : List ℕ) → MayLeave desk file → OpensTo state.journal file) → Appends old new first
+    → printed ≡ length first → TakesAll desk state (begun ++ []) first printed old new
+unfolding takes_start
+all_start desk state begun first printed old new is opens written same = record {
+  takes = takes_start desk state begun first old new is opens written;
+  count = λ small. same ∙ ap length (sym (append-nil first));
+}
+
+pub all_more : {D : Type 0} {g : Ghosts D} (desk later : Desk D g) (state : State) (given bytes first : List ℕ) (printed count next : ℕ)
+    (old mid new : Option (List ℕ)) → (taken : TakesAll desk state given first printed old mid)
+    → (then : Takes later taken.takes.last (taken.takes.begun ++ bytes) [] mid new) → count ≡ length then.answers
+    → next ≡ min (printed + count) (2 ^ 64 - 1) → TakesAll later state (given ++ bytes) first next old new
+unfolding takes_more
+all_more desk later state given bytes first printed count next old mid new taken then same sum = record {
+  takes = takes_more desk later state given bytes first old mid new taken.takes then;
+  count = λ small.
+      let front = first ++ taken.takes.answers in
+      let split : length (first ++ (taken.takes.answers ++ then.answers)) ≡ length front + length then.answers =
+          ap length (sym (append_assoc first taken.takes.answers then.answers)) ∙ length-append front then.answers in
+      let fits : length front + length then.answers < 2 ^ 64 = omega (arith, split, small) in
+      sum ∙ after_count (length front) (length then.answers) printed count (taken.count (omega (arith, fits))) same fits ∙ sym split;
+}
+
 ending_more : (given bytes : List ℕ) (lines more : List (List ℕ)) (begun : List ℕ) (state : State) (text : List ℕ) → AreLines given lines begun
     → IsEnding (begun ++ bytes) more state text → IsEnding (given ++ bytes) (lines ++ more) state text
 ending_more given bytes lines more begun state text first (inl none) = inl none
@@ -198,9 +259,11 @@ whole_more given bytes lines safe others begun rest first (inr all) =
 
 -- the next bytes, in which a fault ended the desk
 pub served_more : {D : Type 0} {g : Ghosts D} (desk : Desk D g) (state : State) (given bytes first : List ℕ) (old mid new : Option (List ℕ))
-    (outcomes : List ℕ → Type 0) → (taken : Takes desk state given first old mid)
-    → Served taken.last (taken.begun ++ bytes) [] mid new outcomes → Served state (given ++ bytes) first old new outcomes
-served_more desk state given bytes first old mid new outcomes taken then =
+    (outcomes : List ℕ → Type 0) (why : DeskFault) (printed : ℕ) → (taken : Takes desk state given first old mid)
+    → (length (first ++ taken.answers) < 2 ^ 64 → printed ≡ length (first ++ taken.answers))
+    → Served taken.last (taken.begun ++ bytes) [] why mid new outcomes
+    → Served state (given ++ bytes) first (fault_after printed why) old new outcomes
+served_more desk state given bytes first old mid new outcomes why printed taken so_far then =
     let front = first ++ taken.answers in
     let back = then.answers ++ then.ending in
     record {
@@ -228,14 +291,16 @@ served_more desk state given bytes first old mid new outcomes taken then =
           ∙ ap (take (length front + then.count)) (append_assoc first taken.answers back
           ∙ ap (λ (t : List ℕ). first ++ t) (sym (append_assoc taken.answers then.answers then.ending))))
           (Appends-trans old mid new front (take then.count back) taken.written then.written);
+      said = says_after (length front) then.count printed why so_far then.said;
       crash = then.crash;
     }
 
 -- a fault of the input, or of the line in which it ended
 pub served_so_far : {D : Type 0} {g : Ghosts D} (desk : Desk D g) (state : State) (given first : List ℕ) (old mid new : Option (List ℕ))
-    (count : ℕ) → (taken : Takes desk state given first old mid) → (ending : List ℕ) → IsEnding given taken.lines taken.last ending
-    → Appends mid new (take count ending) → Served state given first old new (MayLeave desk)
-served_so_far desk state given first old mid new count taken ending ends written =
+    (why : DeskFault) (count : ℕ) → (taken : Takes desk state given first old mid) → SaysCount (length (first ++ taken.answers) + count) why
+    → (ending : List ℕ) → IsEnding given taken.lines taken.last ending → Appends mid new (take count ending)
+    → Served state given first why old new (MayLeave desk)
+served_so_far desk state given first old mid new why count taken said ending ends written =
     let front = first ++ taken.answers in
     record {
       safe = taken.lines;
@@ -258,14 +323,15 @@ served_so_far desk state given first old mid new count taken ending ends written
       written = subst (Appends old new)
           (sym (take_past front ending count) ∙ ap (take (length front + count)) (append_assoc first taken.answers ending))
           (Appends-trans old mid new front (take count ending) taken.written written);
+      said = said;
       crash = λ file may. inl (taken.safe file may);
     }
 
 -- a fault of the writer at the first text
-pub served_first : {D : Type 0} {g : Ghosts D} (desk : Desk D g) (state : State) (begun first : List ℕ) (old new : Option (List ℕ)) (count : ℕ)
-    → ((file : List ℕ) → MayLeave desk file → OpensTo state.journal file) → Appends old new (take count first)
-    → Served state (begun ++ []) first old new (MayLeave desk)
-served_first desk state begun first old new count opens written = record {
+pub served_first : {D : Type 0} {g : Ghosts D} (desk : Desk D g) (state : State) (begun first : List ℕ) (why : DeskFault) (old new : Option (List ℕ))
+    (count : ℕ) → SaysCount count why → ((file : List ℕ) → MayLeave desk file → OpensTo state.journal file) → Appends old new (take count first)
+    → Served state (begun ++ []) first why old new (MayLeave desk)
+served_first desk state begun first why old new count said opens written = record {
   safe = [];
   others = [];
   lines = record { rest = begun ++ []; split = refl; whole = tt };
@@ -280,6 +346,7 @@ served_first desk state begun first old new count opens written = record {
   ends = inl refl;
   count = count;
   written = subst (Appends old new) (ap (take count) (sym (append-nil first))) written;
+  said = said;
   crash = λ file may. inl (opens file may);
 }
 
@@ -301,10 +368,10 @@ finishes desk state given first old mid new taken written =
       safe = taken.safe;
     }
 
--- a fault of the writer comes after some of the text
+-- a fault of the writer comes after some of the text, and says after how much
 pub written_fault : (old new : Option (List ℕ)) (text : List ℕ) (fault : DeskFault) → IsWritingFault old new text fault
-    → (count : ℕ) × Appends old new (take count text)
-written_fault old new text (Write written) fault = (written, fault.1)
+    → (count : ℕ) × Appends old new (take count text) × SaysCount count fault
+written_fault old new text (Write written) fault = (written, fault.1, λ small. refl)
 written_fault old new text (File why) fault = absurd fault
 written_fault old new text (Stores why) fault = absurd fault
 written_fault old new text (NotAJournal why) fault = absurd fault
@@ -313,7 +380,7 @@ written_fault old new text Read fault = absurd fault
 written_fault old new text Memory fault = absurd fault
 
 pub written_part : {X : Type 0} (old new : Option (List ℕ)) (text : List ℕ) (r : Result X DeskFault) → IfErr r (IsWritingFault old new text)
-    → OnErr r ((count : ℕ) × Appends old new (take count text))
+    → IfErr r (λ fault. (count : ℕ) × Appends old new (take count text) × SaysCount count fault)
 written_part old new text (Ok x) fault = tt
 written_part old new text (Err why) fault = written_fault old new text why fault
 
@@ -355,14 +422,6 @@ pub store_grown : {D : Type 0} {g : Ghosts D} (old new : Store D g) (batch : Lis
     → IsTrue (g.is_clean (disk_of new)) → text_of (held new) ≡ journal_text after
 store_grown old new batch entered before after same text is grown appended clean =
     ap text_of (appended clean) ∙ with_batch (held old) batch entered before after (text (sym same ∙ clean)) is grown
-
-pub on_err_any : {X Y : Type 0} (r : Result X Y) (P : Type 0) → P → OnErr r P
-on_err_any (Ok x) P p = tt
-on_err_any (Err y) P p = p
-
-pub on_err_then : {X Y : Type 0} (r : Result X Y) (P Q : Type 0) → (P → Q) → OnErr r P → OnErr r Q
-on_err_then (Ok x) P Q then p = tt
-on_err_then (Err y) P Q then p = then p
 
 -- a read of no bytes at the end of the input
 pub nothing_more : (old mid new : Option (List ℕ)) (given buffer : List ℕ) (count : ℕ) → Consumes old mid given → Consumes mid new (take count buffer)

@@ -5,7 +5,7 @@ use Rattle.sqlite_disk.specs.Disk.{MoreFaults}
 use Rattle.dam_store.specs.Faults.{is_failed_write}
 use Rattle.dam_store.specs.declared.fault.StoreFault.{StoreFault}
 use Rattle.dam_store.specs.declared.fault.StoreFault.TheVariants as store
-use Rattle.dam_desk.specs.Faults.{IsEndFault, IsWritingFault, of_store}
+use Rattle.dam_desk.specs.Faults.{IsEndFault, IsWritingFault, fault_after, is_failed_sync as desk_failed_sync, is_read, of_store}
 use Rattle.dam_desk.specs.declared.fault.DeskFault.{DeskFault}
 use Rattle.dam_desk.specs.declared.fault.DeskFault.TheVariants.{File, Store, NotAJournal, Respelled, Read, Write, Memory}
 
@@ -73,3 +73,32 @@ pub err_is : {X : Type 0} (r : Result X DeskFault) (P : DeskFault → Type 0) (f
     → IfErr r P
 err_is (Ok x) P fault same p = tt
 err_is (Err why) P fault same p = subst P (sym same) p
+
+-- a fault of a longer text is of the same kind
+pub end_after : (is_clean : Bool) (before after printed : ℕ) (fault : DeskFault) → IsEndFault is_clean before after fault
+    → IsEndFault is_clean before after (fault_after printed fault)
+end_after is_clean before after printed (File why) is = absurd is
+end_after is_clean before after printed (Store why) is = is
+end_after is_clean before after printed (NotAJournal why) is = absurd is
+end_after is_clean before after printed Respelled is = absurd is
+end_after is_clean before after printed Read is = is
+end_after is_clean before after printed (Write written) is = is
+end_after is_clean before after printed Memory is = is
+
+pub sync_after : (printed : ℕ) (fault : DeskFault) → desk_failed_sync (fault_after printed fault) ≡ desk_failed_sync fault
+sync_after printed (File why) = refl
+sync_after printed (Store why) = refl
+sync_after printed (NotAJournal why) = refl
+sync_after printed Respelled = refl
+sync_after printed Read = refl
+sync_after printed (Write written) = refl
+sync_after printed Memory = refl
+
+pub read_after : (printed : ℕ) (fault : DeskFault) → is_read (fault_after printed fault) ≡ is_read fault
+read_after printed (File why) = refl
+read_after printed (Store why) = refl
+read_after printed (NotAJournal why) = refl
+read_after printed Respelled = refl
+read_after printed Read = refl
+read_after printed (Write written) = refl
+read_after printed Memory = refl

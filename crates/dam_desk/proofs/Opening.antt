@@ -3,13 +3,13 @@ use Rattle.std.proofs.Common.{◌≡◌, ◌⊎◌, inl, inr, ℕ, List, [], Opt
 use Rattle.std.proofs.lemmas.Bool.{both_ways}
 use Rattle.sqlite_disk.specs.Disk.{MoreFaults}
 use Rattle.sqlite_disk.specs.declared.Disk.{Ghosts}
-use Rattle.dam_store.specs.Faults.{is_failed_write as store_failed_write, is_failure, is_refusal, IsRefused}
+use Rattle.dam_store.specs.Faults.{is_failed_read, is_failed_sync, is_failed_write as store_failed_write, is_failure, is_refusal, IsRefused}
 use Rattle.dam_store.specs.Journal.{StandsFor, stands_for, text_of}
 use Rattle.dam_store.specs.Store.{IsUntouched, disk_of, held}
 use Rattle.dam_store.specs.declared.fault.StoreFault.{StoreFault}
 use Rattle.dam_store.specs.declared.fault.StoreFault.TheVariants as store
 use Rattle.dam_desk.specs.Desk.{IsOpened, IsUnopened}
-use Rattle.dam_desk.specs.Faults.{IsFileFault, IsOpenFault, IsTextFault, is_failed_call, is_failed_write, is_read, is_write, of_store}
+use Rattle.dam_desk.specs.Faults.{IsFileFault, IsOpenFault, IsTextFault, is_failed_call, is_failed_sync as desk_failed_sync, is_failed_write, is_read, is_write, of_store}
 use Rattle.dam_desk.specs.declared.day.Day.{Day}
 use Rattle.dam_desk.specs.declared.desk.Desk.{Desk}
 use Rattle.dam_desk.specs.declared.fault.DeskFault.{DeskFault}
@@ -85,6 +85,28 @@ write_failure (store.Read error) failed = refl
 write_failure (store.Write error) failed = refl
 write_failure (store.Sync error) failed = refl
 
+-- so is a read
+read_failure : (why : StoreFault) → is_failed_read why ≡ true → is_failure why ≡ true
+read_failure store.Memory failed = failed
+read_failure store.NotAJournal failed = failed
+read_failure store.TooLong failed = failed
+read_failure store.Full failed = failed
+read_failure store.Broken failed = failed
+read_failure (store.Read error) failed = refl
+read_failure (store.Write error) failed = refl
+read_failure (store.Sync error) failed = refl
+
+-- a sync counts as a write
+sync_failure : (why : StoreFault) → is_failed_sync why ≡ true → store_failed_write why ≡ true
+sync_failure store.Memory failed = failed
+sync_failure store.NotAJournal failed = failed
+sync_failure store.TooLong failed = failed
+sync_failure store.Full failed = failed
+sync_failure store.Broken failed = failed
+sync_failure (store.Read error) failed = failed
+sync_failure (store.Write error) failed = refl
+sync_failure (store.Sync error) failed = refl
+
 pub write_of : (why : StoreFault) → store_failed_write why ≡ true → is_failed_write (of_store why) ≡ true
 write_of store.Memory failed = failed
 write_of store.NotAJournal failed = failed
@@ -104,6 +126,26 @@ call_of store.Broken = refl
 call_of (store.Read error) = refl
 call_of (store.Write error) = refl
 call_of (store.Sync error) = refl
+
+pub sync_of : (why : StoreFault) → desk_failed_sync (of_store why) ≡ is_failed_sync why
+sync_of store.Memory = refl
+sync_of store.NotAJournal = refl
+sync_of store.TooLong = refl
+sync_of store.Full = refl
+sync_of store.Broken = refl
+sync_of (store.Read error) = refl
+sync_of (store.Write error) = refl
+sync_of (store.Sync error) = refl
+
+-- a text's fault is no failed sync
+pub text_no_sync : (text : List ℕ) (why : DeskFault) → IsTextFault text why → desk_failed_sync why ≡ false
+text_no_sync text Memory is = refl
+text_no_sync text (Store fault) is = absurd is
+text_no_sync text (File why) is = absurd is
+text_no_sync text (NotAJournal fault) is = refl
+text_no_sync text Respelled is = refl
+text_no_sync text Read is = absurd is
+text_no_sync text (Write written) is = absurd is
 
 abbrev IsNoStream : DeskFault → Type 0
 IsNoStream why = (is_read why ≡ false) × (is_write why ≡ false)
@@ -129,16 +171,17 @@ text_no_call text Read is = absurd is
 text_no_call text (Write written) is = absurd is
 
 early_kind : (file : List ℕ) (why : StoreFault) → (is_refusal why ≡ true → IsRefused file why)
-    → (is_failure why ≡ true) ⊎ ((is_refusal why ≡ true) ⊎ (why ≡ store.Memory)) → IsKind file why
-early_kind file why refusal (inl failed) = inl failed
-early_kind file why refusal (inr (inl refused)) = inr (inl (refusal refused))
-early_kind file why refusal (inr (inr memory)) = inr (inr memory)
+    → (is_failed_read why ≡ true) ⊎ ((is_failed_sync why ≡ true) ⊎ ((is_refusal why ≡ true) ⊎ (why ≡ store.Memory))) → IsKind file why
+early_kind file why refusal (inl failed) = inl (read_failure why failed)
+early_kind file why refusal (inr (inl failed)) = inl (write_failure why (sync_failure why failed))
+early_kind file why refusal (inr (inr (inl refused))) = inr (inl (refusal refused))
+early_kind file why refusal (inr (inr (inr memory))) = inr (inr memory)
 
 -- no store was found
 pub unopened_early : {D : Type 0} (g : Ghosts D) (old new : D) (why : StoreFault) → IsUntouched g old new
     → (is_failure why ≡ true → MoreFaults (g.faults old) (g.faults new)) → (is_failure why ≡ false → g.faults new ≡ g.faults old)
     → (is_refusal why ≡ true → IsTrue (g.is_clean new) → IsRefused (g.seen old) why)
-    → (is_failure why ≡ true) ⊎ ((is_refusal why ≡ true) ⊎ (why ≡ store.Memory)) → IsUnopened g old new (of_store why)
+    → (is_failed_read why ≡ true) ⊎ ((is_failed_sync why ≡ true) ⊎ ((is_refusal why ≡ true) ⊎ (why ≡ store.Memory))) → IsUnopened g old new (of_store why)
 unopened_early g old new why untouched more same refusal kinds = record {
   cause = λ honest. store_cause (g.seen old) why (early_kind (g.seen old) why (λ refused. refusal refused honest) kinds);
   failed = λ failed. more (sym (call_of why) ∙ failed);

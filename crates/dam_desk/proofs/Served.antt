@@ -1,5 +1,5 @@
 -- A run that was served, by the disk that it leaves.
-use Rattle.std.proofs.Common.{◌≡◌, ◌⊎◌, ◌++◌, List, ℕ, Option, Result, Ok, Err, IfErr, OnErr, IsTrue, inl, inr, sym, subst}
+use Rattle.std.proofs.Common.{◌≡◌, ◌⊎◌, ◌++◌, List, ℕ, Option, Result, Ok, Err, IfErr, IsTrue, inl, inr, sym, subst}
 use Rattle.sqlite_disk.specs.Disk.{Only}
 use Rattle.sqlite_disk.specs.declared.Disk.{Ghosts}
 use Rattle.dam_store.specs.Store.{disk_of}
@@ -15,8 +15,7 @@ pub err_then : {X Y : Type 0} (r : Result X Y) (P Q : Y → Type 0) → ((y : Y)
 err_then (Ok x) P Q then p = tt
 err_then (Err y) P Q then p = then y p
 
-pub err_both : {X Y : Type 0} (r : Result X Y) (P : Y → Type 0) (Q : Type 0) (R : Y → Type 0) → ((y : Y) → P y → Q → R y) → IfErr r P
-    → OnErr r Q → IfErr r R
+pub err_both : {X Y : Type 0} (r : Result X Y) (P Q R : Y → Type 0) → ((y : Y) → P y → Q y → R y) → IfErr r P → IfErr r Q → IfErr r R
 err_both (Ok x) P Q R then p q = tt
 err_both (Err y) P Q R then p q = then y p q
 
@@ -29,9 +28,9 @@ module _ {D : Type 0} {g : Ghosts D} (desk : Desk D g) (disk : D) (same : disk �
       subst (λ (d : D). P (replies_text journal) (λ file. IsTrue (g.is_clean d) × g.may_leave d file)) (sym same)
       (subst (λ (t : List ℕ). P t (MayLeave desk)) replies_are has)
 
-  pub served_still : Served (at_first journal) given first old new (MayLeave desk)
-      → Served (at_first journal) given (replies_text journal) old new Left
-  served_still served = moved (λ t outcomes. Served (at_first journal) given t old new outcomes) served
+  pub served_still : (why : DeskFault) → Served (at_first journal) given first why old new (MayLeave desk)
+      → Served (at_first journal) given (replies_text journal) why old new Left
+  served_still why served = moved (λ t outcomes. Served (at_first journal) given t why old new outcomes) served
 
   pub answered_still : Takes desk (at_first journal) given first old new
       → IsAnswered (at_first journal) given (replies_text journal) old new Left
@@ -60,12 +59,12 @@ module _ {D : Type 0} {g : Ghosts D} (desk : Desk D g) (disk : D) (same : disk �
 pub at_rest : {D : Type 0} {g : Ghosts D} (old new : D) (start : List ℕ) (why : DeskFault) (same : Type 0) (input left printed now : Option (List ℕ))
     → g.seen old ≡ start → Only start (g.may_leave old) → g.faults old ≡ 0
     → (IsUnopened g old new why × same)
-    ⊎ (IsEndFault (g.is_clean new) (g.faults old) (g.faults new) why × EndsSafe g (g.seen old) new input left printed now)
+    ⊎ (IsEndFault (g.is_clean new) (g.faults old) (g.faults new) why × EndsSafe g (g.seen old) new why input left printed now)
     → (EndsUnopened g start new why × same)
-    ⊎ (IsEndFault (g.is_clean new) 0 (g.faults new) why × EndsSafe g start new input left printed now)
+    ⊎ (IsEndFault (g.is_clean new) 0 (g.faults new) why × EndsSafe g start new why input left printed now)
 at_rest {D} {g} old new start why same input left printed now seen synced none (inl unopened) =
     inl (record { old = old; seen = seen; synced = synced; no_fault = none; unopened = unopened.0 }, unopened.1)
 at_rest {D} {g} old new start why same input left printed now seen synced none (inr end) = inr (
   subst (λ (n : ℕ). IsEndFault (g.is_clean new) n (g.faults new) why) none end.0,
-  subst (λ (bytes : List ℕ). EndsSafe g bytes new input left printed now) seen end.1,
+  subst (λ (bytes : List ℕ). EndsSafe g bytes new why input left printed now) seen end.1,
 )

@@ -10,7 +10,7 @@ use Rattle.dam_store.specs.Journal.{StandsFor, stands_for, text_of}
 use Rattle.dam_store.specs.Store.{disk_of, held, IsUntouched}
 use Rattle.dam_desk.specs.Answers.{fault_line}
 use Rattle.sqlite_disk.specs.Disk.{MoreFaults}
-use Rattle.dam_desk.specs.Faults.{is_failed_call, is_failed_write, is_read, is_write, IsOpenFault}
+use Rattle.dam_desk.specs.Faults.{SaysCount, is_failed_call, is_failed_write, is_read, is_write, IsOpenFault}
 use Rattle.dam_desk.specs.Journal.{Journal, State, AreAnswers, AreLines, AreReplies, FirstLines, OpensTo, Reads, journal_text, next, replies_text}
 use Rattle.dam_desk.specs.declared.desk.Desk.{Desk}
 use Rattle.dam_desk.specs.declared.fault.DeskFault.{DeskFault}
@@ -91,8 +91,9 @@ IsEnding given lines state text =
 
 -- The first lines of the bytes are safe, and the others may be: all of them, or none. Nothing was written but the first text, the answers
 -- to the safe lines, and that to a line in which the input ended, or a beginning of these. Whatever a crash leaves opens to the journal
--- after the safe lines, or after the others too.
-pub record Served (state : State) (given first : List ℕ) (old new : Option (List ℕ)) (outcomes : List ℕ → Type 0) : Type 0 where
+-- after the safe lines, or after the others too. This is why the desk ends.
+pub record Served (state : State) (given first : List ℕ) (why : DeskFault) (old new : Option (List ℕ)) (outcomes : List ℕ → Type 0)
+    : Type 0 where
   pub safe : List (List ℕ)
   pub others : List (List ℕ)
   pub lines : FirstLines given (safe ++ others)
@@ -107,6 +108,7 @@ pub record Served (state : State) (given first : List ℕ) (old new : Option (Li
   pub ends : IsEnding given safe middle ending
   pub count : ℕ
   pub written : Appends old new (take count (first ++ (answers ++ ending)))
+  pub said : SaysCount count why
   pub crash : (file : List ℕ) → outcomes file → OpensTo middle.journal file ⊎ OpensTo last.journal file
 
 -- All lines of the bytes that were given were answered, and whatever a crash leaves opens to the journal after them.

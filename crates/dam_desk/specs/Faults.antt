@@ -1,5 +1,5 @@
 -- The faults that end a desk, and the statuses of the program.
-use Rattle.std.specs.Prelude.{◌≡◌, ◌≢◌, ◌⊎◌, ◌≤◌, ℕ, Bool, true, false, List, length, take, Option}
+use Rattle.std.specs.Prelude.{◌≡◌, ◌≢◌, ◌⊎◌, ◌+◌, ◌-◌, ◌^◌, ◌<◌, ◌≤◌, min, ℕ, Bool, true, false, List, length, take, Option}
 use Rattle.std.specs.Io.KnownBytes.{Appends}
 use Rattle.sqlite_disk.specs.Disk.{MoreFaults}
 use Rattle.dam_book.specs.declared.command.Command.{Command}
@@ -8,7 +8,7 @@ use Rattle.dam_results.specs.Journal.{ReadsAs}
 use Rattle.dam_results.specs.Written.{written}
 use Rattle.dam_results.specs.declared.journal.JournalFault.{JournalFault}
 use Rattle.dam_results.specs.declared.journal.JournalFault.TheVariants as journal
-use Rattle.dam_store.specs.Faults.{is_failed_write as store_failed_write, is_failure, IsRefused}
+use Rattle.dam_store.specs.Faults.{is_failed_sync as store_failed_sync, is_failed_write as store_failed_write, is_failure, IsRefused}
 use Rattle.dam_store.specs.Journal.{StandsFor, text_of}
 use Rattle.dam_store.specs.declared.fault.FileFault.{FileFault}
 use Rattle.dam_store.specs.declared.fault.FileFault.TheVariants as files
@@ -41,6 +41,11 @@ is_failed_write fault = false
 abbrev pub is_failed_call : DeskFault → Bool
 is_failed_call (Store fault) = is_failure fault
 is_failed_call fault = false
+
+-- a sync of the file failed
+abbrev pub is_failed_sync : DeskFault → Bool
+is_failed_sync (Store fault) = store_failed_sync fault
+is_failed_sync fault = false
 
 -- the reader failed
 abbrev pub is_read : DeskFault → Bool
@@ -90,6 +95,16 @@ fault_status fault = 4
 abbrev pub is_write : DeskFault → Bool
 is_write (Write written) = true
 is_write fault = false
+
+-- the fault as one of a longer text, of which so many bytes were written before
+abbrev pub fault_after : ℕ → DeskFault → DeskFault
+fault_after before (Write written) = Write (min (before + written) (2 ^ 64 - 1))
+fault_after before fault = fault
+
+-- the writer's fault says how many bytes the writer has taken, if 64 bits hold that
+abbrev pub SaysCount : ℕ → DeskFault → Type 0
+SaysCount count (Write written) = count < 2 ^ 64 → written ≡ count
+SaysCount count fault = Unit {0}
 
 -- Why an open desk ends before its input does, and the counts of the disk's failed calls before and after: the reader failed, the writer
 -- failed, memory ran out, or a write or a sync of the file failed. Only with the last one a call of the disk has failed. The file is full

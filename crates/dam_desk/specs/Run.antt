@@ -32,12 +32,13 @@ pub record EndsAnswered {D : Type 0} (g : Ghosts D) (start : List ℕ) (disk : D
   pub answered : IsAnswered (at_first journal) given (replies_text journal) printed now (Leaves g disk)
 
 -- what was answered is safe
-pub record EndsSafe {D : Type 0} (g : Ghosts D) (start : List ℕ) (disk : D) (input left printed now : Option (List ℕ)) : Type 0 where
+pub record EndsSafe {D : Type 0} (g : Ghosts D) (start : List ℕ) (disk : D) (why : DeskFault)
+    (input left printed now : Option (List ℕ)) : Type 0 where
   pub journal : Option Journal
   pub begins : BeginsWith g start disk journal
   pub given : List ℕ
   pub taken : Consumes input left given
-  pub served : Served (at_first journal) given (replies_text journal) printed now (Leaves g disk)
+  pub served : Served (at_first journal) given (replies_text journal) why printed now (Leaves g disk)
 
 -- no desk was opened on a disk that had these bytes, all synced, and for which no call had failed
 pub record EndsUnopened {D : Type 0} (g : Ghosts D) (start : List ℕ) (disk : D) (why : DeskFault) : Type 0 where

@@ -7,8 +7,8 @@ ghost use Rattle.dam_results.specs.Records.{day_row};
 ghost use Rattle.dam_results.specs.Written.{row_line, written};
 ghost use Rattle.dam_desk.specs.Room;
 
-use dam_book::{Book, Command, DayLength, Entry, MOST_ENTRIES, PackedCommand, PackedEntry, Seed};
-use dam_results::{packed_journal_text, replies_text};
+use dam_book::{Book, Command, DayLength, MOST_ENTRIES, PackedCommand, PackedEntry, Seed};
+use dam_results::{packed_journal_text, replies_text, write_reply_line};
 use std::alloc::{AllocError, Global};
 
 /// The book of a day, and how many commands were entered.
@@ -105,14 +105,7 @@ impl Day {
         let reply = self.book.apply(command)?;
         self.entered = number;
         entries.push(PackedEntry::new(number, packed, reply))?;
-        // The line of an entry doesn't depend on its command, so that a close may stand for it.
-        let entry = Entry {
-            number,
-            command: Command::Close,
-            reply,
-        };
-        let line = replies_text(self.alloc, self.periods, &[entry])?;
-        replies.extend_from_slice(&line[self.line.len()..])
+        write_reply_line(replies, number, reply)
     }
 
     /// The record of the day, and the records of the entries.

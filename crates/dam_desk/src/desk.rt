@@ -1,11 +1,11 @@
 //! A desk: a journal in a store, and the book that it makes.
-ghost use Rattle.std.specs.Prelude.{◌≡◌, ◌⊎◌, ◌++◌, [], ℕ, Bool, List, take, true, false, IsTrue, IfErr, OnOk, OnErr};
+ghost use Rattle.std.specs.Prelude.{◌≡◌, ◌⊎◌, ◌++◌, [], ℕ, Bool, List, length, take, true, false, not, IsTrue, IfOk, IfErr, OnOk, MatchResult};
 ghost use Rattle.std.specs.Io.KnownBytes.{Appends};
 ghost use Rattle.dam_store.specs.Store.{disk_of, held, is_broken};
 ghost use Rattle.dam_desk.specs.Desk.{IsDesk, KeepsLines, MayLeave, OpensAfter, Served, Takes, end_answer};
 ghost use Rattle.dam_desk.specs.Journal.{State, OpensTo, next};
 ghost use Rattle.dam_desk.specs.Lines.{kept};
-ghost use Rattle.dam_desk.specs.Faults.{IsEndFault, is_read, is_write};
+ghost use Rattle.dam_desk.specs.Faults.{IsEndFault, SaysCount, is_failed_sync, is_read, is_write};
 
 use crate::answer::write_fault;
 use crate::fault::{DeskFault, LineFault};
@@ -24,10 +24,15 @@ pub(crate) struct Desk<D: Disk> {
 }
 
 impl<D: Disk> Desk<D> {
-    /// Takes the next bytes of the input, and answers the lines that end in them, once their records are safe.
+    /// Takes the next bytes of the input, and answers the lines that end in them, once their records are safe. Returns how
+    /// many bytes the answers have.
     ///
     /// Nothing is retried. After a fault the desk is at its end.
-    pub(crate) fn take<W: Write>(&mut self, bytes: &[u8], writer: &mut W) -> Result<(), DeskFault>
+    pub(crate) fn take<W: Write>(
+        &mut self,
+        bytes: &[u8],
+        writer: &mut W,
+    ) -> Result<usize, DeskFault>
         ensures ready { OnOk result (is_broken self.new.store ≡ false) }
         ensures no_fault { OnOk result (D.Disk.faults (disk_of self.new.store)
             ≡ D.Disk.faults (disk_of self.old.store)) }
@@ -52,14 +57,18 @@ impl<D: Disk> Desk<D> {
             → is_broken self.old.store ≡ false
             → IfErr result (IsEndFault (D.Disk.is_clean (disk_of self.new.store))
             (D.Disk.faults (disk_of self.old.store)) (D.Disk.faults (disk_of self.new.store))) }
+        // A sync failed exactly if the disk can't be used any more.
+        ensures usable { is_broken self.old.store ≡ false → MatchResult result
+            (λ _. IsTrue (D.Disk.is_usable (disk_of self.new.store)))
+            (λ fault. D.Disk.is_usable (disk_of self.new.store) ≡ not (is_failed_sync fault)) }
         ensures clean { D.Disk.is_clean (disk_of self.new.store)
             ≡ D.Disk.is_clean (disk_of self.old.store) }
         ensures taken { (state : State) (begun : List ℕ) → IsDesk self.old state begun
-            → OnOk result (Takes self.new state (begun ++ bytes.now) []
-            (W.contents writer.old) (W.contents writer.new)) }
+            → IfOk result (λ printed. (takes : Takes self.new state (begun ++ bytes.now) []
+            (W.contents writer.old) (W.contents writer.new)) × (printed ≡ length takes.answers)) }
         ensures faulty { (state : State) (begun : List ℕ) → IsDesk self.old state begun
             → is_broken self.old.store ≡ false
-            → OnErr result (Served state (begun ++ bytes.now) []
+            → IfErr result (λ fault. Served state (begun ++ bytes.now) [] fault
             (W.contents writer.old) (W.contents writer.new) (MayLeave self.new)) }
     {
         journals_grow();
@@ -67,7 +76,9 @@ impl<D: Disk> Desk<D> {
         self.intake.take(bytes)?;
         let batch = self.intake.batch()?;
         self.store.append(&batch)?;
-        write_text(writer, self.intake.answers.as_slice())
+        let answers = self.intake.answers.as_slice();
+        write_text(writer, answers)?;
+        Ok(answers.len())
     }
 
     /// Answers the line in which the input ended, if it has.
@@ -76,11 +87,14 @@ impl<D: Disk> Desk<D> {
             → OnOk result (Appends (W.contents writer.old) (W.contents writer.new)
             (end_answer (next self.now.intake.answered) begun)) }
         ensures no_read { IfErr result (λ fault. is_read fault ≡ false) }
+        ensures no_sync { IfErr result (λ fault. is_failed_sync fault ≡ false) }
         ensures cause { (is_clean : Bool) (count : ℕ)
             → IfErr result (IsEndFault is_clean count count) }
         ensures err { (begun : List ℕ) → self.now.intake.line ≡ kept begun
-            → OnErr result ((count : ℕ) × Appends (W.contents writer.old) (W.contents writer.new)
-            (take count (end_answer (next self.now.intake.answered) begun))) }
+            → IfErr result (λ fault. (count : ℕ)
+            × Appends (W.contents writer.old) (W.contents writer.new)
+            (take count (end_answer (next self.now.intake.answered) begun))
+            × SaysCount count fault) }
     {
         if self.intake.line.bytes().is_empty() {
             return Ok(());
@@ -97,6 +111,8 @@ impl<D: Disk> Desk<D> {
         ensures keeps { is_broken self.now.store ≡ false
             → IsTrue (D.Disk.is_clean (disk_of self.now.store))
             → KeepsLines (D.Disk.may_leave (disk_of self.now.store)) (held self.now.store) }
+        ensures usable { is_broken self.now.store ≡ false
+            → IsTrue (D.Disk.is_usable (disk_of self.now.store)) }
         ensures opens { (state : State) (begun : List ℕ) → IsDesk self.now state begun
             → is_broken self.now.store ≡ false → (file : List ℕ) → MayLeave self.now file
             → OpensTo state.journal file }

@@ -1,5 +1,5 @@
 ghost use Rattle.std.specs.Prelude.{◌≡◌};
-ghost use Rattle.dam_desk.specs.Faults.{fault_status};
+ghost use Rattle.dam_desk.specs.Faults.{fault_after, fault_status};
 
 use dam_results::JournalFault;
 use dam_store::{FileFault, StoreFault};
@@ -47,12 +47,24 @@ pub(crate) enum DeskFault {
     /// Standard input can't be read.
     #[error("device: read")]
     Read,
-    /// Standard output failed after it had taken this many bytes of the text.
+    /// Standard output failed after it had taken this many bytes of the run's text.
     #[error("device: write after {0} bytes")]
     Write(usize),
     /// Memory ran out. Each call that needs some may fail so, since no clause says how much there is.
     #[error("memory")]
     Memory,
+}
+
+impl DeskFault {
+    /// The fault as one of a longer text, of which `before` bytes were written before the text that has it.
+    pub(crate) fn after(self, before: usize) -> DeskFault
+        ensures { result ≡ fault_after before self }
+    {
+        match self {
+            DeskFault::Write(written) => DeskFault::Write(before.saturating_add(written)),
+            fault => fault,
+        }
+    }
 }
 
 impl From<AllocError> for DeskFault {

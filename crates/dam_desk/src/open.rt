@@ -1,9 +1,9 @@
 //! Opens a desk.
-ghost use Rattle.std.specs.Prelude.{◌≡◌, ◌≤◌, false, IsTrue, IfOk, IfErr};
+ghost use Rattle.std.specs.Prelude.{◌≡◌, ◌≤◌, false, not, IsTrue, IfOk, IfErr};
 ghost use Rattle.dam_book.specs.Limits.{most_entries};
 ghost use Rattle.dam_store.specs.Store.{disk_of, is_broken};
 ghost use Rattle.dam_desk.specs.Desk.{IsOpened, IsUnopened};
-ghost use Rattle.dam_desk.specs.Faults.{IsTextFault};
+ghost use Rattle.dam_desk.specs.Faults.{IsTextFault, is_failed_sync};
 ghost use Rattle.dam_desk.specs.inside.Day.{entered_of};
 ghost use Rattle.dam_desk.specs.inside.Intake.{IsReopened};
 
@@ -40,6 +40,9 @@ pub(crate) fn open<D: Disk + Drop>(
         D.Disk.faults (disk_of desk.0.store) ≡ D.Disk.faults disk) }
     ensures refused { IfErr result
         (λ refused. IsUnopened D.Disk disk refused.disk refused.why) }
+    // A sync failed exactly if the disk can't be used any more.
+    ensures usable { IfErr result (λ refused.
+        D.Disk.is_usable refused.disk ≡ not (is_failed_sync refused.why)) }
 {
     let found = match Found::find(alloc, disk) {
         Ok(found) => found,

@@ -131,7 +131,8 @@ fn read_text(alloc: Global, text: &[u8], before: usize) -> Result<Said, AllocErr
 fn text_of(alloc: Global, header: &[u8], line: &[u8]) -> Result<Vec<u8>, AllocError>
     ensures { IfOk result (λ text. text.items ≡ header.now ++ (line.now ++ 10 ∷ [])) }
 {
-    let mut text = Vec::from_slice(alloc, header)?;
+    let mut text = Vec::with_capacity(alloc, header.len() + line.len() + 1)?;
+    text.extend_from_slice(header)?;
     text.extend_from_slice(line)?;
     text.extend_from_slice(b"\n")?;
     Ok(text)

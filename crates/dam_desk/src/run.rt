@@ -1,7 +1,7 @@
 //! The run of a desk, from its disk before to its disk after.
-ghost use Rattle.std.specs.Prelude.{◌≡◌, ◌⊎◌, true, IsTrue, IfOk, IfErr, OnOk, OnErr};
+ghost use Rattle.std.specs.Prelude.{◌≡◌, ◌⊎◌, true, not, IsTrue, IfOk, IfErr, OnOk, OnErr};
 ghost use Rattle.dam_desk.specs.Desk.{IsUnopened};
-ghost use Rattle.dam_desk.specs.Faults.{IsEndFault, is_read};
+ghost use Rattle.dam_desk.specs.Faults.{IsEndFault, is_failed_sync, is_read};
 ghost use Rattle.dam_desk.specs.Run.{EndsAnswered, EndsSafe, EndsServed, EndsUnopened};
 
 use crate::fault::DeskFault;
@@ -40,12 +40,15 @@ pub(crate) fn run<D: Disk + Drop, R: Read, W: Write>(
         → EndsAnswered D.Disk (D.Disk.seen disk) result.disk
         (R.remaining reader.old) (R.remaining reader.new)
         (W.contents writer.old) (W.contents writer.new)) }
+    // A sync failed exactly if the disk can't be used any more.
+    ensures usable { IfErr result.done (λ why.
+        D.Disk.is_usable result.disk ≡ not (is_failed_sync why)) }
     // If the desk ends before, it wasn't opened and printed nothing, or what was answered is safe.
     ensures faulty { IfErr result.done (λ why.
         (IsUnopened D.Disk disk result.disk why × (writer.new ≡ writer.old))
         ⊎ (IsEndFault (D.Disk.is_clean result.disk)
         (D.Disk.faults disk) (D.Disk.faults result.disk) why
-        × EndsSafe D.Disk (D.Disk.seen disk) result.disk
+        × EndsSafe D.Disk (D.Disk.seen disk) result.disk why
         (R.remaining reader.old) (R.remaining reader.new)
         (W.contents writer.old) (W.contents writer.new))) }
 {
@@ -88,9 +91,11 @@ pub(crate) fn serve_file<S: Start, R: Read, W: Write>(
         (EndsUnopened ⟦<FileFrom<S> as Disk>⟧ S.Start.db ended.disk why × (writer.new ≡ writer.old))
         ⊎ (IsEndFault (⟦<FileFrom<S> as Disk>⟧.is_clean ended.disk)
         0 (⟦<FileFrom<S> as Disk>⟧.faults ended.disk) why
-        × EndsSafe ⟦<FileFrom<S> as Disk>⟧ S.Start.db ended.disk
+        × EndsSafe ⟦<FileFrom<S> as Disk>⟧ S.Start.db ended.disk why
         (R.remaining reader.old) (R.remaining reader.new)
         (W.contents writer.old) (W.contents writer.new)))) }
+    ensures usable { IfOk result (λ ended. IfErr ended.done (λ why.
+        ⟦<FileFrom<S> as Disk>⟧.is_usable ended.disk ≡ not (is_failed_sync why))) }
     ensures unopened { OnErr result (writer.new ≡ writer.old) }
 {
     let disk = open_file(rt, path, start)?;

@@ -1,8 +1,8 @@
-ghost use Rattle.std.specs.Prelude.{◌≡◌, ◌++◌, ℕ, List, true, false, IsTrue, IfSome, IfErr, OnOk, OnErr};
+ghost use Rattle.std.specs.Prelude.{◌≡◌, ◌++◌, ℕ, List, true, false, not, IsTrue, IfSome, IfErr, OnOk};
 ghost use Rattle.std.specs.Io.KnownBytes.{Consumes};
 ghost use Rattle.dam_store.specs.Store.{disk_of, held, is_broken};
 ghost use Rattle.dam_desk.specs.Desk.{Finishes, IsDesk, KeepsLines, MayLeave, Served, Takes};
-ghost use Rattle.dam_desk.specs.Faults.{IsEndFault, is_read};
+ghost use Rattle.dam_desk.specs.Faults.{IsEndFault, is_failed_sync, is_read};
 ghost use Rattle.dam_desk.specs.Journal.{State};
 
 use crate::desk::Desk;
@@ -44,15 +44,19 @@ pub(crate) fn serve<D: Disk, R: Read, W: Write>(
     ensures cause { (state : State) (begun : List ℕ) → IsDesk desk.old state begun
         → IfErr result (IsEndFault (D.Disk.is_clean (disk_of desk.new.store))
         (D.Disk.faults (disk_of desk.old.store)) (D.Disk.faults (disk_of desk.new.store))) }
+    // A sync failed exactly if the disk can't be used any more.
+    ensures usable { IfErr result (λ fault.
+        D.Disk.is_usable (disk_of desk.new.store) ≡ not (is_failed_sync fault)) }
     // If the desk ends before, what was answered is safe.
     ensures faulty { (state : State) (begun : List ℕ) → IsDesk desk.old state begun
-        → OnErr result ((given : List ℕ)
+        → IfErr result (λ fault. (given : List ℕ)
         × Consumes (R.remaining reader.old) (R.remaining reader.new) given
-        × Served state (begun ++ given) replies.now
+        × Served state (begun ++ given) replies.now fault
         (W.contents writer.old) (W.contents writer.new) (MayLeave desk.new)) }
 {
     let _safe = desk.is_safe(); // for the proof: what an open store has is safe
     write_text(writer, replies)?;
+    let mut printed = replies.len();
     let mut chunk = [0; CHUNK];
     for _ in 0..u64::MAX {
         let count = match reader.read(&mut chunk) {
@@ -60,9 +64,15 @@ pub(crate) fn serve<D: Disk, R: Read, W: Write>(
             Err(_) => return Err(DeskFault::Read),
         };
         if count == 0 {
-            return desk.end(writer);
+            return match desk.end(writer) {
+                Ok(()) => Ok(()),
+                Err(fault) => Err(fault.after(printed)),
+            };
         }
-        desk.take(&chunk[..count], writer)?;
+        match desk.take(&chunk[..count], writer) {
+            Ok(count) => printed = printed.saturating_add(count),
+            Err(fault) => return Err(fault.after(printed)),
+        }
     }
     Err(DeskFault::Read)
 }

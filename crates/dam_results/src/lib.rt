@@ -45,6 +45,6 @@ pub use limits::{MOST_BYTES, MOST_RECORDS};
 pub use publish::results;
 pub use published::{PeriodResult, Results, RowResult};
 pub use replay::{Run, book_of_text, replay_text, run_of_text, run_text};
-pub use replies::replies_text;
+pub use replies::{replies_text, write_reply_line};
 pub use text::results_text;
 pub use writer::{journal_text, packed_journal_text};

@@ -186,6 +186,7 @@ fn read_record<'a>(
         BeginsWithRow text.entry.now rest.now (fields_of fields.new.items)) }
 {
     fields.clear();
+    fields.reserve(MOST_KEPT)?;
     let mut rest = text;
     loop {
         let (field, after) = read_field(alloc, rest)?;

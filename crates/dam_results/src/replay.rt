@@ -13,7 +13,7 @@ ghost use Rattle.dam_results.specs.Run.{HasRefused, IsRun};
 use crate::from_journal::FromJournal;
 use crate::journal::{JournalFault, read_into};
 use crate::lines::write_day;
-use crate::replies::write_line;
+use crate::replies::write_reply_line;
 use dam_book::laws::runs_grow;
 use dam_book::{Book, Command, DayLength, Reply, Seed};
 use std::alloc::{AllocError, Allocator, Global};
@@ -73,7 +73,7 @@ impl<A: Allocator + Copy, B: Allocator> Replay<A, B> {
             ≡ self.old.text.items ++ reply_line number (reply_to self.old.book command.now)) }
     {
         let reply = self.book.apply(command)?;
-        write_line(&mut self.text, number, reply)
+        write_reply_line(&mut self.text, number, reply)
     }
 
     /// Applies the commands of the first entries, one after another.

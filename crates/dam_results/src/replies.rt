@@ -35,8 +35,8 @@ fn write_reply<A: Allocator>(text: &mut Vec<u8, A>, reply: Reply) -> Result<(), 
     }
 }
 
-/// Appends the line of the entry of that number.
-pub(crate) fn write_line<A: Allocator>(
+/// Appends the line of the entry of that number, as `replies_text` has it.
+pub fn write_reply_line<A: Allocator>(
     text: &mut Vec<u8, A>,
     number: u32,
     reply: Reply,
@@ -61,7 +61,7 @@ pub fn replies_text<A: Allocator>(
     let mut text = Vec::new(alloc);
     write_day(&mut text, u64::from(periods.get()))?;
     for entry in entries {
-        write_line(&mut text, entry.number, entry.reply)?;
+        write_reply_line(&mut text, entry.number, entry.reply)?;
     }
     Ok(text)
 }

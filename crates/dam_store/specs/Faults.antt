@@ -51,6 +51,16 @@ is_failed_write (Write error) = true
 is_failed_write (Sync error) = true
 is_failed_write fault = false
 
+-- it was a sync, so the disk may not be used any more
+abbrev pub is_failed_sync : StoreFault → Bool
+is_failed_sync (Sync error) = true
+is_failed_sync fault = false
+
+-- it was a call that reads
+abbrev pub is_failed_read : StoreFault → Bool
+is_failed_read (Read error) = true
+is_failed_read fault = false
+
 -- the bytes of the file are refused
 abbrev pub is_refusal : StoreFault → Bool
 is_refusal NotAJournal = true

@@ -1,9 +1,9 @@
-ghost use Rattle.std.specs.Prelude.{◌≡◌, ◌⊎◌, ◌+◌, ◌≤◌, ◌++◌, ◌∷◌, ◌==◌, [], List, ℕ, true, false, length, drop, IsTrue, IfErr, OnOk};
+ghost use Rattle.std.specs.Prelude.{◌≡◌, ◌⊎◌, ◌+◌, ◌≤◌, ◌++◌, ◌∷◌, ◌==◌, [], List, ℕ, true, false, not, length, drop, IsTrue, IfErr, OnOk, MatchResult};
 ghost use Rattle.sqlite_disk.specs.Disk.{CountsFault, MoreFaults};
 ghost use Rattle.dam_store.specs.Limits.{most_bytes};
 ghost use Rattle.dam_store.specs.Journal.{marked, written, lines_in, StandsForEither};
 ghost use Rattle.dam_store.specs.Store.{disk_of, is_broken, held, IsSafe, IsTidy};
-ghost use Rattle.dam_store.specs.Faults.{is_failed_write, is_failure};
+ghost use Rattle.dam_store.specs.Faults.{is_failed_sync, is_failed_write, is_failure};
 ghost use Rattle.dam_store.specs.inside.Shape.{IsClosed};
 ghost use Rattle.dam_store.specs.inside.Synced.{IsSynced, CrashLeaves};
 ghost use Rattle.dam_store.specs.declared.fault.StoreFault.TheVariants.{Full, Broken};
@@ -32,6 +32,7 @@ fn write_lines<D: Disk>(disk: &mut D, end: usize, batch: &Batch) -> Result<(), S
     ensures faults { CountsFault result (D.Disk.faults disk.old) (D.Disk.faults disk.new) }
     ensures failure { IfErr result (λ fault. is_failure fault ≡ true) }
     ensures failed { IfErr result (λ fault. is_failed_write fault ≡ true) }
+    ensures usable { IfErr result (λ fault. D.Disk.is_usable disk.new ≡ not (is_failed_sync fault)) }
 {
     let bytes = batch.after_gate();
     put(disk, end + 1, bytes)?;
@@ -66,6 +67,10 @@ impl<D: Disk> Store<D> {
         ensures no_other { IfErr result
             (λ fault. (is_failed_write fault ≡ true) ⊎ (fault ≡ Full)
             ⊎ ((fault ≡ Broken) × (is_broken self.old ≡ true))) }
+        // A sync failed exactly if the disk can't be used any more.
+        ensures usable { is_broken self.old ≡ false → MatchResult result
+            (λ _. IsTrue (D.Disk.is_usable (disk_of self.new)))
+            (λ fault. D.Disk.is_usable (disk_of self.new) ≡ not (is_failed_sync fault)) }
         ensures stays_broken { is_broken self.old ≡ true → is_broken self.new ≡ true }
         ensures clean { D.Disk.is_clean (disk_of self.new) ≡ D.Disk.is_clean (disk_of self.old) }
     {
@@ -91,6 +96,7 @@ impl<D: Disk> Store<D> {
         ensures value { result ≡ is_broken self.now }
         ensures safe { is_broken self.now ≡ false
             → IsTrue (D.Disk.is_clean (disk_of self.now)) → IsSafe self.now }
+        ensures usable { is_broken self.now ≡ false → IsTrue (D.Disk.is_usable (disk_of self.now)) }
     {
         self.is_broken
     }

@@ -1,7 +1,7 @@
-ghost use Rattle.std.specs.Prelude.{◌≡◌, ◌⊎◌, ◌<◌, ◌≤◌, ℕ, List, true, false, length, IsTrue, IfOk, IfErr, OnOk};
+ghost use Rattle.std.specs.Prelude.{◌≡◌, ◌⊎◌, ◌<◌, ◌≤◌, ℕ, List, true, false, not, length, IsTrue, IfOk, IfErr, OnOk, OnErr};
 ghost use Rattle.sqlite_disk.specs.Disk.{Torn, Holds, Follows, CountsFault, MoreFaults};
 ghost use Rattle.dam_store.specs.Limits.{most_bytes};
-ghost use Rattle.dam_store.specs.Faults.{is_failed_write, is_failure, is_refusal, IsRefused};
+ghost use Rattle.dam_store.specs.Faults.{is_failed_read, is_failed_sync, is_failed_write, is_failure, is_refusal, IsRefused};
 ghost use Rattle.dam_store.specs.inside.Synced.{IsSynced, IsRead};
 ghost use Rattle.dam_store.specs.declared.fault.StoreFault.TheVariants.{Memory};
 
@@ -26,6 +26,7 @@ pub(crate) fn put<D: Disk>(disk: &mut D, at: usize, bytes: &[u8]) -> Result<(), 
     ensures faults { CountsFault result (D.Disk.faults disk.old) (D.Disk.faults disk.new) }
     ensures failure { IfErr result (λ fault. is_failure fault ≡ true) }
     ensures failed { IfErr result (λ fault. is_failed_write fault ≡ true) }
+    ensures usable { IfErr result (λ fault. D.Disk.is_usable disk.new ≡ not (is_failed_sync fault)) }
 {
     disk.write_at(at, bytes).map_err(StoreFault::Write)?;
     disk.sync().map_err(StoreFault::Sync)?;
@@ -49,8 +50,9 @@ pub(crate) fn read_file<D: Disk>(alloc: Global, disk: &mut D) -> Result<Vec<u8>,
     ensures refusal { IfErr result (λ fault. is_refusal fault ≡ true
         → IsTrue (D.Disk.is_clean disk.new)
         → IsRefused (D.Disk.seen disk.old) fault) }
-    ensures no_other { IfErr result (λ fault. (is_failure fault ≡ true)
+    ensures no_other { IfErr result (λ fault. (is_failed_read fault ≡ true)
         ⊎ (is_refusal fault ≡ true) ⊎ (fault ≡ Memory)) }
+    ensures usable { OnErr result (IsTrue (D.Disk.is_usable disk.new)) }
 {
     let len = disk.len().map_err(StoreFault::Read)?;
     if len > MOST_BYTES {

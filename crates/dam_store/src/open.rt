@@ -1,7 +1,7 @@
-ghost use Rattle.std.specs.Prelude.{◌≡◌, ◌⊎◌, List, ℕ, true, false, IsTrue, IfOk, IfErr, OnOk};
+ghost use Rattle.std.specs.Prelude.{◌≡◌, ◌⊎◌, List, ℕ, true, false, not, IsTrue, IfOk, IfErr, OnOk};
 ghost use Rattle.dam_store.specs.Journal.{stands_for, text_of, StandsFor};
 ghost use Rattle.dam_store.specs.Store.{disk_of, found_on, is_broken, held, IsSafe, IsTidy, IsUntouched};
-ghost use Rattle.dam_store.specs.Faults.{is_failed_write, is_failure, is_refusal, IsRefused};
+ghost use Rattle.dam_store.specs.Faults.{is_failed_read, is_failed_sync, is_failed_write, is_failure, is_refusal, IsRefused};
 ghost use Rattle.dam_store.specs.History.{Known, IsKnown, IsPossible};
 ghost use Rattle.dam_store.specs.inside.Shape.{IsEnd};
 ghost use Rattle.dam_store.specs.inside.Synced.{IsRead};
@@ -34,8 +34,9 @@ fn read_synced<D: Disk>(alloc: Global, disk: &mut D) -> Result<(Vec<u8>, FileLin
     ensures refusal { IfErr result (λ fault. is_refusal fault ≡ true
         → IsTrue (D.Disk.is_clean disk.new)
         → IsRefused (D.Disk.seen disk.old) fault) }
-    ensures no_other { IfErr result (λ fault. (is_failure fault ≡ true)
-        ⊎ (is_refusal fault ≡ true) ⊎ (fault ≡ Memory)) }
+    ensures no_other { IfErr result (λ fault. (is_failed_read fault ≡ true)
+        ⊎ (is_failed_sync fault ≡ true) ⊎ (is_refusal fault ≡ true) ⊎ (fault ≡ Memory)) }
+    ensures usable { IfErr result (λ fault. D.Disk.is_usable disk.new ≡ not (is_failed_sync fault)) }
 {
     disk.sync().map_err(StoreFault::Sync)?;
     let bytes = read_file(alloc, disk)?;
@@ -65,8 +66,13 @@ impl<D: Disk> Found<D> {
         ensures refusal { IfErr result (λ unopened. is_refusal unopened.why ≡ true
             → IsTrue (D.Disk.is_clean unopened.disk)
             → IsRefused (D.Disk.seen disk) unopened.why) }
-        ensures no_other { IfErr result (λ unopened. (is_failure unopened.why ≡ true)
+        ensures no_other { IfErr result (λ unopened. (is_failed_read unopened.why ≡ true)
+            ⊎ (is_failed_sync unopened.why ≡ true)
             ⊎ (is_refusal unopened.why ≡ true) ⊎ (unopened.why ≡ Memory)) }
+        // A sync failed exactly if the disk can't be used any more.
+        ensures usable { IfErr result (λ unopened.
+            D.Disk.is_usable unopened.disk ≡ not (is_failed_sync unopened.why)) }
+        ensures still_usable { IfOk result (λ found. IsTrue (D.Disk.is_usable (found_on found))) }
         ensures clean { IfOk result (λ found. IsTrue (D.Disk.is_clean (found_on found))
             → IsTrue (D.Disk.is_clean disk)) }
     {
@@ -111,6 +117,8 @@ impl<D: Disk> Found<D> {
             → MoreFaults (D.Disk.faults (found_on self)) (D.Disk.faults unopened.disk)) }
         ensures failed { IfErr result (λ unopened. (is_failed_write unopened.why ≡ true)
             ⊎ ((unopened.why ≡ Memory) × (unopened.disk ≡ found_on self))) }
+        ensures usable { IfErr result (λ unopened.
+            D.Disk.is_usable unopened.disk ≡ not (is_failed_sync unopened.why)) }
         ensures clean { IfOk result (λ store. D.Disk.is_clean (disk_of store)
             ≡ D.Disk.is_clean (found_on self)) }
         ensures clean_unopened { IfErr result (λ unopened. D.Disk.is_clean unopened.disk

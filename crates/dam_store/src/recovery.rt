@@ -1,9 +1,9 @@
-ghost use Rattle.std.specs.Prelude.{◌≡◌, ◌⊎◌, ◌+◌, ◌∷◌, ◌<◌, ◌≤◌, [], List, ℕ, false, true, None, ◌&&◌, ◌==◌, ◌-◌, ◌++◌, nat_lt, slice_index, length, take, drop, replicate, IsTrue, IfOk, IfErr, OnOk};
+ghost use Rattle.std.specs.Prelude.{◌≡◌, ◌⊎◌, ◌+◌, ◌∷◌, ◌<◌, ◌≤◌, [], List, ℕ, false, true, not, None, ◌&&◌, ◌==◌, ◌-◌, ◌++◌, nat_lt, slice_index, length, take, drop, replicate, IsTrue, IfOk, IfErr, OnOk};
 ghost use Rattle.dam_store.specs.Limits.{most_bytes};
 ghost use Rattle.dam_store.specs.Journal.{is_unmade, head_line, lines_in, stands_for, StandsFor};
 ghost use Rattle.dam_store.specs.inside.Shape.{has_newline, IsAtRest, IsEnd, IsEndedAt, IsJournal};
 ghost use Rattle.dam_store.specs.inside.Synced.{IsSynced, IsRead, IsOpened, CrashLeaves};
-ghost use Rattle.dam_store.specs.Faults.{is_failed_write, is_failure};
+ghost use Rattle.dam_store.specs.Faults.{is_failed_sync, is_failed_write, is_failure};
 ghost use Rattle.dam_store.specs.declared.fault.StoreFault.TheVariants.{Memory};
 ghost use Rattle.sqlite_disk.specs.Disk.{MoreFaults};
 
@@ -53,6 +53,7 @@ fn begin<D: Disk>(disk: &mut D, bytes: &[u8]) -> Result<(), StoreFault>
     ensures failure { IfErr result (λ fault. is_failure fault ≡ true
         → MoreFaults (D.Disk.faults disk.old) (D.Disk.faults disk.new)) }
     ensures failed { IfErr result (λ fault. is_failed_write fault ≡ true) }
+    ensures usable { IfErr result (λ fault. D.Disk.is_usable disk.new ≡ not (is_failed_sync fault)) }
 {
     if has_gate(bytes, 0) {
         return Ok(());
@@ -74,6 +75,7 @@ fn create<D: Disk>(disk: &mut D, bytes: &[u8]) -> Result<(), StoreFault>
     ensures failure { IfErr result (λ fault. is_failure fault ≡ true
         → MoreFaults (D.Disk.faults disk.old) (D.Disk.faults disk.new)) }
     ensures failed { IfErr result (λ fault. is_failed_write fault ≡ true) }
+    ensures usable { IfErr result (λ fault. D.Disk.is_usable disk.new ≡ not (is_failed_sync fault)) }
 {
     begin(disk, bytes)?;
     put(disk, 1, &AFTER_FIRST)?;
@@ -109,6 +111,7 @@ fn blank<D: Disk>(disk: &mut D, end: usize, bytes: &mut Vec<u8>) -> Result<(), S
         → MoreFaults (D.Disk.faults disk.old) (D.Disk.faults disk.new)) }
     ensures failed { IfErr result (λ fault. (is_failed_write fault ≡ true)
         ⊎ ((fault ≡ Memory) × (disk.new ≡ disk.old))) }
+    ensures usable { IfErr result (λ fault. D.Disk.is_usable disk.new ≡ not (is_failed_sync fault)) }
 {
     if !has_newline_after(bytes, end + 1) {
         return Ok(());
@@ -133,6 +136,7 @@ fn close<D: Disk>(disk: &mut D, end: usize, bytes: &[u8]) -> Result<(), StoreFau
     ensures failure { IfErr result (λ fault. is_failure fault ≡ true
         → MoreFaults (D.Disk.faults disk.old) (D.Disk.faults disk.new)) }
     ensures failed { IfErr result (λ fault. is_failed_write fault ≡ true) }
+    ensures usable { IfErr result (λ fault. D.Disk.is_usable disk.new ≡ not (is_failed_sync fault)) }
 {
     if has_gate(bytes, end) {
         return Ok(());
@@ -156,6 +160,7 @@ fn close_end<D: Disk>(disk: &mut D, end: usize, mut bytes: Vec<u8>) -> Result<()
         → MoreFaults (D.Disk.faults disk.old) (D.Disk.faults disk.new)) }
     ensures failed { IfErr result (λ fault. (is_failed_write fault ≡ true)
         ⊎ ((fault ≡ Memory) × (disk.new ≡ disk.old))) }
+    ensures usable { IfErr result (λ fault. D.Disk.is_usable disk.new ≡ not (is_failed_sync fault)) }
 {
     blank(disk, end, &mut bytes)?;
     close(disk, end, &bytes)?;
@@ -182,6 +187,7 @@ pub(crate) fn repair<D: Disk>(
         → MoreFaults (D.Disk.faults disk.old) (D.Disk.faults disk.new)) }
     ensures failed { IfErr result (λ fault. (is_failed_write fault ≡ true)
         ⊎ ((fault ≡ Memory) × (disk.new ≡ disk.old))) }
+    ensures usable { IfErr result (λ fault. D.Disk.is_usable disk.new ≡ not (is_failed_sync fault)) }
 {
     match end {
         Some(end) => {

@@ -1,9 +1,10 @@
 -- No store was found, or its end wasn't repaired.
-use Rattle.std.proofs.Common.{List, ℕ, sym, subst}
+use Rattle.std.proofs.Common.{List, ℕ, not, sym, ap, ◌∙◌, subst}
 use Rattle.dam_desk.specs.Desk.{IsUnopened}
+use Rattle.dam_desk.specs.Faults.{is_failed_sync}
 use Rattle.dam_desk.specs.declared.fault.DeskFault.{DeskFault}
 use Rattle.dam_desk.specs.inside.Intake.{IsReopened}
-use Rattle.dam_desk.proofs.Opening.{unopened_early, unopened_late}
+use Rattle.dam_desk.proofs.Opening.{sync_of, unopened_early, unopened_late}
 use Rattle.dam_desk.proofs.open.open.Goals as goal
 
 pub returns-in-Err-clause-refused : goal.returns-in-Err-clause-refused
@@ -25,3 +26,12 @@ returns-in-Err-open-clause-refused g c =
     subst (λ (w : DeskFault). IsUnopened g.D.Disk c.args.disk new w) (sym c.from-why-in-Err-open.ensures)
     (unopened_late g.D.Disk c.args.disk c.in-Ok.found.disk c.in-Ok.found.text.items found.untouched found.no_fault found.text new why
     reopened.0 reopened.1.items is late.clean_unopened late.failure late.failed late.crash_unopened)
+
+pub returns-in-Err-clause-usable : goal.returns-in-Err-clause-usable
+returns-in-Err-clause-usable g c =
+    c.in-Err.ensures.usable ∙ ap not (sym (sync_of c.in-Err.unopened.why) ∙ ap is_failed_sync (sym c.from-why.ensures))
+
+pub returns-in-Err-open-clause-usable : goal.returns-in-Err-open-clause-usable
+returns-in-Err-open-clause-usable g c =
+    c.in-Err-open.ensures.usable
+    ∙ ap not (sym (sync_of c.in-Err-open.unopened.why) ∙ ap is_failed_sync (sym c.from-why-in-Err-open.ensures))

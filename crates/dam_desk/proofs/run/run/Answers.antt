@@ -56,7 +56,7 @@ returns-in-Ok-clause-faulty g c =
         given = part.0;
         taken = part.1;
         served = served_still c.serve-done.new.desk disk c.into_disk.ensures is.journal c.as_slice.result.now first part.0
-            (g.W.Write.contents c.args.writer.now) (g.W.Write.contents c.serve-done.new.writer) part.2;
+            (g.W.Write.contents c.args.writer.now) (g.W.Write.contents c.serve-done.new.writer) why part.2;
       },
     )) (c.serve-done.ensures.cause (at_first is.journal) [] is.fresh)
     (c.serve-done.ensures.faulty (at_first is.journal) [] is.fresh)

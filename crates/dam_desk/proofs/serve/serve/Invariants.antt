@@ -2,14 +2,16 @@
 use Rattle.std.proofs.Common.{◌≡◌, ◌++◌, List, ℕ, false, IsTrue, length}
 use Rattle.std.specs.Io.KnownBytes.{Consumes}
 use Rattle.dam_store.specs.Store.{disk_of, held, is_broken}
-use Rattle.dam_desk.specs.Desk.{IsDesk, KeepsLines, Takes}
+use Rattle.dam_desk.specs.Desk.{IsDesk, KeepsLines}
 use Rattle.dam_desk.specs.Journal.{State}
 use Rattle.dam_desk.specs.declared.serve.TheConstants.{CHUNK}
+use Rattle.dam_desk.proofs.Desks.{TakesAll}
 use Rattle.dam_desk.proofs.serve.serve.Given as goal
 
 abbrev pub invariant-loop : goal.invariant-loop
 invariant-loop g l = record {
   ready : is_broken l.desk.store ≡ false;
+  usable : IsTrue (g.D.Disk.is_usable (disk_of l.desk.store));
   no_fault : g.D.Disk.faults (disk_of l.desk.store) ≡ g.D.Disk.faults (disk_of l.initial.desk.store);
   clean : g.D.Disk.is_clean (disk_of l.desk.store) ≡ g.D.Disk.is_clean (disk_of l.initial.desk.store);
   grown : IsTrue (g.D.Disk.is_clean (disk_of l.desk.store)) → (more : List (List ℕ)) × held l.desk.store ≡ held l.initial.desk.store ++ more;
@@ -17,5 +19,5 @@ invariant-loop g l = record {
   chunk : length l.chunk ≡ CHUNK;
   taken : (state : State) (begun : List ℕ) → IsDesk l.initial.desk state begun → (given : List ℕ)
       × Consumes (g.R.Read.remaining l.initial.reader) (g.R.Read.remaining l.reader) given
-      × Takes l.desk state (begun ++ given) l.replies (g.W.Write.contents l.fn.writer) (g.W.Write.contents l.writer);
+      × TakesAll l.desk state (begun ++ given) l.replies l.printed (g.W.Write.contents l.fn.writer) (g.W.Write.contents l.writer);
 }

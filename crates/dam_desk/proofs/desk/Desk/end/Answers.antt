@@ -1,13 +1,16 @@
 -- A line that has begun is answered.
-use Rattle.std.proofs.Common.{◌≡◌, ◌++◌, List, ℕ, OnOk, OnErr, length, take, sym, ap, ◌∙◌, subst}
+use Rattle.std.proofs.Common.{◌≡◌, ◌++◌, List, ℕ, IfErr, OnOk, length, take, sym, ap, ◌∙◌, subst}
 use Rattle.std.proofs.lemmas.Bool.{eqb-true, eqb-false}
 use Rattle.std.specs.Io.KnownBytes.{Appends}
 use Rattle.std.proofs.KnownBytes.{Appends-nil}
 use Rattle.dam_desk.specs.Answers.{fault_line}
+use Rattle.dam_desk.specs.Faults.{SaysCount}
 use Rattle.dam_desk.specs.Journal.{next}
 use Rattle.dam_desk.specs.Lines.{kept}
 use Rattle.dam_desk.specs.declared.fault.LineFault.TheVariants.{CutShort}
+use Rattle.dam_desk.specs.declared.fault.DeskFault.TheVariants.{Memory}
 use Rattle.dam_desk.proofs.Desks.{written_part}
+use Rattle.dam_desk.proofs.Ends.{err_is}
 use Rattle.dam_desk.proofs.Lists.{end_of_none, end_of_some}
 use Rattle.dam_desk.proofs.desk.Desk.end.Goals as goal
 
@@ -38,5 +41,9 @@ returns-clause-err g c begun line =
     ∙ sym (end_of_some (next c.args.self.now.intake.answered) begun some) in
     let old = g.W.Write.contents c.args.writer.now in
     let new = g.W.Write.contents c.write_text.new.writer in
-    subst (λ (t : List ℕ). OnErr c.write_text.result ((count : ℕ) × Appends old new (take count t))) text
+    subst (λ (t : List ℕ). IfErr c.write_text.result (λ fault. (count : ℕ) × Appends old new (take count t) × SaysCount count fault)) text
     (written_part old new c.as_slice.result.now c.write_text.result c.write_text.ensures.fault)
+
+pub returns-in_err-write_fault-clause-err : goal.returns-in_err-write_fault-clause-err
+returns-in_err-write_fault-clause-err g c begun line =
+    err_is c.from_residual.result _ Memory c.from_residual.ensures.1 (0, Appends-nil (g.W.Write.contents c.args.writer.now), tt)

@@ -1,16 +1,16 @@
 -- The records of the answered lines are in the file once their answers are written.
-use Rattle.std.proofs.Common.{◌++◌, [], List, ℕ, inl, inr, take, sym, ap, ◌∙◌, subst, append-nil}
-use Rattle.std.proofs.lemmas.Result.{on_ok_weaker}
+use Rattle.std.proofs.Common.{◌++◌, [], List, ℕ, inl, inr, length, take, sym, ap, ◌∙◌, subst, append-nil}
 use Rattle.std.specs.Io.KnownBytes.{Appends}
 use Rattle.dam_store.specs.Store.{disk_of, held, is_broken}
 use Rattle.dam_store.specs.Journal.{text_of}
 use Rattle.dam_desk.specs.Faults.{IsEndFault, of_store}
+use Rattle.dam_desk.specs.declared.fault.DeskFault.TheVariants.{Memory}
 use Rattle.dam_desk.specs.inside.Intake.{entered_text}
 use Rattle.dam_desk.proofs.Crashes.{either_keeps}
 use Rattle.dam_desk.proofs.Ends.{end_store, err_is, refuted}
 use Rattle.dam_desk.proofs.Opening.{write_failure}
 use Rattle.dam_desk.proofs.Room.{has_room}
-use Rattle.dam_desk.proofs.Desks.{with_batch, on_err_any, on_err_then, opens_after, opens_batch, opens_either, opens_store, served_none, served_pending, served_written, store_grown, written_part}
+use Rattle.dam_desk.proofs.Desks.{with_batch, opens_after, opens_batch, opens_either, opens_store, served_none, served_pending, served_written, store_grown, store_says, written_fault}
 use Rattle.dam_desk.proofs.desk.Desk.take.Goals as goal
 
 pub returns-in_err-append-clause-crash : goal.returns-in_err-append-clause-crash
@@ -18,19 +18,23 @@ returns-in_err-append-clause-crash g c ready clean file left = either_keeps (hel
 
 pub returns-in_err-take-clause-faulty : goal.returns-in_err-take-clause-faulty
 returns-in_err-take-clause-faulty g c state begun is ready =
-    on_err_any c.from_residual.result _ (served_none state (begun ++ c.args.bytes.now) [] (g.W.Write.contents c.args.writer.now) _
+    err_is c.from_residual.result _ Memory c.from_residual.ensures.1
+    (served_none state (begun ++ c.args.bytes.now) [] Memory (g.W.Write.contents c.args.writer.now) _ tt
     (opens_store c.args.self.now.store state.journal is.reads is.file (c.is_broken-safe.ensures.safe ready)))
 
 pub returns-in_err-batch-clause-faulty : goal.returns-in_err-batch-clause-faulty
 returns-in_err-batch-clause-faulty g c state begun is ready =
-    on_err_any c.from_residual-in_err-batch.result _ (served_none state (begun ++ c.args.bytes.now) [] (g.W.Write.contents c.args.writer.now) _
+    err_is c.from_residual-in_err-batch.result _ Memory c.from_residual-in_err-batch.ensures.1
+    (served_none state (begun ++ c.args.bytes.now) [] Memory (g.W.Write.contents c.args.writer.now) _ tt
     (opens_store c.args.self.now.store state.journal is.reads is.file (c.is_broken-safe.ensures.safe ready)))
 
 pub returns-in_err-append-clause-faulty : goal.returns-in_err-append-clause-faulty
 returns-in_err-append-clause-faulty g c state begun is ready =
     let read = c.in_ok-take.ensures state begun is.intake in
-    on_err_any c.from_residual-in_err-append.result _
-    (served_pending c.take.new.self state (begun ++ c.args.bytes.now) (g.W.Write.contents c.args.writer.now) _ read
+    let fault = c.in_err-append.field-0.0 in
+    err_is c.from_residual-in_err-append.result _ (of_store fault) c.from_residual-in_err-append.ensures.1
+    (served_pending c.take.new.self state (begun ++ c.args.bytes.now) (of_store fault) (g.W.Write.contents c.args.writer.now) _
+    (store_says 0 fault) read
     (opens_either c.args.self.now.store c.append.new.self c.in_ok-batch.batch (entered_text c.take.new.self) state.journal read.last.journal
     is.reads (c.journals_grow.ensures.reads state read.last read.lines c.take.new.self.answers.items is.reads read.answers)
     c.append.ensures.clean is.file c.in_ok-batch.ensures read.text (c.append.ensures.crash ready)))
@@ -41,35 +45,40 @@ returns-clause-taken g c state begun is =
     let reads = c.journals_grow.ensures.reads state read.last read.lines c.take.new.self.answers.items is.reads read.answers in
     let text = store_grown c.args.self.now.store c.append.new.self c.in_ok-batch.batch (entered_text c.take.new.self) state.journal read.last.journal
     c.append.ensures.clean is.file c.in_ok-batch.ensures read.text c.in_ok-append.ensures.acknowledged in
-    on_ok_weaker c.write_text.result (λ written. record {
-      lines = read.lines;
-      begun = read.begun;
-      split = record {
-        split = read.split ∙ ap (λ (t : List ℕ). text_of read.lines ++ t) (append-nil read.begun);
-        whole = read.whole;
-        unended = read.now.unended;
-      };
-      answers = c.take.new.self.answers.items;
-      last = read.last;
-      answered = read.answers;
-      written = subst (Appends (g.W.Write.contents c.args.writer.now) (g.W.Write.contents c.write_text.new.writer)) c.as_slice.ensures.value written;
-      now = record { intake = read.now; reads = reads; file = text };
-      safe = opens_store c.append.new.self read.last.journal reads text c.in_ok-append.ensures.safe;
-    }) c.write_text.ensures.done
+    (
+      record {
+        lines = read.lines;
+        begun = read.begun;
+        split = record {
+          split = read.split ∙ ap (λ (t : List ℕ). text_of read.lines ++ t) (append-nil read.begun);
+          whole = read.whole;
+          unended = read.now.unended;
+        };
+        answers = c.take.new.self.answers.items;
+        last = read.last;
+        answered = read.answers;
+        written = subst (Appends (g.W.Write.contents c.args.writer.now) (g.W.Write.contents c.write_text.new.writer))
+            c.as_slice-answers.ensures.value c.in_ok-write_text.ensures.done;
+        now = record { intake = read.now; reads = reads; file = text };
+        safe = opens_store c.append.new.self read.last.journal reads text c.in_ok-append.ensures.safe;
+      },
+      ap length c.as_slice-answers.ensures.value,
+    )
 
-pub returns-clause-faulty : goal.returns-clause-faulty
-returns-clause-faulty g c state begun is ready =
+pub returns-in_err-write_text-clause-faulty : goal.returns-in_err-write_text-clause-faulty
+returns-in_err-write_text-clause-faulty g c state begun is ready =
     let read = c.in_ok-take.ensures state begun is.intake in
     let old = g.W.Write.contents c.args.writer.now in
     let new = g.W.Write.contents c.write_text.new.writer in
     let reads = c.journals_grow.ensures.reads state read.last read.lines c.take.new.self.answers.items is.reads read.answers in
     let text = store_grown c.args.self.now.store c.append.new.self c.in_ok-batch.batch (entered_text c.take.new.self) state.journal read.last.journal
     c.append.ensures.clean is.file c.in_ok-batch.ensures read.text c.in_ok-append.ensures.acknowledged in
-    on_err_then c.write_text.result ((count : ℕ) × Appends old new (take count c.as_slice.result.now)) _ (λ part.
-    served_written c.take.new.self state (begun ++ c.args.bytes.now) old new _ part.0 read
-    (subst (λ (t : List ℕ). Appends old new (take part.0 t)) c.as_slice.ensures.value part.1)
+    let fault = c.in_err-write_text.field-0.0 in
+    let part = written_fault old new c.as_slice-answers.result.now fault c.in_err-write_text.ensures.fault in
+    err_is c.from_residual-in_err-write_text.result _ fault c.from_residual-in_err-write_text.ensures.1
+    (served_written c.take.new.self state (begun ++ c.args.bytes.now) fault old new _ part.0 part.2 read
+    (subst (λ (t : List ℕ). Appends old new (take part.0 t)) c.as_slice-answers.ensures.value part.1)
     (opens_store c.append.new.self read.last.journal reads text c.in_ok-append.ensures.safe))
-    (written_part old new c.as_slice.result.now c.write_text.result c.write_text.ensures.fault)
 
 pub returns-in_err-take-clause-one_batch : goal.returns-in_err-take-clause-one_batch
 returns-in_err-take-clause-one_batch g c state begun is ready file may =
@@ -89,6 +98,15 @@ returns-in_err-append-clause-one_batch g c state begun is ready file may =
 
 pub returns-clause-one_batch : goal.returns-clause-one_batch
 returns-clause-one_batch g c state begun is ready file may =
+    let read = c.in_ok-take.ensures state begun is.intake in
+    let reads = c.journals_grow.ensures.reads state read.last read.lines c.take.new.self.answers.items is.reads read.answers in
+    let text = store_grown c.args.self.now.store c.append.new.self c.in_ok-batch.batch (entered_text c.take.new.self) state.journal read.last.journal
+    c.append.ensures.clean is.file c.in_ok-batch.ensures read.text c.in_ok-append.ensures.acknowledged in
+    inr (opens_after c.take.new.self state (begun ++ c.args.bytes.now) file read
+    (opens_store c.append.new.self read.last.journal reads text c.in_ok-append.ensures.safe file may))
+
+pub returns-in_err-write_text-clause-one_batch : goal.returns-in_err-write_text-clause-one_batch
+returns-in_err-write_text-clause-one_batch g c state begun is ready file may =
     let read = c.in_ok-take.ensures state begun is.intake in
     let reads = c.journals_grow.ensures.reads state read.last read.lines c.take.new.self.answers.items is.reads read.answers in
     let text = store_grown c.args.self.now.store c.append.new.self c.in_ok-batch.batch (entered_text c.take.new.self) state.journal read.last.journal
