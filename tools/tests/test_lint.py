@@ -368,8 +368,18 @@ class Long(unittest.TestCase):
     def test_a_text_that_is_too_long(self):
         data = self.DAY + b"," * rules.MOST_BYTES
         self.assertEqual(self.measured(self.first, data), "input: TooLong")
-        said = f"line 1: the text has {len(data):,} bytes, but a journal has at most {rules.MOST_BYTES:,}: split the day"
-        self.assertEqual(self.measured(told, data), [said])
+        said = f"line 1: the text has {len(data):,} bytes, but a journal has at most {rules.MOST_BYTES:,}"
+        self.assertEqual(self.measured(told, data), [f"{said}: remove empty lines; the day and 10000 commands take less"])
+
+    def test_only_empty_lines_make_a_journal_too_long(self):
+        """The longest commands, with all fields in quotes and CR LF, take less than a journal may have."""
+        name = "A" * rules.LONGEST_NAME
+        volumes = ";".join(f"{period}:{rules.GREATEST_VOLUME}" for period in range(1, rules.GREATEST_PERIOD + 1))
+        fields = ["submit", "A" * rules.LONGEST_PARTICIPANT, name, "block", "sell", str(rules.GREATEST_PRICE), volumes, name, name]
+        record = ",".join(f'"{field}"' for field in fields).encode() + b"\r\n"
+        data = b"day,100,,,,,,,\n" + record * (rules.MOST_RECORDS - 1)
+        self.assertEqual(len(journal.read_journal(data).commands), rules.MOST_RECORDS - 1)
+        self.assertEqual(self.first(data + b"\n" * (rules.MOST_BYTES + 1 - len(data))), "input: TooLong")
 
 
 if __name__ == "__main__":

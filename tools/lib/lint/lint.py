@@ -64,7 +64,8 @@ class Lint:
             self.tell(1, other)
             return self.found
         if len(self.data) > rules.MOST_BYTES:
-            self.tell(1, f"the text has {len(self.data):,} bytes, but a journal has at most {rules.MOST_BYTES:,}: split the day")
+            remedy = f"remove empty lines; the day and {rules.MOST_RECORDS - 1} commands take less"
+            self.tell(1, f"the text has {len(self.data):,} bytes, but a journal has at most {rules.MOST_BYTES:,}: {remedy}")
             return self.found
         data, comma = self.readable(self.data)
         self.has_semicolons = comma == b";"
