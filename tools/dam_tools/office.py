@@ -176,7 +176,8 @@ class Office(Calls):
 
 
 class AsyncOffice(Calls):
-    """The same for asyncio, with aiohttp (Debian's python3-aiohttp). Use it as `async with AsyncOffice(url, token) as office:`."""
+    """The same for asyncio, of a participant's own data, with aiohttp (Debian's python3-aiohttp). Use it as
+    `async with AsyncOffice(url, token) as office:`."""
 
     async def __aenter__(self) -> AsyncOffice:
         import aiohttp
