@@ -33,8 +33,8 @@
  *
  * There is no call for `dam day`. docs/C.md has examples in C, Python and Rust.
  *
- * The library is for Linux on x86-64. `struct dam_answer` has 16 bytes: the status at offset 0, the length at offset 8. The other bytes are
- * undefined.
+ * The library is for Linux on x86-64, with a processor that has x86-64-v2, as nearly all do; a call doesn't check this. `struct dam_answer`
+ * has 16 bytes: the status at offset 0, the length at offset 8. The other bytes are undefined.
  */
 #ifndef DAM_H
 #define DAM_H
