@@ -185,6 +185,10 @@ async def leave(page, office, who, other, room, counts):
     await page.run("Object.assign(state, { looks: null, count: -1 }); look(); undefined")
     await page.until("asked.includes('/orders/')")  # its answer is on the way
     await click(page, "#sign-out")
+    asked = await text(page, "sure-words")
+    lost = "The change of UNIT-8 wasn't sent. The 3 rows of your table weren't sent. Sign out without it?"
+    counts.check(f"what would be lost is told before: {asked}", asked == lost and await page.run("byId('sure').open"))
+    await click(page, "#yes")
     await page.run("new Promise((done) => setTimeout(done, 1000))")
     counts.check("an answer that comes later is for nobody", await rows(page, "orders-table") == [])
     await page.run("fetch = real; undefined")
@@ -565,6 +569,13 @@ async def other_day(page, counts):
         await page.until(f"!byId('sure').open && byId('message').textContent === '{told}'")
         kept = await page.run("[byId('days').value === state.day, byId('name').value]")
         counts.check(f"{answer} is an answer: {kept}", kept == [True, "HALF"])
+    count = len(await rows(page, "orders-table"))
+    await page.run("say('unsure', 'wrong', 'unsure'); byId('days').dispatchEvent(new Event('change'))")  # as if it were another day
+    await click(page, "#yes")
+    await until_rows(page, "orders-table", count)
+    await page.run("look()")
+    left = await page.run("[byId('message').textContent, byId('name').value]")
+    counts.check(f"and nothing of the day before is told: {left}", left == ["", ""])
     await page.run("options(byId('days'), [[state.day, state.day]])")
 
 

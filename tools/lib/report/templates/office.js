@@ -172,12 +172,16 @@ async function days() {
   }
 }
 
-// Another day is chosen: asks first if an order or a table would be lost.
-async function changeDay() {
+// Whether the participant leaves what is lost then; without a question if nothing is.
+async function leaves(question, yes) {
   const lost = toLose();
+  return !lost.length || sure(`${lost.join(" ")} ${question}`, yes);
+}
+
+async function changeDay() {
   const chosen = byId("days").value;
   byId("days").value = state.day;
-  if (lost.length && !(await sure(`${lost.join(" ")} Leave ${state.day} without it?`, `Leave ${state.day}`))) return;
+  if (!(await leaves(`Leave ${state.day} without it?`, `Leave ${state.day}`))) return;
   try {
     await choose(chosen);
     byId("days").value = chosen;
@@ -200,6 +204,7 @@ async function choose(day) {
     return element("label", { textContent: words }, input);
   }));
   fresh();
+  say(""); // of another day
   showDay();
 }
 
@@ -708,7 +713,7 @@ async function begin() {
 byId("price-help").textContent = `${limitRule.ends}, with a point or a comma`;
 for (const id of ["volume-help", "grid-help"]) byId(id).textContent = volumeRule.ends;
 byId("sign-in-form").addEventListener("submit", (event) => { event.preventDefault(); signIn(byId("token").value); });
-byId("sign-out").addEventListener("click", signOut);
+byId("sign-out").addEventListener("click", async () => { if (await leaves("Sign out without it?", "Sign out")) signOut(); });
 byId("receipts").addEventListener("click", download);
 byId("results-table").addEventListener("click", () => save(csv(state.results), "text/csv", `${who()}-${state.day}.csv`));
 byId("days").addEventListener("change", changeDay);
