@@ -27,8 +27,8 @@ OWN_GAIN = re.compile(rf"(?:with {NAMES} it )?would gain (?:nothing|[0-9.,]+ EUR
 # its losses and the periods that don't balance tell others' limits and volumes. Five reasons are one, since each tells something too.
 MOST_GAIN = "but if it were accepted, a block would lose, a period wouldn't balance, or the welfare wouldn't be greater"
 HIDDEN = {
-    decisions.GROUP: "but another block of its group, or of the group of a block that it needs, is accepted",
-    decisions.PARENT: "but a block that it needs would lose even with it",
+    decisions.GROUP: "but another block of its group, or of a parent's group, is accepted",
+    decisions.PARENT: "but a parent that it needs would lose even with it",
     **dict.fromkeys((decisions.UNBALANCED, decisions.WOULD_LOSE, decisions.LESS, decisions.TIE, decisions.BETTER), MOST_GAIN),
 }
 TOLD = (decisions.GROUP, decisions.PARENT)  # the codes among these that tell nothing of others
