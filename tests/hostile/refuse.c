@@ -7,6 +7,8 @@
    bytes, or all if MOST is 0. The file that HOSTILE_CALLS names holds two numbers: the calls of the kind so far, and the writes to
    standard output or standard error made before every started thread was joined.
 
+   For memory, MOST is no limit: if it isn't 0, each reading of the clock is MOST milliseconds later than the one before.
+
    Three kinds refuse nothing. held counts the starts of threads during which the program holds a block of at least MOST bytes. clock
    counts the readings of the clock, and has each of them MOST milliseconds later than the one before. peak counts no calls: the number
    is the most bytes of blocks that the program held at once, and a block that moves counts twice while it does. */
@@ -50,6 +52,7 @@ static atomic_ulong *calls, *early;
 static atomic_long large;    /* the blocks of at least MOST bytes */
 static atomic_long unjoined; /* the threads that were started and not joined */
 static atomic_long bytes;    /* of the blocks that the program holds */
+static atomic_ulong readings; /* of the clock */
 static create_thread *create;
 static join_thread *join;
 static give_entropy *entropy;
@@ -175,9 +178,10 @@ int pthread_join(pthread_t thread, void **result) {
 }
 
 int clock_gettime(clockid_t clock, struct timespec *now) {
-    if (chosen != CLOCK)
+    if (chosen != CLOCK && (chosen != MEMORY || most == 0))
         return (int)syscall(SYS_clock_gettime, clock, now);
-    unsigned long moved = atomic_fetch_add(calls, 1) * most;
+    refuses(CLOCK);
+    unsigned long moved = atomic_fetch_add(&readings, 1) * most;
     *now = (struct timespec){moved / 1000, moved % 1000 * 1000000};
     return 0;
 }
