@@ -150,6 +150,17 @@ class Files:
         self.check("a name that is too long", self.given([folder / ("A" * 256)]), 4, b"", error(36))
         self.counts.check("no file was made", {it.name for it in folder.iterdir()} == {"plain"})
         self.link()
+        self.long_path()
+
+    def long_path(self):
+        """A file under a long path with spaces and letters outside ASCII, and by its name alone."""
+        folder = self.desk.folder() / "Märkte von morgen" / ("día " * 40 + "2026")
+        folder.mkdir(parents=True)
+        file = folder / "ein Tag.desk"
+        self.check("a long path", self.given([file], DAY + CLOSE), 0, b"day,24\n1,done\n", b"")
+        self.check("the journal under a long path", self.given(["--journal", file]), 0, DAY + CLOSE, b"")
+        self.check("the same file by its name", self.given([file.name], b"", cwd=folder), 0, b"day,24\n1,done\n", b"")
+        self.check("its journal by its name", self.given(["--journal", file.name], cwd=folder), 0, DAY + CLOSE, b"")
 
     def link(self):
         """A link to a file is followed; so two desks have one file."""
@@ -186,7 +197,8 @@ class Files:
 
     def words(self):
         """Command lines that aren't the desk's."""
-        for words in [[], ["a", "b"], ["--journal"], ["--journal", "a", "b"], ["--other"], ["--help", "a"], ["--journal"] * 3]:
+        lines = [[], ["a", "b"], ["--journal"], ["--journal", "a", "b"], ["--journal"] * 3, ["--other"], ["-h"], ["-"], ["--help", "a"]]
+        for words in lines:
             folder = self.desk.folder()
             got = self.given(words, cwd=folder)
             self.counts.check(f"the words {words}: {got!r:.200}", (got.status, got.stdout) == (2, b"") and got.stderr.startswith(USAGE))

@@ -1,8 +1,8 @@
 """Names of orders that collide in a book's map under the fixed seed, in a new file, in one that is opened again, and in a printed journal.
 
 A desk draws a seed of its own, so they take no more instructions than others, which valgrind counts. If a desk gets no random bytes for its
-seed, it takes the fixed one, and then they do: so the names collide. The others take about as many as were counted before: a step for each
-line that goes over all lines would take several times as many."""
+seed, it takes the fixed one, and then they do: so the names collide. The others take about as many as were counted before, and so does a
+full journal with amends and cancels: a step for each line that goes over all lines or orders would take several times as many."""
 
 import errno
 import shutil
@@ -17,7 +17,8 @@ import costs
 from preload import Program, Refusal
 
 ABOUT = ["in a new file", "in a file that is opened again", "in a printed journal"]
-MILLIONS = [51.6, 26.7, 26.8]  # instructions that were counted with other names
+MILLIONS = [43.4, 26.7, 26.8]  # instructions that were counted with other names
+FULL = 106.1  # and with a full journal
 FIXED = Refusal("random", first=3, error=errno.ENOSYS)  # a file draws twice before
 
 
@@ -47,6 +48,10 @@ def run(counts, desk, dam, whole):
         took = f"other names {about} take {taken / 1e6:.1f} million instructions"
         print(took, flush=True)
         counts.check(f"{took}, more than {costs.MOST_TIMES} times {millions} million", taken < costs.MOST_TIMES * millions * 1e6)
+    full = costs.instructions(program, [desk.folder() / "day.desk"], costs.journal(costs.full_journal()), costs.DRAWN)
+    took = f"a full journal takes {full / 1e6:.1f} million instructions"
+    print(took, flush=True)
+    counts.check(f"{took}, more than {costs.MOST_TIMES} times {FULL} million", full < costs.MOST_TIMES * FULL * 1e6)
     took = f"with the fixed seed, they take {fixed.result() / usual[0]:.1f} times those"
     print(took, flush=True)
     counts.check(took, fixed.result() > costs.TIMES * usual[0])
