@@ -9,8 +9,9 @@ An old order costs no more to cancel than a new one, and a name that is used aga
 orders up at each cancel would take ten times as much. The cost is that of a journal that submits as many orders as a book holds, less that
 of the journal of the submits alone.
 
-A run on a full book, or of a full journal, takes about as many instructions as the program took when they were last counted. With a step
-for each order or command that goes over all others, it would take several times as much."""
+A run on a full book, or of a full journal, takes about as many instructions as the program took when they were last counted, and so do
+calls at a gate up to a full journal, each with a look after it. With a step for each order, command or look that goes over all orders,
+entries or receipts, they would take several times as many."""
 
 import errno
 import itertools
@@ -34,6 +35,7 @@ FIXED = Refusal("random", first=1, error=errno.ENOSYS)
 ENGINES = [["replay"], ["clear"], ["day"]]
 GATES = {"begin_seeded": [], "run_commands": ["threads"]}
 OPEN = [["day"], *GATES.values()]
+LOOKS = 49.7  # millions of instructions of the calls of `dam_refusals` up to a full journal, each with a look after it
 COUNTED = re.compile(r"I +refs: +([\d,]+)")
 
 
@@ -168,12 +170,19 @@ def works():
     }
 
 
+def compare(runs, about, count, millions):
+    """Compares the instructions of a run with the millions that were counted before."""
+    took = f"{about}: {count / 1e6:.1f} million instructions"
+    print(took, flush=True)
+    runs.check(f"{took}, more than {MOST_TIMES} times {millions} million", count < MOST_TIMES * millions * 1e6)
+
+
 def full(runs):
-    """Counts the instructions of runs on full books."""
+    """Counts the instructions of runs on full books, and of a journal that is filled at a gate."""
     tried = works()
     asked = [(words, journal(records, words[0] != "day", periods)) for periods, records, words, _ in tried.values()]
     counts = runs.pool.map(lambda it: instructions(runs.program, *it, DRAWN), asked)
     for (about, (*_, millions)), count in zip(tried.items(), counts):
-        took = f"{count / 1e6:.1f} million instructions"
-        print(f"{about}: {took}", flush=True)
-        runs.check(f"{about}: {took}, more than {MOST_TIMES} times {millions} million", count < MOST_TIMES * millions * 1e6)
+        compare(runs, about, count, millions)
+    looks = instructions(Program(REFUSALS, runs.program.room), ["full"], b"", DRAWN)
+    compare(runs, "calls up to a full journal, each with a look after it", looks, LOOKS)
