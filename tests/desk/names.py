@@ -17,8 +17,8 @@ import costs
 from preload import Program, Refusal
 
 ABOUT = ["in a new file", "in a file that is opened again", "in a printed journal"]
-MILLIONS = [43.4, 26.7, 26.8]  # instructions that were counted with other names
-FULL = 106.1  # and with a full journal
+MILLIONS = [31.2, 22.0, 22.1]  # instructions that were counted with other names
+FULL = 71.9  # and with a full journal
 FIXED = Refusal("random", first=3, error=errno.ENOSYS)  # a file draws twice before
 
 
