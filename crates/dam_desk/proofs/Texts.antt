@@ -107,3 +107,8 @@ ended_records day false commands = ended_commands commands
 -- texts that aren't unequal
 pub same_text : (xs ys : List ℕ) (unequal : Bool) → unequal ≡ not (pointwise nat_eq xs ys) → unequal ≡ false → xs ≡ ys
 same_text xs ys unequal is equal = (slice_eq-Decides Decides-eqb xs ys (pointwise nat_eq xs ys) refl).0 (not-false (pointwise nat_eq xs ys) (sym is ∙ equal))
+
+-- texts that are unequal
+pub other_text : (xs ys : List ℕ) (unequal : Bool) → unequal ≡ not (pointwise nat_eq xs ys) → unequal ≡ true → ¬ (xs ≡ ys)
+other_text xs ys unequal is differ same =
+    both_ways unequal (is ∙ ap not ((slice_eq-Decides Decides-eqb xs ys (pointwise nat_eq xs ys) refl).1 same)) differ

@@ -1,5 +1,5 @@
 //! The day of a desk: its book, and how many commands were entered.
-ghost use Rattle.std.specs.Prelude.{◌≡◌, ◌+◌, ◌≤◌, ◌++◌, ◌∷◌, [], true, false, if◌then◌else◌, length, IfOk, OnOk};
+ghost use Rattle.std.specs.Prelude.{◌≡◌, ◌⊎◌, ◌+◌, ◌≤◌, ◌++◌, ◌∷◌, [], true, false, if◌then◌else◌, length, IfOk, OnOk};
 ghost use Rattle.dam_book.specs.Book.{book_after, commands_of, empty_book, is_day, reply_to};
 ghost use Rattle.dam_book.specs.Limits.{most_entries};
 ghost use Rattle.dam_results.specs.Replies.{day_line, reply_line};
@@ -7,7 +7,9 @@ ghost use Rattle.dam_results.specs.Records.{day_row};
 ghost use Rattle.dam_results.specs.Written.{row_line, written};
 ghost use Rattle.dam_desk.specs.Room;
 
-use dam_book::{Book, Command, DayLength, MOST_ENTRIES, PackedCommand, PackedEntry, Seed};
+use dam_book::{
+    Book, Command, DayLength, MOST_ENTRIES, PackedCommand, PackedEntry, Reply, Seed,
+};
 use dam_results::{packed_journal_text, replies_text, write_reply_line};
 use std::alloc::{AllocError, Global};
 
@@ -81,7 +83,29 @@ impl Day {
         }
     }
 
-    /// Enters the command as the entry of this number: adds the entry, and the line of its reply.
+    /// Enters the command as the entry of this number, and adds the line of its reply.
+    pub(crate) fn apply(
+        &mut self,
+        number: u32,
+        command: &Command,
+        replies: &mut Vec<u8>,
+    ) -> Result<Reply, AllocError>
+        ensures periods { self.new.periods ≡ self.old.periods }
+        ensures book { OnOk result (self.new.book ≡ book_after self.old.book command.now) }
+        ensures entered { OnOk result (self.new.entered ≡ number) }
+        ensures room { self.old.entered ≤ most_entries → number ≤ most_entries
+            → self.new.entered ≤ most_entries }
+        ensures kept { (self.new.entered ≡ self.old.entered) ⊎ (self.new.entered ≡ number) }
+        ensures replies { OnOk result (replies.new.items
+            ≡ replies.old.items ++ reply_line number (reply_to self.old.book command.now)) }
+    {
+        let reply = self.book.apply(command)?;
+        self.entered = number;
+        write_reply_line(replies, number, reply)?;
+        Ok(reply)
+    }
+
+    /// The same, and adds the entry.
     pub(crate) fn enter(
         &mut self,
         number: u32,
@@ -102,10 +126,9 @@ impl Day {
             ≡ replies.old.items ++ reply_line number (reply_to self.old.book command.now)) }
     {
         let packed = PackedCommand::of(self.alloc, command)?;
-        let reply = self.book.apply(command)?;
-        self.entered = number;
+        let reply = self.apply(number, command, replies)?;
         entries.push(PackedEntry::new(number, packed, reply))?;
-        write_reply_line(replies, number, reply)
+        Ok(())
     }
 
     /// The record of the day, and the records of the entries.

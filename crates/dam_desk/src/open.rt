@@ -91,7 +91,7 @@ pub(crate) fn reopen(
         return Ok((None, Vec::new(alloc)));
     }
     let reopened: Reopened = read_into(alloc, seed, text)?;
-    let records = reopened.day.records(reopened.entries.as_slice())?;
+    let records = reopened.records.into_text()?;
     if records.as_slice() != text {
         return Err(DeskFault::Respelled);
     }

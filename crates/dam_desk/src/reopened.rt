@@ -4,26 +4,27 @@ ghost use Rattle.dam_book.specs.declared.command.Command.{Command};
 
 use crate::day::Day;
 use dam_book::laws::runs_grow;
-use dam_book::{Command, DayLength, PackedEntry, Seed};
-use dam_results::FromJournal;
+use dam_book::{Command, DayLength, Seed};
+use dam_results::{FromJournal, JournalWriter};
 use std::alloc::{AllocError, Global};
 
-/// A day, the entries of its journal, and the replies to them.
+/// A day, the written journal of its commands, and the replies to them.
 #[derive(Drop)]
 pub(crate) struct Reopened {
     pub(crate) day: Day,
-    pub(crate) entries: Vec<PackedEntry>,
+    pub(crate) records: JournalWriter,
     pub(crate) replies: Vec<u8>,
 }
 
 impl FromJournal for Reopened {
     ghost use Rattle.std.specs.Prelude.{◌≡◌};
-    ghost use Rattle.dam_book.specs.Book.{commands_of};
     ghost use Rattle.dam_results.specs.Replies.{AreReplies};
+    ghost use Rattle.dam_results.specs.Writer.{HasWritten};
+    ghost use Rattle.dam_results.specs.Written.{written};
     ghost use Rattle.dam_desk.specs.inside.Day.{IsDayWith};
 
     ghost made_of = { λ periods commands reopened. IsDayWith reopened.day periods commands
-        × (commands_of reopened.entries.items ≡ commands)
+        × HasWritten reopened.records (written periods commands)
         × AreReplies periods commands reopened.replies.items };
 
     fn begin(alloc: Global, seed: Seed, periods: DayLength) -> Result<Reopened, AllocError> {
@@ -31,14 +32,15 @@ impl FromJournal for Reopened {
         let replies = Vec::from_slice(alloc, day.line())?;
         Ok(Reopened {
             day,
-            entries: Vec::new(alloc),
+            records: JournalWriter::begin(alloc, periods)?,
             replies,
         })
     }
 
     fn take(&mut self, number: u32, command: &Command) -> Result<(), AllocError> {
         runs_grow();
-        self.day
-            .enter(number, command, &mut self.entries, &mut self.replies)
+        self.records.put(command)?;
+        self.day.apply(number, command, &mut self.replies)?;
+        Ok(())
     }
 }

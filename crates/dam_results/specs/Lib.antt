@@ -7,6 +7,7 @@ pub mod Replies
 pub mod Run
 pub mod Spelling
 pub mod Written
+pub mod Writer
 pub mod Published
 pub mod Clearing
 pub mod Market

@@ -3,8 +3,8 @@
 //! A journal's text is read into its commands (`read_journal`), its book (`book_of_text`), its book and the number of
 //! commands that the book refused (`run_of_text`), the replies to its commands (`replay_text`), or another value made
 //! of its commands one by one (`read_into`). Each returns the first fault if the text isn't a journal. `results` finds
-//! the published results of an eligible selection; `results_text`, `replies_text`, `journal_text` and
-//! `packed_journal_text` write.
+//! the published results of an eligible selection; `results_text`, `replies_text`, `journal_text`,
+//! `packed_journal_text` and `JournalWriter` write.
 //!
 //! ```
 //! let book = book_of_text(alloc, Seed::fixed(), text)?;
@@ -47,4 +47,4 @@ pub use published::{PeriodResult, Results, RowResult};
 pub use replay::{Run, book_of_text, replay_text, run_of_text, run_text};
 pub use replies::{replies_text, write_reply_line};
 pub use text::results_text;
-pub use writer::{journal_text, packed_journal_text};
+pub use writer::{JournalWriter, journal_text, packed_journal_text};

@@ -7,9 +7,11 @@ ghost use Rattle.dam_book.specs.Terms.{IsHourOrder};
 ghost use Rattle.dam_book.specs.Fields.{price_text, volumes_text};
 ghost use Rattle.dam_book.specs.Book.{is_day, commands_of};
 ghost use Rattle.dam_book.specs.Limits.{most_entries};
+ghost use Rattle.dam_book.specs.declared.command.Command.{Command};
 ghost use Rattle.dam_results.specs.Records.{optional_text, side_word, day_row};
 ghost use Rattle.dam_results.specs.Journal.{ReadsAs};
 ghost use Rattle.dam_results.specs.Written.{row_line};
+ghost use Rattle.dam_results.specs.Writer.{HasWritten};
 ghost use Rattle.dam_results.specs.Written;
 ghost use Rattle.dam_results.specs.inside.Writer.{Wrote, PutsCommand, PutsCommands};
 
@@ -266,4 +268,38 @@ pub fn packed_journal_text(
     let mut out = begun(alloc, periods)?;
     put_packed(alloc, &mut out, entries)?;
     text_of(out)
+}
+
+/// The written journal of a day, which grows by the record of one command after another. A contract sees the text so far.
+#[derive(Drop)]
+pub struct JournalWriter {
+    alloc: Global,
+    pub(crate) out: Writer<Vec<u8>>,
+}
+
+impl JournalWriter {
+    /// The record of the day.
+    pub fn begin(alloc: Global, periods: DayLength) -> Result<JournalWriter, AllocError>
+        ensures { IfOk result (λ writer. HasWritten writer (Written.written periods [])) }
+    {
+        let out = begun(alloc, periods)?;
+        Ok(JournalWriter { alloc, out })
+    }
+
+    /// Adds the record of a command.
+    pub fn put(&mut self, command: &Command) -> Result<(), AllocError>
+        ensures { OnOk result ((periods : ℕ) → (commands : List Command)
+            → HasWritten self.old (Written.written periods commands)
+            → HasWritten self.new (Written.written periods (commands ++ command.now ∷ []))) }
+    {
+        put_command(self.alloc, &mut self.out, command)
+    }
+
+    /// The text.
+    pub fn into_text(self) -> Result<Vec<u8>, AllocError>
+        ensures { IfOk result (λ text. (written : List ℕ) → HasWritten self written
+            → text.items ≡ written) }
+    {
+        text_of(self.out)
+    }
 }
