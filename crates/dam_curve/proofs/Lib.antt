@@ -1,4 +1,5 @@
 -- The lemmas that several functions need.
+pub mod Units
 pub mod Parts
 pub mod Supplying
 pub mod Clearing

@@ -5,14 +5,14 @@ use Rattle.std.specs.List.{slice_range}
 use Rattle.std.proofs.lemmas.Int.{ints, by_lt_z, int_min_is, int_max_is}
 use Rattle.std.specs.Int.{int_min, int_max}
 use Rattle.std.proofs.lemmas.Bool.{cases_lt}
-use Rattle.std.proofs.lemmas.List.{take_all, drop_at, length-take-le, take-append-le, drop-append-le}
+use Rattle.std.proofs.lemmas.List.{take_all, drop_at, length-take-le}
 use Rattle.dam_book.specs.Limits.{last_period}
 use Rattle.dam_hour.specs.declared.step.Step.{Step}
 use Rattle.dam_hour.specs.Limits.{greatest_price}
 use Rattle.dam_curve.specs.declared.segment.Segment.{Segment}
 use Rattle.dam_curve.specs.declared.curves.Curve.{Curve}
 use Rattle.dam_curve.specs.Curve.{joint_welfare, segment_at, end_of, AreSegments, ArePriced, bottom_of, IsOutside, greatest_segment_surplus, IsCurve, segments_at}
-use Rattle.dam_curve.specs.Curve.{IsSmallSegment, CurvesState, IsCurveAt, Keeps}
+use Rattle.dam_curve.specs.Curve.{IsSmallSegment, CurvesState, IsCurveAt}
 use Rattle.dam_curve.proofs.ListsOfSegments.{any_segment, bottom_at, small_at, price_is}
 use Rattle.dam_curve.proofs.PeriodSegments.{times_small}
 use Rattle.dam_curve.proofs.Adding.{segment_here, priced_here, place_from, stands_from, last_from, bottom_under, end_at, outside_from}
@@ -42,30 +42,6 @@ curve_added old ls all curve ps least most d e first count some bottom top is =
     }
 
 -- ---- a curve among more of them
-range_kept : (xs ys : List Segment) (n m : ℕ) → n ≤ m → m ≤ length xs → slice_range (xs ++ ys) n m ≡ slice_range xs n m
-range_kept xs ys n m o l =
-    ap (take (m - n)) (drop-append-le n xs ys (omega (arith, o, l)))
-    ∙ take-append-le (m - n) (drop n xs) ys (let long = length-drop n xs in omega (arith, long, o, l))
-
-curve_kept : (old new : CurvesState) (ls : List Segment) → new.segments ≡ old.segments ++ ls
-    → (curve : Curve) (ps : List (List Step)) (least most : ℤ) → IsCurveAt old curve ps least most → IsCurveAt new curve ps least most
-curve_kept old new ls segments curve ps least most is =
-    let same : segments_at new.segments curve ≡ segments_at old.segments curve = ap (λ (ws : List Segment). segments_at ws curve) segments
-    ∙ range_kept old.segments ls curve.first (curve.first + curve.count) (omega arith) is.within in
-    let long = ap length segments ∙ length-append old.segments ls in
-    let within = is.within in
-    record {
-      within = omega (arith, long, within);
-      is_curve = subst (IsCurve ps least most) (sym same) is.is_curve;
-      ends = λ some. (let ends = is.ends some in
-          (ends.0 ∙ ap bottom_of (sym same), ends.1 ∙ ap (λ (ws : List Segment). end_of ws (pos 0)) (sym same)));
-      none = is.none;
-    }
-
-pub keeps_more : (old new : CurvesState) (ls : List Segment) → new.segments ≡ old.segments ++ ls
-    → Keeps old new
-keeps_more old new ls segments = record { curves = curve_kept old new ls segments }
-
 pub count_is : (segments : List Segment) (curve : Curve) → curve.first + curve.count ≤ length segments
     → length (segments_at segments curve) ≡ curve.count
 count_is segments curve l =

@@ -8,7 +8,7 @@ use Rattle.dam_book.specs.declared.order.Side.TheVariants.{Buy, Sell}
 use Rattle.dam_hour.specs.Execution.{volume_on}
 use Rattle.dam_hour.specs.Price.{IsBetter, IsWorse}
 use Rattle.dam_hour.specs.Best.{signed}
-use Rattle.dam_curve.specs.inside.Supply.{if_any}
+use Rattle.dam_curve.proofs.Units.{if_any}
 
 -- ---- the volume of a step, if it stands under a height or up to it
 any_full : (g q : ℕ) → 0 < g → if_any g q ≡ q

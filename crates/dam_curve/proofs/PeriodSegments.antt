@@ -19,9 +19,9 @@ use Rattle.std.proofs.lemmas.Bool.{cases_lt}
 use Rattle.dam_curve.specs.declared.segment.Segment.{Segment}
 use Rattle.dam_curve.specs.Supply.{height_of, total_of, AreAlike, IsSupplyOf}
 use Rattle.dam_curve.specs.Curve.{segment_at, IsSegment, end_of, AreSegments, bottom_of, IsUnder, IsUnderEach, IsPriced, ArePriced, IsOutside, IsSmallSegment, AreSmallSegments}
-use Rattle.dam_curve.specs.inside.Supply.{all_units, units_under, units_up_to, gain_under, worth_of, AreUnitsAt, Reaches}
-use Rattle.dam_curve.specs.inside.Supply.{if_any}
+use Rattle.dam_curve.specs.inside.Supply.{worth_of}
 use Rattle.dam_curve.specs.inside.Segments.{segment_of, segments_from}
+use Rattle.dam_curve.proofs.Units.{all_units, units_under, units_up_to, gain_under, AreUnitsAt, Reaches, if_any}
 use Rattle.dam_curve.proofs.Parts.{under_none, up_to_full, under_rises, part_most}
 use Rattle.dam_curve.proofs.Supplying.{height_is, all_offered}
 use Rattle.dam_curve.proofs.Clearing.{Laws, under_all, height_most, all_up_to, lowest_in_range, highest_in_range, reaches_supporting, IsGap, ends_are, line_above, welfare_is}

@@ -12,7 +12,8 @@ use Rattle.dam_hour.specs.Execution.{AreInRange, IsExecution, executed_volume, o
 use Rattle.dam_hour.specs.Best.{welfare_of}
 use Rattle.dam_hour.specs.Price.{Supports}
 use Rattle.dam_curve.specs.Supply.{height_of}
-use Rattle.dam_curve.specs.inside.Supply.{if_any, all_units, units_under, units_up_to, gain_under, worth_of, Reaches}
+use Rattle.dam_curve.specs.inside.Supply.{worth_of}
+use Rattle.dam_curve.proofs.Units.{if_any, all_units, units_under, units_up_to, gain_under, Reaches}
 use Rattle.dam_curve.proofs.Parts.{under_up_to, under_full, up_to_none, part_most, part_reached, taken_of, taken_back, taken_fits, taken_full, taken_none}
 use Rattle.dam_curve.proofs.Parts.{better_full, worse_none, part_cost, part_welfare}
 

@@ -152,22 +152,6 @@ fn point_in(segments: &[Segment], net: i64, near: usize) -> Point
     }
 }
 
-/// The joint price at the net volume. The segment that holds there is looked for from a place near by.
-#[inline(always)]
-fn price_in(segments: &[Segment], net: i64, near: usize) -> i32
-    requires curve { (periods : List (List Step)) × (least : ℤ) × (most : ℤ)
-        × IsCurve periods least most segments.now }
-    requires some { 0 < length segments.now }
-    requires bottom { bottom_of segments.now ≤ℤ net }
-    requires top { net ≤ℤ end_of segments.now (pos 0) }
-    ensures price { (periods : List (List Step)) (least most : ℤ)
-        → IsCurve periods least most segments.now → IsJointPrice periods net result }
-    ensures at_least { neg_ℤ (pos (last_period * greatest_price)) ≤ℤ result }
-    ensures at_most { result ≤ℤ pos (last_period * greatest_price) }
-{
-    segments[place_of(segments, net, near)].price_at(net)
-}
-
 /// The place before the last one if this is the last, since the last segment holds at one net volume alone, and is steep. Any
 /// other place is itself.
 #[inline(always)]
@@ -275,9 +259,9 @@ impl<A: Allocator> Curves<A> {
 
     /// The point of the segment for the net volume.
     #[inline(always)]
-    fn searched(&self, curve: Curve, net: i64) -> Point
+    pub(crate) fn searched(&self, curve: Curve, net: i64) -> Point
         requires curve { (periods : List (List Step)) × (least : ℤ) × (most : ℤ)
-            × IsCurveAt self.now curve periods least most × (least ≤ℤ net) × (net ≤ℤ most) }
+            × IsCurveAt self.now curve periods least most }
         requires bottom { curve.bottom ≤ℤ net }
         requires top { net ≤ℤ curve.top }
         ensures welfare { (periods : List (List Step)) (least most : ℤ)
@@ -290,22 +274,6 @@ impl<A: Allocator> Curves<A> {
     {
         let segments = segments_of(&self.segments, curve);
         point_in(segments, net, self.near(curve, net))
-    }
-
-    /// The prices of the segment for the net volume.
-    #[inline(always)]
-    pub(crate) fn searched_price(&self, curve: Curve, net: i64) -> i32
-        requires curve { (periods : List (List Step)) × (least : ℤ) × (most : ℤ)
-            × IsCurveAt self.now curve periods least most }
-        requires bottom { curve.bottom ≤ℤ net }
-        requires top { net ≤ℤ curve.top }
-        ensures price { (periods : List (List Step)) (least most : ℤ)
-            → IsCurveAt self.now curve periods least most → IsJointPrice periods net result }
-        ensures at_least { neg_ℤ (pos (last_period * greatest_price)) ≤ℤ result }
-        ensures at_most { result ≤ℤ pos (last_period * greatest_price) }
-    {
-        let segments = segments_of(&self.segments, curve);
-        price_in(segments, net, self.near(curve, net))
     }
 
     /// A line over the joint welfare of the curve's periods, which touches it at the net volume; if some period doesn't

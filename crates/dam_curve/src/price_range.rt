@@ -64,11 +64,11 @@ impl<A: Allocator> Curves<A> {
         if least > most {
             return None;
         }
-        let lowest = self.searched_price(curve, most);
+        let lowest = self.searched(curve, most).price;
         let highest = if least == most {
             lowest
         } else {
-            self.searched_price(curve, least)
+            self.searched(curve, least).price
         };
         Some(PriceRange { lowest, highest })
     }

@@ -36,13 +36,13 @@ returns-then-least-most-2-clause-prices g c ps lower upper is =
       low_is = search rules;
       high_is = search rules;
     } in
-    let own : to_z w32 (of_z w32 c.searched_price-lowest.result) ≡ c.searched_price-lowest.result = search rules in
+    let own : to_z w32 (of_z w32 c.searched-lowest.result.price) ≡ c.searched-lowest.result.price = search rules in
     let same : to_z w64 (of_z w64 c.min-most.result) ≡ to_z w64 (of_z w64 c.max-least.result) =
     (let test = c.if-least-most-2.true in omega (arith, ints, test)) in
-    let lowest = c.searched_price-lowest.ensures.price ps lower upper is in
+    let lowest = c.searched-lowest.ensures.price ps lower upper is in
     between_in c.falling.ensures c.welfare.ensures.some c.args.self.now c.args.curve ps lower upper c.args.least c.args.most _ _
-    c.searched_price-lowest.result c.searched_price-lowest.result _ _ is clip lowest
-    (subst (λ (z : ℤ). IsJointPrice ps z c.searched_price-lowest.result) same lowest) own own
+    c.searched-lowest.result.price c.searched-lowest.result.price _ _ is clip lowest
+    (subst (λ (z : ℤ). IsJointPrice ps z c.searched-lowest.result.price) same lowest) own own
 
 pub returns-else-least-most-2-clause-prices : goal.returns-else-least-most-2-clause-prices
 returns-else-least-most-2-clause-prices g c ps lower upper is =
@@ -58,8 +58,8 @@ returns-else-least-most-2-clause-prices g c ps lower upper is =
       low_is = search rules;
       high_is = search rules;
     } in
-    let own : to_z w32 (of_z w32 c.searched_price-lowest.result) ≡ c.searched_price-lowest.result = search rules in
-    let other : to_z w32 (of_z w32 c.searched_price-highest.result) ≡ c.searched_price-highest.result = search rules in
+    let own : to_z w32 (of_z w32 c.searched-lowest.result.price) ≡ c.searched-lowest.result.price = search rules in
+    let other : to_z w32 (of_z w32 c.searched.result.price) ≡ c.searched.result.price = search rules in
     between_in c.falling.ensures c.welfare.ensures.some c.args.self.now c.args.curve ps lower upper c.args.least c.args.most _ _
-    c.searched_price-lowest.result c.searched_price-highest.result _ _ is clip (c.searched_price-lowest.ensures.price ps lower upper is)
-    (c.searched_price-highest.ensures.price ps lower upper is) own other
+    c.searched-lowest.result.price c.searched.result.price _ _ is clip (c.searched-lowest.ensures.price ps lower upper is)
+    (c.searched.ensures.price ps lower upper is) own other

@@ -1,8 +1,21 @@
--- The segment that holds there.
+-- The net volume lies between the ends of the curve, and the point is that of the segment that holds there.
 use Rattle.std.proofs.Common.{◌≡◌, ℤ, ap, ◌∙◌, sym, subst, to_z, of_z, w64, rules}
 use Rattle.dam_curve.specs.Curve.{joint_welfare, segments_at, IsCurve}
 use Rattle.dam_curve.specs.JointPrice.{IsJointPrice}
+use Rattle.dam_curve.proofs.LookingUp.{ends_there}
 use Rattle.dam_curve.proofs.curves.Curves.searched.Goals as goal
+
+pub point_in-requires-clause-bottom : goal.point_in-requires-clause-bottom
+point_in-requires-clause-bottom g c =
+    let net : to_z w64 (of_z w64 c.args.net) ≡ c.args.net = search rules in
+    let segments : c.segments_of-segments.result.now ≡ segments_at c.args.self.now.segments c.args.curve = search rules in
+    rw segments (ends_there _ c.args.curve _ _ _ c.args.net (to_z w64 (of_z w64 c.args.net)) c.requires.curve.3 net c.requires.bottom c.requires.top).0
+
+pub point_in-requires-clause-top : goal.point_in-requires-clause-top
+point_in-requires-clause-top g c =
+    let net : to_z w64 (of_z w64 c.args.net) ≡ c.args.net = search rules in
+    let segments : c.segments_of-segments.result.now ≡ segments_at c.args.self.now.segments c.args.curve = search rules in
+    rw segments (ends_there _ c.args.curve _ _ _ c.args.net (to_z w64 (of_z w64 c.args.net)) c.requires.curve.3 net c.requires.bottom c.requires.top).1
 
 pub returns-clause-welfare : goal.returns-clause-welfare
 returns-clause-welfare g c ps least most is =
