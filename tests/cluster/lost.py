@@ -10,12 +10,26 @@ import sys
 import tempfile
 import time
 from pathlib import Path
+from typing import NamedTuple
 
 TOP = Path(__file__).resolve().parents[2]
 SECONDS = 30  # after which the fault is there
 SOON = 5  # seconds that Ctrl-C may take
 STARTED = 60  # seconds that a scheduler and its workers may take to start
 SCENARIOS = 2_000
+
+
+class Processes(NamedTuple):
+    """Those of a run on a cluster."""
+
+    scheduler: subprocess.Popen
+    workers: subprocess.Popen
+    tool: subprocess.Popen
+
+
+def send(process, number):
+    """Sends a signal to a process and to all that it started."""
+    os.killpg(process.pid, number)
 
 
 @contextlib.contextmanager
@@ -26,7 +40,7 @@ def process(words, **how):
         yield running
     finally:
         with contextlib.suppress(ProcessLookupError):
-            os.killpg(running.pid, signal.SIGKILL)
+            send(running, signal.SIGKILL)
         running.wait()
 
 
@@ -91,30 +105,33 @@ def in_the_middle(counts, folder, program, what, deed, status, said, within):
     own = {**os.environ, "PYTHONPATH": str(TOP / "tools"), "DAM": str(slow(folder, program))}
     own.pop("DAM_LIBRARY", None)
     with scheduler(folder) as (ruling, address), open(os.devnull, "wb") as null:
-        with process([*words, "--local-directory", folder, address], stdout=null, stderr=null, env=own):
+        with process([*words, "--local-directory", folder, address], stdout=null, stderr=null, env=own) as working:
             (folder / "mark").unlink(missing_ok=True)
             with whatif(folder, address, program) as running:
                 wait_for((folder / "mark").exists, "a scenario")
-                deed(ruling, running)
+                deed(Processes(ruling, working, running))
                 ended(counts, what, running, status, said.format(address), within)
 
 
 def runs(counts, program):
     """Runs of tools/whatif on a cluster, each of which ends in time."""
-    lost = "whatif: the cluster {} doesn't answer any more\n"
+    lost, without = "whatif: the cluster {} doesn't answer any more\n", "whatif: the cluster {} has no workers\n"
+    hung = "whatif: the workers of the cluster {} don't answer any more\n"
 
-    def stopped_and_interrupted(ruling, running):
-        os.killpg(ruling.pid, signal.SIGSTOP)
+    def stopped_and_interrupted(processes):
+        send(processes.scheduler, signal.SIGSTOP)
         time.sleep(2)
-        running.send_signal(signal.SIGINT)
+        processes.tool.send_signal(signal.SIGINT)
 
     with tempfile.TemporaryDirectory() as room:
         folder = Path(room)
         without_workers(counts, folder, program)
         for what, deed, status, said, within in (
-            ("a scheduler that ends", lambda ruling, _: ruling.terminate(), 3, lost, SECONDS),
-            ("a scheduler that hangs", lambda ruling, _: os.killpg(ruling.pid, signal.SIGSTOP), 3, lost, SECONDS),
-            ("Ctrl-C", lambda _, running: running.send_signal(signal.SIGINT), 130, "whatif: interrupted\n", SOON),
+            ("a scheduler that ends", lambda processes: processes.scheduler.terminate(), 3, lost, SECONDS),
+            ("a scheduler that hangs", lambda processes: send(processes.scheduler, signal.SIGSTOP), 3, lost, SECONDS),
+            ("workers that end", lambda processes: send(processes.workers, signal.SIGKILL), 3, without, SECONDS),
+            ("workers that hang", lambda processes: send(processes.workers, signal.SIGSTOP), 3, hung, SECONDS),
+            ("Ctrl-C", lambda processes: processes.tool.send_signal(signal.SIGINT), 130, "whatif: interrupted\n", SOON),
             ("Ctrl-C without a scheduler", stopped_and_interrupted, 130, "whatif: interrupted\n", SOON),
         ):
             in_the_middle(counts, folder, program, what, deed, status, said, within)

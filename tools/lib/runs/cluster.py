@@ -25,8 +25,9 @@ class Cluster:
     """The executor of the cluster of an address."""
 
     def __init__(self, address):
-        self.name, self.alone_since = f"the cluster {text.safe(address)}", None
+        self.name, self.reports = f"the cluster {text.safe(address)}", {}
         self.client = self.reached(address)
+        self.listen()
         while not self.workers():
             time.sleep(PAUSE)
         self.executor = self.client.get_executor()
@@ -50,20 +51,23 @@ class Cluster:
             words = first_line(fault) if is_late else "it closed the connection"
             raise Fault(f"{self.name} can't be reached: {words}") from None
 
+    def listen(self):
+        """From now on a worker has to report in time."""
+        self.heard = time.monotonic()
+
     def workers(self):
-        """How many workers the cluster has. A fault if it doesn't answer, or has been without workers for long."""
+        """How many workers the cluster has. A fault if it doesn't answer, or if none of them has reported for long."""
         try:
-            found = self.client.sync(self.client.scheduler.identity, callback_timeout=SECONDS)["workers"].values()
+            found = self.client.sync(self.client.scheduler.identity, callback_timeout=SECONDS)["workers"]
         except Exception:
             raise self.lost() from None
-        count = sum(worker["status"] == "running" for worker in found)
-        if count:
-            self.alone_since = None
-        elif self.alone_since is None:
-            self.alone_since = time.monotonic()
-        elif time.monotonic() - self.alone_since >= SECONDS:
-            raise Lost(f"{self.name} has no workers")
-        return count
+        reports = {address: worker["last_seen"] for address, worker in found.items() if worker["status"] == "running"}
+        if not reports.items() <= self.reports.items():
+            self.listen()
+        self.reports = reports
+        if time.monotonic() - self.heard >= SECONDS:
+            raise Lost(f"the workers of {self.name} don't answer any more" if reports else f"{self.name} has no workers")
+        return len(reports)
 
     def lost(self):
         return Lost(f"{self.name} doesn't answer any more")
@@ -82,6 +86,7 @@ class Awaited:
         self.cluster, self.future = cluster, future
 
     def result(self):
+        self.cluster.listen()
         while True:
             try:
                 return self.future.result(PAUSE)
