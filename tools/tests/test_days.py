@@ -69,6 +69,14 @@ class Days(unittest.TestCase):
         self.assertIn("a better selection accepts", out)
         self.assertIn("/d.txt is missing", out)
 
+    def test_a_day_without_a_name(self):
+        """The files `.csv` and `.txt` are a day too, and `csv` is none."""
+        self.write(**{"": (DATA, TEXT.replace(b"welfare,3", b"welfare,4")), "a": (DATA, TEXT), ".b": (DATA, TEXT)})
+        (self.folder / "csv").write_bytes(DATA)
+        status, out, _ = self.audit("--json")
+        self.assertEqual([(day["name"], day["status"]) for day in json.loads(out)["days"]], [("", 1), (".b", 0), ("a", 0)])
+        self.assertEqual(status, 1)
+
     def test_suffixes_in_capitals(self):
         for name, content in (("A.CSV", DATA), ("A.txt", TEXT), ("B.CSV", DATA), ("C.TXT", TEXT)):
             (self.folder / name).write_bytes(content)

@@ -18,6 +18,7 @@ from unittest import mock
 
 from support import AUCTION, AUCTION_RESULTS, TOOLS, TOP, heed_interrupts, journal_of, results_of
 
+from lib.audit import better
 from lib.base import aside
 from lib.tool import command
 from lib.base.progress import Progress
@@ -176,8 +177,12 @@ class Interrupted(unittest.TestCase):
         self.assertFalse(Path(f"/proc/{child}").exists())
 
     def test_a_call_that_dies(self):
-        with self.assertRaisesRegex(TimeoutError, "^the search ended without an answer: memory may have run out$"):
+        with self.assertRaisesRegex(aside.Died, "^the search ended without an answer: memory may have run out$"):
             aside.answer(lambda tell: os._exit(1), Progress("audit", SECONDS), "")
+        for fault, status in ((aside.Died("it ended"), command.FAILED), (TimeoutError("it is late"), command.UNDECIDED)):
+            with mock.patch.object(better, "ask_highs", side_effect=fault), self.assertRaises(command.Stop) as stop:
+                better.look(None, None, better.HIGHS, None, 1)
+            self.assertEqual((stop.exception.status, str(stop.exception)), (status, f"the results obey the other rules, but {fault}"))
 
     def test_what_a_call_returns_reports_and_raises(self):
         progress = Progress("audit", SECONDS)

@@ -12,11 +12,13 @@ FEW_BLOCKS = 10
 
 
 def look(problem, said, method, progress, jobs):
-    """A selection that ranks above the one of right results, or None; and how it was looked for. Ends the tool if the time is over."""
+    """A selection that ranks above the one of right results, or None; and how it was looked for. Ends the tool if the time is over, or
+    if the search fails."""
     try:
         return {ENUMERATION: enumerate_all, HIGHS: ask_highs}[method](problem, said, progress, jobs)
-    except TimeoutError as fault:
-        raise command.Stop(f"the results obey the other rules, but {fault}", command.UNDECIDED) from None
+    except (TimeoutError, aside.Died) as fault:
+        status = command.UNDECIDED if isinstance(fault, TimeoutError) else command.FAILED
+        raise command.Stop(f"the results obey the other rules, but {fault}", status) from None
 
 
 def enumerate_all(problem, said, progress, jobs, few=FEW_BLOCKS):

@@ -51,13 +51,19 @@ def named_pairs(folder):
     day of which two files have one name isn't read."""
     found, alike = {}, {}
     for path in sorted(folder.iterdir()):
-        key = path.stem, path.suffix.lower()
+        key = parted(path.name)
         if key[1] in (JOURNAL, RESULTS) and found.setdefault(key, path) is not path:
             said = f"{command.shown(found[key])} and {command.shown(path)} have one name: rename one of them"
-            alike.setdefault(path.stem, said)
-    names = sorted({stem for stem, _ in found})
+            alike.setdefault(key[0], said)
+    names = sorted({name for name, _ in found})
     pairs = (pair_of(name, *(found.get((name, suffix), folder / f"{name}{suffix}") for suffix in (JOURNAL, RESULTS))) for name in names)
     return [pair._replace(unread=alike[pair.name]) if pair.name in alike else pair for pair in pairs]
+
+
+def parted(name):
+    """A file's name without its suffix, and the suffix in small letters. The file `.csv` is a day too, whose name is empty."""
+    stem, dot, suffix = name.rpartition(".")
+    return stem, f"{dot}{suffix.lower()}"
 
 
 def pair_of(name, journal, published):

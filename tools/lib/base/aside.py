@@ -10,6 +10,10 @@ PAUSE = 0.2  # seconds from one look at the time to the next
 DEATH = 1  # Linux's PR_SET_PDEATHSIG: which signal a process gets if the one that started it dies
 
 
+class Died(Exception):
+    """The other process ended without an answer."""
+
+
 @contextlib.contextmanager
 def deaf():
     """Ctrl-C waits until the end of the block; processes that it starts keep it blocked, and the one that started them ends them."""
@@ -55,7 +59,7 @@ def received(pipe, progress, words):
         try:
             kind, value = pipe.recv()
         except EOFError:
-            raise TimeoutError("the search ended without an answer: memory may have run out") from None
+            raise Died("the search ended without an answer: memory may have run out") from None
         if kind == "answer":
             return value
         if kind == "fault":
