@@ -19,11 +19,13 @@ from unittest import mock
 from support import AUCTION, AUCTION_RESULTS, TOOLS, TOP, heed_interrupts, journal_of, results_of
 
 from lib.audit import better
-from lib.base import aside
+from lib.base import aside, children
 from lib.tool import command
 from lib.base.progress import Progress
+from lib.runs import engine
 
 RUN = "from lib.base import ending; ending.watch('audit'); from lib.tool import command; command.run('audit', lambda: CALL)"
+IGNORING = "import os, signal, sys; signal.signal(signal.SIGCHLD, signal.SIG_IGN); os.execv(sys.argv[1], sys.argv[1:])"
 SECONDS = 60
 PACKAGES = {"audit": [], "lint": [], "plot": ["matplotlib"], "report": ["matplotlib", "jinja2"], "table": []}
 
@@ -227,6 +229,25 @@ class Written(unittest.TestCase):
             status, out, _ = self.ends(words, redirection)
             self.assertEqual((status, len(out.splitlines())), (0, 25))
         self.assertEqual(self.ends([sys.executable, TOOLS / "lint", "--quiet", AUCTION], ">&-"), (command.DIFFERS, "", []))
+
+
+class Children(unittest.TestCase):
+    """A tool sees how its processes end, also if the one that started it ignores that."""
+
+    def test_days(self):
+        with tempfile.TemporaryDirectory() as folder:
+            Path(folder, "a.csv").write_bytes(AUCTION.read_bytes())
+            Path(folder, "a.txt").write_bytes(AUCTION_RESULTS.read_bytes().replace(b"welfare,3", b"welfare,4"))
+            ran = subprocess.run([sys.executable, "-c", IGNORING, TOOLS / "audit", "--days", folder], capture_output=True, text=True)
+            self.assertEqual((ran.stdout.splitlines()[1].split()[:2], ran.returncode), (["a", "wrong"], command.DIFFERS), ran.stderr)
+
+    def test_runs_of_the_program(self):
+        """A process that isn't a tool's can't see it, and so doesn't begin a run."""
+        self.addCleanup(signal.signal, signal.SIGCHLD, signal.signal(signal.SIGCHLD, signal.SIG_IGN))
+        with self.assertRaisesRegex(engine.Fault, "^/bin/false can't be run: this process ignores SIGCHLD"):
+            engine.ran(["/bin/false"], b"")
+        children.heed()
+        self.assertEqual(engine.ran(["/bin/false"], b"")[0], 1)
 
 
 class Start(unittest.TestCase):

@@ -16,7 +16,7 @@ import threading
 from pathlib import Path
 from typing import NamedTuple
 
-from ..base import ending, place
+from ..base import children, ending, place
 
 TOP = Path(__file__).resolve().parents[3]
 # Where the program is built, in the tree that this module is part of.
@@ -180,6 +180,8 @@ def program_of(program=None):
 
 def ran(words, text, timeout=None, running=None):
     """The status of a run of a program, its output, and its lines on standard error. While it runs, it is among `running`."""
+    if not children.are_heeded():
+        raise Fault(f"{words[0]} can't be run: this process ignores SIGCHLD, so it wouldn't see with which status a run ends")
     try:
         process = subprocess.Popen(words, stdin=subprocess.PIPE, stdout=subprocess.PIPE, stderr=subprocess.PIPE)
     except OSError as fault:

@@ -12,7 +12,7 @@ import sys
 import zoneinfo
 from pathlib import Path
 
-from ..base import ending, place, replacing, text
+from ..base import children, ending, place, replacing, text
 from ..journal import book, journal
 from ..lint import lint
 from ..results import results, selection
@@ -56,6 +56,7 @@ class Stop(Exception):
 def run(name, main):
     """Runs a tool's `main`, and ends with its status. A fault, or Ctrl-C, is one line on standard error."""
     hold_streams()
+    children.heed()
     try:
         sys.exit(main())
     except BrokenPipeError:
