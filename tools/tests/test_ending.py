@@ -178,6 +178,15 @@ class Interrupted(unittest.TestCase):
         self.assertEqual((running.returncode, err), (command.INTERRUPTED, "audit: interrupted\n"))
         self.assertFalse(Path(f"/proc/{child}").exists())
 
+    def test_a_call_that_aborts(self):
+        """Code in C says why; the tool has one line of its own."""
+        shown = "type('', (), {'look': lambda self, words: None, 'end': lambda self: None})()"
+        call = "lambda tell: (os.write(2, b'no memory: ABORT'), os.abort())"
+        said = "audit: a defect of this tool, please report it: Died: the search ended without an answer: memory may have run out (DAM_DEBUG=1 shows where)\n"
+        main = f"import os; from lib.base import aside; from lib.tool import command; command.run('audit', lambda: aside.answer({call}, {shown}, ''))"
+        ran = subprocess.run([sys.executable, "-B", "-c", f"from lib.base import ending; ending.watch('audit'); {main}"], capture_output=True, text=True, cwd=TOOLS)
+        self.assertEqual((ran.returncode, ran.stderr), (command.FAILED, said))
+
     def test_a_call_that_dies(self):
         with self.assertRaisesRegex(aside.Died, "^the search ended without an answer: memory may have run out$"):
             aside.answer(lambda tell: os._exit(1), Progress("audit", SECONDS), "")

@@ -97,6 +97,16 @@ class Isolation(unittest.TestCase):
         self.assertEqual((ran.stdout, ran.stderr), ("True False False\n", ""))
         self.assertFalse(self.folder.joinpath("ran").exists())
 
+    def test_debians_python_can_not_be_asked(self):
+        """Without open files or memory nobody knows which packages it has, and without it there are none."""
+        for number, is_known in ((errno.ENOENT, True), (errno.EMFILE, False), (errno.ENOMEM, False)):
+            fault = OSError(number, os.strerror(number))
+            with mock.patch.object(command, "is_debians", return_value=False), mock.patch.object(subprocess, "run", side_effect=fault):
+                if is_known:
+                    self.assertFalse(command.elsewhere("json"))
+                else:
+                    self.assertRaises(OSError, command.elsewhere, "json")
+
     def test_a_tool_starts_again_apart(self):
         """By the file of the tool, since the command of an installed one belongs to another Python."""
         main = mock.Mock(__file__=str(TOOLS / "audit"))

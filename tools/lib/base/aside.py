@@ -4,6 +4,7 @@ ended, and this one shows meanwhile how long it takes."""
 import contextlib
 import ctypes
 import multiprocessing
+import os
 import signal
 
 PAUSE = 0.2  # seconds from one look at the time to the next
@@ -41,10 +42,12 @@ def answer(call, progress, words):
 
 
 def work(call, pipe):
-    """Sends the call's reports, and then its result or its failure."""
+    """Sends the call's reports, and then its result or its failure. What code in C says before it aborts isn't shown: the process that
+    waits says that this one died."""
     if hasattr(system := ctypes.CDLL(None), "prctl"):
         system.prctl(DEATH, signal.SIGKILL)
     try:
+        os.dup2(os.open(os.devnull, os.O_WRONLY), 2)
         pipe.send(("answer", call(lambda words: pipe.send(("words", words)))))
     except Exception as fault:
         pipe.send(("fault", fault))

@@ -374,7 +374,9 @@ def elsewhere(*modules):
     find = "import importlib.util, sys; sys.exit(None in map(importlib.util.find_spec, sys.argv[1:]))"
     try:
         return subprocess.run([*ISOLATED, "-c", find, *modules], stderr=subprocess.DEVNULL).returncode == 0
-    except OSError:
+    except OSError as fault:
+        if ending.is_memory(fault) or ending.is_files(fault):
+            raise
         return False
 
 
