@@ -72,7 +72,7 @@ class Sampler:
 
     def numbers(self, number):
         """The limits and volumes of a scenario."""
-        digest = hashlib.sha256(f"{self.seed} {number}".encode()).digest()
+        digest = hashlib.sha256(f"{self.seed} {number}".encode(errors="surrogateescape")).digest()
         self.random.seed(self.numpy.frombuffer(digest, dtype="<u4"))
         added, factors = (self.random.standard_normal(len(self.prices)) * sd for sd in self.sds)
         prices = self.numpy.rint(self.prices + added).clip(rules.LEAST_PRICE, rules.GREATEST_PRICE)
