@@ -23,22 +23,9 @@ pub record IsBoundSoFar (blocks : List Block) (taken : List Bool) (left : List B
   pub low : neg_ℤ (pos (place * greatest_period_bound)) ≤ℤ total
   pub high : total ≤ℤ pos (place * greatest_period_bound)
 
-added_zero : (x : Option ℤ) → added (Some (pos 0)) x ≡ x
-added_zero None = refl
-added_zero (Some r) = let e : pos 0 +ℤ r ≡ r = omega (arith, ints) in ap (λ (z : ℤ). Some z) e
-
 added_assoc : (w v : ℤ) (x : Option ℤ) → added (Some w) (added (Some v) x) ≡ added (Some (w +ℤ v)) x
 added_assoc w v None = refl
 added_assoc w v (Some r) = let e : w +ℤ (v +ℤ r) ≡ (w +ℤ v) +ℤ r = omega (arith, ints) in ap (λ (z : ℤ). Some z) e
-
-pub nothing_bound : (blocks : List Block) (taken : List Bool) (left : List Block) (hours : List (List Step))
-    → IsBoundSoFar blocks taken left hours 0 (pos 0)
-nothing_bound blocks taken left hours = record {
-  sum = added_zero (welfare_from blocks taken 1 (relaxed_hours left 1 hours));
-  low =
-      omega (arith, ints);
-  high = omega (arith, ints);
-}
 
 -- the periods after a place, with the blocks that are left as steps
 abbrev later_hours : List Block → ℕ → List (List Step) → List (List Step)
@@ -103,9 +90,3 @@ pub cleared_period : (blocks : List Block) (taken : List Bool) (t : ℕ) (ss rel
 cleared_period blocks taken t ss relaxed net g value w steps net_is great value_is e =
     ap (λ (z : ℤ). Some z) (e ∙ ap (λ (z : ℤ). g +ℤ z) value_is)
     ∙ ap (option_map (λ (z : ℤ). z +ℤ block_value blocks taken t)) (sym great ∙ ap₂ greatest_welfare steps net_is)
-
-pub unbalanced_period : (blocks : List Block) (taken : List Bool) (t : ℕ) (ss relaxed : List Step) (net : ℤ) → ss ≡ relaxed
-    → net ≡ net_volume blocks taken t
-    → greatest_welfare ss net ≡ None → None ≡ period_welfare blocks taken t relaxed
-unbalanced_period blocks taken t ss relaxed net steps net_is none =
-    ap (option_map (λ (z : ℤ). z +ℤ block_value blocks taken t)) (sym none ∙ ap₂ greatest_welfare steps net_is)

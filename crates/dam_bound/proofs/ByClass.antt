@@ -14,11 +14,11 @@ use Rattle.dam_blocks.specs.Problem.{ProblemState}
 use Rattle.dam_blocks.specs.Selection.{over_accepted, value_of, net_volume, block_value}
 use Rattle.dam_blocks.specs.Eligible.{added, period_welfare, welfare_from, selection_welfare}
 use Rattle.dam_blocks.proofs.Sums.{over_accepted-plus, over_accepted-zero}
-use Rattle.dam_bound.specs.Classes.{first_of, members, over_class}
+use Rattle.dam_bound.specs.Classes.{first_of, members}
 use Rattle.dam_bound.specs.ClassCurves.{class_orders, day_value}
 use Rattle.dam_bound.specs.Sums.{over_periods, class_places, over_places}
 use Rattle.dam_bound.proofs.ClassPlaces.{over_same, by_class, periods_plus, listed}
-use Rattle.dam_bound.proofs.Classing.{class_net, first_first, first_most}
+use Rattle.dam_bound.proofs.Classing.{over_class, class_net, first_first, first_most}
 use Rattle.dam_bound.proofs.Covering.{added_some, raised_some, raised_is}
 use Rattle.dam_bound.proofs.Worth.{worth}
 

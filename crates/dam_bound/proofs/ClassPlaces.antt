@@ -8,9 +8,9 @@ use Rattle.std.proofs.lemmas.Bool.Decides.{nat_tests}
 use borrow.Author.Differences.{up, down}
 use Rattle.dam_blocks.specs.declared.problem.Block.{Block}
 use Rattle.dam_blocks.specs.Magnitude.{IsWithin}
-use Rattle.dam_bound.specs.Classes.{first_of, over_class}
+use Rattle.dam_bound.specs.Classes.{first_of}
 use Rattle.dam_bound.specs.Sums.{over_periods, firsts_from, over_places}
-use Rattle.dam_bound.proofs.Classing.{first_first, class_elsewhere, over_classes}
+use Rattle.dam_bound.proofs.Classing.{over_class, first_first, class_elsewhere, over_classes}
 use Rattle.dam_bound.proofs.Levelling.{drop_at}
 use Rattle.dam_bound.proofs.Worth.{sum_from}
 
@@ -231,14 +231,6 @@ by_class f blocks n =
     ∙ over_classes f blocks 0 n n (omega arith) ∙ sym (same_from f 1 n)
 
 -- ---- sums over periods
-pub periods_same : (f g : ℕ → ℤ) (t n : ℕ) → ((k : ℕ) → k < n → f (t + k) ≡ g (t + k)) → over_periods f t n ≡ over_periods g t n
-periods_same f g t zero each = refl
-periods_same f g t (suc n) each =
-    let none : t + 0 ≡ t = omega arith in
-    ap₂ (λ (a b : ℤ). a +ℤ b) (subst (λ (m : ℕ). f m ≡ g m) none (each 0 (omega arith)))
-    (periods_same f g (suc t) n (λ k l.
-    (let next : t + suc k ≡ suc t + k = omega arith in subst (λ (m : ℕ). f m ≡ g m) next (each (suc k) (omega (arith, l))))))
-
 pub periods_plus : (f g : ℕ → ℤ) (t n : ℕ) → over_periods (λ u. f u +ℤ g u) t n ≡ over_periods f t n +ℤ over_periods g t n
 periods_plus f g t zero = refl
 periods_plus f g t (suc n) = let rest = periods_plus f g (suc t) n in omega (arith, ints, rest)

@@ -22,7 +22,7 @@ use Rattle.dam_bound.specs.inside.Numbers.{AreWithin}
 use Rattle.dam_bound.specs.inside.Ranges.{counted_if}
 use Rattle.dam_bound.proofs.AtPlaces.{at_block}
 use Rattle.dam_bound.proofs.ClassPlaces.{over_next, over_same}
-use Rattle.dam_bound.proofs.Gains.{AreEndsUnique}
+use Rattle.dam_bound.proofs.PeriodPrices.{AreEndsUnique}
 use Rattle.dam_bound.proofs.LineByLine.{IsAtPlace}
 use Rattle.dam_bound.proofs.Losing.{one_member, same_part, surplus_there}
 use Rattle.dam_bound.proofs.LossPrices.{AreDescendants, class_price, joint_price_is, surplus_is}

@@ -9,7 +9,7 @@ use Rattle.dam_book.specs.Terms.{BlockTerms}
 use Rattle.dam_hour.specs.Best.{signed}
 use Rattle.dam_blocks.specs.declared.problem.Block.{Block}
 use Rattle.dam_blocks.specs.Selection.{volume_in, over_accepted, net_volume_of, net_volume}
-use Rattle.dam_bound.specs.Classes.{are_alike, first_from, first_of, over_class}
+use Rattle.dam_bound.specs.Classes.{are_alike, first_from, first_of}
 use Rattle.dam_bound.proofs.Worth.{sum_from}
 
 -- ---- alike periods
@@ -135,6 +135,11 @@ class_volume blocks i c k b e at =
     sym (alike_volume blocks c i k b (subst (λ (k : ℕ). are_alike blocks k i ≡ true) e (first_alike blocks i)) at)
 
 -- ---- sums over a class
+-- a number of each of the periods from the place i on whose class begins at c, added up
+abbrev pub over_class : (ℕ → ℤ) → List Block → ℕ → ℕ → ℕ → ℤ
+over_class f blocks c i zero = pos 0
+over_class f blocks c i (suc n) = cond (first_of blocks i == c) (f (suc i)) (pos 0) +ℤ over_class f blocks c (suc i) n
+
 pub class_here : (f : ℕ → ℤ) (blocks : List Block) (c i n : ℕ) → first_of blocks i ≡ c
     → over_class f blocks c i (suc n) ≡ f (suc i) +ℤ over_class f blocks c (suc i) n
 class_here f blocks c i n e =

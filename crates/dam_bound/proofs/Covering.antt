@@ -3,7 +3,6 @@ use Rattle.std.proofs.Common.{◌≡◌, ℕ, suc, ◌+◌, ℤ, pos, ◌+ℤ◌
 use Rattle.std.proofs.Common.{◌∙◌, sym, refl, arith}
 use Rattle.std.specs.Option.{option_map}
 use Rattle.std.proofs.lemmas.Int.{ints}
-use Rattle.std.proofs.lemmas.List.{append-nil}
 use Rattle.dam_book.specs.declared.order.Side.{Side}
 use Rattle.dam_book.specs.declared.order.Side.TheVariants.{Buy, Sell}
 use Rattle.dam_hour.specs.declared.step.Step.{Step}
@@ -46,9 +45,6 @@ pub added_some : (x y : Option ℤ) (w : ℤ) → added x y ≡ Some w → (u : 
 added_some (Some x) (Some y) w e = (x, y, refl, refl, cc)
 added_some None y w e = absurd (cc)
 added_some (Some x) None w e = absurd (cc)
-
-pub added_is : (x y : Option ℤ) (u v : ℤ) → x ≡ Some u → y ≡ Some v → added x y ≡ Some (u +ℤ v)
-added_is x y u v e f = ap₂ added e f
 
 pub raised_some : (x : Option ℤ) (k u : ℤ) → option_map (λ w. w +ℤ k) x ≡ Some u → (g : ℤ) × (x ≡ Some g) × (g +ℤ k ≡ u)
 raised_some (Some x) k u e = (x, refl, cc)
@@ -101,29 +97,6 @@ covered laws t bs prefix rest ss xs us e f b =
       omega (arith, ints, most, worth, gain, value),
     )
 
-pub drop_more : (bs : List Block) (prefix rest : List Bool) → drop (length (prefix ++ rest)) bs ≡ left_after bs prefix rest
-drop_more bs [] rest = refl
-drop_more [] (d ∷ prefix) [] = refl
-drop_more [] (d ∷ prefix) (r ∷ rest) = refl
-drop_more (b ∷ bs) (d ∷ prefix) rest = drop_more bs prefix rest
-
--- deciding more raises no period
-pub period_extended : Laws → (t : ℕ) (bs : List Block) (prefix rest : List Bool) (ss : List Step) (w : ℤ)
-    → period_welfare bs (prefix ++ rest) t (ss ++ as_steps t (left_after bs prefix rest)) ≡ Some w
-    → (r : ℤ) × (period_welfare bs prefix t (relaxed_at ss t bs (length prefix)) ≡ Some r) × (w ≤ℤ r)
-period_extended laws t bs prefix rest ss w e =
-    let ts = left_steps t bs prefix rest in
-    let parts = raised_some (greatest_welfare (ss ++ ts) (net_volume bs (prefix ++ rest) t)) (block_value bs (prefix ++ rest) t) w e in
-    let best = laws.reached (ss ++ ts) (net_volume bs (prefix ++ rest) t) parts.0 parts.1 in
-    let apart = laws.parted ss ts best.0 best.1 in
-    let sold = ap (executed_volume Sell (ss ++ ts)) apart.2 ∙ laws.volume Sell ss ts apart.0 apart.1 apart.3 in
-    let bought = ap (executed_volume Buy (ss ++ ts)) apart.2 ∙ laws.volume Buy ss ts apart.0 apart.1 apart.3 in
-    let worth = ap (welfare_of (ss ++ ts)) apart.2 ∙ laws.welfare ss ts apart.0 apart.1 apart.3 in
-    let balance = best.2 in let is = best.3 in let sum = parts.2 in
-    let found = covered laws t bs prefix rest ss apart.0 apart.1 apart.3 apart.4 (omega (arith, ints, balance, sold, bought)) in
-    let most = found.2 in
-    (found.0, found.1, omega (arith, ints, most, worth, is, sum))
-
 -- no completion reaches more in a period
 period_completed : Laws → (t : ℕ) (bs : List Block) (prefix rest : List Bool) (ss : List Step) (w : ℤ)
     → period_welfare bs (prefix ++ rest) t ss ≡ Some w
@@ -139,26 +112,6 @@ period_completed laws t bs prefix rest ss w e =
     (found.0, found.1, omega (arith, ints, most, worth, is, sum))
 
 -- ---- the day
-extended_from : Laws → (t : ℕ) (bs : List Block) (prefix rest : List Bool) (hours : List (List Step)) (w : ℤ)
-    → welfare_from bs (prefix ++ rest) t (relaxed_hours (left_after bs prefix rest) t hours) ≡ Some w
-    → (r : ℤ) × (welfare_from bs prefix t (relaxed_hours (drop (length prefix) bs) t hours) ≡ Some r) × (w ≤ℤ r)
-extended_from laws t bs prefix rest [] w e = let zero : w ≡ pos 0 = cc in (pos 0, refl, omega (arith, ints, zero))
-extended_from laws t bs prefix rest (ss ∷ hours) w e =
-    let left = left_after bs prefix rest in
-    let parts = added_some (period_welfare bs (prefix ++ rest) t (ss ++ as_steps t left))
-    (welfare_from bs (prefix ++ rest) (suc t) (relaxed_hours left (suc t) hours)) w e in
-    let here = period_extended laws t bs prefix rest ss parts.0 parts.2 in
-    let more = extended_from laws (suc t) bs prefix rest hours parts.1 parts.3 in
-    let h = here.2 in let m = more.2 in let sum = parts.4 in
-    (here.0 +ℤ more.0, ap₂ added here.1 more.1, omega (arith, ints, h, m, sum))
-
-pub welfare_extended : Laws → (bs : List Block) (prefix rest : List Bool) (hours : List (List Step)) (w : ℤ)
-    → welfare_from bs (prefix ++ rest) 1 (relaxed_hours (drop (length (prefix ++ rest)) bs) 1 hours) ≡ Some w
-    → (r : ℤ) × (welfare_from bs prefix 1 (relaxed_hours (drop (length prefix) bs) 1 hours) ≡ Some r) × (w ≤ℤ r)
-welfare_extended laws bs prefix rest hours w e =
-    extended_from laws 1 bs prefix rest hours w (ap (λ (left : List Block). welfare_from bs (prefix ++ rest) 1 (relaxed_hours left 1 hours))
-    (sym (drop_more bs prefix rest)) ∙ e)
-
 pub completed_from : Laws → (t : ℕ) (bs : List Block) (prefix rest : List Bool) (hours : List (List Step)) (w : ℤ)
     → welfare_from bs (prefix ++ rest) t hours ≡ Some w
     → (r : ℤ) × (welfare_from bs prefix t (relaxed_hours (drop (length prefix) bs) t hours) ≡ Some r) × (w ≤ℤ r)
@@ -170,11 +123,7 @@ completed_from laws t bs prefix rest (ss ∷ hours) w e =
     let h = here.2 in let m = more.2 in let sum = parts.4 in
     (here.0 +ℤ more.0, ap₂ added here.1 more.1, omega (arith, ints, h, m, sum))
 
--- ---- every block decided
-relaxed_hours-nil : (t : ℕ) (hours : List (List Step)) → relaxed_hours [] t hours ≡ hours
-relaxed_hours-nil t [] = refl
-relaxed_hours-nil t (ss ∷ hours) = ap₂ (λ (x : List Step) (y : List (List Step)). x ∷ y) (append-nil ss) (relaxed_hours-nil (suc t) hours)
-
+-- ---- equal sums over the accepted blocks
 -- the same sums over the accepted blocks give the same welfare
 pub same_welfare : (bs : List Block) (xs ys : List Bool) (t : ℕ) (hours : List (List Step))
     → ((u : ℕ) → net_volume bs xs u ≡ net_volume bs ys u)
@@ -183,21 +132,6 @@ same_welfare bs xs ys t [] n v = refl
 same_welfare bs xs ys t (ss ∷ hours) n v =
     ap₂ added (ap₂ (λ (net value : ℤ). option_map (λ w. w +ℤ value) (greatest_welfare ss net)) (n t) (v t))
     (same_welfare bs xs ys (suc t) hours n v)
-
-nothing_more : SumLaws → (f : BlockTerms → ℤ) (bs : List Block) (prefix rest : List Bool) → drop (length prefix) bs ≡ []
-    → over_accepted f bs prefix ≡ over_accepted f bs (prefix ++ rest)
-nothing_more sums f bs prefix rest none =
-    let parts = sums.parted f bs prefix rest in
-    let zero : over_accepted f (drop (length prefix) bs) rest ≡ pos 0 = ap (λ (left : List Block). over_accepted f left rest) none in
-    omega (arith, ints, parts, zero)
-
-pub decided_welfare : SumLaws → (bs : List Block) (prefix rest : List Bool) (hours : List (List Step)) → drop (length prefix) bs ≡ []
-    → welfare_from bs prefix 1 (relaxed_hours (drop (length prefix) bs) 1 hours) ≡ welfare_from bs (prefix ++ rest) 1 hours
-decided_welfare sums bs prefix rest hours none =
-    ap (λ (left : List Block). welfare_from bs prefix 1 (relaxed_hours left 1 hours)) none
-    ∙ ap (welfare_from bs prefix 1) (relaxed_hours-nil 1 hours)
-    ∙ same_welfare bs prefix (prefix ++ rest) 1 hours (λ u. nothing_more sums (net_volume_of u) bs prefix rest none)
-    (λ u. nothing_more sums (value_of u) bs prefix rest none)
 
 -- the decisions and the selection that accepts nothing else
 pub padded_welfare : SumLaws → (bs : List Block) (prefix taken : List Bool) (depth : ℕ) (hours : List (List Step)) → length prefix ≡ depth

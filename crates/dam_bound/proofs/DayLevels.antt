@@ -44,9 +44,6 @@ pub record AreDaySoFar (blocks : List Block) (hours : List (List Step)) (count :
   pub long : length periods ≡ count
   pub each : (i : ℕ) (levels : LevelsState) → slice_get periods i ≡ Some levels → AreLevelsAt hours blocks i levels
 
-pub no_period : (blocks : List Block) (hours : List (List Step)) → AreDaySoFar blocks hours 0 []
-no_period blocks hours = record { long = refl; each = λ i levels e. absurd (cc) }
-
 pub one_period : (blocks : List Block) (hours : List (List Step)) (count : ℕ) (periods : List LevelsState) (levels : LevelsState)
     → AreLevelsAt hours blocks count levels → AreDaySoFar blocks hours count periods
     → AreDaySoFar blocks hours (count + 1) (periods ++ levels ∷ [])

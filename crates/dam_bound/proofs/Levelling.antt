@@ -11,7 +11,7 @@ use Rattle.dam_hour.specs.declared.step.Step.{Step}
 use Rattle.dam_blocks.specs.declared.problem.Block.{Block}
 use Rattle.dam_blocks.specs.Selection.{volume_in}
 use Rattle.dam_bound.specs.Relaxed.{step_of, as_steps}
-use Rattle.dam_bound.specs.inside.Levels.{IsAtDepth, AreLevels, last_steps}
+use Rattle.dam_bound.specs.inside.Levels.{IsAtDepth, last_steps}
 
 -- ---- lists that grow
 kept : {X : Type 0} (xs : List X) (y : X) (i : ℕ) (x : X) → slice_get xs i ≡ Some x → slice_get (xs ++ y ∷ []) i ≡ Some x
@@ -138,12 +138,6 @@ same_level t ss blocks count hours places b place at none is so_far =
     ap (as_steps t) (drop_at blocks count b at) ∙ no_step t b (drop (count + 1) blocks) none in
     one_level t ss blocks count hours hours places place (λ i h e. e) so_far.some is
     (so_far.last ∙ ap (λ (ts : List Step). Some (ss ++ ts)) steps) so_far
-
--- every block has its depth
-pub all_levels : (t : ℕ) (ss : List Step) (blocks : List Block) (count : ℕ) (hours : List (List Step)) (places : List ℕ)
-    → length blocks ≤ count
-    → AreLevelsSoFar t ss blocks count hours places → AreLevels t ss blocks (record { hours = hours; places = places })
-all_levels t ss blocks count hours places all so_far = λ depth l. so_far.each depth (omega (arith, l, all))
 
 pub last_level : (t : ℕ) (ss : List Step) (blocks : List Block) (count : ℕ) (hours : List (List Step)) (places : List ℕ)
     → length blocks ≤ count

@@ -10,8 +10,7 @@ pub mod Accepted
 pub mod Sizes
 pub mod Worth
 pub mod Classing
-pub mod Volumes
-pub mod Gains
+pub mod PeriodPrices
 pub mod Members
 pub mod BuildingClasses
 pub mod PlaceSums

@@ -2,9 +2,7 @@
 use Rattle.std.proofs.Common.{◌≡◌, ◌≢◌, ◌⊎◌, ℕ, zero, suc, ◌+◌, ◌*◌, ◌<◌, ◌≤◌, ℤ, pos, neg_ℤ, ◌+ℤ◌, ◌-ℤ◌, ◌≤ℤ◌, ◌<ℤ◌, Bool, true, false, Option, Some, None, List, [], ◌∷◌, length, drop, get_or, slice_set, replicate, not, ◌==◌, ◌&&◌}
 use Rattle.std.proofs.Common.{ap, ap₂, ◌∙◌, sym, subst, refl, inl, inr, arith}
 use Rattle.std.specs.Int.{int_max, int_min}
-use Rattle.std.proofs.lemmas.Int.{ints, to_z-of_z, by_lt_z, int_max_is, int_min_is}
-use mir.Syntax.{w32}
-use mir.Val.{to_z, of_z}
+use Rattle.std.proofs.lemmas.Int.{ints, by_lt_z, int_max_is, int_min_is}
 use Rattle.std.proofs.lemmas.Bool.{cases_eq}
 use Rattle.std.proofs.lemmas.Bool.Decides.{nat_tests}
 use Rattle.std.proofs.lemmas.List.{drop_all, length-replicate, length-set, get_or-set_same, get_or-set_other}
@@ -16,7 +14,7 @@ use Rattle.dam_blocks.specs.Magnitude.{IsWithin}
 use Rattle.dam_blocks.specs.Selection.{accepts}
 use Rattle.dam_blocks.specs.Eligible.{IsEligible}
 use Rattle.dam_bound.specs.ClassCurves.{class_orders, least_net_in, most_net_in, IsClassIn}
-use Rattle.dam_bound.specs.Limits.{most_limits, room_taken, if_open, taken_under, every_place, greatest_room, IsLimit, no_limit, limit_in, AreLimits, AreRooms, HasRoom}
+use Rattle.dam_bound.specs.Limits.{most_limits, room_taken, if_open, taken_under, every_place, greatest_room, IsLimit, limit_in, AreLimits, AreRooms, HasRoom}
 use Rattle.dam_bound.specs.Prices.{over_gains}
 use Rattle.dam_bound.specs.declared.class_curves.Class.{Class}
 use Rattle.dam_bound.specs.declared.limits.Limit.{Limit}
@@ -150,6 +148,10 @@ nothing_taken nets sel (suc n) none =
     let own = ap (room_taken (accepts sel n)) (none n (omega arith)) ∙ zero_taken (accepts sel n) in
     omega (arith, ints, rest, own)
 
+-- the limit that allows everything
+abbrev pub no_limit : Limit
+no_limit = record { nets = replicate most_blocks (pos 0); room = pos 0 }
+
 pub nothing_limits : (problem : ProblemState) → IsLimit problem no_limit
 nothing_limits problem = record {
   long = length-replicate most_blocks (pos 0);
@@ -221,12 +223,6 @@ lowered_here held rooms k i d z taken same inside within is was =
     ∙ get_or-set_same held k z d inside ∙ is
     ∙ ap (λ (x : ℤ). x -ℤ taken) (was ∙ get_or-any rooms k (pos 0) d within)
     ∙ ap (λ (j : ℕ). get_or rooms j d -ℤ taken) (sym same)
-
--- a room less what a decision takes, as the code has it
-pub lowered_small : (x taken : ℤ) → IsWithin greatest_room x → pos 0 ≤ℤ taken → taken ≤ℤ pos greatest_volume
-    → to_z w32 (of_z w32 (x -ℤ taken)) ≡ x -ℤ taken
-lowered_small x taken w low high =
-    let l = w.at_least in let h = w.at_most in to_z-of_z w32 (x -ℤ taken) (omega (arith, ints, l, h, low, high))
 
 -- the rooms after a decision
 pub record AreLowered (limits : List Limit) (accept : Bool) (place : ℕ) (rooms after : List ℤ) : Type 0 where

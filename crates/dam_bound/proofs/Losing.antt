@@ -1,8 +1,7 @@
 -- What a block gains at best at prices in the ranges of the classes, alone and with those that descend from it.
 use Rattle.std.proofs.Common.{◌≡◌, ℕ, zero, suc, ◌+◌, ◌<◌, ◌≤◌, ◌&&◌, Bool, true, false, ℤ, pos, ◌+ℤ◌, ◌-ℤ◌, ◌*ℤ◌, ◌≤ℤ◌, Option, Some, List, [], length, drop, take, get_or, slice_set, option_map, unwrap_or, ap, ◌∙◌, sym, subst, refl, inl, inr, arith}
-use Rattle.std.specs.Int.{int_max}
 use Rattle.std.specs.List.{slice_get}
-use Rattle.std.proofs.lemmas.Int.{ints, int_max_is}
+use Rattle.std.proofs.lemmas.Int.{ints}
 use Rattle.std.proofs.lemmas.Bool.{cases_eq, and_right}
 use Rattle.std.specs.Prelude.{replicate}
 use Rattle.std.proofs.lemmas.List.{take_all, get_or-set_same, get_or-set_other, length-set, length-replicate}
@@ -67,31 +66,6 @@ pub all_gain : (problem : ProblemState) (ranges : List PriceRange) (j i : ℕ) (
 all_gain problem ranges j i gain past so_far f b inside at =
     subst (λ (ps : List ℕ). gain_by problem f ps b.order ≤ℤ gain) (take_all j (class_places problem) past) (so_far.each f b inside at)
 
--- ---- its part in the gain of an ancestor
-pub rejected_part : (problem : ProblemState) (ranges : List PriceRange) (taken rejected : Bool) (i : ℕ) → rejected ≡ true
-    → IsBestPart problem ranges taken rejected i (pos 0)
-rejected_part problem ranges taken rejected i e f b accepted inside at allowed =
-    let off = allowed.1 e in
-    let is = ap (λ (a : Bool). counted_if a (gain_at problem f b.order)) off in
-    omega (arith, ints, is)
-
-pub taken_part : (problem : ProblemState) (ranges : List PriceRange) (taken rejected : Bool) (i : ℕ) (gain : ℤ) → taken ≡ true
-    → IsBestGain problem ranges i gain → IsBestPart problem ranges taken rejected i gain
-taken_part problem ranges taken rejected i gain e best f b accepted inside at allowed =
-    let on = allowed.0 e in
-    let is = ap (λ (a : Bool). counted_if a (gain_at problem f b.order)) on in
-    let most = best f b inside at in
-    omega (arith, ints, is, most)
-
-pub left_part : (problem : ProblemState) (ranges : List PriceRange) (taken rejected : Bool) (i : ℕ) (gain part : ℤ) → part ≡ int_max gain (pos 0)
-    → IsBestGain problem ranges i gain → IsBestPart problem ranges taken rejected i part
-left_part problem ranges taken rejected i gain part e best f b accepted inside at allowed =
-    let most = best f b inside at in let max = int_max_is gain (pos 0) in
-    elim accepted as (λ a. counted_if a (gain_at problem f b.order) ≤ℤ part) [
-      | true ↦ omega (arith, ints, most, max, e)
-      | false ↦ omega (arith, ints, max, e)
-    ]
-
 -- ---- the prices of a selection
 pub in_ranges : (problem : ProblemState) (taken rejected sel : List Bool) (ranges : List PriceRange) (prices : List ℤ)
     → AreRanges problem taken rejected ranges → IsBetween taken rejected sel → ArePrices problem.blocks sel 1 problem.hours prices
@@ -127,9 +101,6 @@ own_gain problem taken rejected ranges place gain are inside best = record {
       let most = best (class_price problem prices) found.0 (in_ranges problem taken rejected sel ranges prices are between priced) found.1 in
       omega (arith, ints, is, most));
 }
-
-no_part : (total own : ℤ) → total ≡ (total -ℤ own) +ℤ own
-no_part total own = omega (arith, ints)
 
 -- what the places from one on add is what this one adds and the rest
 pub one_member : (problem : ProblemState) (sel : List Bool) (prices : List ℤ) (place at : ℕ) (t : Bool) → at < length problem.blocks

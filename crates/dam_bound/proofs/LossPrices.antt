@@ -24,12 +24,12 @@ use Rattle.dam_blocks.specs.Selection.{accepts, over_accepted, net_volume_of, va
 use Rattle.dam_blocks.specs.Family.{names, parent_among, parent_place, leads_to, descends, accepted_descendants}
 use Rattle.dam_blocks.specs.Eligible.{ArePrices, surplus_from, surplus_of, family_surplus}
 use Rattle.dam_blocks.proofs.Sums.{surplus_split}
-use Rattle.dam_bound.specs.Classes.{first_of, members, over_class}
+use Rattle.dam_bound.specs.Classes.{first_of, members}
 use Rattle.dam_bound.specs.ClassCurves.{class_orders, day_value}
 use Rattle.dam_bound.specs.Sums.{over_periods, class_places, over_places}
 use Rattle.dam_bound.proofs.ClassPlaces.{over_same, by_class, class_times, periods_plus, turned}
-use Rattle.dam_bound.proofs.Classing.{class_net, class_volume, class_here, class_elsewhere, same_class}
-use Rattle.dam_bound.proofs.Gains.{AreEndsUnique}
+use Rattle.dam_bound.proofs.Classing.{over_class, class_net, class_volume, class_here, class_elsewhere, same_class}
+use Rattle.dam_bound.proofs.PeriodPrices.{AreEndsUnique}
 use Rattle.dam_bound.proofs.Members.{no_members}
 
 -- ---- the joint price of a class

@@ -88,9 +88,6 @@ pub record IsLowered (problem : ProblemState) (lines : List Line) (sel : List Bo
   pub each : (i c : ℕ) → i < j → slice_get (class_places problem) i ≡ Some c → IsReached problem sel c
   pub total_is : total ≡ lowered problem lines sel j
 
-begun : (x y : ℤ) → x ≡ y → x ≡ pos 0 +ℤ y
-begun x y e = omega (arith, ints, e)
-
 pub lowered_first : (problem : ProblemState) (bound : PriceBound) (sel : List Bool) (total : ℤ) → IsByLines problem bound
     → total ≡ bound.base +ℤ over_gains bound.gains sel → IsLowered problem bound.lines sel 0 total
 lowered_first problem bound sel total is e = record {

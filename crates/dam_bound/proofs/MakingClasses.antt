@@ -7,7 +7,7 @@ use Rattle.std.proofs.lemmas.Int.{ints, int_max_is, int_min_is, to_z-of_z}
 use mir.Syntax.{w32, w64}
 use mir.Val.{to_z, of_z}
 use Rattle.std.proofs.lemmas.Bool.Decides.{nat_tests}
-use Rattle.std.proofs.lemmas.List.{drop_all, take_all}
+use Rattle.std.proofs.lemmas.List.{take_all}
 use Rattle.dam_book.specs.Terms.{BlockTerms}
 use Rattle.dam_book.specs.Limits.{most_blocks, last_period, greatest_volume}
 use Rattle.dam_hour.specs.declared.step.Step.{Step}
@@ -92,9 +92,6 @@ range_more nets i x least most after_least after_most at w e f so_far =
 abbrev pub orders_from : ProblemState → ℕ → ℕ → List (List Step)
 orders_from problem c at = members problem.blocks c at (drop at problem.hours)
 
-pub none_from : (problem : ProblemState) (c at : ℕ) → length problem.hours ≤ at → orders_from problem c at ≡ []
-none_from problem c at all = ap (members problem.blocks c at) (drop_all at problem.hours all)
-
 pub member_here : (problem : ProblemState) (c at : ℕ) (ss : List Step) → slice_get problem.hours at ≡ Some ss
     → first_of problem.blocks at ≡ c → orders_from problem c at ≡ ss ∷ orders_from problem c (at + 1)
 member_here problem c at ss there e =
@@ -140,11 +137,6 @@ few_from problem c at l short =
 -- ---- the curve, period by period
 abbrev pub IsCurveFrom : ProblemState → ℕ → List ℤ → ℕ → List Segment → Type 0
 IsCurveFrom problem c nets at segments = IsCurve (orders_from problem c at) (negative_sum nets) (positive_sum nets) segments
-
-pub curve_begun : (problem : ProblemState) (c : ℕ) (nets : List ℤ) (at : ℕ) (segments : List Segment) → length problem.hours ≤ at
-    → IsCurve [] (negative_sum nets) (positive_sum nets) segments → IsCurveFrom problem c nets at segments
-curve_begun problem c nets at segments all is =
-    subst (λ (hs : List (List Step)). IsCurve hs (negative_sum nets) (positive_sum nets) segments) (sym (none_from problem c at all)) is
 
 pub curve_kept : (problem : ProblemState) (c : ℕ) (nets : List ℤ) (at : ℕ) (ss : List Step) (segments : List Segment)
     → slice_get problem.hours at ≡ Some ss → first_of problem.blocks at ≢ c

@@ -1,11 +1,9 @@
 -- The blocks that descend from one, place by place, and the sum of their gains.
-use Rattle.std.proofs.Common.{◌≡◌, ◌≢◌, ℕ, zero, suc, ◌+◌, ◌<◌, ◌≤◌, ℤ, pos, ◌+ℤ◌, Bool, true, false, Option, Some, List, [], ◌∷◌, length}
-use Rattle.std.proofs.Common.{drop, get_or, slice_set, option_map, unwrap_or, ap, ◌∙◌, sym, refl, inl, inr, arith}
+use Rattle.std.proofs.Common.{◌≡◌, ℕ, zero, suc, ◌+◌, ◌<◌, ◌≤◌, ℤ, pos, ◌+ℤ◌, Bool, true, false, Option, Some, List, [], ◌∷◌, length}
+use Rattle.std.proofs.Common.{drop, get_or, option_map, unwrap_or, ap, ◌∙◌, sym, refl, arith}
 use Rattle.std.specs.List.{slice_get}
 use Rattle.std.proofs.lemmas.Int.{ints}
-use Rattle.std.proofs.lemmas.Bool.{cases_eq}
 use Rattle.std.proofs.lemmas.Option.{slice_get_read}
-use Rattle.std.proofs.lemmas.List.{get_or-set_same, get_or-set_other, length-set}
 use Rattle.dam_book.specs.Terms.{BlockTerms}
 use Rattle.dam_book.specs.Limits.{most_blocks}
 use Rattle.dam_blocks.specs.declared.problem.Block.{Block}
@@ -21,39 +19,6 @@ pub record IsFamilySoFar (blocks : List Block) (place other : ℕ) (family : Lis
   pub so_far : (j : ℕ) → j < other → accepts family j ≡ descends blocks place j
   pub rest : (j : ℕ) → other ≤ j → accepts family j ≡ false
   pub none : is_empty ≡ true → (j : ℕ) → j < other → descends blocks place j ≡ false
-
-pub a_descendant : (blocks : List Block) (place other : ℕ) (family : List Bool) (e after : Bool) → other < most_blocks
-    → descends blocks place other ≡ true → after ≡ false
-    → IsFamilySoFar blocks place other family e → IsFamilySoFar blocks place (other + 1) (slice_set family other true) after
-a_descendant blocks place other family e after inside is off so_far =
-    let long = so_far.long in
-    record {
-      long = length-set family other true ∙ long;
-      so_far = λ j l. elim (cases_eq j other) [
-        | inl same ↦
-            ap (accepts (slice_set family other true)) same ∙ get_or-set_same family other true false (omega (arith, inside, long))
-            ∙ sym (ap (descends blocks place) same ∙ is)
-        | inr apart ↦ get_or-set_other family other j true false apart ∙ so_far.so_far j (omega (arith, l, apart))
-      ];
-      rest = λ j l. (let apart : j ≢ other = omega (arith, l) in get_or-set_other family other j true false apart
-          ∙ so_far.rest j (omega (arith, l)));
-      none = λ wrong j l. absurd (cc);
-    }
-
-pub not_a_descendant : (blocks : List Block) (place other : ℕ) (family : List Bool) (e : Bool) → descends blocks place other ≡ false
-    → IsFamilySoFar blocks place other family e → IsFamilySoFar blocks place (other + 1) family e
-not_a_descendant blocks place other family e is so_far = record {
-  long = so_far.long;
-  so_far = λ j l. elim (cases_eq j other) [
-    | inl same ↦ (ap (accepts family) same ∙ so_far.rest other (omega arith) ∙ sym (ap (descends blocks place) same ∙ is))
-    | inr apart ↦ so_far.so_far j (omega (arith, l, apart))
-  ];
-  rest = λ j l. so_far.rest j (omega (arith, l));
-  none = λ none j l. elim (cases_eq j other) [
-    | inl same ↦ (ap (descends blocks place) same ∙ is)
-    | inr apart ↦ so_far.none none j (omega (arith, l, apart))
-  ];
-}
 
 -- ---- sums over accepted places
 over_accepted-nil : (f : BlockTerms → ℤ) (bs : List Block) → over_accepted f bs [] ≡ pos 0
@@ -99,12 +64,6 @@ member_more prices blocks members place taken total own after inside is e f so_f
     at in
     let next = ap (λ (n : ℕ). over_accepted (surplus_of prices) (drop n blocks) (drop n members)) (next_place place) in
     omega (arith, ints, step, here, there, next, e, f, so_far)
-
-pub all_members : (f : BlockTerms → ℤ) (blocks : List Block) (members : List Bool) (place : ℕ) (total whole : ℤ) → drop place blocks ≡ []
-    → total +ℤ over_accepted f (drop place blocks) (drop place members) ≡ whole → total ≡ whole
-all_members f blocks members place total whole none e =
-    let rest = ap (λ (bs : List Block). over_accepted f bs (drop place members)) none in
-    omega (arith, ints, rest, e)
 
 pub no_members : (f : BlockTerms → ℤ) (blocks : List Block) (members : List Bool)
     → ((i : ℕ) → i < length blocks → accepts members i ≡ false)

@@ -72,13 +72,6 @@ weighted_from (w ∷ weights) [] i c d l m = absurd (omega (arith, m))
 weighted_from (w ∷ weights) (x ∷ xs) zero c d l m = refl
 weighted_from (w ∷ weights) (x ∷ xs) (suc i) c d l m = weighted_from weights xs i c d (omega (arith, l)) (omega (arith, m))
 
-pub no_weights : (weights xs : List ℤ) (i : ℕ) → length xs ≤ i → weighted (drop i weights) (drop i xs) ≡ pos 0
-no_weights weights xs i l = ap (weighted (drop i weights)) (drop_all i xs l) ∙ weighted_nil (drop i weights)
-  where
-    weighted_nil : (ws : List ℤ) → weighted ws [] ≡ pos 0
-    weighted_nil [] = refl
-    weighted_nil (w ∷ ws) = refl
-
 -- a weight of 2 at most, times a net volume
 pub a_weight : (weight x : ℤ) → pos 0 ≤ℤ weight → weight ≤ℤ pos 2 → IsWithin greatest_volume x → IsWithin (2 * greatest_volume) (weight *ℤ x)
 a_weight weight x l h w = times_within 2 greatest_volume weight x (record { at_least = omega (arith, ints, l); at_most = h }) w

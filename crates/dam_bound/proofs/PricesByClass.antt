@@ -16,11 +16,11 @@ use Rattle.dam_blocks.specs.declared.problem.Block.{Block}
 use Rattle.dam_blocks.specs.Problem.{ProblemState}
 use Rattle.dam_blocks.specs.Selection.{volume_in, net_volume_of, value_of, net_volume}
 use Rattle.dam_blocks.specs.Eligible.{IsClearingPrice, ArePrices, surplus_from, surplus_of}
-use Rattle.dam_bound.specs.Classes.{first_of, members, over_class}
+use Rattle.dam_bound.specs.Classes.{first_of, members}
 use Rattle.dam_bound.specs.ClassCurves.{class_orders, day_value}
 use Rattle.dam_bound.specs.Sums.{over_periods, class_places, over_places}
 use Rattle.dam_bound.proofs.ClassPlaces.{times_plus, turned, over_same, by_class, periods_plus, class_times}
-use Rattle.dam_bound.proofs.Classing.{class_net, class_volume, same_class}
+use Rattle.dam_bound.proofs.Classing.{over_class, class_net, class_volume, same_class}
 
 -- ---- the prices of the periods
 -- the price of a period of the day

@@ -1,16 +1,13 @@
--- How large the value of accepted blocks is in a period, and a sum as the code has it.
-use Rattle.std.proofs.Common.{◌≡◌, ◌+ℤ◌, ap, ap₂, ◌∙◌, sym, subst, ℕ, ◌*◌, ◌≤◌, ℤ, Bool, true, false, List, [], ◌∷◌, length, arith}
+-- How large a sum over the accepted blocks is, and a sum as the code has it.
+use Rattle.std.proofs.Common.{◌≡◌, ◌+ℤ◌, ap, ap₂, ◌∙◌, sym, subst, ℕ, ◌*◌, ℤ, Bool, true, false, List, [], ◌∷◌, length, arith}
 use Rattle.std.proofs.lemmas.Int.{ints, to_z-of_z}
 use mir.Syntax.{w64}
 use mir.Val.{to_z, of_z, SFits}
-use Rattle.dam_book.specs.Limits.{most_blocks}
 use Rattle.dam_book.specs.Terms.{BlockTerms, IsBlockOrder}
-use Rattle.dam_hour.specs.Limits.{greatest_value}
 use Rattle.dam_blocks.specs.declared.problem.Block.{Block}
 use Rattle.dam_blocks.specs.Problem.{AreBlocks}
-use Rattle.dam_blocks.specs.Selection.{over_accepted, value_of, block_value}
+use Rattle.dam_blocks.specs.Selection.{over_accepted}
 use Rattle.dam_blocks.specs.Magnitude.{IsWithin}
-use Rattle.dam_blocks.proofs.Magnitudes.{value_within}
 
 pub over_within : (f : BlockTerms → ℤ) (most periods : ℕ) → ((o : BlockTerms) → IsBlockOrder o → IsWithin most (f o))
     → (bs : List Block) (sel : List Bool) → AreBlocks periods bs
@@ -24,12 +21,6 @@ over_within f most periods each (b ∷ bs) (true ∷ sel) are =
 over_within f most periods each (b ∷ bs) (false ∷ sel) are =
     let rest = over_within f most periods each bs sel are.1 in let l = rest.at_least in let h = rest.at_most in
     record { at_least = omega (arith, ints, l); at_most = omega (arith, ints, h) }
-
-pub value_small : (periods t : ℕ) (bs : List Block) (sel : List Bool) → AreBlocks periods bs → length bs ≤ most_blocks
-    → IsWithin (most_blocks * greatest_value) (block_value bs sel t)
-value_small periods t bs sel are few =
-    let w = over_within (value_of t) greatest_value periods (value_within t) bs sel are in let l = w.at_least in let h = w.at_most in
-    record { at_least = omega (arith, ints, l, few); at_most = omega (arith, ints, h, few) }
 
 -- a sum as the code has it
 pub added_up : (x y : ℤ) → SFits w64 x → SFits w64 y → SFits w64 (x +ℤ y)

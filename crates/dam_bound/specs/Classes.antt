@@ -1,6 +1,6 @@
 -- The classes of a day's periods: two periods are in one class if every block has the same volume in both. So the net
 -- volume of a selection is the same in all periods of a class, and their welfare is a function of one number.
-use Rattle.std.specs.Prelude.{◌≡◌, ℕ, zero, suc, ◌<◌, ◌==◌, Bool, true, ◌&&◌, if◌then◌else◌, ℤ, pos, ◌+ℤ◌, List, [], ◌∷◌, length, slice_index_or}
+use Rattle.std.specs.Prelude.{◌≡◌, ℕ, zero, suc, ◌<◌, ◌==◌, Bool, true, ◌&&◌, if◌then◌else◌, List, [], ◌∷◌, length, slice_index_or}
 use Rattle.dam_book.specs.Limits.{last_period}
 use Rattle.dam_hour.specs.declared.step.Step.{Step}
 use Rattle.dam_blocks.specs.declared.problem.Block.{Block}
@@ -27,11 +27,6 @@ abbrev pub members : List Block → ℕ → ℕ → List (List Step) → List (L
 members blocks c i [] = []
 members blocks c i (steps ∷ hours) =
     if first_of blocks i == c then steps ∷ members blocks c (suc i) hours else members blocks c (suc i) hours
-
--- a number of each of the periods from the place i on whose class begins at c, added up
-abbrev pub over_class : (ℕ → ℤ) → List Block → ℕ → ℕ → ℕ → ℤ
-over_class f blocks c i zero = pos 0
-over_class f blocks c i (suc n) = (if first_of blocks i == c then f (suc i) else pos 0) +ℤ over_class f blocks c (suc i) n
 
 -- the first period of each class
 pub record AreFirsts (problem : ProblemState) (firsts : List ℕ) : Type 0 where

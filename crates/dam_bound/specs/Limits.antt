@@ -1,5 +1,5 @@
 -- Limits that every eligible selection keeps, and the room that decisions leave under them.
-use Rattle.std.specs.Prelude.{◌≡◌, ℕ, zero, suc, ◌*◌, ◌<◌, ℤ, pos, neg_ℤ, ◌+ℤ◌, ◌≤ℤ◌, Bool, true, false, List, [], length, replicate, slice_index_or}
+use Rattle.std.specs.Prelude.{◌≡◌, ℕ, zero, suc, ◌*◌, ◌<◌, ℤ, pos, neg_ℤ, ◌+ℤ◌, ◌≤ℤ◌, Bool, true, false, List, [], length, slice_index_or}
 use Rattle.std.specs.Int.{int_max}
 use Rattle.dam_book.specs.Limits.{most_blocks, greatest_volume}
 use Rattle.dam_blocks.specs.Problem.{ProblemState}
@@ -43,10 +43,6 @@ pub record IsLimit (problem : ProblemState) (limit : Limit) : Type 0 where
   pub room_is : IsWithin greatest_room limit.room
   pub keeps : (selection : List Bool) (w : ℤ) → IsEligible problem selection w
       → taken_under limit.nets selection every_place most_blocks ≤ℤ limit.room
-
--- the limit that allows everything
-abbrev pub no_limit : Limit
-no_limit = record { nets = replicate most_blocks (pos 0); room = pos 0 }
 
 -- the limit at the place
 abbrev pub limit_in : List Limit → ℕ → Limit

@@ -31,31 +31,6 @@ pub fn bound()
     dam_blocks::laws::sums();
 }
 
-/// A prefix that extends another has no greater relaxed welfare; and if the shorter one has
-/// none, the longer has none.
-pub fn extension()
-    ensures most { (problem : ProblemState) (prefix rest : List Bool) (w : ℤ)
-        → relaxed_welfare problem (prefix ++ rest) ≡ Some w
-        → (r : ℤ) × (relaxed_welfare problem prefix ≡ Some r) × (w ≤ℤ r) }
-    ensures none { (problem : ProblemState) (prefix rest : List Bool)
-        → relaxed_welfare problem prefix ≡ None
-        → relaxed_welfare problem (prefix ++ rest) ≡ None }
-{
-    dam_hour::laws::joining();
-    dam_hour::laws::welfare();
-    dam_hour::laws::magnitude();
-    dam_blocks::laws::sums();
-}
-
-/// If every block is decided, the relaxed welfare is the welfare of each completion.
-pub fn decided()
-    ensures { (problem : ProblemState) (prefix sel : List Bool)
-        → length problem.blocks ≤ length prefix → IsCompletion prefix sel
-        → relaxed_welfare problem prefix ≡ selection_welfare problem sel }
-{
-    dam_blocks::laws::sums();
-}
-
 /// The completions of a prefix are the completions of its two extensions by the next block. The
 /// prefix with no other block accepted is one of them; and if every block is decided, it is the
 /// only one that can be admissible.

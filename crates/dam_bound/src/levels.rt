@@ -26,7 +26,7 @@ fn step_in(order: &BlockOrder, period: Period) -> Option<Step>
 }
 
 /// The steps, and after them the blocks as steps of the period.
-pub(crate) fn relaxed_steps<A: Allocator>(
+fn relaxed_steps<A: Allocator>(
     alloc: A,
     steps: &[Step],
     blocks: &[Block],

@@ -1,5 +1,5 @@
 -- If the welfare is known, an execution balances, and so the price has its ends.
-use Rattle.dam_bound.proofs.Gains.{some_prices}
+use Rattle.dam_bound.proofs.PeriodPrices.{some_prices}
 use Rattle.dam_bound.proofs.laws.prices.Goals as goal
 
 pub returns : goal.returns
