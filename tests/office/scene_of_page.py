@@ -238,7 +238,7 @@ async def enter_orders(page, who, counts):
     await write(page, "group", "eve")
     await click(page, "#enter")
     await until_rows(page, "orders-table", 2)
-    entered = "RUN entered: block, buy, in periods 8-9, at -3.00 EUR/MWh. It is on the disk, with a signed receipt."
+    entered = "RUN entered: block, buy, 30.0 MW in periods 8-9, at -3.00 EUR/MWh, group EVE. It is on the disk, with a signed receipt."
     counts.check("its message", await text(page, "message") == entered)
     counts.check("a block", (await rows(page, "commands-table"))[0][4:9] == ["block", "buy", "-3.00", "8-9: 30.0", "group EVE"])
     counts.check(
@@ -255,6 +255,8 @@ async def enter_orders(page, who, counts):
     await click(page, "#enter")
     await until_rows(page, "orders-table", 3)
     counts.check("a link", (await rows(page, "commands-table"))[0][6:9] == ["75.00", "9: 5.0", "parent RUN"])
+    linked = "MORE entered: block, buy, 5.0 MW in period 9, at 75.00 EUR/MWh, parent RUN. It is on the disk, with a signed receipt."
+    counts.check("which its message names", await text(page, "message") == linked)
 
 
 async def change_orders(page, counts):
@@ -396,6 +398,12 @@ async def faults(page, counts, pictures):
         told = await text(page, "fill-fault")
         unfilled = "30 MW for periods 11 to 12 isn't filled in: press Fill in, or empty the box."
         counts.check(f"a volume that isn't filled in isn't lost: {told}", told == unfilled and await focused(page) == "fill-volume")
+    await choose(page, "fill-volume", "30,55")
+    for button in ("#fill", "#enter"):
+        await click(page, button)
+        told = await text(page, "fill-fault")
+        counts.check(f"one that can't be filled in has its fault after {button}: {told}", told == "Write at most 1 digit after the point.")
+    await choose(page, "fill-volume", 30)
     await choose(page, "fill-to", 10)
     await click(page, "#enter")
     told = await text(page, "fill-fault")

@@ -481,6 +481,8 @@ function showKind() {
 function unfilledRule(words) {
   const [from, to] = ["fill-from", "fill-to"].map((id) => Number(byId(id).value));
   if (!words) return { value: null };
+  const { fault } = volumeRule(words);
+  if (fault) return { fault };
   if (from > to) return { fault: `Period ${from} is after period ${to}: ${words} MW isn't filled in.` };
   const where = from === to ? `period ${from}` : `periods ${from} to ${to}`;
   return { fault: `${words} MW for ${where} isn't filled in: press Fill in, or empty the box.` };

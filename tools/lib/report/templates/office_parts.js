@@ -103,16 +103,20 @@ const periodsOf = (volumes) => runsOf(volumes.map(([period]) => [period, 0])).ma
 const ORDER_HEADS = [["kind"], ["side"], ["limit, EUR/MWh", "n"], ["volume by period, MW", "given"], ["links"]];
 
 function orderCells({ kind, side, price, volumes, parent, group }) {
-  const links = [parent && `parent ${parent}`, group && `group ${group}`].filter(Boolean).join(", ");
+  const links = linksOf({ parent, group }).join(", ");
   return [{ hour: "hourly", block: "block" }[kind], side, price === undefined ? "" : grouped(price, 2), volumes ? runs(volumes) : "", links];
 }
 
-// What a command says, so that a side or period that wasn't meant is seen at once.
-function termsOf({ what, kind, side, price, volumes }) {
+const linksOf = ({ parent, group }) => [parent && `parent ${parent}`, group && `group ${group}`].filter(Boolean);
+
+// The terms of a command, so that one that wasn't meant is seen at once.
+function termsOf({ what, kind, side, price, volumes, parent, group }) {
   if (what === "cancel") return "";
-  const [[period, volume]] = volumes;
-  const where = volumes.length === 1 ? `${grouped(volume, 1)} MW in period ${period}` : `in periods ${periodsOf(volumes)}`;
-  return `: ${[kind === "block" && "block", side, where].filter(Boolean).join(", ")}, at ${grouped(price, 2)} EUR/MWh`;
+  const [least, most] = [Math.min, Math.max].map((of) => grouped(of(...volumes.map(([, volume]) => volume)), 1));
+  const size = least === most ? least : `${least} to ${most}`;
+  const where = `${size} MW in period${volumes.length === 1 ? "" : "s"} ${periodsOf(volumes)}`;
+  const terms = [kind === "block" && "block", side, where, `at ${grouped(price, 2)} EUR/MWh`, ...linksOf({ parent, group })];
+  return `: ${terms.filter(Boolean).join(", ")}`;
 }
 
 // Why the book refuses a command, in words to its participant; the other reasons as they are.
