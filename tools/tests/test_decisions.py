@@ -65,6 +65,24 @@ class Hand(unittest.TestCase):
             ],
         )
 
+    def test_a_sibling_that_covers_their_parent(self):
+        # In each period 1 MW is bought at 60 EUR and 1 MW at 52, and 1.5 MW are offered at 50. At the price, 52, PARENT loses 10 EUR,
+        # LEFT gains 5 and RIGHT 8: only together do the three gain.
+        data = journal_of(
+            *(
+                f"submit,H,{name}{number},hour,{side},{price},{number}:{volume},,"
+                for number in (1, 2, 3)
+                for name, side, price, volume in (("B", "buy", 6000, 10), ("C", "buy", 5200, 10), ("S", "sell", 5000, 15))
+            ),
+            "submit,A,PARENT,block,sell,6200,1:10,,",
+            "submit,A,LEFT,block,sell,4700,2:10,PARENT,",
+            "submit,A,RIGHT,block,sell,4400,3:10,PARENT,",
+        )
+        self.assertEqual(best_of(data), frozenset())
+        day = day_of(data, results_of(data, frozenset()))
+        found = decisions.decisions(day.problem, day.said.accepted, day.outcome)
+        self.assertEqual([(one.kind, one.family.members) for one in found], [(decisions.PARADOX, frozenset(range(3)))] * 3)
+
     def test_a_rival_whose_exchange_orphans_a_child(self):
         # P saves 400 EUR and C 500; Q, which would gain more at the prices than P, saves 450.
         data = journal_of(
