@@ -255,27 +255,6 @@ walked_nothing problem taken left read offer found ready covers = record {
   offered = (let offered = ready.offered in omega (arith, offered));
 }
 
--- a walk goes on
-pub ready_after : (problem : ProblemState) (taken : List Bool) (left : List ℕ) (read offer read' offer' : ℕ) (before after : Progress)
-    → IsReady read offer before → IsWalkedOpen problem taken left offer read' offer' before after → IsReady read' offer' after
-ready_after problem taken left read offer read' offer' before after ready walked = record {
-  read = walked.read;
-  long = long_after problem taken left before.best after.best ready.long walked.finds;
-  offered = (let offered = walked.offered in omega (arith, offered));
-}
-
--- the value was read again before the walk
-pub walked_later : (problem : ProblemState) (taken : List Bool) (left : List ℕ) (offer read' offer' : ℕ) (before now after : Progress)
-    → now.best ≡ before.best → before.read ≤ now.read → IsWalkedOpen problem taken left offer read' offer' now after
-    → IsWalkedOpen problem taken left offer read' offer' before after
-walked_later problem taken left offer read' offer' before now after same more walked = record {
-  finds = subst (λ (o : Option Best). FindsOpen problem taken left o after.best) same walked.finds;
-  covers = walked.covers;
-  grows = (let grows = walked.grows in omega (arith, grows, more));
-  read = walked.read;
-  offered = walked.offered;
-}
-
 -- the value was read again, and nothing is found
 pub walked_over : (problem : ProblemState) (taken : List Bool) (left : List ℕ) (read offer read' offer' : ℕ) (before now : Progress)
     → IsReady read offer before → now.best ≡ before.best → before.read ≤ now.read → now.read ≡ read' → offer' ≡ offer
