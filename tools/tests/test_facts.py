@@ -11,6 +11,7 @@ from unittest import mock
 from support import TOP, loaded, worked
 
 from lib.base import rules
+from lib.journal import book
 from lib.runs import engine
 from lib.crates.specs import Repository
 
@@ -125,6 +126,16 @@ class Facts(unittest.TestCase):
             "LONGEST_PARTICIPANT": rules.LONGEST_PARTICIPANT,
         }
         self.assertEqual({name: found.get(name) for name in wanted}, wanted)
+
+    def test_the_reasons_stand_in_one_order(self):
+        """The tools and the rules have the reasons of the definition, in the order in which the book looks for them."""
+        definitions = (TOP / "crates" / "dam_book" / "specs" / "Book.antt").read_text()
+        reasons = re.findall(r"\w+", re.search(r"^reasons =\n((?: +.+\n)+)", definitions, re.MULTILINE)[1])
+        words = dict(re.findall(r'^reason_word (\w+) = codes "(\w+)"$', definitions, re.MULTILINE))
+        rows = re.findall(r"^\| `(\w+)` \|", (TOP / "docs" / "RULES.md").read_text().partition("| Reason |")[2], re.MULTILINE)
+        self.assertEqual(sorted(words), sorted(reasons))
+        self.assertEqual(list(book.REASONS), [words[reason] for reason in reasons])
+        self.assertEqual(rows[: len(reasons) + 1], list(book.REASONS))
 
     def test_the_greatest_sums(self):
         """As numbers of cents per MWh times tenths of a MW: the laws of `dam_blocks` have them as products of the limits."""

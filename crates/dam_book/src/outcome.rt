@@ -1,7 +1,9 @@
 ghost use Rattle.std.specs.Prelude.{◌≡◌, None, Some};
 ghost use Rattle.dam_book.specs.Book.{reply_of};
 
-use crate::command::{Reason, Reply};
+use crate::command::Reply;
+use crate::order::Order;
+use crate::reason::Reason;
 use std::marker::Model;
 
 /// The outcome of a command, as `Book::outcome` decides it: the book refuses it for a reason, or carries it out.
@@ -16,7 +18,7 @@ pub struct Outcome {
 
 impl Model for Outcome {
     ghost use Rattle.std.specs.Prelude.{Option};
-    ghost use Rattle.dam_book.specs.declared.command.Reason.{Reason};
+    ghost use Rattle.dam_book.specs.declared.reason.Reason.{Reason};
 
     ghost Value = { Option Reason };
 
@@ -41,28 +43,15 @@ impl Outcome {
         self.refusal
     }
 
-    pub(crate) fn refused(reason: Reason) -> Outcome
-        ensures { result ≡ Some reason }
+    // `named` is the order with the command's participant and name, with its place in the book's map.
+    pub(crate) fn new(refusal: Option<Reason>, named: Option<(usize, &Order)>) -> Outcome
+        ensures { result ≡ refusal }
     {
-        Outcome {
-            refusal: Some(reason),
-            place: 0,
-        }
-    }
-
-    pub(crate) fn done() -> Outcome
-        ensures { result ≡ None }
-    {
-        Outcome::done_at(0)
-    }
-
-    pub(crate) fn done_at(place: usize) -> Outcome
-        ensures { result ≡ None }
-    {
-        Outcome {
-            refusal: None,
-            place,
-        }
+        let place = match named {
+            Some((place, _)) => place,
+            None => 0,
+        };
+        Outcome { refusal, place }
     }
 
     // The place in the book's map, gaps counted, at which the order was found.

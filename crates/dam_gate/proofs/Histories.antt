@@ -4,7 +4,7 @@ use Rattle.std.proofs.Common.{length-append, is_some, if◌then◌else◌, Optio
 use Rattle.dam_book.specs.declared.command.Command.{Command}
 use Rattle.dam_book.specs.declared.command.Command.TheVariants.{Submit, Amend, Cancel, Close}
 use Rattle.dam_book.specs.declared.command.Entry.{Entry}
-use Rattle.dam_book.specs.declared.command.Reason.{Reason}
+use Rattle.dam_book.specs.declared.reason.Reason.{Reason}
 use Rattle.dam_book.specs.Book.{BookState, empty_book, carried_out, refusal, book_after, reply_to, run, run_from, commands_of}
 use Rattle.dam_book.specs.Book.{IsLegalFrom}
 use Rattle.dam_book.specs.Limits.{most_entries}

@@ -3,7 +3,7 @@ use Rattle.std.proofs.Common.{◌≡◌, ◌++◌, ◌∷◌, [], ℕ, zero, suc
 use Rattle.std.proofs.lemmas.Option.{IfSome_then}
 use Rattle.dam_book.specs.Book.{BookState, book_after, refusal, reply_of}
 use Rattle.dam_book.specs.declared.command.Entry.{Entry}
-use Rattle.dam_book.specs.declared.command.Reason.{Reason}
+use Rattle.dam_book.specs.declared.reason.Reason.{Reason}
 use Rattle.dam_gate.specs.inside.Books.{AreSteps, BooksState, LeadsTo, EarlierState}
 
 slice_get-more : (es : List Entry) (i : ℕ) (e x : Entry) → slice_get es i ≡ Some x → slice_get (es ++ e ∷ []) i ≡ Some x

@@ -3,25 +3,9 @@ use Rattle.std.specs.Prelude.{◌≡◌, ℕ, List, ◌++◌, decimal, codes}
 use Rattle.std.specs.List.{flat_map}
 use Rattle.dam_book.specs.declared.command.Reply.{Reply}
 use Rattle.dam_book.specs.declared.command.Reply.TheVariants.{Done, Refused}
-use Rattle.dam_book.specs.declared.command.Reason.{Reason}
-use Rattle.dam_book.specs.declared.command.Reason.TheVariants.{Closed, PeriodOutOfDay, NameTaken, UnknownOrder, WrongShape, UnknownParent}
-use Rattle.dam_book.specs.declared.command.Reason.TheVariants.{ParentNotBlock, HourlyFull, BlocksFull, HasChildren}
 use Rattle.dam_book.specs.declared.command.Command.{Command}
 use Rattle.dam_book.specs.declared.command.Entry.{Entry}
-use Rattle.dam_book.specs.Book.{entries_of}
-
--- the word of a reason
-abbrev pub reason_word : Reason → List ℕ
-reason_word Closed = codes "Closed"
-reason_word PeriodOutOfDay = codes "PeriodOutOfDay"
-reason_word NameTaken = codes "NameTaken"
-reason_word UnknownOrder = codes "UnknownOrder"
-reason_word WrongShape = codes "WrongShape"
-reason_word UnknownParent = codes "UnknownParent"
-reason_word ParentNotBlock = codes "ParentNotBlock"
-reason_word HourlyFull = codes "HourlyFull"
-reason_word BlocksFull = codes "BlocksFull"
-reason_word HasChildren = codes "HasChildren"
+use Rattle.dam_book.specs.Book.{entries_of, reason_word}
 
 -- done, or refused with the reason
 abbrev pub reply_text : Reply → List ℕ

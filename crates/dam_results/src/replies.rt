@@ -3,25 +3,8 @@ ghost use Rattle.dam_results.specs.Replies.{reply_line};
 ghost use Rattle.dam_results.specs.Replies;
 
 use crate::lines::{write_day, write_number};
-use dam_book::{DayLength, Entry, Reason, Reply};
+use dam_book::{DayLength, Entry, Reply};
 use std::alloc::{AllocError, Allocator};
-
-fn reason_word(reason: Reason) -> &'static str
-    ensures { result.now ≡ Replies.reason_word reason }
-{
-    match reason {
-        Reason::Closed => "Closed",
-        Reason::PeriodOutOfDay => "PeriodOutOfDay",
-        Reason::NameTaken => "NameTaken",
-        Reason::UnknownOrder => "UnknownOrder",
-        Reason::WrongShape => "WrongShape",
-        Reason::UnknownParent => "UnknownParent",
-        Reason::ParentNotBlock => "ParentNotBlock",
-        Reason::HourlyFull => "HourlyFull",
-        Reason::BlocksFull => "BlocksFull",
-        Reason::HasChildren => "HasChildren",
-    }
-}
 
 fn write_reply<A: Allocator>(text: &mut Vec<u8, A>, reply: Reply) -> Result<(), AllocError>
     ensures { OnOk result (text.new.items ≡ text.old.items ++ Replies.reply_text reply) }
@@ -30,7 +13,7 @@ fn write_reply<A: Allocator>(text: &mut Vec<u8, A>, reply: Reply) -> Result<(), 
         Reply::Done => text.extend_from_slice(b"done"),
         Reply::Refused(reason) => {
             text.extend_from_slice(b"refused,")?;
-            text.extend_from_slice(reason_word(reason).as_bytes())
+            text.extend_from_slice(reason.word().as_bytes())
         }
     }
 }

@@ -1,24 +1,11 @@
 """The order book: the effect of each command on it, or why it is refused."""
 
 from collections import Counter
+from collections.abc import Callable
+from typing import NamedTuple
 
 from ..base import rules
 from .journal import Amend, Cancel, Close, Submit
-
-
-# Why the book refuses a command, in words.
-REASONS = {
-    "Closed": "the book was already closed",
-    "PeriodOutOfDay": "it names a period that the day doesn't have",
-    "NameTaken": "the participant has an order of that name",
-    "UnknownOrder": "the participant has no such order: it was cancelled, refused, or never entered",
-    "WrongShape": "an hourly order has exactly one period",
-    "UnknownParent": "the participant has no order of the parent's name",
-    "ParentNotBlock": "the parent is an hourly order",
-    "HourlyFull": f"the book holds {rules.MOST_HOURLY:,} hourly orders",
-    "BlocksFull": f"the book holds {rules.MOST_BLOCKS} blocks",
-    "HasChildren": "blocks name this one as their parent",
-}
 
 
 class Book:
@@ -47,50 +34,25 @@ class Book:
 
     def refusal(self, command):
         """The first reason that applies."""
-        if self.closed:
-            return "Closed"
-        match command:
-            case Submit(who, name, order):
-                return self.refused_submit(who, name, order)
-            case Amend(who, name, _, volumes):
-                return self.refused_amend(self.rows.get((who, name)), volumes)
-            case Cancel(who, name):
-                return self.refused_cancel(who, name)
+        for word, applies in TESTS[type(command)]:
+            if applies(self, command):
+                return word
         return None
 
-    def out_of_day(self, volumes):
+    def order(self, command):
+        """The order of the command's participant and name."""
+        return self.rows.get((command.who, command.name))
+
+    def parent(self, command):
+        """The order that a new block names as its parent."""
+        return self.rows.get((command.who, command.order.parent))
+
+    def is_out_of_day(self, command):
+        volumes = command.order.volumes if isinstance(command, Submit) else command.volumes
         return any(period > self.periods for period, _ in volumes)
 
-    def refused_submit(self, who, name, order):
-        if self.out_of_day(order.volumes):
-            return "PeriodOutOfDay"
-        if (who, name) in self.rows:
-            return "NameTaken"
-        if order.parent:
-            parent = self.rows.get((who, order.parent))
-            if parent is None:
-                return "UnknownParent"
-            if parent.kind != "block":
-                return "ParentNotBlock"
-        if order.kind == "hour":
-            return "HourlyFull" if self.held["hour"] >= rules.MOST_HOURLY else None
-        return "BlocksFull" if self.held["block"] >= rules.MOST_BLOCKS else None
-
-    def refused_amend(self, order, volumes):
-        if self.out_of_day(volumes):
-            return "PeriodOutOfDay"
-        if order is None:
-            return "UnknownOrder"
-        if order.kind == "hour" and len(volumes) != 1:
-            return "WrongShape"
-        return None
-
-    def refused_cancel(self, who, name):
-        if (who, name) not in self.rows:
-            return "UnknownOrder"
-        if self.children[who, name]:
-            return "HasChildren"
-        return None
+    def is_full(self, command, kind, most):
+        return command.order.kind == kind and self.held[kind] >= most
 
     def change(self, command):
         match command:
@@ -108,6 +70,61 @@ class Book:
                     self.children[who, order.parent] -= 1
             case Close():
                 self.closed = True
+
+
+class Reason(NamedTuple):
+    """Why the book refuses a command."""
+
+    words: str
+    commands: tuple  # the kinds that it can refuse
+    applies: Callable  # whether it refuses a command of these kinds on a book
+
+
+# The reasons, in the order in which the book looks for them.
+REASONS = {
+    "Closed": Reason("the book was already closed", (Submit, Amend, Cancel, Close), lambda book, _: book.closed),
+    "PeriodOutOfDay": Reason("it names a period that the day doesn't have", (Submit, Amend), Book.is_out_of_day),
+    "NameTaken": Reason("the participant has an order of that name", (Submit,), lambda book, command: book.order(command) is not None),
+    "UnknownOrder": Reason(
+        "the participant has no such order: it was cancelled, refused, or never entered",
+        (Amend, Cancel),
+        lambda book, command: book.order(command) is None,
+    ),
+    "WrongShape": Reason(
+        "an hourly order has exactly one period",
+        (Amend,),
+        lambda book, command: book.order(command).kind == "hour" and len(command.volumes) != 1,
+    ),
+    "UnknownParent": Reason(
+        "the participant has no order of the parent's name",
+        (Submit,),
+        lambda book, command: command.order.parent and book.parent(command) is None,
+    ),
+    "ParentNotBlock": Reason(
+        "the parent is an hourly order",
+        (Submit,),
+        lambda book, command: command.order.parent and book.parent(command).kind == "hour",
+    ),
+    "HourlyFull": Reason(
+        f"the book holds {rules.MOST_HOURLY:,} hourly orders",
+        (Submit,),
+        lambda book, command: book.is_full(command, "hour", rules.MOST_HOURLY),
+    ),
+    "BlocksFull": Reason(
+        f"the book holds {rules.MOST_BLOCKS} blocks",
+        (Submit,),
+        lambda book, command: book.is_full(command, "block", rules.MOST_BLOCKS),
+    ),
+    "HasChildren": Reason(
+        "blocks name this one as their parent",
+        (Cancel,),
+        lambda book, command: book.children[command.who, command.name] > 0,
+    ),
+}
+# For each kind of command, the reasons that can refuse it, with their tests.
+TESTS = {
+    kind: [(word, reason.applies) for word, reason in REASONS.items() if kind in reason.commands] for kind in (Submit, Amend, Cancel, Close)
+}
 
 
 def run(journal):

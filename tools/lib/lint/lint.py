@@ -311,7 +311,7 @@ class Lint:
             ),
             "HourlyFull": ("", f"a book holds at most {rules.MOST_HOURLY} hourly orders: cancel others first"),
             "BlocksFull": ("", f"a book holds at most {rules.MOST_BLOCKS} blocks: cancel others first"),
-        }[reason]
+        }.get(reason, ("", book.REASONS[reason].words))
 
     def end(self, line, records):
         if not records:

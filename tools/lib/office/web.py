@@ -99,7 +99,8 @@ class Web:
         self.reading = set()  # the participants whose table is read, or waits for it
 
     def page(self, name):
-        known = {"reasons": book.REASONS, "rules": {name.lower(): getattr(rules, name) for name in RULES}}
+        reasons = {word: reason.words for word, reason in book.REASONS.items()}
+        known = {"reasons": reasons, "rules": {name.lower(): getattr(rules, name) for name in RULES}}
         made = {name: Markup(json.dumps(value)) for name, value in known.items()}
         made["most_blocks"] = rules.MOST_BLOCKS
         return style.style(name) if name.endswith(".css") else style.TEMPLATES.get_template(name).render(**made)

@@ -203,7 +203,7 @@ def participants(day, found):
 
 def refusals(day):
     rows = [
-        [number, reason, book.REASONS[reason], command_line(command)]
+        [number, reason, book.REASONS[reason].words, command_line(command)]
         for number, (command, reason) in enumerate(zip(day.journal.commands, day.reasons), 1)
         if reason
     ]

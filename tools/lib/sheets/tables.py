@@ -167,7 +167,7 @@ def statement(day):
         if result:
             yield [*cells, result.outcome, result.executed, result.surplus, result.amount, result.code, result.why]
         else:
-            why = REASONS[reason] if reason else later_why(day, replaced[number]) if number in replaced else ""
+            why = REASONS[reason].words if reason else later_why(day, replaced[number]) if number in replaced else ""
             yield [*cells, "", "", "", "", "", why]
 
 

@@ -112,5 +112,5 @@ def entered(held, commands):
         reason = after.apply(command)
         if reason:
             remedy = "; amend it, or use another name" if reason == "NameTaken" else ""
-            raise Fault(f"{place}: the book refuses {journal.command_line(command)}: {book.REASONS[reason]} ({reason}){remedy}")
+            raise Fault(f"{place}: the book refuses {journal.command_line(command)}: {book.REASONS[reason].words} ({reason}){remedy}")
     return after

@@ -2,7 +2,7 @@
 use Rattle.std.specs.Prelude.{◌≡◌, ℕ, List, Option, Some, IfSome, slice_get}
 use Rattle.dam_book.specs.Book.{BookState, book_after, refusal}
 use Rattle.dam_book.specs.declared.command.Entry.{Entry}
-use Rattle.dam_book.specs.declared.command.Reason.{Reason}
+use Rattle.dam_book.specs.declared.reason.Reason.{Reason}
 
 -- an earlier book, and the place of the entry whose command changed it, with the reason that refuses it in that book
 pub record EarlierState : Type 0 where
