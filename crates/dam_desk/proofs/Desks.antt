@@ -238,7 +238,7 @@ all_more desk later state given bytes first printed count next old mid new taken
   count = λ small.
       let front = first ++ taken.takes.answers in
       let split : length (first ++ (taken.takes.answers ++ then.answers)) ≡ length front + length then.answers =
-          ap length (sym (append_assoc first taken.takes.answers then.answers)) ∙ length-append front then.answers in
+      ap length (sym (append_assoc first taken.takes.answers then.answers)) ∙ length-append front then.answers in
       let fits : length front + length then.answers < 2 ^ 64 = omega (arith, split, small) in
       sum ∙ after_count (length front) (length then.answers) printed count (taken.count (omega (arith, fits))) same fits ∙ sym split;
 }

@@ -7,9 +7,7 @@ ghost use Rattle.dam_results.specs.Records.{day_row};
 ghost use Rattle.dam_results.specs.Written.{row_line, written};
 ghost use Rattle.dam_desk.specs.Room;
 
-use dam_book::{
-    Book, Command, DayLength, MOST_ENTRIES, PackedCommand, PackedEntry, Reply, Seed,
-};
+use dam_book::{Book, Command, DayLength, MOST_ENTRIES, PackedCommand, PackedEntry, Reply, Seed};
 use dam_results::{packed_journal_text, replies_text, write_reply_line};
 use std::alloc::{AllocError, Global};
 

@@ -44,8 +44,7 @@ returns-clause-taken g c state begun is =
     let read = c.in_ok-take.ensures state begun is.intake in
     let reads = c.journals_grow.ensures.reads state read.last read.lines c.take.new.self.answers.items is.reads read.answers in
     let text = store_grown c.args.self.now.store c.append.new.self c.in_ok-batch.batch (entered_text c.take.new.self) state.journal read.last.journal
-    c.append.ensures.clean is.file c.in_ok-batch.ensures read.text c.in_ok-append.ensures.acknowledged in
-    (
+    c.append.ensures.clean is.file c.in_ok-batch.ensures read.text c.in_ok-append.ensures.acknowledged in (
       record {
         lines = read.lines;
         begun = read.begun;
