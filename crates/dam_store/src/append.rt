@@ -32,7 +32,8 @@ fn write_lines<D: Disk>(disk: &mut D, end: usize, batch: &Batch) -> Result<(), S
     ensures faults { CountsFault result (D.Disk.faults disk.old) (D.Disk.faults disk.new) }
     ensures failure { IfErr result (λ fault. is_failure fault ≡ true) }
     ensures failed { IfErr result (λ fault. is_failed_write fault ≡ true) }
-    ensures usable { IfErr result (λ fault. D.Disk.is_usable disk.new ≡ not (is_failed_sync fault)) }
+    ensures usable { IfErr result
+        (λ fault. D.Disk.is_usable disk.new ≡ not (is_failed_sync fault)) }
 {
     let bytes = batch.after_gate();
     put(disk, end + 1, bytes)?;

@@ -26,7 +26,8 @@ pub(crate) fn put<D: Disk>(disk: &mut D, at: usize, bytes: &[u8]) -> Result<(), 
     ensures faults { CountsFault result (D.Disk.faults disk.old) (D.Disk.faults disk.new) }
     ensures failure { IfErr result (λ fault. is_failure fault ≡ true) }
     ensures failed { IfErr result (λ fault. is_failed_write fault ≡ true) }
-    ensures usable { IfErr result (λ fault. D.Disk.is_usable disk.new ≡ not (is_failed_sync fault)) }
+    ensures usable { IfErr result
+        (λ fault. D.Disk.is_usable disk.new ≡ not (is_failed_sync fault)) }
 {
     disk.write_at(at, bytes).map_err(StoreFault::Write)?;
     disk.sync().map_err(StoreFault::Sync)?;

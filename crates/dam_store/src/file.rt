@@ -7,7 +7,7 @@ use sqlite_std_file::{FileFrom, Start, open};
 use std::hash::RandomState;
 
 /// The disk of the file at `path`, which is made if it is missing. The file stays locked until the disk is dropped, so a
-/// second opener gets a fault. An empty file `PATH-wal` is made next to it, and locked too.
+/// second opener gets a fault. An empty file `PATH-wal` is made next to it, and locked while this call lasts.
 ///
 /// `S` stands for the bytes that the file holds.
 pub fn open_file<S: Start>(rt: &HostRuntime, path: &str, start: S) -> Result<FileFrom<S>, FileFault>

@@ -36,7 +36,8 @@ fn read_synced<D: Disk>(alloc: Global, disk: &mut D) -> Result<(Vec<u8>, FileLin
         → IsRefused (D.Disk.seen disk.old) fault) }
     ensures no_other { IfErr result (λ fault. (is_failed_read fault ≡ true)
         ⊎ (is_failed_sync fault ≡ true) ⊎ (is_refusal fault ≡ true) ⊎ (fault ≡ Memory)) }
-    ensures usable { IfErr result (λ fault. D.Disk.is_usable disk.new ≡ not (is_failed_sync fault)) }
+    ensures usable { IfErr result
+        (λ fault. D.Disk.is_usable disk.new ≡ not (is_failed_sync fault)) }
 {
     disk.sync().map_err(StoreFault::Sync)?;
     let bytes = read_file(alloc, disk)?;

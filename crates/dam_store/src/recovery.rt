@@ -53,7 +53,8 @@ fn begin<D: Disk>(disk: &mut D, bytes: &[u8]) -> Result<(), StoreFault>
     ensures failure { IfErr result (λ fault. is_failure fault ≡ true
         → MoreFaults (D.Disk.faults disk.old) (D.Disk.faults disk.new)) }
     ensures failed { IfErr result (λ fault. is_failed_write fault ≡ true) }
-    ensures usable { IfErr result (λ fault. D.Disk.is_usable disk.new ≡ not (is_failed_sync fault)) }
+    ensures usable { IfErr result
+        (λ fault. D.Disk.is_usable disk.new ≡ not (is_failed_sync fault)) }
 {
     if has_gate(bytes, 0) {
         return Ok(());
@@ -75,7 +76,8 @@ fn create<D: Disk>(disk: &mut D, bytes: &[u8]) -> Result<(), StoreFault>
     ensures failure { IfErr result (λ fault. is_failure fault ≡ true
         → MoreFaults (D.Disk.faults disk.old) (D.Disk.faults disk.new)) }
     ensures failed { IfErr result (λ fault. is_failed_write fault ≡ true) }
-    ensures usable { IfErr result (λ fault. D.Disk.is_usable disk.new ≡ not (is_failed_sync fault)) }
+    ensures usable { IfErr result
+        (λ fault. D.Disk.is_usable disk.new ≡ not (is_failed_sync fault)) }
 {
     begin(disk, bytes)?;
     put(disk, 1, &AFTER_FIRST)?;
@@ -111,7 +113,8 @@ fn blank<D: Disk>(disk: &mut D, end: usize, bytes: &mut Vec<u8>) -> Result<(), S
         → MoreFaults (D.Disk.faults disk.old) (D.Disk.faults disk.new)) }
     ensures failed { IfErr result (λ fault. (is_failed_write fault ≡ true)
         ⊎ ((fault ≡ Memory) × (disk.new ≡ disk.old))) }
-    ensures usable { IfErr result (λ fault. D.Disk.is_usable disk.new ≡ not (is_failed_sync fault)) }
+    ensures usable { IfErr result
+        (λ fault. D.Disk.is_usable disk.new ≡ not (is_failed_sync fault)) }
 {
     if !has_newline_after(bytes, end + 1) {
         return Ok(());
@@ -136,7 +139,8 @@ fn close<D: Disk>(disk: &mut D, end: usize, bytes: &[u8]) -> Result<(), StoreFau
     ensures failure { IfErr result (λ fault. is_failure fault ≡ true
         → MoreFaults (D.Disk.faults disk.old) (D.Disk.faults disk.new)) }
     ensures failed { IfErr result (λ fault. is_failed_write fault ≡ true) }
-    ensures usable { IfErr result (λ fault. D.Disk.is_usable disk.new ≡ not (is_failed_sync fault)) }
+    ensures usable { IfErr result
+        (λ fault. D.Disk.is_usable disk.new ≡ not (is_failed_sync fault)) }
 {
     if has_gate(bytes, end) {
         return Ok(());
@@ -160,7 +164,8 @@ fn close_end<D: Disk>(disk: &mut D, end: usize, mut bytes: Vec<u8>) -> Result<()
         → MoreFaults (D.Disk.faults disk.old) (D.Disk.faults disk.new)) }
     ensures failed { IfErr result (λ fault. (is_failed_write fault ≡ true)
         ⊎ ((fault ≡ Memory) × (disk.new ≡ disk.old))) }
-    ensures usable { IfErr result (λ fault. D.Disk.is_usable disk.new ≡ not (is_failed_sync fault)) }
+    ensures usable { IfErr result
+        (λ fault. D.Disk.is_usable disk.new ≡ not (is_failed_sync fault)) }
 {
     blank(disk, end, &mut bytes)?;
     close(disk, end, &bytes)?;
@@ -187,7 +192,8 @@ pub(crate) fn repair<D: Disk>(
         → MoreFaults (D.Disk.faults disk.old) (D.Disk.faults disk.new)) }
     ensures failed { IfErr result (λ fault. (is_failed_write fault ≡ true)
         ⊎ ((fault ≡ Memory) × (disk.new ≡ disk.old))) }
-    ensures usable { IfErr result (λ fault. D.Disk.is_usable disk.new ≡ not (is_failed_sync fault)) }
+    ensures usable { IfErr result
+        (λ fault. D.Disk.is_usable disk.new ≡ not (is_failed_sync fault)) }
 {
     match end {
         Some(end) => {

@@ -15,7 +15,8 @@ pub struct Store<D: Disk> {
     pub(crate) is_broken: bool,
     ghost room: { end < most_bytes },
     ghost synced: { is_broken ≡ false → IsSynced D.Disk disk },
-    ghost closed: { is_broken ≡ false → IsTrue (D.Disk.is_clean disk) → IsClosed (D.Disk.seen disk) end },
+    ghost closed: { is_broken ≡ false → IsTrue (D.Disk.is_clean disk)
+        → IsClosed (D.Disk.seen disk) end },
 }
 
 /// A store that was found on a disk, before the end of its file is repaired. Nothing was written yet.
