@@ -193,7 +193,8 @@ impl<A: Allocator, B: Allocator> ClassCurves<'_, A, B> {
     #[inline(always)]
     fn gain_at(&self, place: usize, prices: &ClassPrices) -> i64
         requires place { place < length self.now.blocks }
-        requires prices { (selection : List Bool) × AreClassPrices self.now selection prices.now.prices }
+        requires prices { (selection : List Bool)
+            × AreClassPrices self.now selection prices.now.prices }
         ensures value { (selection : List Bool) (day : List ℤ)
             → AreClassPrices self.now selection prices.now.prices
             → ArePrices self.now.blocks selection 1 self.now.hours day
