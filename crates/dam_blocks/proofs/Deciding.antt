@@ -22,14 +22,7 @@ decided_if P Q p (yes q) = yes (λ _. q)
 decided_if P Q (yes p) (no fails) = no (λ f. fails (f p))
 decided_if P Q (no never) (no fails) = yes (λ p. absurd (never p))
 
-pub decided_not : (P : Type 0) → Dec P → Dec (P → ⊥)
-decided_not P (yes p) = no (λ never. never p)
-decided_not P (no fails) = yes fails
-
 -- ---- equations and orders
-pub decided_number : (m n : ℕ) → Dec (m ≡ n)
-decided_number m n = by_test (m ≡ n) _ (Decides-eqb m n)
-
 pub decided_text : (xs ys : List ℕ) → Dec (xs ≡ ys)
 decided_text xs ys = by_test (xs ≡ ys) _ (bytes_eq-Decides xs ys)
 

@@ -13,9 +13,6 @@ use Rattle.dam_blocks.specs.Family.{names, parent_place, leads_to, descends, IsC
 use Rattle.dam_blocks.proofs.Families.{unequal, first_parent}
 use Rattle.dam_blocks.proofs.WelfareAtLeastZero.{named_parent, parent_found, parent_stands_before, same_text_in}
 
-some_place : (p q : ℕ) → Some p ≡ Some q → p ≡ q
-some_place p q e = cc
-
 parent_named : (p b : Block) → IsParent p b → names p b ≡ true
 parent_named p b is =
     let who : same_text p.who b.who ≡ true = (bytes_decides p.who b.who).1 is.who in

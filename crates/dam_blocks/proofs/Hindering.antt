@@ -20,9 +20,6 @@ pub record AreFoundSoFar (test : Block → Bool) (blocks : List Block) (at : ℕ
   pub few : length places ≤ at
   pub found : places ++ places_where test at (drop at blocks) ≡ places_where test 0 blocks
 
-pub found_none : (test : Block → Bool) (blocks : List Block) → AreFoundSoFar test blocks 0 []
-found_none test blocks = record { few = omega arith; found = refl }
-
 -- the rest, with the block at the place
 left_over : (test : Block → Bool) (blocks : List Block) (at : ℕ) (b : Block) (x : Bool) → slice_get blocks at ≡ Some b → test b ≡ x
     → cond x (at ∷ places_where test (at + 1) (drop (at + 1) blocks)) (places_where test (at + 1) (drop (at + 1) blocks))

@@ -74,17 +74,6 @@ over_accepted-zero (b ∷ bs) [] = refl
 over_accepted-zero (b ∷ bs) (true ∷ sel) = let rest = over_accepted-zero bs sel in omega (arith, ints, rest)
 over_accepted-zero (b ∷ bs) (false ∷ sel) = over_accepted-zero bs sel
 
--- a sum of numbers of which none is below 0
-pub over_accepted-at_least : (f : BlockTerms → ℤ) (bs : List Block) (sel : List Bool)
-    → ((i : ℕ) (b : Block) → accepts sel i ≡ true → slice_get bs i ≡ Some b → pos 0 ≤ℤ f b.order) → pos 0 ≤ℤ over_accepted f bs sel
-over_accepted-at_least f [] sel h = omega (arith, ints)
-over_accepted-at_least f (b ∷ bs) [] h = omega (arith, ints)
-over_accepted-at_least f (b ∷ bs) (true ∷ sel) h =
-    let here = h 0 b refl refl in
-    let rest = over_accepted-at_least f bs sel (λ i c a s. h (suc i) c a s) in
-    omega (arith, ints, here, rest)
-over_accepted-at_least f (b ∷ bs) (false ∷ sel) h = over_accepted-at_least f bs sel (λ i c a s. h (suc i) c a s)
-
 -- ---- the gain of a block is its value and the price of its net volume
 minus_times : (a b : ℤ) (x : ℕ) → (a -ℤ b) *ℤ pos x +ℤ b *ℤ pos x ≡ a *ℤ pos x
 minus_times a b x =

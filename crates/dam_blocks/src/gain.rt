@@ -13,7 +13,7 @@ use crate::problem::Block;
 use crate::selection::Selection;
 use dam_book::{BlockOrder, LAST_PERIOD, MOST_BLOCKS, Period, Price};
 
-/// How far the limit is above the price, in cents per MWh.
+/// The limit less the price, in cents per MWh.
 fn difference(limit: Price, price: Price) -> i32
     ensures value { result ≡ limit -ℤ price }
     ensures low { neg_ℤ (pos price_span) ≤ℤ result }
@@ -24,7 +24,7 @@ fn difference(limit: Price, price: Price) -> i32
 
 /// The surplus of a block at a price in a period in which it has this volume, in tenths of a MW; in cents
 /// per MWh times tenths of a MW, and below 0 if it pays more or gets less than its limit.
-pub fn surplus_at_price(order: &BlockOrder, price: Price, volume: u32) -> i64
+fn surplus_at_price(order: &BlockOrder, price: Price, volume: u32) -> i64
     requires { volume ≤ greatest_volume }
     ensures value { result
         ≡ signed order.now.side ((order.now.price -ℤ price) *ℤ pos volume) }

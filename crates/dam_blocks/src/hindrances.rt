@@ -66,7 +66,7 @@ pub(crate) fn all_hindrances<A: Allocator>(
     Ok(all)
 }
 
-/// How many of the places the selection accepts.
+/// The number of these places that the selection accepts.
 pub(crate) fn accepted_among(selection: Selection, places: &[u8]) -> usize
     ensures { result ≡ accepted_among selection places.now }
 {

@@ -76,7 +76,7 @@ pub fn verdict()
         → IsEligible problem selection w → v ≡ w }
 {}
 
-/// How large the welfare of a selection can be: every hourly order, and every block in every period,
+/// A bound on the size of a selection's welfare: every hourly order, and every block in every period,
 /// counts at most the greatest limit times the greatest volume.
 pub fn magnitude()
     ensures { (problem : ProblemState) (selection : List Bool) (w : ℤ) → IsProblem problem
@@ -148,7 +148,7 @@ pub fn descendants()
         ≡ (accepts selection j && descends blocks i j) }
 {}
 
-/// Of the blocks of a problem, the one that a block names is its parent in the sense of the links, and the
+/// Among the blocks of a problem, the one that a block names is its parent in the sense of the links, and the
 /// one that stands at its parent's place; and a block descends from another exactly if it is its child, or
 /// the child of one that descends from it.
 pub fn families()

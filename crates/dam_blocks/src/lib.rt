@@ -39,7 +39,7 @@ pub use accepted::{
     block_value, bought_volume, bought_volume_of, net_volume, net_volume_of, value_of, volume_in,
 };
 pub use family::descends;
-pub use gain::{family_surplus, surplus, surplus_at_price};
+pub use gain::{family_surplus, surplus};
 pub use links::{admissible, are_of_one_group, is_allowed};
 pub use problem::{Block, MOST_PERIODS, Place, Problem, ProblemFault, ProblemRow};
 pub use result::{best_of_all, best_of_none, ranks_above};

@@ -43,7 +43,7 @@ pub fn is_allowed<A: Allocator>(problem: &Problem<A>, selection: Selection, plac
 pub fn admissible<A: Allocator>(problem: &Problem<A>, selection: Selection) -> bool
     ensures { IsTrue result ↔ IsAdmissible problem.now.blocks selection }
 {
-    selection.kept();
+    selection.use_invariant();
     for place in 0..MOST_BLOCKS {
         if selection.has(place) && !is_allowed(problem, selection, place) {
             return false;

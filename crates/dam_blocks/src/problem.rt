@@ -57,7 +57,7 @@ impl Block {
     }
 }
 
-/// Where an order of the book stands in the problem; places count from 0 in book order.
+/// The place of an order of the book in the problem; places count from 0 in book order.
 #[derive(Clone, Copy, PartialEq, Eq, Debug)]
 pub enum Place {
     /// The period, and the place among its hourly orders.
@@ -73,7 +73,7 @@ pub struct ProblemRow {
     pub who: Participant,
     /// The order's name.
     pub name: Name,
-    /// Where it stands in the problem.
+    /// Its place in the problem.
     pub at: Place,
 }
 

@@ -28,8 +28,8 @@ pub fn ranks_above(first: Best, second: Best) -> bool
 fn accepts_first(first: Selection, second: Selection) -> bool
     ensures { result ≡ accepts_first first second }
 {
-    first.kept();
-    second.kept();
+    first.use_invariant();
+    second.use_invariant();
     for place in 0..MOST_BLOCKS {
         let accepted = first.has(place);
         if accepted != second.has(place) {
@@ -45,7 +45,7 @@ pub fn best_of_none<A: Allocator>(problem: &Problem<A>) -> Best
     ensures eligible { IsEligible problem.now result.selection (pos result.welfare) }
 {
     laws::empty_is_eligible();
-    let _kept = problem.periods(); // for the proof: the invariant of a problem
+    let _invariant = problem.periods(); // for the proof: the invariant of a problem
     let selection = Selection::none();
     match score(problem, selection) {
         Verdict::Eligible(welfare) => Best { selection, welfare },

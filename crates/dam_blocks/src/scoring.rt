@@ -70,7 +70,7 @@ fn first_losing<A: Allocator>(
         (HasNoLoss problem.now.blocks selection prices.now)
         (λ place. IsFirstLosing problem.now.blocks selection prices.now place) }
 {
-    selection.kept();
+    selection.use_invariant();
     let blocks = problem.blocks();
     for place in 0..MOST_BLOCKS {
         if selection.has(place) && family_surplus(blocks, selection, prices, place) < 0 {
@@ -89,7 +89,7 @@ fn first_losing<A: Allocator>(
 pub fn score<A: Allocator>(problem: &Problem<A>, selection: Selection) -> Verdict
     ensures { IsVerdict problem.now selection result }
 {
-    selection.kept();
+    selection.use_invariant();
     laws::eligible_welfare();
     if !admissible(problem, selection) {
         return Verdict::NotAdmissible;

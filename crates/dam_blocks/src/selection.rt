@@ -5,8 +5,8 @@ ghost use Rattle.dam_blocks.specs.Selection.{accepts, padded, empty_selection, c
 use dam_book::MOST_BLOCKS;
 use std::marker::Model;
 
-/// A set of places under 24, for the blocks of a problem, counted from 0 in book order. Whether a block stands at
-/// each is for the problem to say.
+/// A set of places under `MOST_BLOCKS`, for the blocks of a problem, counted from 0 in book order. Whether a block
+/// stands at each is for the problem to say.
 ///
 /// A contract sees the list of its acceptances, one for each place that a block of a book may have.
 #[derive(Clone, Copy, PartialEq, Eq, Debug)]
@@ -81,8 +81,9 @@ impl Selection {
         self.accepted & other.accepted != 0
     }
 
-    /// For proofs: the call computes nothing. A selection has a place for each block that a book may have.
-    pub(crate) fn kept(self)
+    /// The invariant of a selection, for proofs: the call computes nothing. A selection has a place for each block that a
+    /// book may have.
+    pub(crate) fn use_invariant(self)
         ensures { length self ≡ most_blocks }
     {
         let _bits = self.accepted;

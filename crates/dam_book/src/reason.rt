@@ -1,6 +1,7 @@
 ghost use Rattle.std.specs.Prelude.{◌≡◌, option_map};
+ghost use Rattle.std.specs.Option.{option_copied};
 ghost use Rattle.dam_book.specs.Book.{reason_word, refusal, is_out_of_day, is_name_taken, is_unknown_order, is_wrong_shape, is_unknown_parent, is_parent_hourly, is_hourly_full, is_blocks_full, has_children};
-ghost use Rattle.dam_book.specs.inside.Reasons.{order_named};
+ghost use Rattle.dam_book.specs.inside.Reasons.{order_named, parent_named};
 
 use crate::book::Book;
 use crate::command::Command;
@@ -80,10 +81,11 @@ impl<A: Allocator + Copy> Book<A> {
         if self.is_wrong_shape(command, named) {
             return Some(Reason::WrongShape);
         }
-        if self.is_unknown_parent(command) {
+        let parent = self.parent_named(command);
+        if self.is_unknown_parent(command, parent) {
             return Some(Reason::UnknownParent);
         }
-        if self.is_parent_hourly(command) {
+        if self.is_parent_hourly(command, parent) {
             return Some(Reason::ParentNotBlock);
         }
         if self.is_hourly_full(command) {
@@ -141,27 +143,36 @@ impl<A: Allocator + Copy> Book<A> {
         }
     }
 
-    fn is_unknown_parent(&self, command: &Command) -> bool
-        ensures { result ≡ is_unknown_parent self.now command.now }
+    // The order that a submit names as its parent.
+    fn parent_named(&self, command: &Command) -> Option<&Order>
+        ensures { option_copied result ≡ parent_named self.now command.now }
     {
         match command {
             Command::Submit { who, order, .. } => match order.parent() {
-                Some(parent) => self.find(who, parent).is_none(),
-                None => false,
+                Some(parent) => self.find(who, parent),
+                None => None,
             },
+            Command::Amend { .. } | Command::Cancel { .. } | Command::Close => None,
+        }
+    }
+
+    fn is_unknown_parent(&self, command: &Command, parent: Option<&Order>) -> bool
+        requires { option_copied parent ≡ parent_named self.now command.now }
+        ensures { result ≡ is_unknown_parent self.now command.now }
+    {
+        match command {
+            Command::Submit { order, .. } => order.parent().is_some() && parent.is_none(),
             Command::Amend { .. } | Command::Cancel { .. } | Command::Close => false,
         }
     }
 
-    fn is_parent_hourly(&self, command: &Command) -> bool
+    fn is_parent_hourly(&self, command: &Command, parent: Option<&Order>) -> bool
+        requires { option_copied parent ≡ parent_named self.now command.now }
         ensures { result ≡ is_parent_hourly self.now command.now }
     {
         match command {
-            Command::Submit { who, order, .. } => match order.parent() {
-                Some(parent) => match self.find(who, parent) {
-                    Some(order) => order.is_hour(),
-                    None => false,
-                },
+            Command::Submit { .. } => match parent {
+                Some(parent) => parent.is_hour(),
                 None => false,
             },
             Command::Amend { .. } | Command::Cancel { .. } | Command::Close => false,

@@ -94,7 +94,7 @@ fn key_bytes(who: &Participant, name: &Name) -> [u8; HASHED]
 // Three words of eight bytes, in which both texts find room.
 const HASHED: usize = 24;
 
-// `None` at a gap.
+// The content of a place is an order, or `None` at a gap.
 type Places<A> = IndexMap<Label, Option<BoxedOrder<A>>, Seed, A>;
 
 // Rows in an order that stays, each under a key of its own. A row that is taken out leaves a gap in its place, so that
@@ -187,7 +187,7 @@ fn free_label<A: Allocator>(
     fill_gap(places, place, row)
 }
 
-// Where the label stands: near this place, or else where it is looked up.
+// The label's place: near this place, or else found by a look-up.
 fn place_of<A: Allocator>(places: &Places<A>, near: usize, row: &Label) -> Option<usize>
     ensures found { IfSome result (λ place. IsLabelledAt row.now places.now.entries place) }
     ensures absent { IfNone result (lookup (same_label row.now) places.now.entries ≡ None) }
@@ -223,10 +223,10 @@ fn take_order<A: Allocator>(
     let Some(place) = place_of(places, near, row) else {
         return None;
     };
-    let Some(place) = places.get_index_mut(place) else {
+    let Some(content) = places.get_index_mut(place) else {
         return None;
     };
-    place.take()
+    content.take()
 }
 
 // Changes the order under the key at its place.
@@ -249,25 +249,25 @@ fn amend_order<A: Allocator>(
     let Some(place) = place_of(places, near, row) else {
         return;
     };
-    let Some(place) = places.get_index_mut(place) else {
+    let Some(content) = places.get_index_mut(place) else {
         return;
     };
-    let Some(boxed) = place else {
+    let Some(boxed) = content else {
         return;
     };
     boxed.amend(price, volumes);
 }
 
-// Whether a place of this owner has a block with this parent.
+// Whether the content of this owner's place is a block with this parent.
 fn is_child<A: Allocator>(
     who: &Participant,
     name: &Name,
     owner: &Participant,
-    place: &Option<BoxedOrder<A>>,
+    content: &Option<BoxedOrder<A>>,
 ) -> bool
-    ensures { result ≡ child_at (who.now, name.now) owner.now place.now }
+    ensures { result ≡ child_at (who.now, name.now) owner.now content.now }
 {
-    match place {
+    match content {
         Some(order) => order.get().has_parent(name) && *who == *owner,
         None => false,
     }
@@ -277,9 +277,7 @@ fn is_child<A: Allocator>(
 fn any_child<A: Allocator>(places: &Places<A>, who: &Participant, name: &Name) -> bool
     ensures { result ≡ list_any (is_child_place (who.now, name.now)) places.now.entries }
 {
-    places
-        .iter()
-        .any(|(label, place)| is_child(who, name, &label.who, place))
+    places.iter().any(|(label, content)| is_child(who, name, &label.who, content))
 }
 
 // The row at a place, counted from 0 without the gaps.
@@ -288,8 +286,8 @@ fn row_among<A: Allocator>(places: &Places<A>, place: usize) -> Option<(Particip
         ≡ slice_get (held places.now.entries) place }
 {
     let mut left = place;
-    for (label, place) in places.iter() {
-        if let Some(order) = place {
+    for (label, content) in places.iter() {
+        if let Some(order) = content {
             if left == 0 {
                 return Some((label.who.copy(), label.name.copy(), order.get()));
             }
@@ -309,7 +307,7 @@ impl<A: Allocator + Copy> Rows<A> {
         }
     }
 
-    // How many rows there are.
+    // The number of rows.
     pub(crate) fn len(&self) -> usize
         ensures { result ≡ length self.now }
     {
@@ -352,10 +350,10 @@ impl<A: Allocator + Copy> Rows<A> {
         ensures { option_map (λ r. ((r.0, r.1), r.2.now)) result ≡ slice_get self.now place }
     {
         if self.gaps == 0 {
-            let Some((label, place)) = self.places.get_index(place) else {
+            let Some((label, content)) = self.places.get_index(place) else {
                 return None;
             };
-            let Some(order) = place else {
+            let Some(order) = content else {
                 return None;
             };
             return Some((label.who.copy(), label.name.copy(), order.get()));
@@ -424,7 +422,7 @@ impl<A: Allocator + Copy> Rows<A> {
         ensures { self.new ≡ self.old }
     {
         if self.gaps > 0 {
-            self.places.retain(|_, place| place.is_some());
+            self.places.retain(|_, content| content.is_some());
             self.gaps = 0;
         }
     }

@@ -1,5 +1,5 @@
 -- The prices of the classes at the net volumes of a selection, and what blocks gain at them.
-use Rattle.std.proofs.Common.{◌≡◌, ℕ, suc, ◌+◌, ◌*◌, ◌<◌, ◌≤◌, ◌&&◌, Bool, false, ℤ, pos, ◌+ℤ◌, ◌*ℤ◌, Some, List, [], length, drop, take, get_or, slice_set, ap, ap₂, ◌∙◌, sym, subst, refl, inl, inr, arith}
+use Rattle.std.proofs.Common.{◌≡◌, ℕ, suc, ◌+◌, ◌*◌, ◌<◌, ◌≤◌, ◌&&◌, Bool, true, false, ℤ, pos, ◌+ℤ◌, ◌-ℤ◌, ◌*ℤ◌, Option, Some, List, [], length, drop, take, get_or, slice_set, option_map, unwrap_or, ap, ap₂, ◌∙◌, sym, subst, refl, inl, inr, arith}
 use Rattle.std.specs.List.{slice_get}
 use Rattle.std.proofs.lemmas.Int.{ints}
 use Rattle.std.proofs.lemmas.Bool.{cases_eq, and_right}
@@ -19,14 +19,14 @@ use Rattle.dam_bound.specs.Prices.{greatest_priced_gain}
 use Rattle.dam_bound.specs.Sums.{class_places, over_places, at_places}
 use Rattle.dam_bound.specs.declared.class_curves.Class.{Class}
 use Rattle.dam_bound.specs.inside.Numbers.{AreWithin}
-use Rattle.dam_bound.specs.inside.Ranges.{counted_if}
+use Rattle.dam_bound.specs.inside.Counted.{counted_if}
+use Rattle.dam_bound.proofs.Accepted.{if_accepted}
 use Rattle.dam_bound.proofs.AtPlaces.{at_block}
 use Rattle.dam_bound.proofs.ClassPlaces.{over_next, over_same}
 use Rattle.dam_bound.proofs.PeriodPrices.{AreEndsUnique}
 use Rattle.dam_bound.proofs.LineByLine.{IsAtPlace}
-use Rattle.dam_bound.proofs.Losing.{one_member, same_part, surplus_there}
 use Rattle.dam_bound.proofs.LossPrices.{AreDescendants, class_price, joint_price_is, surplus_is}
-use Rattle.dam_bound.proofs.Members.{no_members}
+use Rattle.dam_bound.proofs.Members.{member_more, no_members}
 use Rattle.dam_bound.proofs.PlaceSums.{times_within}
 use Rattle.dam_bound.proofs.Rivalry.{block_there}
 
@@ -121,6 +121,10 @@ gain_small problem prices j i gain few so_far =
     let l = so_far.small.at_least in let h = so_far.small.at_most in
     record { at_least = omega (arith, ints, l, few); at_most = omega (arith, ints, h, few) }
 
+surplus_there : (blocks : List Block) (prices : List ℤ) (i : ℕ) (b : Block) → slice_get blocks i ≡ Some b
+    → surplus_at blocks prices i ≡ surplus_of prices b.order
+surplus_there blocks prices i b at = ap (λ (o : Option Block). unwrap_or (option_map (λ (x : Block). surplus_of prices x.order) o) (pos 0)) at
+
 -- with all classes it is the surplus at the prices of the selection
 pub whole_gain : AreEndsUnique → (problem : ProblemState) (sel : List Bool) (prices day : List ℤ) (j i : ℕ) (gain : ℤ)
     → i < length problem.blocks → length (class_places problem) ≤ j → AreClassPrices problem sel prices
@@ -150,6 +154,25 @@ own_sum problem sel place own small own_is =
       small = record { at_least = omega (arith, ints, l); at_most = omega (arith, ints, h) };
       is = λ day are. (let e = own_is day are in omega (arith, ints, e));
     }
+
+same_part : (a : Bool) (x y : ℤ) → x ≡ y → if_accepted a x ≡ counted_if a y
+same_part true x y e = e
+same_part false x y e = refl
+
+-- what the places from one on add is what this one adds and the rest
+one_member : (problem : ProblemState) (sel : List Bool) (prices : List ℤ) (place at : ℕ) (t : Bool) → at < length problem.blocks
+    → accepts (accepted_descendants problem.blocks sel place) at ≡ t
+    → over_accepted (surplus_of prices) (drop at problem.blocks) (drop at (accepted_descendants problem.blocks sel place))
+    ≡ if_accepted t (surplus_at problem.blocks prices at)
+    +ℤ over_accepted (surplus_of prices) (drop (at + 1) problem.blocks) (drop (at + 1) (accepted_descendants problem.blocks sel place))
+one_member problem sel prices place at t inside is =
+    let blocks = problem.blocks in let members = accepted_descendants blocks sel place in
+    let rest = over_accepted (surplus_of prices) (drop at blocks) (drop at members) in
+    let whole = over_accepted (surplus_of prices) blocks members in
+    let own = if_accepted t (surplus_at blocks prices at) in
+    let begun : (whole -ℤ rest) +ℤ rest ≡ whole = omega (arith, ints) in
+    let more = member_more prices blocks members at t (whole -ℤ rest) own ((whole -ℤ rest) +ℤ own) inside is refl refl begun in
+    omega (arith, ints, begun, more)
 
 pub member_sum : AreDescendants → (problem : ProblemState) (sel family : List Bool) (place at : ℕ) (accepted member : Bool) (total part after : ℤ)
     → at < length problem.blocks → ((j : ℕ) → j < length problem.blocks → accepts family j ≡ descends problem.blocks place j)

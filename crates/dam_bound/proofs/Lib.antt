@@ -24,6 +24,5 @@ pub mod LossPrices
 pub mod MakingClasses
 pub mod PricesByClass
 pub mod Rivalry
-pub mod Losing
 pub mod ClassPricing
 pub mod Limiting

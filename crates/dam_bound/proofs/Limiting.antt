@@ -11,18 +11,18 @@ use Rattle.dam_curve.specs.Curve.{CurvesState, joint_welfare}
 use Rattle.dam_curve.specs.declared.net_range.NetRange.{NetRange}
 use Rattle.dam_blocks.specs.Problem.{ProblemState}
 use Rattle.dam_blocks.specs.Magnitude.{IsWithin}
-use Rattle.dam_blocks.specs.Selection.{accepts}
+use Rattle.dam_blocks.specs.Selection.{accepts, net_volume_of, net_volume}
 use Rattle.dam_blocks.specs.Eligible.{IsEligible}
 use Rattle.dam_bound.specs.ClassCurves.{class_orders, least_net_in, most_net_in, IsClassIn}
 use Rattle.dam_bound.specs.Limits.{most_limits, room_taken, if_open, taken_under, every_place, greatest_room, IsLimit, limit_in, AreLimits, AreRooms, HasRoom}
 use Rattle.dam_bound.specs.Prices.{over_gains}
+use Rattle.dam_bound.specs.Sums.{at_places}
 use Rattle.dam_bound.specs.declared.class_curves.Class.{Class}
 use Rattle.dam_bound.specs.declared.limits.Limit.{Limit}
 use Rattle.dam_bound.specs.inside.Numbers.{AreWithin, negative_sum}
 use Rattle.dam_bound.proofs.Accepted.{if_accepted}
 use Rattle.dam_bound.proofs.ByClass.{has_whole}
-use Rattle.dam_bound.proofs.Lining.{net_inside}
-use Rattle.dam_bound.proofs.Losing.{net_of}
+use Rattle.dam_bound.proofs.Lining.{gains_are, net_inside}
 use Rattle.dam_bound.proofs.Lowering.{joint_here}
 use Rattle.dam_bound.proofs.PlaceSums.{get_or-any, gains_from, no_gains}
 
@@ -295,6 +295,12 @@ opposite_gains (x ∷ xs) (y ∷ ys) (true ∷ sel) long each =
     omega (arith, ints, here, rest)
 opposite_gains (x ∷ xs) (y ∷ ys) (false ∷ sel) long each =
     opposite_gains xs ys sel (omega (arith, long)) (λ i l. each (suc i) (omega (arith, l)))
+
+-- the net volume of a selection, by the net volumes of the blocks
+net_of : (problem : ProblemState) (sel : List Bool) (c : ℕ) (nets : List ℤ) → length problem.blocks ≤ most_blocks
+    → nets ≡ at_places most_blocks (net_volume_of (c + 1)) problem.blocks → over_gains nets sel ≡ net_volume problem.blocks sel (c + 1)
+net_of problem sel c nets few are =
+    ap (λ (xs : List ℤ). over_gains xs sel) are ∙ gains_are most_blocks (net_volume_of (c + 1)) problem.blocks sel few
 
 -- ---- the net volumes of a class
 -- with an eligible selection the net volume of a class lies in the range at which it balances

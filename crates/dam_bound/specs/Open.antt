@@ -19,8 +19,3 @@ AreFree taken [] = Unit {0}
 AreFree taken (place ∷ left) =
     (place < most_blocks) × (accepts taken place ≡ false) × (is_among place left ≡ false)
     × AreFree taken left
-
--- a selection that accepts every place that is taken, and none that is rejected
-pub record IsBetween (taken rejected selection : List Bool) : Type 0 where
-  pub all_taken : (place : ℕ) → accepts taken place ≡ true → accepts selection place ≡ true
-  pub none_rejected : (place : ℕ) → accepts rejected place ≡ true → accepts selection place ≡ false

@@ -3,4 +3,4 @@ pub mod Levels
 pub mod Families
 pub mod Numbers
 pub mod Rivals
-pub mod Ranges
+pub mod Counted

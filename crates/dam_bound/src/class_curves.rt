@@ -7,7 +7,7 @@ ghost use Rattle.dam_blocks.specs.Magnitude.{IsWithin};
 ghost use Rattle.dam_bound.specs.ClassPrices.{AreClassPrices};
 ghost use Rattle.dam_bound.specs.Prices.{IsPriceBound, greatest_priced_gain};
 ghost use Rattle.dam_bound.specs.Relaxed.{without_rows};
-ghost use Rattle.dam_bound.specs.inside.Ranges.{counted_if};
+ghost use Rattle.dam_bound.specs.inside.Counted.{counted_if};
 
 use crate::class_making::{classes_of, values_of};
 use crate::class_prices::ClassPrices;

@@ -48,7 +48,7 @@ pub fn completions()
         → IsAdmissible problem.blocks sel → sel ≡ padded prefix }
 {}
 
-/// How large a relaxed welfare can be: as large as the welfare of a selection. Every hourly order, and
+/// A bound on the size of a relaxed welfare, the same as of a selection's welfare. Every hourly order, and
 /// every block in every period, counts at most the greatest price times the greatest volume.
 pub fn magnitude()
     ensures { (problem : ProblemState) (prefix : List Bool) (w : ℤ) → IsProblem problem

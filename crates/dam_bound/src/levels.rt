@@ -65,7 +65,7 @@ fn relaxed_hour<A: Allocator + Copy>(
 /// Depths between which no block has a volume in the period share an hour.
 #[derive(Drop)]
 pub(crate) struct Levels<A: Allocator> {
-    /// By falling number of undecided blocks, each made from the one before it.
+    /// The hours by falling number of undecided blocks, each made from the one before it.
     hours: Vec<Hour<A>, A>,
     /// For each depth the place of its hour.
     places: Vec<usize, A>,

@@ -12,7 +12,6 @@
 //!     let loses = curves.has_loss(selection, &prices);
 //! }
 //! let rivals = curves.are_rivals(0, 1); // if true, no eligible selection accepts both
-//! let none = curves.rules_out(Selection::none().with(0), Selection::none().with(1)); // if true, none accepts 0 but not 1
 //! let limits = curves.limits(); // that every eligible selection keeps
 //! let room = limits.room_after(&limits.room(), 0, true); // if None, no eligible selection accepts block 0
 //!
@@ -32,7 +31,7 @@
 //! `specs/` defines these words: bounds by prices and open selections, prefixes and their completions, the relaxed
 //! welfare, the live count, and the classes. A contract sees a [`ClassCurves`] or a [`Relaxed`] as the problem that it was
 //! built from, without its rows. Only tests show how tight bounds by prices are, which rivals
-//! and decisions are found, and that a call reports out of memory only if memory was refused.
+//! are found, and that a call reports out of memory only if memory was refused.
 //!
 //! The crate doesn't know exclusive groups. Its code doesn't look at which selections are admissible. The only links it
 //! knows are which block descends from which.
@@ -47,7 +46,6 @@ pub mod laws;
 mod levels;
 mod limit_making;
 mod limits;
-mod losses;
 mod numbers;
 mod price_bound;
 mod relaxed;

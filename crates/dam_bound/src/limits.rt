@@ -1,6 +1,6 @@
 //! Limits on the net volumes of eligible selections, and the room that decisions on blocks leave under them.
 
-ghost use Rattle.std.specs.Prelude.{◌≡◌, ◌≢◌, ◌<◌, ◌*◌, ℕ, ℤ, pos, neg_ℤ, ◌-ℤ◌, ◌≤ℤ◌, ◌<ℤ◌, true, false, None, Some, List, Bool, length, slice_index_or, IfSome};
+ghost use Rattle.std.specs.Prelude.{◌≡◌, ◌≢◌, ◌<◌, ◌*◌, ℕ, ℤ, pos, ◌-ℤ◌, ◌≤ℤ◌, ◌<ℤ◌, true, false, None, Some, List, Bool, slice_index_or, IfSome};
 ghost use Rattle.dam_book.specs.Limits.{most_blocks, greatest_volume};
 ghost use Rattle.dam_blocks.specs.Eligible.{IsEligible};
 ghost use Rattle.dam_blocks.specs.Magnitude.{IsWithin};
@@ -10,7 +10,7 @@ ghost use Rattle.dam_bound.specs.Limits.{most_limits, limit_in, room_taken, grea
 
 use dam_book::MOST_BLOCKS;
 
-/// How many limits there are.
+/// The number of limits.
 pub const MOST_LIMITS: usize = 32;
 
 /// A limit that every eligible selection keeps: the decisions on all blocks together take no more than its room.
@@ -21,7 +21,7 @@ pub const MOST_LIMITS: usize = 32;
 pub struct Limit {
     /// The number of each block, in tenths of a MW: its net volume in a class of periods, or the opposite.
     pub nets: [i32; MOST_BLOCKS],
-    /// How much room there is before any decision, in tenths of a MW.
+    /// The room before any decision, in tenths of a MW.
     pub room: i32,
 }
 
@@ -32,14 +32,14 @@ pub struct Limits {
     pub limits: [Limit; MOST_LIMITS],
 }
 
-/// How much room decisions leave under each limit, in tenths of a MW.
+/// The room that decisions leave under each limit, in tenths of a MW.
 #[derive(Clone, Copy)]
 pub struct Room {
     /// The room under the limit at the same place.
     pub rooms: [i32; MOST_LIMITS],
 }
 
-/// How much room a decision on a block with this number takes.
+/// The room that a decision on a block with this number takes.
 #[inline(always)]
 fn room_taken(accept: bool, net: i32) -> i32
     requires { IsWithin greatest_volume net }

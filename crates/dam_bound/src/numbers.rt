@@ -1,7 +1,7 @@
 //! Numbers of the blocks at their places, and sums of them. All loops are over whole arrays and without branches, since a
 //! search spends its time in them.
 
-ghost use Rattle.std.specs.Prelude.{◌≡◌, ◌*◌, ◌<◌, ◌≤◌, ℕ, ℤ, pos, ◌+ℤ◌, ◌*ℤ◌, All, length, slice_index_or};
+ghost use Rattle.std.specs.Prelude.{◌≡◌, ◌*◌, ◌<◌, ◌≤◌, ℕ, All};
 ghost use Rattle.dam_book.specs.Limits.{most_blocks, last_period, greatest_volume};
 ghost use Rattle.dam_hour.specs.Limits.{greatest_net, greatest_price, greatest_value};
 ghost use Rattle.dam_curve.specs.Line.{line_at, IsSmallLine};

@@ -1,8 +1,8 @@
-ghost use Rattle.std.specs.Prelude.{ℤ, pos, ◌≡◌, not, ◌<◌, ◌≤◌, ◌≤ℤ◌, [], ◌∷◌, ◌++◌, List, Bool, Some, None, length, drop, map, slice_get, slice_set, IfOk, IfSome, MatchBool, MatchOption};
+ghost use Rattle.std.specs.Prelude.{◌≡◌, ◌<◌, ◌≤◌, ◌++◌, List, Bool, Some, None, length, drop, map, IfOk, IfSome};
 ghost use Rattle.dam_book.specs.Limits.{most_blocks};
 ghost use Rattle.dam_blocks.specs.Problem.{AreBlocks};
 ghost use Rattle.dam_blocks.specs.Selection.{padded};
-ghost use Rattle.dam_blocks.specs.Eligible.{period_welfare, ArePrices, family_surplus};
+ghost use Rattle.dam_blocks.specs.Eligible.{period_welfare};
 ghost use Rattle.dam_blocks.specs.Magnitude.{IsWithin};
 ghost use Rattle.dam_bound.specs.Relaxed.{as_steps, relaxed_welfare, without_rows};
 ghost use Rattle.dam_bound.specs.inside.Levels.{AreLevels, AreLevelsAt, last_steps, AreDayLevels};
@@ -114,7 +114,7 @@ fn period_bound<A: Allocator>(
 }
 
 impl<A: Allocator> Relaxed<A> {
-    /// How great the welfare of a selection can be that agrees with a prefix: the first `depth`
+    /// A bound on the welfare of the selections that agree with a prefix: the first `depth`
     /// blocks are decided, and those in `taken` are accepted; in cents per MWh times tenths of a
     /// MW.
     ///

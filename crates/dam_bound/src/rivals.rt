@@ -1,7 +1,7 @@
 //! Two blocks of which one loses at any prices.
 
 ghost use Rattle.std.specs.Prelude.{◌≡◌, ◌<◌, ◌≤◌, ◌*◌, ℕ, ℤ, ◌*ℤ◌, ◌≤ℤ◌, true, false, List, Bool, length, IfSome};
-ghost use Rattle.dam_book.specs.Limits.{most_blocks, last_period, greatest_volume};
+ghost use Rattle.dam_book.specs.Limits.{last_period, greatest_volume};
 ghost use Rattle.dam_hour.specs.Limits.{greatest_value};
 ghost use Rattle.dam_curve.specs.PriceRange.{IsSmallRange};
 ghost use Rattle.dam_blocks.specs.Selection.{accepts};
@@ -14,7 +14,7 @@ use dam_blocks::laws;
 use dam_curve::PriceRange;
 use std::alloc::Allocator;
 
-/// How often each of two blocks counts.
+/// The weights of two blocks in a sum.
 #[derive(Clone, Copy)]
 pub(crate) struct Weights {
     pub(crate) sell: i64,

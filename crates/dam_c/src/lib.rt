@@ -48,8 +48,8 @@ pub extern "C" fn dam_replay_seeded(
 }
 
 /// The output of `dam clear` for the text. The search visits at most `nodes` nodes. Before the nodes, a first selection
-/// is looked for, which isn't counted. With 0, a search never finishes; with 67,108,864 or more, it always does. If the
-/// search needs more nodes than the limit, there are no results.
+/// is looked for, which isn't counted. With 0, a search never finishes; with `DAM_MOST_NODES` of dam.h or more, it
+/// always does. If the search needs more nodes than the limit, there are no results.
 #[unsafe(no_mangle)]
 pub extern "C" fn dam_clear(alloc: Global, text: &[u8], nodes: u32, buffer: &mut [u8]) -> DamAnswer
     ensures { IsReturned (IsMadeFrom (AreResultsWithin (terms_alone nodes)) text.now)

@@ -11,7 +11,7 @@ use std::time::{Clock, Duration, Instant};
 /// Takes a terminal to the beginning of the line, and clears it.
 const CLEAR: &str = "\r\u{1b}[K";
 
-/// How many pieces of a search have ended, how many it has, and how many commands the book refused.
+/// The numbers of pieces of a search that have ended and of all its pieces, and of commands that the book refused.
 #[derive(Drop)]
 struct Count {
     ended: u32,
@@ -59,7 +59,7 @@ impl fmt::Display for Count {
     }
 }
 
-/// How many commands the book refused: at least one.
+/// The number of commands that the book refused: at least one.
 #[derive(Drop)]
 struct Refused(u32);
 
@@ -83,7 +83,7 @@ impl fmt::Display for Refused {
     }
 }
 
-/// How many milliseconds a search runs before anything is shown of it.
+/// The milliseconds that a search runs before anything is shown of it.
 const MOMENT: u64 = 500;
 
 /// The count, the start of the search if the clock could be read, and whether the count's line stands at the terminal.
@@ -118,7 +118,7 @@ impl<'a, R: Wait + Eprint + Clock> Progress<'a, R> {
         }
     }
 
-    /// Says how many commands the book refused, if any. The results don't mention them.
+    /// Prints the number of commands that the book refused, if any. The results don't mention them.
     pub fn say_refused(&self) {
         let refused = self.state.lock(self.rt).count.refused;
         if !self.is_shown || refused == 0 {

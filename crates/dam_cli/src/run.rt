@@ -1,3 +1,5 @@
+//! The run of a job of the command line, by its engine.
+
 ghost use Rattle.std.specs.Prelude.{◌≡◌, ◌≤◌, ◌+◌, ◌-◌, false, IfSome};
 ghost use Rattle.dam_engines.specs.Device.{AreDevicesAfter, most_asked};
 ghost use Rattle.dam_cli.specs.Run.{EndsAs};

@@ -10,16 +10,6 @@ abbrev pub ArePricesIn : List (List Step) → ℤ → ℤ → PriceRange → Typ
 ArePricesIn periods least most range = (net price : ℤ) → least ≤ℤ net → net ≤ℤ most → IsJointPrice periods net price
     → (range.lowest ≤ℤ price) × (price ≤ℤ range.highest)
 
--- the same at those of these net volumes that lie between two others
-abbrev pub ArePricesBetween : List (List Step) → ℤ → ℤ → ℤ → ℤ → PriceRange → Type 0
-ArePricesBetween periods lower upper least most range = (net price : ℤ) → lower ≤ℤ net → net ≤ℤ upper → least ≤ℤ net → net ≤ℤ most
-    → IsJointPrice periods net price → (range.lowest ≤ℤ price) × (price ≤ℤ range.highest)
-
--- at none of them do the periods have clearing prices
-abbrev pub AreUnpriced : List (List Step) → ℤ → ℤ → ℤ → ℤ → Type 0
-AreUnpriced periods lower upper least most = (net price : ℤ) → lower ≤ℤ net → net ≤ℤ upper → least ≤ℤ net → net ≤ℤ most
-    → IsJointPrice periods net price → ⊥
-
 -- a range of prices of this number of periods
 pub record IsSmallRange (count : ℕ) (range : PriceRange) : Type 0 where
   pub lowest_at_least : neg_ℤ (pos (count * greatest_price)) ≤ℤ range.lowest

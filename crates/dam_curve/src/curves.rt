@@ -1,4 +1,4 @@
-ghost use Rattle.std.specs.Prelude.{◌≡◌, ◌+◌, ◌-◌, ◌*◌, ◌^◌, ◌≤◌, ◌<◌, ℕ, ℤ, pos, neg_ℤ, ◌+ℤ◌, ◌-ℤ◌, ◌≤ℤ◌, ◌<ℤ◌, Some, List, [], length, take, IsOk, IfOk, OnOk, OnErr, IfSome, option_map, slice_index_or};
+ghost use Rattle.std.specs.Prelude.{◌≡◌, ◌+◌, ◌-◌, ◌*◌, ◌^◌, ◌≤◌, ◌<◌, ℤ, pos, neg_ℤ, ◌≤ℤ◌, ◌<ℤ◌, Some, List, [], length, IsOk, IfOk, OnErr, IfSome, option_map, slice_index_or};
 ghost use Rattle.dam_book.specs.Limits.{last_period};
 ghost use Rattle.dam_hour.specs.Limits.{greatest_price};
 ghost use Rattle.dam_hour.specs.declared.step.Step.{Step};
@@ -16,15 +16,15 @@ use dam_hour::laws;
 use std::alloc::{AllocError, Allocator, Global};
 use std::marker::Model;
 
-/// How many hints a curve has for each of its segments, at most, besides one for the whole curve.
+/// The greatest number of hints that a curve has for each of its segments, besides one for the whole curve.
 const HINTS: usize = 8;
 
 /// The hints of a curve. A wrong hint only costs time (`place_of`).
 #[derive(Clone, Copy)]
 pub(crate) struct Hints {
-    /// Where they begin.
+    /// The place of the first.
     pub(crate) first: u32,
-    /// By how many bits the distance of a net volume from the greatest is shifted to find one.
+    /// The bits by which the distance of a net volume from the greatest is shifted to find one.
     pub(crate) shift: u32,
 }
 
@@ -69,7 +69,7 @@ fn narrow(number: usize) -> Result<u32, AllocError>
     Ok(narrow)
 }
 
-/// By how many bits net volumes are shifted to find a hint, so that a curve over this range of them has at most
+/// The bits by which net volumes are shifted to find a hint, so that a curve over this range of them has at most
 /// `HINTS` hints for each of its segments, and one more.
 fn shift_of(range: u32, segments: usize) -> u32
     ensures { result ≤ 31 }

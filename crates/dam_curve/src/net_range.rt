@@ -4,7 +4,7 @@ ghost use Rattle.dam_curve.specs.Curve.{CurvesState, IsCurveAt, joint_welfare};
 
 use crate::curves::Curve;
 
-/// Between which net volumes periods balance, in tenths of a MW.
+/// The net volumes between which periods balance, in tenths of a MW.
 #[derive(Clone, Copy, PartialEq, Eq, Debug)]
 pub struct NetRange {
     /// The least net volume at which each of them balances.

@@ -1,4 +1,4 @@
-/// What a curve says at a net volume.
+/// The welfare and the prices that a curve gives at a net volume.
 #[derive(Clone, Copy, PartialEq, Eq, Debug)]
 pub struct Point {
     /// The joint welfare of the periods, in cents per MWh times tenths of a MW.

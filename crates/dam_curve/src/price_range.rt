@@ -1,14 +1,14 @@
-ghost use Rattle.std.specs.Prelude.{ℤ, List, IfSome, MatchOption};
+ghost use Rattle.std.specs.Prelude.{ℤ, List};
 ghost use Rattle.dam_book.specs.Limits.{last_period};
 ghost use Rattle.dam_hour.specs.declared.step.Step.{Step};
 ghost use Rattle.dam_curve.specs.Curve.{IsCurveAt};
-ghost use Rattle.dam_curve.specs.PriceRange.{ArePricesIn, ArePricesBetween, AreUnpriced, IsSmallRange};
+ghost use Rattle.dam_curve.specs.PriceRange.{ArePricesIn, IsSmallRange};
 
 use crate::curves::{Curve, Curves, segments_of};
 use crate::laws;
 use std::alloc::Allocator;
 
-/// Between which numbers the clearing prices of periods lie, added up, in cents per MWh.
+/// The numbers between which the clearing prices of periods lie, added up, in cents per MWh.
 #[derive(Clone, Copy, PartialEq, Eq, Debug)]
 pub struct PriceRange {
     /// The price at the greatest net volume.
@@ -44,32 +44,5 @@ impl<A: Allocator> Curves<A> {
             lowest: segments[0].dot,
             highest: segments[segments.len() - 1].dot,
         }
-    }
-    /// The range in which they lie at the net volumes from `least` to `most`; `None` only if at none of these each of the
-    /// periods balances. Takes no memory.
-    #[inline(always)]
-    pub fn price_range_between(&self, curve: Curve, least: i64, most: i64) -> Option<PriceRange>
-        requires { (periods : List (List Step)) × (lower : ℤ) × (upper : ℤ)
-            × IsCurveAt self.now curve periods lower upper }
-        ensures prices { (periods : List (List Step)) (lower upper : ℤ)
-            → IsCurveAt self.now curve periods lower upper
-            → MatchOption result (AreUnpriced periods lower upper least most)
-            (ArePricesBetween periods lower upper least most) }
-        ensures small { IfSome result (IsSmallRange last_period) }
-    {
-        laws::falling();
-        dam_hour::laws::welfare();
-        let least = least.max(i64::from(curve.bottom));
-        let most = most.min(i64::from(curve.top));
-        if least > most {
-            return None;
-        }
-        let lowest = self.searched(curve, most).price;
-        let highest = if least == most {
-            lowest
-        } else {
-            self.searched(curve, least).price
-        };
-        Some(PriceRange { lowest, highest })
     }
 }

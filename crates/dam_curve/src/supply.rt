@@ -1,4 +1,4 @@
-ghost use Rattle.std.specs.Prelude.{◌≡◌, ◌≤◌, ◌<◌, ◌++◌, ◌∷◌, List, length, IfOk, slice_index_or};
+ghost use Rattle.std.specs.Prelude.{◌≡◌, ◌≤◌, ◌<◌, List, length, IfOk};
 ghost use Rattle.dam_hour.specs.Execution.{IsHour};
 ghost use Rattle.dam_hour.specs.Limits.{most_steps};
 ghost use Rattle.dam_hour.specs.declared.step.Step.{Step};

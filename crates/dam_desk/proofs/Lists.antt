@@ -3,7 +3,7 @@ use Rattle.std.proofs.Common.{◌≡◌, ℕ, zero, suc, ◌-◌, ◌≤◌, min
 use Rattle.dam_desk.specs.Answers.{fault_line}
 use Rattle.dam_desk.specs.Desk.{end_answer}
 use Rattle.dam_desk.specs.Limits.{most_line}
-use Rattle.dam_desk.specs.Lines.{kept}
+use Rattle.dam_desk.specs.Lines.{kept_bytes}
 use Rattle.dam_desk.specs.declared.fault.LineFault.TheVariants.{CutShort}
 use Rattle.std.proofs.lemmas.List.{drop_at, take_min, take_rest}
 
@@ -36,13 +36,13 @@ none_taken : (m : ℕ) (xs : List ℕ) → length (take (suc m) xs) ≡ 0 → xs
 none_taken m [] none = refl
 none_taken m (x ∷ xs) none = absurd (omega (arith, none))
 
-pub none_kept : (begun : List ℕ) → length (kept begun) ≡ 0 → begun ≡ []
+pub none_kept : (begun : List ℕ) → length (kept_bytes begun) ≡ 0 → begun ≡ []
 none_kept begun none = none_taken most_line begun none
 
-pub end_of_none : (number : ℕ) (begun : List ℕ) → length (kept begun) ≡ 0 → end_answer number begun ≡ []
+pub end_of_none : (number : ℕ) (begun : List ℕ) → length (kept_bytes begun) ≡ 0 → end_answer number begun ≡ []
 end_of_none number begun none = ap (end_answer number) (none_kept begun none)
 
-pub end_of_some : (number : ℕ) (begun : List ℕ) → ¬ (length (kept begun) ≡ 0) → end_answer number begun ≡ fault_line number CutShort
+pub end_of_some : (number : ℕ) (begun : List ℕ) → ¬ (length (kept_bytes begun) ≡ 0) → end_answer number begun ≡ fault_line number CutShort
 end_of_some number [] some = absurd (some refl)
 end_of_some number (b ∷ begun) some = refl
 

@@ -14,8 +14,8 @@ use Rattle.dam_desk.specs.declared.reading.Said.{Said}
 use Rattle.dam_desk.specs.declared.reading.Said.TheVariants.{Day, Command as Commands, Fault}
 
 -- as much of a line as a desk keeps of it: a longer one is known by that
-abbrev pub kept : List ℕ → List ℕ
-kept text = take (most_line + 1) text
+abbrev pub kept_bytes : List ℕ → List ℕ
+kept_bytes text = take (most_line + 1) text
 
 -- the record of the day; nothing if there is none
 abbrev pub record_of : Option ℕ → List ℕ

@@ -4,7 +4,7 @@ ghost use Rattle.std.specs.Io.KnownBytes.{Appends};
 ghost use Rattle.dam_store.specs.Store.{disk_of, held, is_broken};
 ghost use Rattle.dam_desk.specs.Desk.{IsDesk, KeepsLines, MayLeave, OpensAfter, Served, Takes, end_answer};
 ghost use Rattle.dam_desk.specs.Journal.{State, OpensTo, next};
-ghost use Rattle.dam_desk.specs.Lines.{kept};
+ghost use Rattle.dam_desk.specs.Lines.{kept_bytes};
 ghost use Rattle.dam_desk.specs.Faults.{IsEndFault, SaysCount, is_failed_sync, is_read, is_write};
 
 use crate::answer::write_fault;
@@ -83,14 +83,14 @@ impl<D: Disk> Desk<D> {
 
     /// Answers the line in which the input ended, if it has.
     pub(crate) fn end<W: Write>(&self, writer: &mut W) -> Result<(), DeskFault>
-        ensures ok { (begun : List ℕ) → self.now.intake.line ≡ kept begun
+        ensures ok { (begun : List ℕ) → self.now.intake.line ≡ kept_bytes begun
             → OnOk result (Appends (W.contents writer.old) (W.contents writer.new)
             (end_answer (next self.now.intake.answered) begun)) }
         ensures no_read { IfErr result (λ fault. is_read fault ≡ false) }
         ensures no_sync { IfErr result (λ fault. is_failed_sync fault ≡ false) }
         ensures cause { (is_clean : Bool) (count : ℕ)
             → IfErr result (IsEndFault is_clean count count) }
-        ensures err { (begun : List ℕ) → self.now.intake.line ≡ kept begun
+        ensures err { (begun : List ℕ) → self.now.intake.line ≡ kept_bytes begun
             → IfErr result (λ fault. (count : ℕ)
             × Appends (W.contents writer.old) (W.contents writer.new)
             (take count (end_answer (next self.now.intake.answered) begun))

@@ -1,11 +1,11 @@
-//! What has come to a desk: the day, the line that has begun, and the answers to the lines of the batch.
+//! The input that has come to a desk: the day, the line that has begun, and the answers to the lines of the batch.
 ghost use Rattle.std.specs.Prelude.{◌≡◌, ◌++◌, ◌∷◌, [], List, ℕ, Option, None, Some, true, false, IfOk, OnOk};
 ghost use Rattle.dam_book.specs.Book.{commands_of};
 ghost use Rattle.dam_results.specs.Written.{written};
 ghost use Rattle.dam_store.specs.Journal.{has_byte, text_of};
 ghost use Rattle.dam_desk.specs.Answers.{fault_line};
 ghost use Rattle.dam_desk.specs.Journal.{Journal, State, next};
-ghost use Rattle.dam_desk.specs.Lines.{Says, kept};
+ghost use Rattle.dam_desk.specs.Lines.{Says, kept_bytes};
 ghost use Rattle.dam_desk.specs.declared.reading.Said.TheVariants.{Day as Days, Command as Commands, Fault};
 ghost use Rattle.dam_desk.specs.inside.Intake.{Answered, HasRead, IsAt, IsIn, TakesLine, entered_text, periods_of, records_text};
 ghost use Rattle.dam_desk.specs.inside.Lines.{is_ended};
@@ -72,7 +72,7 @@ impl Intake {
         ensures line { self.new.line ≡ self.old.line }
         ensures answered { OnOk result (self.new.answered ≡ next self.old.answered) }
         ensures step { (before : List ℕ) (journal : Option Journal) (text : List ℕ)
-            → IsAt self.old before journal → self.old.line ≡ kept text
+            → IsAt self.old before journal → self.old.line ≡ kept_bytes text
             → OnOk result (TakesLine self.old self.new before journal text) }
     {
         self.answered = self.answered.saturating_add(1);
@@ -80,9 +80,9 @@ impl Intake {
         self.answer(said)
     }
 
-    /// What the line that has come says.
+    /// The meaning of the line that has come.
     fn read(&self) -> Result<Said, AllocError>
-        ensures { (text : List ℕ) → self.now.line ≡ kept text
+        ensures { (text : List ℕ) → self.now.line ≡ kept_bytes text
             → IfOk result (Says (periods_of self.now.day) text) }
     {
         let header: &[u8] = match &self.day {

@@ -1,6 +1,6 @@
 //! A line of the input, as it comes in pieces.
 ghost use Rattle.std.specs.Prelude.{◌≡◌, ◌++◌, List, ℕ, [], OnOk};
-ghost use Rattle.dam_desk.specs.Lines.{kept};
+ghost use Rattle.dam_desk.specs.Lines.{kept_bytes};
 
 use crate::limits::MOST_LINE;
 use std::alloc::{AllocError, Global};
@@ -34,8 +34,8 @@ impl Line {
 
     /// Adds bytes to the line.
     pub(crate) fn extend(&mut self, bytes: &[u8]) -> Result<(), AllocError>
-        ensures { OnOk result ((begun : List ℕ) → self.old ≡ kept begun
-            → self.new ≡ kept (begun ++ bytes.now)) }
+        ensures { OnOk result ((begun : List ℕ) → self.old ≡ kept_bytes begun
+            → self.new ≡ kept_bytes (begun ++ bytes.now)) }
     {
         let room = MOST_LINE + 1 - self.bytes.len();
         self.bytes

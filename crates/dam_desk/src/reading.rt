@@ -1,20 +1,18 @@
-//! What a line of the input says. It is read as a journal, after the record of the day, if there is one.
-ghost use Rattle.std.specs.Prelude.{◌≡◌, ◌≤◌, ◌++◌, ◌∷◌, [], ℕ, List, Option, None, Some, true, length, IfSome, IfOk, IfErr, MatchOption, MatchResult};
+//! The meaning of a line of the input. It is read as a journal, after the record of the day, if there is one.
+ghost use Rattle.std.specs.Prelude.{◌≡◌, ◌≤◌, ◌++◌, ◌∷◌, [], ℕ, List, Option, None, Some, true, length, IfSome, IfOk, MatchOption};
 ghost use Rattle.dam_book.specs.Book.{is_day};
-ghost use Rattle.dam_book.specs.declared.command.Command.{Command};
-ghost use Rattle.dam_results.specs.Faults.{IsJournalFault};
 ghost use Rattle.dam_results.specs.Journal.{ReadsAs};
 ghost use Rattle.dam_desk.specs.Limits.{most_line};
-ghost use Rattle.dam_desk.specs.Lines.{IsSameFault, Says, record_of, text_after, kept};
+ghost use Rattle.dam_desk.specs.Lines.{IsSameFault, Says, record_of, text_after, kept_bytes};
 
 use crate::fault::LineFault;
 use crate::limits::MOST_LINE;
-use dam_book::{Command, DayLength, PackedCommand, Seed};
+use dam_book::{DayLength, PackedCommand};
 use dam_results::laws::{fault_is_no_journal, text_is_one_journal};
-use dam_results::{FromJournal, JournalFault, read_into};
+use dam_results::{JournalFault, PackedJournal, read_packed_journal};
 use std::alloc::{AllocError, Global};
 
-/// What a line says.
+/// The meaning of a line.
 #[derive(Debug, Drop)]
 pub(crate) enum Said {
     /// It is the record of a day of this length.
@@ -23,42 +21,6 @@ pub(crate) enum Said {
     Command(PackedCommand),
     /// It is no record.
     Fault(LineFault),
-}
-
-/// The content of a journal's text, its commands packed as they are read.
-#[derive(Drop)]
-struct PackedJournal {
-    periods: DayLength,
-    commands: Vec<PackedCommand>,
-}
-
-impl FromJournal for PackedJournal {
-    ghost use Rattle.std.specs.Prelude.{◌≡◌};
-
-    ghost made_of = { λ periods commands journal.
-        (journal.periods ≡ periods) × (journal.commands.items ≡ commands) };
-
-    fn begin(alloc: Global, _seed: Seed, periods: DayLength) -> Result<PackedJournal, AllocError> {
-        Ok(PackedJournal {
-            periods,
-            commands: Vec::new(alloc),
-        })
-    }
-
-    fn take(&mut self, _number: u32, command: &Command) -> Result<(), AllocError> {
-        let packed = PackedCommand::of(*self.commands.allocator(), command)?;
-        self.commands.push(packed)?;
-        Ok(())
-    }
-}
-
-/// The journal that a text says, or its first fault.
-fn read(alloc: Global, text: &[u8]) -> Result<PackedJournal, JournalFault>
-    ensures ok { IfOk result (λ journal. ReadsAs text.now journal.periods journal.commands.items) }
-    ensures fault { IfErr result (IsJournalFault text.now) }
-{
-    // A book isn't made, so the seed is never used.
-    read_into(alloc, Seed::fixed(), text)
 }
 
 /// The fault of a line that is read as a journal after `before` bytes, if that has the fault.
@@ -84,7 +46,7 @@ fn read_day(alloc: Global, text: &[u8]) -> Result<Option<DayLength>, AllocError>
 {
     text_is_one_journal();
     fault_is_no_journal();
-    match read(alloc, text) {
+    match read_packed_journal(alloc, text) {
         Ok(journal) if journal.commands.is_empty() => Ok(Some(journal.periods)),
         Ok(_) => Ok(None),
         Err(JournalFault::Memory) => Err(AllocError),
@@ -105,7 +67,7 @@ fn only_command(journal: PackedJournal) -> Option<PackedCommand>
     commands.pop()
 }
 
-/// What a text says as which a line is read after `before` bytes: the record of the day, or none.
+/// The meaning of a text as which a line is read after `before` bytes: the record of the day, or none.
 fn read_text(alloc: Global, text: &[u8], before: usize) -> Result<Said, AllocError>
     requires { before ≤ length text.now }
     ensures { (day : Option ℕ) (line : List ℕ) → IfSome day (λ periods. is_day periods ≡ true)
@@ -113,7 +75,7 @@ fn read_text(alloc: Global, text: &[u8], before: usize) -> Result<Said, AllocErr
         → length line ≤ most_line → IfOk result (Says day line) }
 {
     // A command is the usual line. After the record of the day, a day isn't read as one.
-    let fault = match read(alloc, text) {
+    let fault = match read_packed_journal(alloc, text) {
         Ok(_) if before == 0 => LineFault::NotOneRecord,
         Ok(journal) => match only_command(journal) {
             Some(command) => return Ok(Said::Command(command)),
@@ -138,11 +100,11 @@ fn text_of(alloc: Global, header: &[u8], line: &[u8]) -> Result<Vec<u8>, AllocEr
     Ok(text)
 }
 
-/// What a line says after the record of the day, which has no bytes if there is no day yet. Of a line that is too long,
-/// `line` has the first `MOST_LINE + 1` bytes.
+/// The meaning of a line after the record of the day, which has no bytes if there is no day yet. Of a line that is too
+/// long, `line` has the first `MOST_LINE + 1` bytes.
 pub(crate) fn read_line(alloc: Global, header: &[u8], line: &[u8]) -> Result<Said, AllocError>
     ensures { (day : Option ℕ) (text : List ℕ) → IfSome day (λ periods. is_day periods ≡ true)
-        → header.now ≡ record_of day → line.now ≡ kept text
+        → header.now ≡ record_of day → line.now ≡ kept_bytes text
         → IfOk result (Says day text) }
 {
     if line.len() > MOST_LINE {

@@ -23,6 +23,8 @@ impl FromJournal for Reopened {
     ghost use Rattle.dam_results.specs.Written.{written};
     ghost use Rattle.dam_desk.specs.inside.Day.{IsDayWith};
 
+    type Seed = Seed;
+
     ghost made_of = { λ periods commands reopened. IsDayWith reopened.day periods commands
         × HasWritten reopened.records (written periods commands)
         × AreReplies periods commands reopened.replies.items };

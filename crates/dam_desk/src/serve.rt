@@ -11,7 +11,7 @@ use crate::output::write_text;
 use sqlite_disk::Disk;
 use std::io::{Read, Write};
 
-/// How many bytes are asked for at a time. The lines that end in them are one batch.
+/// The number of bytes that are asked for at a time. The lines that end in them are one batch.
 const CHUNK: usize = 65_536;
 
 /// Prints the replies to the journal that the desk has, and then answers each line of the reader.

@@ -15,7 +15,7 @@ pub(crate) struct Intake {
     pub(crate) seed: Seed,
     pub(crate) day: Option<Day>,
     pub(crate) line: Line,
-    /// How many lines were answered.
+    /// The number of lines that were answered.
     pub(crate) answered: u64,
     /// Whether the day begins in this batch.
     pub(crate) begins: bool,

@@ -15,7 +15,7 @@ standard output once its record is safe in FILE.
       --help          prints this help
 ";
 
-/// What the words ask for.
+/// The job for which the words ask.
 #[derive(Clone, Copy, PartialEq, Eq, Debug)]
 pub(crate) enum Job<'a> {
     /// A desk with this file.
@@ -37,7 +37,7 @@ pub(crate) fn words(rt: &HostRuntime) -> Result<Option<Vec<String>>, AllocError>
     Ok(Some(words.collect::<Vec<String>>(rt.alloc())?))
 }
 
-/// What the words ask for, if they are in order.
+/// The job for which the words ask, if they are in order.
 pub(crate) fn job_of(words: &[String]) -> Option<Job<'_>> {
     match words {
         [word] if word.as_str() == "--help" => Some(Job::Help),

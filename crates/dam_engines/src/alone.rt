@@ -1,3 +1,5 @@
+//! The engine of `dam clear` from text to text, on the calling thread alone.
+
 ghost use Rattle.std.specs.Prelude.{◌≡◌, ◌↔◌, false, IfOk, IfErr, IsErrOf};
 ghost use Rattle.dam_results.specs.Journal.{IsMadeFrom};
 ghost use Rattle.dam_engines.specs.Engine.{IsRunFault};
@@ -31,7 +33,7 @@ fn clear_book_alone(alloc: Global, book: &Book, nodes: u32) -> Result<Vec<u8>, R
 ///
 /// It doesn't start a thread, and it reads and writes only memory. The search visits at most `nodes` nodes. Before the
 /// nodes, a first selection is looked for, which isn't counted. `nodes` may be any number: with 0, a search never
-/// finishes; with 67,108,864 or more, it always does. The book hashes names with the seed. `StillOpen` comes only if
+/// finishes; with `MOST_NODES` or more, it always does. The book hashes names with the seed. `StillOpen` comes only if
 /// the book is open after the last command.
 pub fn clear_text_alone(
     alloc: Global,

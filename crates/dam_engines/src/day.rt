@@ -1,4 +1,6 @@
-ghost use Rattle.std.specs.Prelude.{◌≡◌, ◌≤◌, ◌+◌, ◌-◌, ℕ, List, None, true, false, IfOk, IfErr, IfSome, OnOk};
+//! The engine of `dam day`, from a reader to a writer.
+
+ghost use Rattle.std.specs.Prelude.{◌≡◌, ◌≤◌, ◌+◌, ◌-◌, ℕ, List, false, IfOk, IfErr, IfSome, OnOk};
 ghost use Rattle.dam_gate.specs.Day.{AreTaken, IsDayRun};
 ghost use Rattle.dam_gate.specs.Journal.{IsJournal};
 ghost use Rattle.dam_plan.specs.Plan.{PlanTerms};
@@ -13,11 +15,10 @@ use crate::device::{Sink, Source};
 use crate::fault::RunFault;
 use crate::input::read_input;
 use crate::output::write_text;
-use crate::packed::PackedJournal;
 use crate::watch::Watch;
 use dam_book::{DayLength, PackedCommand, Seed};
 use dam_gate::{DayFault, Journal, Settled, run_packed};
-use dam_results::{packed_journal_text, read_into};
+use dam_results::{packed_journal_text, read_packed_journal};
 use dam_search::{Plan, Turnstile};
 use std::alloc::Global;
 use std::io::{Read, Write};
@@ -73,8 +74,7 @@ fn day_text<H: Threads + Wait + Sync, T: Watch + Sync, U: Turnstile + Sync>(
     ensures done { IfOk result (λ day. IsMadeFrom (IsDayText plan) text.items day.items) }
     ensures fault { IfErr result (IsRunFault (IsCommandsFault plan) text.items) }
 {
-    // A book isn't made of it here, so this seed is never used.
-    let journal: PackedJournal = read_into(alloc, Seed::fixed(), text.as_slice())?;
+    let journal = read_packed_journal(alloc, text.as_slice())?;
     drop(text);
     let commands = journal.commands.as_slice();
     day_of_commands(

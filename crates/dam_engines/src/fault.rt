@@ -1,3 +1,5 @@
+//! The faults of a run, each with the status and the line that the program ends with.
+
 ghost use Rattle.std.specs.Prelude.{◌≡◌, ◌++◌, codes, IfOk};
 ghost use Rattle.dam_engines.specs.Fault.{fault_status, fault_text, run_fault_of};
 

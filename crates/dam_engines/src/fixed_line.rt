@@ -8,7 +8,7 @@ use dam_gate::Mismatch;
 use dam_results::JournalFault;
 use itoa::Buffer;
 
-/// How many bytes a line has room for. The longest has 74 with its line feed.
+/// The bytes that a line has room for. The longest has 74 with its line feed.
 const ROOM: usize = 96;
 
 /// Adds the words and the number.

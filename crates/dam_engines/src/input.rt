@@ -9,10 +9,10 @@ use dam_results::MOST_BYTES;
 use std::alloc::Global;
 use std::io::Read;
 
-/// How many bytes are read at most: one more than a journal may have, which shows that it has too many.
+/// The most bytes that are read: one more than a journal may have, which shows that it has too many.
 pub const MOST_READ: usize = MOST_BYTES + 1;
 
-/// How many bytes are asked for at a time.
+/// The number of bytes that are asked for at a time.
 const CHUNK: usize = 65_536;
 
 /// The reader's bytes, to their end or to the first `MOST_READ` of them.

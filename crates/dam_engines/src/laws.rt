@@ -68,8 +68,8 @@ pub fn day_is_exact()
     fault_is_no_journal();
 }
 
-/// A search over n blocks visits at most 2^(n+1) - 1 nodes. For 24 blocks, the most, that is below the greatest limit of
-/// a plan, so neither this limit nor a greater one cuts a search short.
+/// A search over n blocks visits at most 2^(n+1) - 1 nodes. For the most blocks of a book, that is below the greatest limit
+/// of a plan, so neither this limit nor a greater one cuts a search short.
 pub fn greatest_limit_cuts_no_search()
     ensures covers { (problem : ProblemState) → IsProblem problem
         → all_nodes (length problem.blocks) ≤ most_nodes }

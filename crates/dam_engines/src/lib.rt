@@ -42,7 +42,6 @@ mod fixed_line;
 mod input;
 pub mod laws;
 mod output;
-mod packed;
 mod replay;
 mod watch;
 

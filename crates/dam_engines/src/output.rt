@@ -1,3 +1,5 @@
+//! The writing of a run's whole text.
+
 ghost use Rattle.std.specs.Prelude.{◌≡◌, ◌≤◌, ◌+◌, true, false, length, IfErr, OnOk, MatchResult};
 ghost use Rattle.std.specs.Io.KnownBytes.{Appends};
 ghost use Rattle.dam_engines.specs.Device.{IsFlushedOnce};

@@ -1,3 +1,5 @@
+//! The engine of `dam replay`, from a reader to a writer.
+
 ghost use Rattle.std.specs.Prelude.{◌≡◌, ◌≤◌, ◌+◌, ◌-◌, false, IfOk, IfErr, IfSome};
 ghost use Rattle.dam_results.specs.Journal.{IsMadeFrom};
 ghost use Rattle.dam_results.specs.Replies.{AreReplies};

@@ -24,7 +24,8 @@ impl Model for Account {
 
     ghost view = { λ p. record { holder = p.holder; seen = p.seen; receipts = p.receipts.items } };
 
-    ghost invariant = { λ p. IsPass (record { holder = p.holder; seen = p.seen; receipts = p.receipts.items }) };
+    ghost invariant = { λ p.
+        IsPass (record { holder = p.holder; seen = p.seen; receipts = p.receipts.items }) };
 }
 
 /// Whether the holder may give a command of this giver: a participant its own command, and the operator a close.
@@ -67,7 +68,7 @@ impl Account {
         copy_of(&self.holder)
     }
 
-    /// How many entries of the journal it had seen.
+    /// The number of entries of the journal that it had seen.
     pub fn seen(&self) -> u32
         ensures { result ≡ self.now.seen }
     {

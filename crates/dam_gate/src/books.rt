@@ -61,7 +61,7 @@ impl<A: Allocator + Copy> Books<A> {
     }
 
     /// A share of the book.
-    pub(crate) fn share(&self) -> Result<Arc<Book<A>, A>, AllocError>
+    pub(crate) fn share_book(&self) -> Result<Arc<Book<A>, A>, AllocError>
         ensures { IfOk result (λ book. arc_value book ≡ self.now.book) }
     {
         Arc::try_clone(&self.book)

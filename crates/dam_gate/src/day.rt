@@ -1,4 +1,5 @@
-ghost use Rattle.std.specs.Option.{option_copied};
+//! A day of given commands: each participant enters its own at one gate.
+
 ghost use Rattle.dam_gate.specs.Limits.{most_participants};
 ghost use Rattle.std.specs.Prelude.{◌≡◌, ◌≤◌, ◌<◌, ◌+◌, ◌∷◌, ◌++◌, [], ℕ, true, Some, length, map, slice_index_or, IfOk, IfErr, OnOk, All};
 ghost use mathlib.Core.List.{IsPrefix};

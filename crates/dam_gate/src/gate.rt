@@ -27,7 +27,7 @@ pub enum GateFault {
     /// The journal holds as many entries as it may; the last one is only for a close.
     #[error("the journal is full, with {held} entries")]
     JournalFull {
-        /// How many entries it holds.
+        /// The number of entries that it holds.
         held: u32,
     },
     /// Memory ran out.

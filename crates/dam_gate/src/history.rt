@@ -7,7 +7,7 @@ use crate::limits::MOST_PASSES;
 use dam_book::PackedEntry;
 use logbook::{Gain, Offer, Plain, Play, Rule, Seen, Start, Word};
 use std::marker::{Brand, Model, PhantomData};
-use std::sync::ledger::{Blank, Book, Ledger, Share};
+use std::sync::ledger::{Blank, Book, Ledger, Share as Part};
 
 /// The rule of the word that counts a gate's entries.
 pub(crate) struct CountRule;
@@ -56,7 +56,7 @@ impl Plain<PackedEntry, PackedEntry, u64> for Add {
     ghost state = { λ entry. None };
 }
 
-/// Which gate it is, by its history, its day, the number of its passes, and the count of its entries. A program that
+/// The identity of a gate: its history, its day, the number of its passes, and the count of its entries. A program that
 /// begins a gate picks the name: `Brand`.
 pub trait GateName {
     ghost use Rattle.dam_gate.specs.Opening.{OpeningState};
@@ -135,14 +135,14 @@ impl Opening {
         }
     }
 
-    /// How many periods the day is to have.
+    /// The number of periods that the day is to have.
     pub(crate) fn periods(&self) -> u8
         ensures { result ≡ self.now.periods }
     {
         self.periods
     }
 
-    /// How many passes the gate is to give.
+    /// The number of passes that the gate is to give.
     pub(crate) fn passes(&self) -> u8
         ensures { result ≡ self.now.passes }
     {
@@ -187,7 +187,7 @@ pub(crate) struct Named<J: GateName> {
     pub(crate) count: EntryCount<J>,
     pub(crate) start: History<J>,
     pub(crate) answered: Book<Answered<J>>,
-    pub(crate) rest: Share<Answered<J>>,
+    pub(crate) rest: Part<Answered<J>>,
 }
 
 /// The word that counts the entries.
@@ -218,7 +218,7 @@ impl<J: GateName> Model for History<J> {
 }
 
 impl<J: GateName> History<J> {
-    /// How many entries it has.
+    /// The number of its entries.
     pub(crate) fn len(&self) -> u32
         ensures { result ≡ length self.now }
     {

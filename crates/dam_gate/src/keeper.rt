@@ -23,7 +23,7 @@ pub enum KeeperFault {
     /// The journal holds as many entries as it may; the last one is only for a close.
     #[error("the journal is full, with {held} entries")]
     JournalFull {
-        /// How many entries it holds.
+        /// The number of entries that it holds.
         held: u32,
     },
     /// Memory ran out.
@@ -113,7 +113,7 @@ impl<A: Allocator> Ready<A> {
     }
 
     /// A share of the book after the step.
-    pub(crate) fn book(&self) -> Result<Arc<Book<A>, A>, AllocError>
+    pub(crate) fn share_book(&self) -> Result<Arc<Book<A>, A>, AllocError>
         ensures { IfOk result (λ book. arc_value book ≡ self.now.book) }
     {
         Arc::try_clone(&self.book)
@@ -148,8 +148,8 @@ impl<A: Allocator + Copy> Keeper<A> {
         })
     }
 
-    /// Takes all memory of a command's step: the packed command, the room in the journal, and a book for the step's
-    /// result, if it changes the book.
+    /// Makes the command's step ready for `put`: it takes all memory of the step, which is the packed command, the room
+    /// in the journal, and a book for the step's result, if it changes the book.
     ///
     /// The journal and the book stay as they are, and the room in the journal doesn't shrink. So a step that was ready
     /// for this journal still is.
@@ -161,7 +161,7 @@ impl<A: Allocator + Copy> Keeper<A> {
             (IsKeeperFault (length self.old.journal.entries) command.now) }
     {
         let packed = self.pack(command)?;
-        Ok(self.ready_with(packed, command)?)
+        Ok(self.prepare(packed, command)?)
     }
 
     /// Packs the command for its entry, unless the journal is full for it.
@@ -179,8 +179,8 @@ impl<A: Allocator + Copy> Keeper<A> {
         Ok(PackedCommand::of(*self.entries.allocator(), command)?)
     }
 
-    /// As `ready`, for a packed command for which the journal has room.
-    pub(crate) fn ready_in_room(
+    /// Makes the step of a packed command ready, as `ready` does. The journal has room for the command.
+    pub(crate) fn ready_packed(
         &mut self,
         command: &PackedCommand<A>,
     ) -> Result<Ready<A>, AllocError>
@@ -190,13 +190,13 @@ impl<A: Allocator + Copy> Keeper<A> {
         ensures room { self.old.room ≤ self.new.room }
     {
         let packed = command.clone()?;
-        self.ready_with(packed, &command.command())
+        self.prepare(packed, &command.command())
     }
 
-    /// Takes the rest of a step's memory; the command is packed already.
+    /// Prepares the step of a command that is packed already: it takes the rest of the step's memory.
     ///
     /// The command is decided once, for the reply, for the book after it and for the book before.
-    fn ready_with(
+    fn prepare(
         &mut self,
         packed: PackedCommand<A>,
         command: &Command,
@@ -230,7 +230,7 @@ impl<A: Allocator + Copy> Keeper<A> {
         ensures same { self.new ≡ self.old }
     {
         if let Some(_) = outcome.refusal() {
-            return self.books.share();
+            return self.books.share_book();
         }
         let mut book = self.books.another(&self.entries)?;
         let _done = book.carry_out(command, outcome)?;
@@ -240,7 +240,7 @@ impl<A: Allocator + Copy> Keeper<A> {
         }
     }
 
-    /// Takes the step that was made ready. It takes no memory and can't be refused.
+    /// Appends the step that was made ready, and returns its entry. It takes no memory and can't be refused.
     pub fn put(&mut self, ready: Ready<A>) -> Entry
         requires { IsReadyFor self.old ready.entry.command ready }
         ensures entry { result ≡ ready.entry }
@@ -249,12 +249,12 @@ impl<A: Allocator + Copy> Keeper<A> {
         ensures room { self.old.room ≡ self.new.room + 1 }
     {
         let entry = ready.entry().entry();
-        self.take(ready);
+        self.append_step(ready);
         entry
     }
 
-    /// Takes the step as `put` does, but doesn't return its entry.
-    pub(crate) fn take(&mut self, ready: Ready<A>)
+    /// Appends the step's entry to the journal, and takes over its book, as `put` does.
+    pub(crate) fn append_step(&mut self, ready: Ready<A>)
         requires { IsReadyFor self.old ready.entry.command ready }
         ensures step { self.new.journal ≡ journal_after self.old.journal ready.entry.command }
         ensures day { self.new.journal.book.periods ≡ self.old.journal.book.periods }
@@ -310,11 +310,11 @@ impl<A: Allocator + Copy> Keeper<A> {
     }
 
     /// A share of the book.
-    pub(crate) fn share(&self) -> Result<Arc<Book<A>, A>, AllocError>
+    pub(crate) fn share_book(&self) -> Result<Arc<Book<A>, A>, AllocError>
         ensures value { IfOk result (λ book. arc_value book ≡ self.now.journal.book) }
         ensures valid { IsJournal self.now.journal }
     {
-        self.books.share()
+        self.books.share_book()
     }
 
     /// Makes room for this number of further entries.
@@ -371,7 +371,7 @@ impl<A: Allocator> Model for Journal<A> {
 }
 
 impl<A: Allocator + Copy> Journal<A> {
-    /// How many periods the delivery day has.
+    /// The number of periods of the delivery day.
     pub fn periods(&self) -> DayLength
         ensures { result ≡ self.now.book.periods }
     {

@@ -1,3 +1,5 @@
+//! The limits of a gate, and of a day of given commands.
+
 /// The greatest number of passes of one gate, the operator's among them.
 pub const MOST_PASSES: u8 = 9;
 

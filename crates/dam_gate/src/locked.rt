@@ -1,9 +1,8 @@
-ghost use Rattle.std.specs.Prelude.{◌≡◌, ◌⊎◌, ◌<◌, ◌≤◌, ◌+◌, ◌^◌, ◌∷◌, ◌++◌, [], true, false, length, IfOk, IfErr, OnOk, OnErr};
+ghost use Rattle.std.specs.Prelude.{◌≡◌, ◌⊎◌, ◌<◌, ◌≤◌, ◌+◌, ◌∷◌, ◌++◌, [], false, length, IfOk, IfErr, OnOk, OnErr};
 ghost use mathlib.Core.List.{IsPrefix};
 ghost use Rattle.dam_book.specs.Limits.{most_entries};
 ghost use Rattle.dam_gate.specs.Gate.{IsKeeperFault};
 ghost use Rattle.dam_gate.specs.Journal.{IsJournal, empty_journal, is_full, journal_after, next_entry};
-ghost use Rattle.dam_gate.specs.Limits.{most_passes};
 ghost use Rattle.dam_gate.specs.Pass.{knowing_nothing};
 ghost use Rattle.dam_gate.specs.inside.Locked.{IsPassFault, entry_of};
 ghost use Rattle.dam_gate.specs.inside.Shown.{IsAtMostNext, IsNext, IsNoteOf, slot_name};
@@ -20,7 +19,7 @@ use left_right::{Absorb, WriteHandle};
 use once_cell::race::{Note as CellNote, OnceBox};
 use std::alloc::{AllocError, Global};
 use std::marker::Model;
-use std::sync::ledger::{Book as Ledger, Share};
+use std::sync::ledger::{Book as Ledger, Share as Part};
 use std::sync::{Arc, Wait};
 
 /// The state under the lock: the keeper, and the parts that publish its versions.
@@ -49,7 +48,7 @@ where
     most: u8,
     // as many as the entries, and the parts of the passes that weren't given
     answered: Ledger<Answered<J>>,
-    rest: Share<Answered<J>>,
+    rest: Part<Answered<J>>,
     ghost starts: { start ≡ [] },
 }
 
@@ -86,7 +85,7 @@ fn version_of<J: GateName>(
     requires day { keeper.now.journal.book.periods ≡ J.opening.periods }
     ensures { IfOk result (λ version. version.value ≡ keeper.now.journal) }
 {
-    let version = Version::new(keeper.share()?, history.again());
+    let version = Version::new(keeper.share_book()?, history.again());
     Ok(Box::new(alloc, version)?)
 }
 
@@ -172,7 +171,7 @@ fn go_on<J: GateName>(
     ensures fault { IfErr result (λ fault.
         (fault ≡ GateFault.Memory) ⊎ (fault ≡ GateFault.NoVersion)) }
 {
-    let book = ready.book()?;
+    let book = ready.share_book()?;
     let Some(after) = count.add(history, seen, learnt, ready.entry()) else {
         return Err(GateFault::NoVersion);
     };
@@ -262,7 +261,7 @@ impl<J: GateName, R: Wait + Drop> Locked<J, R> {
     }
 
     /// The journal of `into_journal`, of which the parts of all passes show how many entries it has.
-    pub(crate) fn into_counted_journal(self, parts: &mut Share<Answered<J>>) -> Journal
+    pub(crate) fn into_counted_journal(self, parts: &mut Part<Answered<J>>) -> Journal
         ensures value { result ≡ self.journal }
         ensures valid { IsJournal result }
         ensures day { result.book.periods ≡ J.opening.periods }
@@ -308,7 +307,7 @@ impl<J: GateName, R: Wait + Drop> Locked<J, R> {
         &mut self,
         seen: &History<J>,
         learnt: &History<J>,
-        part: &mut Share<Answered<J>>,
+        part: &mut Part<Answered<J>>,
         command: &PackedCommand,
     ) -> Result<((u32, Reply), History<J>), GateFault>
         requires room { is_full (length self.old.journal.entries) command.now ≡ false }
@@ -330,7 +329,7 @@ impl<J: GateName, R: Wait + Drop> Locked<J, R> {
             (fault ≡ GateFault.Memory) ⊎ (fault ≡ GateFault.NoVersion)) }
     {
         let _held = self.keeper.len(); // for the proof: the invariant of a journal
-        let ready = self.keeper.ready_in_room(command)?;
+        let ready = self.keeper.ready_packed(command)?;
         let version = version_of(self.alloc, &self.keeper, &self.history)?;
         let slot = next_slot(self.alloc, &mut self.writer, &mut self.next)?;
         let (after, shown) = go_on(
@@ -350,7 +349,7 @@ impl<J: GateName, R: Wait + Drop> Locked<J, R> {
         self.shown = shown;
         let entry = ready.entry();
         let answer = (entry.number(), entry.reply());
-        self.keeper.take(ready);
+        self.keeper.append_step(ready);
         self.answered.add(part, 1);
         self.history = after.again();
         Ok((answer, after))

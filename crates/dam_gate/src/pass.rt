@@ -18,7 +18,7 @@ use left_right::{Absorb, ReadHandle};
 use std::alloc::AllocError;
 use std::marker::Model;
 use std::sync::Wait;
-use std::sync::ledger::Share;
+use std::sync::ledger::Share as Part;
 
 /// A note of a call: the gate's history up to the call's entry. Another pass of the gate can learn it.
 #[derive(Drop)]
@@ -59,7 +59,7 @@ pub struct Pass<J: GateName> {
     note: Option<Note<J>>,
     reader: ReadHandle<Shown<J>>,
     // its part of the gate's count of entries
-    part: Share<Answered<J>>,
+    part: Part<Answered<J>>,
     ghost one_part: { part.parts ≡ 1 },
     ghost as_many: { part.amount ≡ length receipts.items },
 }
@@ -88,7 +88,7 @@ impl<J: GateName> Model for Pass<J> {
 /// The finding of a look, in the book after the first `seen` entries of the journal.
 #[derive(PartialEq, Eq, Debug, Drop)]
 pub struct Look {
-    /// How many entries the journal had.
+    /// The number of entries that the journal had.
     pub seen: u32,
     /// Whether the book was closed.
     pub closed: bool,
@@ -103,7 +103,7 @@ impl<J: GateName> Pass<J> {
         receipts: Vec<PackedEntry>,
         start: History<J>,
         reader: ReadHandle<Shown<J>>,
-        part: Share<Answered<J>>,
+        part: Part<Answered<J>>,
     ) -> Pass<J>
         requires none { receipts.items ≡ [] }
         requires start { start ≡ [] }
@@ -129,7 +129,7 @@ impl<J: GateName> Pass<J> {
         copy_of(&self.holder)
     }
 
-    /// How many entries of the journal it has seen.
+    /// The number of entries of the journal that it has seen.
     pub fn seen(&self) -> u32
         ensures value { result ≡ self.now.account.seen }
         ensures valid { IsKnowledge self.now }
@@ -260,7 +260,7 @@ impl<J: GateName> Pass<J> {
     }
 
     /// Its account, and its part of the gate's count of entries.
-    pub(crate) fn into_account_and_part(self) -> (Account, Share<Answered<J>>)
+    pub(crate) fn into_account_and_part(self) -> (Account, Part<Answered<J>>)
         ensures account { result.0 ≡ self.account }
         ensures one_part { result.1.parts ≡ 1 }
         ensures as_many { result.1.amount ≡ length self.account.receipts }
@@ -287,5 +287,5 @@ impl<J: GateName> Pass<J> {
     }
 }
 
-/// How many receipts a new pass has room for.
+/// The receipts that a new pass has room for.
 pub(crate) const FIRST_RECEIPTS: usize = 16;

@@ -1,4 +1,4 @@
-ghost use Rattle.std.specs.Prelude.{◌≡◌, ◌++◌, ◌∷◌, [], List, length, replicate, slice_get, false, Some, IfOk, OnOk, IfSome, IfNone};
+ghost use Rattle.std.specs.Prelude.{◌≡◌, ◌++◌, ◌∷◌, [], List, replicate, slice_get, false, Some, IfOk, OnOk, IfSome, IfNone};
 ghost use Rattle.dam_book.specs.declared.command.Command.{Command};
 ghost use Rattle.dam_gate.specs.Day.{is_one_of};
 ghost use Rattle.dam_gate.specs.inside.Entering.{AreApart, AreShares, share_at};
@@ -65,7 +65,7 @@ fn no_places(alloc: Global, count: usize) -> Result<Vec<Share>, AllocError>
     Ok(shares)
 }
 
-/// Where the participant stands among these.
+/// The place of the participant among these.
 fn place_of(participants: &[Participant], who: &Participant) -> Option<usize>
     ensures found { IfSome result (λ at. slice_get participants.now at ≡ Some who.now) }
     ensures absent { IfNone result (is_one_of participants.now who.now ≡ false) }

@@ -55,7 +55,7 @@ impl<J: GateName> Version<J> {
     }
 }
 
-/// Where looks find a version. A call makes a new slot, which is still empty, and puts its version there later.
+/// The slot in which looks find a version. A call makes an empty one, and puts its version there later.
 pub(crate) type Slot<J> = Arc<OnceBox<Version<J>>, Global>;
 
 /// A slot with the version in it, and the note of its cell that shows it.

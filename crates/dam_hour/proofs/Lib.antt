@@ -16,7 +16,6 @@ pub mod Enumeration
 pub mod Midpoint
 pub mod Magnitude
 pub mod Joining
-pub mod Extension
 pub mod Answering
 pub mod Fairness
 pub mod Reordering

@@ -228,21 +228,6 @@ around_unserved ss ps net last next limit from to k before same hour r b unserve
       unserved = inr (omega (arith, ints, short, b), omega (arith, more, with_own));
     }
 
-pub around_edge : (ss : List Step) (ps : List Placed) (net last next : ℤ) (from to volume : ℕ) → from ≡ to → volume ≡ volume_to from ps
-    → AreAround ss ps net last next from to → IsEdge ss net last next volume
-around_edge ss ps net last next from to volume e v a =
-    let there : volume_to to ps ≡ volume = sym (v ∙ ap (λ (k : ℕ). volume_to k ps) e) in
-    let here = sym v in
-    record {
-      last_in_range = a.last_in_range;
-      next_in_range = a.next_in_range;
-      whole = subst (λ (n : ℕ). n ≤ not_worse_volume Buy last ss) here a.whole;
-      rest = subst (λ (n : ℕ). better_volume Buy next ss ≤ n) there a.rest;
-      served = a.served;
-      unserved = subst (λ (n : ℕ). ((next ≡ lowest_price) × (n ≡ offered_volume Buy ss))
-          ⊎ (((pos (not_worse_volume Sell next ss) +ℤ net) ≤ℤ pos n) × (n < not_worse_volume Buy next ss))) there a.unserved;
-    }
-
 -- ---- the step that holds a unit
 row_volume : (v : ℕ) (w : ℤ) (ps : List Placed) (i : ℕ) (d : Rung) → i < length ps
     → (get_or (rungs_from v w ps) i d).before.volume ≡ v + volume_to i ps

@@ -261,14 +261,6 @@ balance_within ss net xs e b =
     let sells = executed_at_most Sell ss xs e in
     record { at_least = omega (arith, ints, buys, sells, b); at_most = omega (arith, ints, buys, sells, b) }
 
--- ---- a step of the bisection
-pub above_not_high : (ss : List Step) (net p q : ℤ) → ¬ (IsHighEnough ss net p) → IsHighEnough ss net q → (p +ℤ pos 1) ≤ℤ q
-above_not_high ss net p q fails h =
-    by_lt_z q (p +ℤ pos 1) (λ less. absurd (fails (higher ss net q p (omega (arith, ints)) h))) (λ more. more)
-
-pub below_not_low : (ss : List Step) (net p q : ℤ) → ¬ (IsLowEnough ss net p) → IsLowEnough ss net q → q ≤ℤ (p -ℤ pos 1)
-below_not_low ss net p q fails h = by_lt_z (p -ℤ pos 1) q (λ less. absurd (fails (lower ss net p q (omega (arith, ints)) h))) (λ more. more)
-
 -- ---- the exchange law
 -- a price that supports any balanced execution supports the best one, which has its welfare
 pub best_supported_at : (ss : List Step) (net p : ℤ) (xs : List ℕ) → IsSupporting ss net p → IsBest ss net xs → Supports p ss xs

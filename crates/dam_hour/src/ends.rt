@@ -1,6 +1,6 @@
 ghost use Rattle.std.specs.Prelude.{◌≡◌, ◌≤◌, ◌*◌, ◌↔◌, pos, ◌+ℤ◌, ◌-ℤ◌, IsTrue};
 ghost use Rattle.std.specs.Int.{int_div_euclid, int_min, int_max};
-ghost use Rattle.dam_book.specs.Limits.{lowest_price, highest_price, greatest_volume};
+ghost use Rattle.dam_book.specs.Limits.{greatest_volume};
 ghost use Rattle.dam_hour.specs.Limits.{most_steps};
 ghost use Rattle.dam_hour.specs.Execution.{IsHour, IsNetVolume, IsWithinOffers};
 ghost use Rattle.dam_hour.specs.Price.{price_between};
@@ -11,7 +11,7 @@ use crate::hour::Hour;
 use dam_book::{HIGHEST_PRICE, LOWEST_PRICE, Price, Side};
 use std::alloc::Allocator;
 
-/// Where the best execution ends among the buys, which are served from the greatest limit down.
+/// The end of the best execution among the buys, which are served from the greatest limit down.
 #[derive(Clone, Copy)]
 pub(crate) struct Edge {
     /// The limit of the last buy that is served, or the greatest price if none is.

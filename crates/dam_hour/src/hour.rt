@@ -16,7 +16,7 @@ use crate::ends::{Edge, is_within_offers, price_between};
 use crate::execution::{Left, fill};
 use crate::ladder::{Ladder, Sums, order_of};
 use crate::step::Step;
-use crate::volumes::{Bounds, surplus};
+use crate::volumes::{VolumeRange, surplus};
 use dam_book::{GREATEST_VOLUME, MOST_BLOCKS, MOST_HOURLY, Price, Side};
 use std::alloc::{AllocError, Allocator, Global};
 use std::marker::Model;
@@ -96,8 +96,8 @@ impl Matched {
     {
         let low = edge.low(hour, net);
         let high = edge.high(hour, net);
-        let buys = Bounds::of(hour, Side::Buy, low);
-        let sells = Bounds::of(hour, Side::Sell, low);
+        let buys = VolumeRange::of(hour, Side::Buy, low);
+        let sells = VolumeRange::of(hour, Side::Sell, low);
         let supply = sells.most as i64 + net;
         let demand = buys.most as i64;
         if supply < demand {
@@ -158,14 +158,14 @@ impl<A: Allocator + Copy> Hour<A> {
         requires { length steps.now ≤ most_steps }
         ensures { IfOk result (λ hour. hour ≡ steps.now) }
     {
-        let mut kept = Vec::with_capacity(alloc, steps.len())?;
+        let mut in_range_steps = Vec::with_capacity(alloc, steps.len())?;
         for step in steps {
-            kept.push(step.in_range())?;
+            in_range_steps.push(step.in_range())?;
         }
-        let buys = Ladder::of(alloc, kept.as_slice(), Side::Buy)?;
-        let sells = Ladder::of(alloc, kept.as_slice(), Side::Sell)?;
+        let buys = Ladder::of(alloc, in_range_steps.as_slice(), Side::Buy)?;
+        let sells = Ladder::of(alloc, in_range_steps.as_slice(), Side::Sell)?;
         Ok(Hour {
-            steps: kept,
+            steps: in_range_steps,
             buys,
             sells,
         })

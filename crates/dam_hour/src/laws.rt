@@ -45,7 +45,7 @@ pub fn balance()
         → IsWithinOffers steps net → IsBalanced steps net }
 {}
 
-/// Of steps whose limits and volumes are in range: if an execution balances, there is a best one, and
+/// For steps whose limits and volumes are in range: if an execution balances, there is a best one, and
 /// there are a least and a greatest supporting price.
 pub fn existence()
     ensures ends { (steps : List Step) (net : ℤ)
@@ -65,7 +65,7 @@ pub fn uniqueness()
         → IsBest steps net xs → IsBest steps net ys → xs ≡ ys }
 {}
 
-/// Which case of the period's price applies, and that the price lies between the ends.
+/// The cases of the period's price, of which one applies; the price lies between the ends.
 pub fn price()
     ensures between { (low high : ℤ) → low ≤ℤ high
         → (low ≤ℤ price_between low high) × (price_between low high ≤ℤ high) }
@@ -138,17 +138,6 @@ pub fn joining()
         ≡ executed_volume side first xs + executed_volume side second ys }
     ensures welfare { (first second : List Step) (xs ys : List ℕ) → IsExecution first xs
         → welfare_of (first ++ second) (xs ++ ys) ≡ welfare_of first xs +ℤ welfare_of second ys }
-{}
-
-/// With steps after them, the greatest welfare is at least the sum of two: the greatest welfare of
-/// the first steps at one net volume, and the welfare of any execution of the others that makes up
-/// the difference to the whole net volume.
-pub fn extension()
-    ensures { (steps others : List Step) (net first u : ℤ) (ys : List ℕ)
-        → greatest_welfare steps first ≡ Some u
-        → IsExecution others ys → Balances others (net -ℤ first) ys
-        → (w : ℤ) × (greatest_welfare (steps ++ others) net ≡ Some w)
-        × ((u +ℤ welfare_of others ys) ≤ℤ w) }
 {}
 
 /// The price of the period supports the best execution: no hourly order loses at it, and none that is

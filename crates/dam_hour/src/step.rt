@@ -19,7 +19,7 @@ pub struct Step {
 }
 
 impl Step {
-    /// How many cents better than the price the limit is: 0 at the price, below 0 if it is worse.
+    /// The cents by which the limit is better than the price: 0 at the price, below 0 if it is worse.
     pub(crate) fn margin(self, price: Price) -> i32
         ensures value { result ≡ margin_at self price }
         ensures at_least { neg_ℤ (pos price_span) ≤ℤ result }

@@ -7,23 +7,23 @@ use crate::hour::Hour;
 use dam_book::{Price, Side};
 use std::alloc::Allocator;
 
-/// The executed volumes of one side at a price, in tenths of a MW.
+/// The range of the volumes that one side may execute at a price, in tenths of a MW.
 #[derive(Clone, Copy)]
-pub(crate) struct Bounds {
+pub(crate) struct VolumeRange {
     /// The volume that is better than the price, and so executed in full.
     pub(crate) least: u64,
     /// The volume that is not worse than the price.
     pub(crate) most: u64,
 }
 
-impl Bounds {
-    pub(crate) fn of<A: Allocator>(hour: &Hour<A>, side: Side, price: Price) -> Bounds
+impl VolumeRange {
+    pub(crate) fn of<A: Allocator>(hour: &Hour<A>, side: Side, price: Price) -> VolumeRange
         ensures least { result.least ≡ better_volume side price hour.now }
         ensures most { result.most
             ≡ better_volume side price hour.now + at_volume side price hour.now }
         ensures small { result.most ≤ most_steps * greatest_volume }
     {
-        Bounds {
+        VolumeRange {
             least: hour.better(side, price).volume,
             most: hour.not_worse(side, price),
         }

@@ -17,7 +17,7 @@ pub const CLEAR: &str = "clear";
 /// The command that runs the commands of a journal as a day with participants, and prints its journal and its results.
 pub const DAY: &str = "day";
 
-/// How the program gets its journal.
+/// The way in which the program gets its journal.
 const USAGE: &str = "dam replay < JOURNAL
        dam clear [OPTIONS] < JOURNAL
        dam day [OPTIONS] < JOURNAL";

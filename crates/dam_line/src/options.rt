@@ -15,7 +15,7 @@ pub struct NumberOption {
     pub help: &'static str,
 }
 
-/// How many workers search.
+/// The number of workers.
 pub const WORKERS: NumberOption = NumberOption {
     name: "workers",
     least: 1,
@@ -26,7 +26,7 @@ pub const WORKERS: NumberOption = NumberOption {
     help: "Search with N workers at the same time, from 1 to 8",
 };
 
-/// How many blocks the cutting decides.
+/// The number of blocks that the cutting decides.
 pub const CUT: NumberOption = NumberOption {
     name: "cut",
     least: 0,
@@ -37,7 +37,7 @@ pub const CUT: NumberOption = NumberOption {
     help: "Split the search into 2^K pieces by the decisions on the first K blocks, from 0 to 8",
 };
 
-/// How many nodes of one piece may be visited.
+/// The most nodes of one piece that may be visited.
 pub const NODES: NumberOption = NumberOption {
     name: "nodes",
     least: 1,

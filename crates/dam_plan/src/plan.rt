@@ -10,8 +10,12 @@ pub const MOST_WORKERS: u8 = 8;
 /// The greatest number of blocks that the cutting decides, which makes 256 pieces.
 pub const MOST_CUT: u8 = 8;
 
+/// A number of nodes. A search over n blocks visits at most 2^(n+1) - 1 nodes, so with a `u32` a book has at most 31
+/// blocks.
+pub type Nodes = u32;
+
 /// The greatest number of nodes that may be visited in one piece.
-pub const MOST_NODES: u32 = 67_108_864;
+pub const MOST_NODES: Nodes = 67_108_864;
 
 /// How a search is shared out: how many workers explore the pieces, how many of the first blocks
 /// the cutting decides, and how many nodes of one piece may be visited.
@@ -22,7 +26,7 @@ pub const MOST_NODES: u32 = 67_108_864;
 pub struct Plan {
     workers: u8,
     cut: u8,
-    nodes: u32,
+    nodes: Nodes,
 }
 
 impl Model for Plan {
@@ -41,7 +45,7 @@ impl Model for Plan {
 impl Plan {
     /// The plan of these numbers, or `None` if one is outside its limits: 1 to `MOST_WORKERS`, 0
     /// to `MOST_CUT` and 1 to `MOST_NODES`.
-    pub fn new(workers: u8, cut: u8, nodes: u32) -> Option<Plan>
+    pub fn new(workers: u8, cut: u8, nodes: Nodes) -> Option<Plan>
         ensures { SomeIff result
             (IsPlan (record { workers = workers; cut = cut; nodes = nodes }))
             (record { workers = workers; cut = cut; nodes = nodes }) }
@@ -66,7 +70,7 @@ impl Plan {
         self.workers
     }
 
-    /// How many of the first blocks the cutting decides, if there are that many.
+    /// The number of first blocks that the cutting decides, if there are that many.
     pub fn cut(self) -> u8
         ensures value { result ≡ self.cut }
         ensures valid { IsPlan self }
@@ -83,8 +87,8 @@ impl Plan {
         usize::from(self.cut).min(blocks)
     }
 
-    /// How many nodes of one piece may be visited.
-    pub fn nodes(self) -> u32
+    /// The most nodes of one piece that may be visited.
+    pub fn nodes(self) -> Nodes
         ensures value { result ≡ self.nodes }
         ensures valid { IsPlan self }
     {

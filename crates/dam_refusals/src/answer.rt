@@ -142,7 +142,7 @@ impl fmt::Display for Answer {
 #[derive(Clone, Copy, PartialEq, Eq)]
 pub struct Told {
     pub answer: Answer,
-    /// How many calls were refused memory.
+    /// The number of calls that were refused memory.
     pub refused: u32,
 }
 

@@ -12,7 +12,7 @@ use std::alloc::Global;
 use std::sync::atomic::{AtomicU32, Ordering};
 use std::thread::Threads;
 
-/// How many pieces were begun, and how many were ended.
+/// The numbers of pieces that were begun and that were ended.
 #[derive(Drop)]
 struct Pieces {
     begun: AtomicU32,
@@ -37,7 +37,7 @@ impl Pieces {
         }
     }
 
-    /// How many pieces were ended, if no worker is at one.
+    /// The number of pieces that were ended, if no worker is at one.
     fn all_ended(&self) -> Option<u32> {
         let ended = self.ended.load(Ordering::SeqCst);
         if self.begun.load(Ordering::SeqCst) == ended {

@@ -1,5 +1,4 @@
 //! The calls at a gate, each made again if memory was refused to it.
-ghost use Rattle.std.specs.Prelude.{◌≡◌};
 
 use crate::answer::{Stop, TRIES};
 use dam_book::{Command, Entry, Name, Participant};
@@ -11,7 +10,7 @@ use std::sync::Wait;
 #[derive(Drop)]
 pub struct Round<J: GateName> {
     passes: Vec<Pass<J>>,
-    /// How many calls were refused memory.
+    /// The number of calls that were refused memory.
     pub refused: u32,
 }
 

@@ -12,7 +12,7 @@ use std::alloc::Global;
 use std::marker::Brand;
 use std::sync::Wait;
 
-/// How many entries a journal has room for before its close.
+/// The entries that a journal has room for before its close.
 const BEFORE_CLOSE: u32 = 9_999;
 
 /// A sell order, by this participant under this name.

@@ -3,16 +3,19 @@
 ghost use Rattle.std.specs.Prelude.{◌≡◌, ◌+◌, ◌++◌, ◌∷◌, [], ℕ, List, length, IfOk, OnOk};
 ghost use Rattle.dam_book.specs.declared.command.Command.{Command};
 
-use dam_book::{Command, DayLength, Seed};
+use dam_book::{Command, DayLength};
 use std::alloc::{AllocError, Global};
 
 /// A value made of the commands of a journal, one after another.
 pub trait FromJournal: Drop {
+    /// The seed by which its book hashes names: `Seed`, or `()` if it has no book.
+    type Seed: Drop;
+
     /// The value is made from these commands in a day of this many periods.
     ghost made_of: { ℕ → List Command → Self → Type 0 };
 
-    /// The value of no commands. A book in it hashes names by the seed.
-    fn begin(alloc: Global, seed: Seed, periods: DayLength) -> Result<Self, AllocError>
+    /// The value of no commands.
+    fn begin(alloc: Global, seed: Self::Seed, periods: DayLength) -> Result<Self, AllocError>
         ensures { IfOk result (made_of periods []) };
 
     /// Takes the command of the entry of this number, counted from 1.

@@ -15,14 +15,14 @@ use crate::limits::{MOST_BYTES, MOST_RECORDS};
 use crate::nine_fields::{NineFields, field_of};
 use crate::record::{read_command, read_day};
 use crate::records::{Field, Records};
-use dam_book::{Command, DayLength, Seed};
+use dam_book::{Command, DayLength};
 use std::alloc::{AllocError, Global};
 use thiserror::Error;
 
 /// The content of a journal's text.
 #[derive(Debug, Drop)]
 pub struct JournalRead {
-    /// How many periods the delivery day has.
+    /// The number of periods of the delivery day.
     pub periods: DayLength,
     pub commands: Vec<Command>,
 }
@@ -30,10 +30,12 @@ pub struct JournalRead {
 impl FromJournal for JournalRead {
     ghost use Rattle.std.specs.Prelude.{◌≡◌};
 
+    type Seed = ();
+
     ghost made_of = { λ periods commands journal.
         (journal.periods ≡ periods) × (journal.commands.items ≡ commands) };
 
-    fn begin(alloc: Global, _seed: Seed, periods: DayLength) -> Result<JournalRead, AllocError> {
+    fn begin(alloc: Global, _seed: (), periods: DayLength) -> Result<JournalRead, AllocError> {
         Ok(JournalRead {
             periods,
             commands: Vec::new(alloc),
@@ -168,12 +170,12 @@ fn take_record<T: FromJournal>(
         (λ fault. (fault ≡ JournalFault.Memory)
         ⊎ IsRecordFault (number + 1) (fields_of fields.now) fault) }
 {
-    let place = number as usize + 1;
-    let row = later_row(place, fields)?;
+    let record_number = number as usize + 1;
+    let row = later_row(record_number, fields)?;
     // Lent, not moved: a command has room for the volumes of a block.
     match &read_command(&row) {
         Ok(command) => made.take(number, command)?,
-        Err(field) => return Err(JournalFault::BadField(place, *field)),
+        Err(field) => return Err(JournalFault::BadField(record_number, *field)),
     }
     Ok(())
 }
@@ -198,7 +200,7 @@ fn take_records<T: FromJournal>(made: &mut T, records: &mut Records) -> Result<(
 /// The value that all the records make, with the record of the day first.
 fn read_records<T: FromJournal>(
     alloc: Global,
-    seed: Seed,
+    seed: T::Seed,
     records: &mut Records,
 ) -> Result<T, JournalFault>
     ensures { MatchResult result
@@ -212,7 +214,7 @@ fn read_records<T: FromJournal>(
     Ok(made)
 }
 
-fn read_text<T: FromJournal>(alloc: Global, seed: Seed, text: &[u8]) -> Result<T, JournalFault>
+fn read_text<T: FromJournal>(alloc: Global, seed: T::Seed, text: &[u8]) -> Result<T, JournalFault>
     ensures ok { IfOk result (IsMadeFrom T.made_of text.now) }
     ensures fault { IfErr result (IsJournalFault text.now) }
 {
@@ -223,7 +225,11 @@ fn read_text<T: FromJournal>(alloc: Global, seed: Seed, text: &[u8]) -> Result<T
 
 /// The value that the journal in a text makes, or the first fault of the text. The records past the first faulty one
 /// aren't kept.
-pub fn read_into<T: FromJournal>(alloc: Global, seed: Seed, text: &[u8]) -> Result<T, JournalFault>
+pub fn read_into<T: FromJournal>(
+    alloc: Global,
+    seed: T::Seed,
+    text: &[u8],
+) -> Result<T, JournalFault>
     ensures ok { IfOk result (IsMadeFrom T.made_of text.now) }
     ensures fault { IfErr result (IsJournalFault text.now) }
 
@@ -250,6 +256,5 @@ pub fn read_journal(alloc: Global, text: &[u8]) -> Result<JournalRead, JournalFa
         (λ journal. (journal.periods ≡ periods) × (journal.commands.items ≡ commands))
         (λ fault. fault ≡ JournalFault.Memory) }
 {
-    // A book isn't made, so the seed is never used.
-    read_into(alloc, Seed::fixed(), text)
+    read_into(alloc, (), text)
 }

@@ -1,10 +1,10 @@
 //! The texts that the auction reads and prints, and the published results of a selection of blocks.
 //!
-//! A journal's text is read into its commands (`read_journal`), its book (`book_of_text`), its book and the number of
-//! commands that the book refused (`run_of_text`), the replies to its commands (`replay_text`), or another value made
-//! of its commands one by one (`read_into`). Each returns the first fault if the text isn't a journal. `results` finds
-//! the published results of an eligible selection; `results_text`, `replies_text`, `journal_text`,
-//! `packed_journal_text` and `JournalWriter` write.
+//! A journal's text is read into its commands (`read_journal`, `read_packed_journal`), its book (`book_of_text`), its
+//! book and the number of commands that the book refused (`run_of_text`), the replies to its commands (`replay_text`),
+//! or another value made of its commands one by one (`read_into`). Each returns the first fault if the text isn't a
+//! journal. `results` finds the published results of an eligible selection; `results_text`, `replies_text`,
+//! `journal_text`, `packed_journal_text` and `JournalWriter` write.
 //!
 //! ```
 //! let book = book_of_text(alloc, Seed::fixed(), text)?;
@@ -28,6 +28,7 @@ mod lines;
 pub mod market;
 mod nine_fields;
 mod outcome;
+mod packed;
 mod publish;
 mod published;
 pub mod publishing_laws;
@@ -35,6 +36,7 @@ mod record;
 mod records;
 mod replay;
 mod replies;
+mod run;
 pub mod spelling_laws;
 mod text;
 mod writer;
@@ -42,9 +44,11 @@ mod writer;
 pub use from_journal::FromJournal;
 pub use journal::{JournalFault, JournalRead, read_into, read_journal};
 pub use limits::{MOST_BYTES, MOST_RECORDS};
+pub use packed::{PackedJournal, read_packed_journal};
 pub use publish::results;
 pub use published::{PeriodResult, Results, RowResult};
-pub use replay::{Run, book_of_text, replay_text, run_of_text, run_text};
+pub use replay::{replay_commands, replay_text};
 pub use replies::{replies_text, write_reply_line};
+pub use run::{Run, book_of_text, run_of_text};
 pub use text::results_text;
 pub use writer::{JournalWriter, journal_text, packed_journal_text};

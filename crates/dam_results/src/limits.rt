@@ -1,3 +1,5 @@
+//! The limits of a journal's text.
+
 use dam_book::MOST_ENTRIES;
 
 /// The greatest number of bytes in a journal's text.

@@ -1,4 +1,4 @@
-ghost use Rattle.std.specs.Prelude.{◌≡◌, ◌≢◌, ◌<◌, ◌^◌, ℕ, [], ◌∷◌, true, false, codes, decimal, drop, IfSome, MatchOption, MatchResult};
+ghost use Rattle.std.specs.Prelude.{◌≡◌, ◌≢◌, ◌<◌, [], ◌∷◌, true, false, codes, decimal, drop, IfSome, MatchOption, MatchResult};
 ghost use Rattle.dam_book.specs.Period.{IsPeriod};
 ghost use Rattle.dam_book.specs.Quantity.{IsQuantity};
 ghost use Rattle.std.specs.Str.{bytes_eq};

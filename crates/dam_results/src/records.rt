@@ -9,7 +9,7 @@ ghost use Rattle.dam_results.specs.inside.Reader.{bytes_of, fields_of, rows_left
 
 use std::alloc::{AllocError, Global};
 
-/// How many fields of a record are kept: one more than a valid record has, which shows that it has too many.
+/// The most fields of a record that are kept: one more than a valid record has, which shows that it has too many.
 const MOST_KEPT: usize = 10;
 
 /// A field of a record.

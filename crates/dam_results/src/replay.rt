@@ -1,54 +1,23 @@
-//! The runs of a journal's commands: their books, and their replies as text.
+//! The replay of commands: the text of the replies in their run.
 
-ghost use Rattle.std.specs.Prelude.{◌≡◌, ◌++◌, ◌<◌, ◌^◌, ℕ, List, true, length, IfOk, IfErr, OnOk, MatchResult};
+ghost use Rattle.std.specs.Prelude.{◌≡◌, ◌++◌, ◌<◌, ◌^◌, ℕ, List, length, IfOk, IfErr, OnOk, MatchResult};
 ghost use Rattle.std.specs.List.{flat_map};
-ghost use Rattle.dam_book.specs.Book.{book_after, entries_from, reply_to, run};
+ghost use Rattle.dam_book.specs.Book.{book_after, entries_from, reply_to};
 ghost use Rattle.dam_book.specs.declared.command.Command.{Command};
 ghost use Rattle.dam_results.specs.Journal.{IsMadeFrom, ReadsAs};
 ghost use Rattle.dam_results.specs.Faults.{IsJournalFault};
 ghost use Rattle.dam_results.specs.Replies.{AreReplies, day_line, entry_line, reply_line};
 ghost use Rattle.dam_results.specs.Replies;
-ghost use Rattle.dam_results.specs.Run.{HasRefused, IsRun};
 
 use crate::from_journal::FromJournal;
 use crate::journal::{JournalFault, read_into};
 use crate::lines::write_day;
 use crate::replies::write_reply_line;
 use dam_book::laws::runs_grow;
-use dam_book::{Book, Command, DayLength, Reply, Seed};
+use dam_book::{Book, Command, DayLength, Seed};
 use std::alloc::{AllocError, Allocator, Global};
 
-/// The run of a journal's commands.
-#[derive(Drop)]
-pub struct Run {
-    /// The book that they make.
-    pub book: Book,
-    /// How many of them the book refused.
-    pub refused: u32,
-}
-
-impl FromJournal for Run {
-    ghost use Rattle.std.specs.Prelude.{◌≡◌, ◌≤◌, length};
-    ghost use Rattle.dam_results.specs.Run.{HasRefused, IsRun};
-
-    ghost made_of = { λ periods commands run. IsRun periods commands run.book
-        × HasRefused periods commands run.refused × (run.refused ≤ length commands) };
-
-    fn begin(alloc: Global, seed: Seed, periods: DayLength) -> Result<Run, AllocError> {
-        let book = Book::for_day(alloc, periods, seed);
-        Ok(Run { book, refused: 0 })
-    }
-
-    fn take(&mut self, _number: u32, command: &Command) -> Result<(), AllocError> {
-        runs_grow();
-        if let Reply::Refused(_) = self.book.apply(command)? {
-            self.refused = self.refused.saturating_add(1);
-        }
-        Ok(())
-    }
-}
-
-/// A run so far: its book, and the text of its replies.
+/// The replay so far: the book of the run, and the text of its replies.
 #[derive(Drop)]
 struct Replay<A: Allocator = Global, B: Allocator = Global> {
     book: Book<A>,
@@ -96,6 +65,8 @@ impl FromJournal for Replay {
     ghost use Rattle.dam_results.specs.Replies.{AreReplies};
     ghost use Rattle.dam_results.specs.Run.{IsRun};
 
+    type Seed = Seed;
+
     ghost made_of = { λ periods commands replay.
         IsRun periods commands replay.book × AreReplies periods commands replay.text.items };
 
@@ -109,11 +80,11 @@ impl FromJournal for Replay {
     }
 }
 
-/// The replies text of the run of the commands on a book, as `replies_text` writes it, without a list
-/// of its entries: each reply is written as it is given.
+/// The replies text of the run of the commands on a book, as `replies_text` writes it, without a list of its entries:
+/// each reply is written as it is given.
 ///
 /// An `Err` comes only if memory ran out; the book is then gone.
-pub fn run_text<A: Allocator + Copy, B: Allocator>(
+pub fn replay_commands<A: Allocator + Copy, B: Allocator>(
     alloc: B,
     book: Book<A>,
     commands: &[Command],
@@ -143,32 +114,4 @@ pub fn replay_text(alloc: Global, seed: Seed, text: &[u8]) -> Result<Vec<u8>, Jo
 {
     let replay: Replay = read_into(alloc, seed, text)?;
     Ok(replay.text)
-}
-
-/// The run of a journal, from its text, or the first fault of the text.
-///
-/// Each command is applied as it is read, and no list of them is kept. The book hashes names by the seed.
-pub fn run_of_text(alloc: Global, seed: Seed, text: &[u8]) -> Result<Run, JournalFault>
-    ensures ok { IfOk result (λ run. (periods : ℕ) × (commands : List Command)
-        × ReadsAs text.now periods commands
-        × IsRun periods commands run.book × HasRefused periods commands run.refused) }
-    ensures fault { IfErr result (IsJournalFault text.now) }
-{
-    read_into(alloc, seed, text)
-}
-
-/// The book that the commands of a journal make of the empty one of its day, from the journal's text, or
-/// the first fault of the text.
-///
-/// Each command is applied as it is read, and no list of them is kept. The book hashes names by the seed.
-pub fn book_of_text(alloc: Global, seed: Seed, text: &[u8]) -> Result<Book, JournalFault>
-    ensures ok { IfOk result (IsMadeFrom IsRun text.now) }
-    ensures fault { IfErr result (IsJournalFault text.now) }
-
-    // A journal is run, unless memory runs out.
-    ensures exact { (periods : ℕ) (commands : List Command) → ReadsAs text.now periods commands
-        → MatchResult result (IsRun periods commands) (λ fault. fault ≡ JournalFault.Memory) }
-{
-    let run: Run = read_into(alloc, seed, text)?;
-    Ok(run.book)
 }

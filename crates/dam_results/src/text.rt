@@ -1,3 +1,5 @@
+//! The results text, written from the results.
+
 ghost use Rattle.std.specs.Prelude.{◌≡◌, ◌++◌, codes, IfOk, OnOk};
 ghost use Rattle.std.specs.Fmt.{signed_decimal};
 ghost use Rattle.dam_results.specs.Published.{welfare_line, period_line, acceptance_word, row_result_line};

@@ -7,7 +7,7 @@ pub mod LastBlock
 pub mod Answers
 pub mod Sums
 pub mod Rule
-pub mod Shares
+pub mod Seats
 pub mod Opens
 pub mod FirstNode
 pub mod Rooms

@@ -15,7 +15,7 @@ use Rattle.dam_bound.specs.Relaxed.{without_rows}
 use Rattle.dam_bound.specs.Open.{is_among, IsOpen, AreFree}
 use Rattle.dam_bound.proofs.Opening.{among_rest, accepts_here, accepts_there, still_free, open_accepted, open_rejected, accepted_open, rejected_open, more_gains, not_among}
 use Rattle.dam_bound.specs.Prices.{most_of, IsPriceBound}
-use Rattle.dam_search.specs.declared.piece.Progress.{Progress}
+use Rattle.dam_search.specs.declared.piece.WalkState.{WalkState}
 use Rattle.dam_search.specs.Piece.{IsMatched, Rises, welfare_found}
 use Rattle.dam_search.specs.inside.Collect.{IsLong}
 use Rattle.dam_search.specs.inside.Conflicts.{AcceptsAll, AcceptsNone}
@@ -245,7 +245,7 @@ covers_either first problem taken rejected place left best read node one other s
 -- ---- whole walks
 
 -- nothing is found
-pub walked_nothing : (problem : ProblemState) (taken : List Bool) (left : List ℕ) (read offer : ℕ) (found : Progress) → IsReady read offer found
+pub walked_nothing : (problem : ProblemState) (taken : List Bool) (left : List ℕ) (read offer : ℕ) (found : WalkState) → IsReady read offer found
     → CoversOpen problem taken left found.best found.read → IsWalkedOpen problem taken left offer read offer found found
 walked_nothing problem taken left read offer found ready covers = record {
   finds = finds_none problem taken left found.best;
@@ -256,7 +256,7 @@ walked_nothing problem taken left read offer found ready covers = record {
 }
 
 -- the value was read again, and nothing is found
-pub walked_over : (problem : ProblemState) (taken : List Bool) (left : List ℕ) (read offer read' offer' : ℕ) (before now : Progress)
+pub walked_over : (problem : ProblemState) (taken : List Bool) (left : List ℕ) (read offer read' offer' : ℕ) (before now : WalkState)
     → IsReady read offer before → now.best ≡ before.best → before.read ≤ now.read → now.read ≡ read' → offer' ≡ offer
     → CoversOpen problem taken left now.best now.read → IsWalkedOpen problem taken left offer read' offer' before now
 walked_over problem taken left read offer read' offer' before now ready same more told kept covers = record {
@@ -272,7 +272,7 @@ walked_over problem taken left read offer read' offer' before now ready same mor
 
 -- both decisions
 pub walked_both : (first : Bool) (problem : ProblemState) (taken rejected : List Bool) (place : ℕ) (left : List ℕ)
-    (read₀ offer₀ read₁ offer₁ read₂ offer₂ : ℕ) (a b c : Progress) → IsTransitive → IsNode taken rejected (place ∷ left) → IsReady read₀ offer₀ a
+    (read₀ offer₀ read₁ offer₁ read₂ offer₂ : ℕ) (a b c : WalkState) → IsTransitive → IsNode taken rejected (place ∷ left) → IsReady read₀ offer₀ a
     → IsWalkedOpen problem (with_if first taken place) left offer₀ read₁ offer₁ a b
     → IsWalkedOpen problem (with_if (not first) taken place) left offer₁ read₂ offer₂ b c
     → IsWalkedOpen problem taken (place ∷ left) offer₀ read₂ offer₂ a c
@@ -352,7 +352,7 @@ pub with_rows : (problem relaxed : ProblemState) (taken : List Bool) (w : ℤ) �
 with_rows problem relaxed taken w same e = subst (λ (p : ProblemState). selection_welfare p taken ≡ Some w) same e
 
 -- it is found
-pub walked_leaf : (problem : ProblemState) (taken : List Bool) (read offer read' offer' : ℕ) (before after : Progress) (best : Best)
+pub walked_leaf : (problem : ProblemState) (taken : List Bool) (read offer read' offer' : ℕ) (before after : WalkState) (best : Best)
     → length taken ≡ most_blocks → IsReady read offer before → after.best ≡ Some best → after.read ≡ before.read → best.selection ≡ taken
     → IsEligible problem taken (pos best.welfare) → Rises before.best (Some best) → read' ≡ read → offer' ≡ max offer best.welfare
     → IsWalkedOpen problem taken [] offer read' offer' before after

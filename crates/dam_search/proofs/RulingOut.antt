@@ -14,9 +14,6 @@ use Rattle.dam_bound.specs.Limits.{AreLimits}
 use Rattle.dam_bound.specs.declared.limits.Limit.{Limit}
 use Rattle.dam_bound.specs.declared.limits.Limits.{Limits}
 use Rattle.dam_search.specs.declared.conflicts.Conflicts.{Conflicts}
-use Rattle.dam_bound.specs.Open.{IsOpen, IsBetween}
-use Rattle.dam_search.proofs.Opens.{accepts_taken, accepts_none_rejected}
-use Rattle.dam_search.specs.inside.PriceWalk.{IsNode}
 use Rattle.dam_search.specs.inside.Conflicts.{AcceptsAll, AcceptsNone, Needs, IsNeededBy, Excludes, AreConflicts, IsSetOf, are_two_of_group, is_other_of_group}
 use Rattle.dam_search.proofs.Sets.{accepts-none, passes_test}
 
@@ -222,15 +219,3 @@ limits_with_rows problem priced limits same are = record {
         keeps = λ sel w e. is.keeps sel w (subst (λ (p : ProblemState). IsEligible p sel w) (sym same) (with_rows_eligible problem sel w e));
       });
 }
-
--- ---- nodes without an eligible selection, by prices
-pub ruled_out : (problem priced : ProblemState) (taken rejected selection : List Bool) (left : List ℕ) (w : ℤ) → priced ≡ without_rows problem
-    → IsNode taken rejected left
-    → ((sel : List Bool) (v : ℤ) → IsEligible priced sel v → IsBetween taken rejected sel → ⊥)
-    → IsOpen taken left selection → IsEligible problem selection w → ⊥
-ruled_out problem priced taken rejected selection left w same node none opened e =
-    none selection w (subst (λ (p : ProblemState). IsEligible p selection w) (sym same) (with_rows_eligible problem selection w e))
-    (record {
-      all_taken = accepts_taken taken left selection node.free opened;
-      none_rejected = accepts_none_rejected taken rejected left selection node opened;
-    })

@@ -3,5 +3,5 @@ pub mod Walk
 pub mod Conflicts
 pub mod PriceWalk
 pub mod Order
-pub mod Share
+pub mod Seats
 pub mod Collect

@@ -1,74 +1,31 @@
-ghost use Rattle.std.specs.Prelude.{◌≡◌, ◌≤◌, max, ℕ, pos, true, [], IfOk, IsErrOf};
+//! The search on the calling thread alone.
+
+ghost use Rattle.std.specs.Prelude.{◌≡◌, ℕ, pos, true, IfOk, IsErrOf};
 ghost use Rattle.dam_blocks.specs.Result.{IsResult};
 ghost use Rattle.dam_bound.specs.Relaxed.{without_rows};
 ghost use Rattle.dam_search.specs.Answer.{IsReached};
-ghost use Rattle.dam_search.specs.Piece.{IsSound, welfare_found};
 ghost use Rattle.dam_search.specs.Search.{IsUnfinished, LimitHasNeeded};
-ghost use Rattle.dam_search.specs.inside.Collect.{IsWorked};
 
-use crate::answer::PieceAnswer;
+use crate::collect::collected;
 use crate::conflicts::Conflicts;
 use crate::explorer::{ByPrices, Explorer, can_bind};
 use crate::fault::SearchFault;
 use crate::first::first_selection;
 use crate::incumbent::{Incumbent, Private};
-use crate::laws;
 use crate::order::order_of;
 use crate::prices::Prices;
-use crate::space::{SearchSpace, kept};
+use crate::space::SearchSpace;
 use dam_blocks::{Best, Problem};
 use dam_bound::{ClassCurves, Relaxed};
+use dam_plan::Nodes;
 use std::alloc::Global;
-
-/// The selection that a finished walk over the one piece found, if this welfare was offered before it.
-fn only_best(problem: &Problem, first: u64, answer: &PieceAnswer) -> Best
-    requires piece { answer.now.piece ≡ 0 }
-    requires sound { IsSound problem.now [] answer.now.best answer.now.read answer.now.done }
-    requires done { answer.now.done ≡ true }
-    requires first { IsReached problem.now first }
-    requires read { answer.now.read ≤ max first (welfare_found answer.now.best) }
-    ensures { IsResult problem.now result.selection (pos result.welfare) }
-{
-    laws::collecting();
-    kept(problem);
-    match answer.best {
-        Some(best) => best,
-        None => unreachable!(),
-    }
-}
-
-/// The result of the walk over the one piece, or its fault, if this welfare was offered before it.
-fn concluded(
-    problem: &Problem,
-    first: u64,
-    nodes: u32,
-    answer: &PieceAnswer,
-) -> Result<Best, SearchFault>
-    requires worked { IsWorked problem.now 0 nodes answer.now }
-    requires first { IsReached problem.now first }
-    requires read { answer.now.read ≤ max first (welfare_found answer.now.best) }
-    ensures ok { IfOk result (λ best. IsResult problem.now best.selection (pos best.welfare)) }
-    ensures unfinished { (piece visited : ℕ)
-        → IsErrOf result (SearchFault.Unfinished piece visited)
-        → IsUnfinished problem.now 0 nodes piece visited }
-    ensures needed { IfOk result (λ best. LimitHasNeeded problem.now 0 nodes best.welfare) }
-    ensures whole { (piece : ℕ) → ¬ (IsErrOf result (SearchFault.Collected piece)) }
-{
-    if !answer.done {
-        return Err(SearchFault::Unfinished {
-            piece: answer.piece,
-            visited: answer.visited,
-        });
-    }
-    Ok(only_best(problem, first, answer))
-}
 
 /// The result of the explorer's problem, if this welfare is offered first.
 fn searched_alone<E: Explorer>(
     problem: &Problem,
     explorer: &E,
     first: u64,
-    nodes: u32,
+    nodes: Nodes,
 ) -> Result<Best, SearchFault>
     requires same { E.explored explorer.now ≡ problem.now }
     requires suits { E.suits explorer.now 0 nodes ≡ true }
@@ -83,7 +40,7 @@ fn searched_alone<E: Explorer>(
     let mut incumbent = Private::new();
     incumbent.offer(first);
     let answer = explorer.explore(0, 0, nodes, &mut incumbent);
-    concluded(problem, first, nodes, &answer)
+    collected(problem, 0, nodes, &[answer])
 }
 
 /// The result of the problem, by the explorer that suits the limit.
@@ -91,7 +48,7 @@ fn search_alone_with<P: Prices>(
     alloc: Global,
     problem: &Problem,
     prices: &P,
-    nodes: u32,
+    nodes: Nodes,
 ) -> Result<Best, SearchFault>
     requires { P.problem prices.now ≡ without_rows problem.now }
     ensures ok { IfOk result (λ best. IsResult problem.now best.selection (pos best.welfare)) }
@@ -123,8 +80,8 @@ fn search_alone_with<P: Prices>(
 /// words. It is for callers that can't start threads.
 ///
 /// It finds the result of `search`, whose clauses it has for a plan that cuts nothing. The whole search
-/// is piece 0. If it needs more than `nodes` nodes, it is unfinished; 67,108,864 are enough for any problem.
-pub fn search_alone(alloc: Global, problem: &Problem, nodes: u32) -> Result<Best, SearchFault>
+/// is piece 0. If it needs more than `nodes` nodes, it is unfinished; `MOST_NODES` are enough for any problem.
+pub fn search_alone(alloc: Global, problem: &Problem, nodes: Nodes) -> Result<Best, SearchFault>
     ensures ok { IfOk result (λ best. IsResult problem.now best.selection (pos best.welfare)) }
     ensures unfinished { (piece visited : ℕ)
         → IsErrOf result (SearchFault.Unfinished piece visited)

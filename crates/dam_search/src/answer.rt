@@ -1,4 +1,5 @@
 use dam_blocks::Best;
+use dam_plan::Nodes;
 
 /// The answer of a walk over one piece.
 ///
@@ -13,9 +14,9 @@ pub struct PieceAnswer {
     /// The greatest value that was read of the incumbent on the way, in cents per MWh times tenths
     /// of a MW; 0 if nothing was read.
     pub read: u64,
-    /// How many nodes were visited: those whose bound was compared with the incumbent read, and selections whose welfare
+    /// The nodes visited: those whose bound was compared with the incumbent read, and selections whose welfare
     /// was looked at. No clause bounds it for a walk by prices.
-    pub visited: u32,
+    pub visited: Nodes,
     /// Whether no node is left to visit. It is false only if `visited` is the limit.
     pub done: bool,
 }

@@ -1,4 +1,4 @@
-ghost use Rattle.std.specs.Prelude.{◌≡◌, ◌⊎◌, ◌<◌, ◌≤◌, ◌^◌, ℕ, pos, [], length, All};
+ghost use Rattle.std.specs.Prelude.{◌≡◌, ◌⊎◌, ◌<◌, ◌≤◌, ◌^◌, ℕ, pos, length, All};
 ghost use Rattle.std.specs.Prelude.{MatchOption, IfOk, IsErrOf};
 ghost use Rattle.dam_blocks.specs.Result.{IsResult};
 ghost use Rattle.dam_plan.specs.Limits.{most_cut};
@@ -13,9 +13,9 @@ use crate::answer::PieceAnswer;
 use crate::fault::SearchFault;
 use crate::laws;
 use crate::piece::surpasses;
-use crate::space::kept;
+use crate::space::use_invariant;
 use dam_blocks::{Best, Problem};
-use dam_plan::MOST_CUT;
+use dam_plan::{MOST_CUT, Nodes};
 use std::alloc::Allocator;
 
 /// The most pieces that a search is cut into.
@@ -30,7 +30,7 @@ pub(crate) fn pieces(depth: usize) -> u32
     1 << depth
 }
 
-/// How many answers there are about each piece, of which there are at most 256.
+/// The number of answers about each piece, of which there are at most 256.
 fn counts_of(answers: &[PieceAnswer]) -> [usize; MOST_PIECES]
     requires { All (λ a. a.piece < most_pieces) answers.now }
     ensures { AreCounts answers.now result }
@@ -115,7 +115,7 @@ fn highest(answers: &[PieceAnswer]) -> Option<Best>
 pub(crate) fn collected<A: Allocator>(
     problem: &Problem<A>,
     depth: usize,
-    nodes: u32,
+    nodes: Nodes,
     answers: &[PieceAnswer],
 ) -> Result<Best, SearchFault>
     requires depth { depth ≤ length problem.now.blocks }
@@ -129,7 +129,7 @@ pub(crate) fn collected<A: Allocator>(
         → IsUnfinished problem.now depth nodes piece visited }
 {
     laws::collecting();
-    kept(problem);
+    use_invariant(problem);
     if let Some(piece) = first_faulty(answers, pieces(depth)) {
         return Err(SearchFault::Collected { piece });
     }

@@ -13,7 +13,7 @@ use dam_book::MOST_BLOCKS;
 use dam_bound::Limits;
 use std::alloc::Allocator;
 
-/// Which decisions on blocks rule each other out, by links, by exclusive groups, by prices and by net volumes. A search asks
+/// Decisions that rule each other out, by links, by exclusive groups, by prices and by net volumes. A search asks
 /// for them at each of its nodes, so they are made once, as sets of places and as limits.
 #[derive(Drop)]
 pub(crate) struct Conflicts {

@@ -18,6 +18,7 @@ use crate::prices::Prices;
 use crate::space::SearchSpace;
 use crate::walk::explore_by_prices;
 use dam_blocks::Problem;
+use dam_plan::Nodes;
 use std::alloc::Allocator;
 
 /// A way to explore the pieces of a problem's cutting.
@@ -34,7 +35,7 @@ pub trait Explorer {
         &self,
         piece: u32,
         depth: usize,
-        nodes: u32,
+        nodes: Nodes,
         incumbent: &mut I,
     ) -> PieceAnswer
         requires suits { suits self.now depth nodes ≡ true }
@@ -61,15 +62,15 @@ impl<A: Allocator, B: Allocator> Explorer for SearchSpace<'_, A, B> {
         &self,
         piece: u32,
         depth: usize,
-        nodes: u32,
+        nodes: Nodes,
         incumbent: &mut I,
     ) -> PieceAnswer {
         search_piece(self.problem, self.relaxed, piece, depth, nodes, incumbent)
     }
 }
 
-/// How many nodes there are at most if this number of blocks is undecided.
-fn all_nodes(undecided: usize) -> u32
+/// The most nodes that there are if this number of blocks is undecided.
+fn all_nodes(undecided: usize) -> Nodes
     requires { undecided ≤ most_blocks }
     ensures { result ≡ all_nodes undecided }
 {
@@ -77,7 +78,7 @@ fn all_nodes(undecided: usize) -> u32
 }
 
 /// Whether the limit on nodes can bind: a piece of a cutting of this depth can have more nodes.
-pub(crate) fn can_bind<A: Allocator>(problem: &Problem<A>, depth: usize, nodes: u32) -> bool
+pub(crate) fn can_bind<A: Allocator>(problem: &Problem<A>, depth: usize, nodes: Nodes) -> bool
     requires { depth ≤ length problem.now.blocks }
     ensures { result ≡ nat_lt nodes (all_nodes (length problem.now.blocks - depth)) }
 {
@@ -114,7 +115,7 @@ impl<A: Allocator, P: Prices> Explorer for ByPrices<'_, A, P> {
         &self,
         piece: u32,
         depth: usize,
-        _nodes: u32,
+        _nodes: Nodes,
         incumbent: &mut I,
     ) -> PieceAnswer {
         explore_by_prices(

@@ -1,3 +1,4 @@
+use dam_plan::Nodes;
 use std::alloc::AllocError;
 use thiserror::Error;
 
@@ -21,8 +22,8 @@ pub enum SearchFault {
     Unfinished {
         /// The least such piece, from 0. That it is the least is only tested.
         piece: u32,
-        /// How many nodes of it were visited: the plan's limit.
-        visited: u32,
+        /// The number of its nodes that were visited: the plan's limit.
+        visited: Nodes,
     },
 }
 

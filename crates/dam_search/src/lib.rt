@@ -1,7 +1,7 @@
 //! The search for the best selection of blocks: its pieces, and the workers that explore them.
 //!
 //! ```
-//! let plan = Plan::new(2, 3, 67_108_864)?; // workers, depth of the cutting, nodes of a piece
+//! let plan = Plan::new(2, 3, MOST_NODES)?; // workers, depth of the cutting, nodes of a piece
 //! let best = search(rt, alloc, &problem, plan, &FreeTurn)?;
 //! ```
 //!
@@ -42,7 +42,7 @@ mod workers;
 
 pub use alone::search_alone;
 pub use answer::PieceAnswer;
-pub use dam_plan::{FreeTurn, MOST_CUT, MOST_NODES, MOST_WORKERS, Plan, Turnstile};
+pub use dam_plan::{FreeTurn, MOST_CUT, MOST_NODES, MOST_WORKERS, Nodes, Plan, Turnstile};
 pub use explorer::Explorer;
 pub use fault::SearchFault;
 pub use first::first_selection;

@@ -1,25 +1,26 @@
-ghost use Rattle.std.specs.Prelude.{◌≡◌, ◌⊎◌, ◌-◌, ◌^◌, ◌<◌, ◌≤◌, max, ℕ, pos, true, false, Some};
-ghost use Rattle.std.specs.Prelude.{[], length, IsTrue, ◌↔◌, MatchBool, MatchOption};
-ghost use Rattle.dam_blocks.specs.Selection.{choice, IsAdmissible, padded};
+ghost use Rattle.std.specs.Prelude.{◌≡◌, ◌⊎◌, ◌-◌, ◌^◌, ◌<◌, ◌≤◌, max, pos, true, false, Some};
+ghost use Rattle.std.specs.Prelude.{length, IsTrue, ◌↔◌, MatchBool, MatchOption};
+ghost use Rattle.dam_blocks.specs.Selection.{choice};
 ghost use Rattle.dam_bound.specs.Relaxed.{without_rows, relaxed_welfare, reaches};
-ghost use Rattle.dam_search.specs.Piece.{IsFind, IsMatched, Rises, welfare_found, IsSound, IsSpent};
+ghost use Rattle.dam_search.specs.Piece.{IsMatched, Rises, welfare_found, IsSound, IsSpent};
 ghost use Rattle.dam_search.specs.inside.Walk.{Finds, Covers, IsGoing, IsWalked};
 
 use crate::answer::PieceAnswer;
 use crate::incumbent::Incumbent;
 use crate::prefix::Prefix;
-use crate::space::{SearchSpace, kept};
+use crate::space::{SearchSpace, use_invariant};
 use dam_blocks::{Best, Problem, Verdict, ranks_above, score};
 use dam_bound::Relaxed;
+use dam_plan::Nodes;
 use std::alloc::Allocator;
 
 /// The state of a walk: its finding, reads and visits so far.
 #[derive(Drop)]
-pub(crate) struct Progress {
+pub(crate) struct WalkState {
     pub(crate) best: Option<Best>,
     /// The greatest value read.
     pub(crate) read: u64,
-    pub(crate) visited: u32,
+    pub(crate) visited: Nodes,
 }
 
 /// Whether the candidate ranks above the selection found.
@@ -60,7 +61,7 @@ impl<A: Allocator, B: Allocator> SearchSpace<'_, A, B> {
 
     /// Takes the selection of a prefix that decides every block, and offers its welfare, if it is eligible, has at
     /// least the welfare that was read, and is the best so far.
-    fn try_selection<I: Incumbent>(&self, prefix: &Prefix, incumbent: &mut I, found: &mut Progress)
+    fn try_selection<I: Incumbent>(&self, prefix: &Prefix, incumbent: &mut I, found: &mut WalkState)
         requires full { length self.now.problem.now.blocks ≡ length prefix.now }
         requires offered { welfare_found found.old.best ≤ I.greatest_offer incumbent.old }
         ensures finds { Finds self.now.problem.now prefix.now found.old.best found.new.best }
@@ -74,7 +75,7 @@ impl<A: Allocator, B: Allocator> SearchSpace<'_, A, B> {
     {
         dam_blocks::laws::verdict();
         dam_bound::laws::completions();
-        kept(self.problem);
+        use_invariant(self.problem);
         let selection = prefix.selection();
         let Verdict::Eligible(welfare) = score(self.problem, selection) else {
             return;
@@ -96,10 +97,10 @@ impl<A: Allocator, B: Allocator> SearchSpace<'_, A, B> {
     /// order of ties counts: 'accepted' comes first in it, and is explored first.
     fn walk<I: Incumbent>(
         &self,
-        nodes: u32,
+        nodes: Nodes,
         prefix: &Prefix,
         incumbent: &mut I,
-        found: &mut Progress,
+        found: &mut WalkState,
     ) -> bool
         requires depth { length prefix.now ≤ length self.now.problem.now.blocks }
         requires going { IsGoing self.now.problem.now nodes
@@ -149,7 +150,7 @@ pub fn search_piece<A: Allocator, B: Allocator, I: Incumbent>(
     relaxed: &Relaxed<B>,
     piece: u32,
     depth: usize,
-    nodes: u32,
+    nodes: Nodes,
     incumbent: &mut I,
 ) -> PieceAnswer
     requires same { relaxed.now ≡ without_rows problem.now }
@@ -173,9 +174,9 @@ pub fn search_piece<A: Allocator, B: Allocator, I: Incumbent>(
     ensures unread { (result.visited ≡ 0) ⊎ (depth ≡ length problem.now.blocks)
         → result.read ≡ 0 }
 {
-    kept(problem);
+    use_invariant(problem);
     let space = SearchSpace { problem, relaxed };
-    let mut found = Progress {
+    let mut found = WalkState {
         best: None,
         read: 0,
         visited: 0,

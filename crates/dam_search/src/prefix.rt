@@ -1,10 +1,10 @@
-ghost use Rattle.std.specs.Prelude.{◌≡◌, ◌^◌, ◌+◌, ◌-◌, ◌<◌, ◌≤◌, true, false};
+ghost use Rattle.std.specs.Prelude.{◌≡◌, ◌^◌, ◌+◌, ◌-◌, ◌<◌, ◌≤◌, false};
 ghost use Rattle.std.specs.Prelude.{List, Bool, [], ◌∷◌, ◌++◌, length, take, IsTrue, ◌↔◌};
 ghost use Rattle.dam_book.specs.Limits.{most_blocks};
 ghost use Rattle.dam_blocks.specs.Selection.{choice, padded, IsAdmissible};
 ghost use Rattle.dam_bound.specs.Prefix.{IsCompletion};
 
-use crate::space::kept;
+use crate::space::use_invariant;
 use dam_blocks::{Problem, Selection, admissible};
 use std::alloc::Allocator;
 use std::marker::Model;
@@ -43,7 +43,7 @@ impl Prefix {
         }
     }
 
-    /// How many blocks are decided.
+    /// The number of decided blocks.
     pub(crate) fn depth(&self) -> usize
         ensures value { result ≡ length self.now }
         ensures few { result ≤ most_blocks }
@@ -82,7 +82,7 @@ impl Prefix {
             → ¬ (IsAdmissible problem.now.blocks sel) }
     {
         dam_blocks::laws::fronts();
-        kept(problem);
+        use_invariant(problem);
         admissible(problem, self.taken)
     }
 }

@@ -5,7 +5,6 @@ ghost use Rattle.dam_blocks.specs.Selection.{accepts};
 ghost use Rattle.dam_blocks.specs.Eligible.{selection_welfare, ArePrices, HasNoLoss, IsEligible};
 ghost use Rattle.dam_bound.specs.ClassPrices.{AreClassPrices};
 ghost use Rattle.dam_bound.specs.Limits.{AreLimits};
-ghost use Rattle.dam_bound.specs.Open.{IsBetween};
 ghost use Rattle.dam_bound.specs.Prices.{IsPriceBound};
 
 use dam_blocks::Selection;
@@ -46,12 +45,6 @@ pub trait Prices {
             → ArePrices (problem self.now).blocks selection 1 (problem self.now).hours day
             → (result ≡ false) ↔ HasNoLoss (problem self.now).blocks selection day };
 
-    /// Whether no eligible selection accepts every block that is taken and none that is rejected. It may be `false` even then.
-    fn rules_out(&self, taken: Selection, rejected: Selection) -> bool
-        ensures { result ≡ true → (selection : List Bool) (w : ℤ)
-            → IsEligible (problem self.now) selection w
-            → IsBetween taken rejected selection → ⊥ };
-
     /// Whether one of two blocks loses at the prices of any selection that accepts both, so that no eligible one does. It
     /// may be `false` even then.
     fn are_rivals(&self, sell: usize, buy: usize) -> bool
@@ -85,10 +78,6 @@ impl<A: Allocator, B: Allocator> Prices for ClassCurves<'_, A, B> {
 
     fn has_loss(&self, selection: Selection, prices: &ClassPrices) -> bool {
         self.has_loss(selection, prices)
-    }
-
-    fn rules_out(&self, taken: Selection, rejected: Selection) -> bool {
-        self.rules_out(taken, rejected)
     }
 
     fn are_rivals(&self, sell: usize, buy: usize) -> bool {

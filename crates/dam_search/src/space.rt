@@ -15,7 +15,7 @@ pub(crate) struct SearchSpace<'a, A: Allocator, B: Allocator> {
 }
 
 /// The invariant of a problem, for proofs: the call computes nothing.
-pub(crate) fn kept<A: Allocator>(problem: &Problem<A>)
+pub(crate) fn use_invariant<A: Allocator>(problem: &Problem<A>)
     ensures { IsProblem problem.now }
 {
     let _periods = problem.periods();

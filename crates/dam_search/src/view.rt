@@ -5,19 +5,19 @@ use std::marker::Model;
 
 /// The knowledge of a seat. A value of it is never made: it exists only in proofs.
 pub struct View {
-    /// How many pieces there are.
+    /// The number of pieces.
     pub ghost pieces: { ℕ },
 
     /// The pieces that it drew, in the order of its draws.
     pub ghost drawn: { List ℕ },
 
-    /// How often it drew past the last piece.
+    /// The number of its draws past the last piece.
     pub ghost draws_past_the_end: { ℕ },
 
     /// Itself and the seats that were joined into it.
     pub ghost seats: { ℕ },
 
-    /// How many seats may still be split off it.
+    /// The number of seats that may still be split off it.
     pub ghost seats_left: { ℕ },
 
     /// The greatest welfare that it offered, 0 if it offered none.

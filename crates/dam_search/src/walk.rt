@@ -15,16 +15,16 @@ use crate::answer::PieceAnswer;
 use crate::conflicts::Conflicts;
 use crate::incumbent::Incumbent;
 use crate::node::Node;
-use crate::piece::{Progress, equals, surpasses};
+use crate::piece::{WalkState, equals, surpasses};
 use crate::prices::Prices;
 use crate::root::{bound_of_piece, room_of_piece};
-use crate::space::kept;
+use crate::space::use_invariant;
 use dam_blocks::{Best, Problem, Selection, admissible, ranks_above};
 use dam_bound::{ClassPrices, PriceBound, Room};
 use std::alloc::Allocator;
 
-/// How many places must be left for a node to get prices of its own.
-const EXAMINED: usize = 8;
+/// The least number of places left for which a node gets prices of its own.
+const EXAMINED: usize = 10;
 
 /// The input of a walk by prices.
 #[derive(Drop)]
@@ -45,7 +45,7 @@ fn reaches(bound: i64, value: u64) -> bool
 
 /// The selection with its welfare, if that is at least the value read and the selection, if it is eligible, is the best
 /// so far. The welfare of an eligible selection is never below 0.
-fn candidate(selection: Selection, welfare: i64, found: &Progress) -> Option<Best>
+fn candidate(selection: Selection, welfare: i64, found: &WalkState) -> Option<Best>
     ensures none { IfNone result
         ((welfare <ℤ pos found.now.read) ⊎ IsMatched welfare selection found.now.best) }
     ensures some { IfSome result (λ b. (b.selection ≡ selection) × (pos b.welfare ≡ welfare)
@@ -67,7 +67,7 @@ fn candidate(selection: Selection, welfare: i64, found: &Progress) -> Option<Bes
 
 /// Whether a node is passed over, since no open selection can change the find: its bound is less than the value read,
 /// or it is the welfare of the selection found, and no open selection ranks above that one in the order of ties.
-fn is_passed(node: &Node, found: &Progress) -> bool
+fn is_passed(node: &Node, found: &WalkState) -> bool
     requires { IsNode node.now.taken node.now.rejected node.now.left.now }
     ensures passed { result ≡ true → (selection : List Bool) (w : ℤ)
         → IsOpen node.now.taken node.now.left.now selection → w ≤ℤ node.now.bound
@@ -99,7 +99,7 @@ impl<A: Allocator, P: Prices> PriceWalk<'_, A, P> {
         taken: Selection,
         prices: &PriceBound,
         incumbent: &mut I,
-        found: &mut Progress,
+        found: &mut WalkState,
     )
         requires long { length taken ≡ most_blocks }
         requires fits { found.old.read < 2 ^ 63 }
@@ -115,7 +115,7 @@ impl<A: Allocator, P: Prices> PriceWalk<'_, A, P> {
     {
         dam_blocks::laws::ranking();
         dam_bound::laws::prices();
-        kept(self.problem);
+        use_invariant(self.problem);
         let mut own = ClassPrices::empty();
         let Some(welfare) = self
             .prices
@@ -162,7 +162,7 @@ impl<A: Allocator, P: Prices> PriceWalk<'_, A, P> {
         prices: &PriceBound,
         room: &Room,
         incumbent: &mut I,
-        found: &mut Progress,
+        found: &mut WalkState,
     )
         requires node { IsNode node.now.taken node.now.rejected node.now.left.now }
         requires bounded { IsBounded (P.problem self.now.prices.now) prices.now
@@ -187,9 +187,6 @@ impl<A: Allocator, P: Prices> PriceWalk<'_, A, P> {
             self.branch(node, prices, room, incumbent, found);
             return;
         }
-        if self.prices.rules_out(node.taken, node.rejected) {
-            return;
-        }
         self.examine(node, prices, room, incumbent, found);
     }
 
@@ -204,7 +201,7 @@ impl<A: Allocator, P: Prices> PriceWalk<'_, A, P> {
         prices: &PriceBound,
         room: &Room,
         incumbent: &mut I,
-        found: &mut Progress,
+        found: &mut WalkState,
     )
         requires node { IsNode node.now.taken node.now.rejected node.now.left.now }
         requires bounded { IsBounded (P.problem self.now.prices.now) prices.now
@@ -249,7 +246,7 @@ impl<A: Allocator, P: Prices> PriceWalk<'_, A, P> {
         prices: &PriceBound,
         room: &Room,
         incumbent: &mut I,
-        found: &mut Progress,
+        found: &mut WalkState,
     )
         requires node { IsNode node.now.taken node.now.rejected node.now.left.now }
         requires bounded { IsBounded (P.problem self.now.prices.now) prices.now
@@ -288,7 +285,7 @@ impl<A: Allocator, P: Prices> PriceWalk<'_, A, P> {
         prices: &PriceBound,
         room: &Room,
         incumbent: &mut I,
-        found: &mut Progress,
+        found: &mut WalkState,
     )
         requires split { node.now.left.now ≡ place ∷ left.now }
         requires node { IsNode node.now.taken node.now.rejected node.now.left.now }
@@ -364,7 +361,7 @@ pub(crate) fn explore_by_prices<A: Allocator, P: Prices, I: Incumbent>(
     ensures kept { I.kept incumbent.new ≡ I.kept incumbent.old }
 {
     dam_blocks::laws::fronts();
-    kept(problem);
+    use_invariant(problem);
     let taken = Selection::choice(depth, piece);
     if !admissible(problem, taken) {
         return PieceAnswer {
@@ -392,7 +389,7 @@ pub(crate) fn explore_by_prices<A: Allocator, P: Prices, I: Incumbent>(
         left: order,
         bound: most,
     };
-    let mut found = Progress {
+    let mut found = WalkState {
         best: None,
         read: incumbent.read(),
         visited: 0,

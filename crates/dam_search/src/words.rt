@@ -84,7 +84,7 @@ pub(crate) fn new_words(alloc: Global, pieces: u32) -> Result<(Words, Seat), All
 /// The contents of the two words at the close.
 #[derive(Clone, Copy, PartialEq, Eq, Debug)]
 pub(crate) struct ClosedWords {
-    /// How many draws there were.
+    /// The number of draws.
     pub(crate) draws: u64,
     /// The greatest welfare that was offered.
     pub(crate) offered: u64,

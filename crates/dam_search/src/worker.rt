@@ -1,4 +1,4 @@
-ghost use Rattle.std.specs.Prelude.{◌≡◌, ◌^◌, ◌≤◌, true, [], length, IfOk, IfErr};
+ghost use Rattle.std.specs.Prelude.{◌≡◌, ◌^◌, ◌≤◌, true, length, IfOk, IfErr};
 ghost use Rattle.dam_search.specs.Answer.{greatest_found};
 ghost use Rattle.dam_search.specs.Work.{IsFresh, AreAnswersOf};
 ghost use Rattle.dam_search.specs.Words.{view_of};
@@ -6,7 +6,7 @@ ghost use Rattle.dam_search.specs.Words.{view_of};
 use crate::answer::PieceAnswer;
 use crate::explorer::Explorer;
 use crate::shared::Shared;
-use dam_plan::Turnstile;
+use dam_plan::{Nodes, Turnstile};
 use std::alloc::{AllocError, Allocator};
 
 /// A worker's whole share of a search: it explores each piece that it draws, until a draw finds
@@ -24,7 +24,7 @@ pub fn work<A: Allocator, E: Explorer, T: Turnstile>(
     alloc: A,
     explorer: &E,
     depth: usize,
-    nodes: u32,
+    nodes: Nodes,
     seat: &mut Shared,
     turnstile: &T,
 ) -> Result<Vec<PieceAnswer, A>, AllocError>

@@ -7,7 +7,7 @@ ghost use Rattle.dam_plan.specs.Limits.{most_workers, most_cut};
 ghost use Rattle.dam_search.specs.Answer.{IsReached};
 ghost use Rattle.dam_search.specs.Search.{IsUnfinished, LimitHasNeeded};
 ghost use Rattle.dam_search.specs.Words.{view_of};
-ghost use Rattle.dam_search.specs.inside.Share.{IsNewSeat, IsShare, AreJoined, AreWhole};
+ghost use Rattle.dam_search.specs.inside.Seats.{IsNewSeat, IsWorkedSeat, AreJoined, AreWhole};
 
 use crate::answer::PieceAnswer;
 use crate::collect::{collected, pieces};
@@ -24,14 +24,14 @@ use crate::words::{ClosedWords, close, new_words};
 use crate::worker::work;
 use dam_blocks::{Best, Problem};
 use dam_bound::{ClassCurves, Relaxed};
-use dam_plan::{Plan, Turnstile};
+use dam_plan::{Nodes, Plan, Turnstile};
 use std::alloc::{AllocError, Global};
 use std::thread;
 use std::thread::Threads;
 
 /// A worker's seat after its work, and its answers.
 #[derive(Drop)]
-pub(crate) struct Share<'a> {
+pub(crate) struct WorkedSeat<'a> {
     seat: Shared<'a>,
     answers: Result<Vec<PieceAnswer>, AllocError>,
 }
@@ -43,7 +43,7 @@ pub(crate) struct Task<'a, E: Explorer> {
     pub(crate) problem: &'a Problem,
     pub(crate) explorer: &'a E,
     pub(crate) depth: usize,
-    pub(crate) nodes: u32,
+    pub(crate) nodes: Nodes,
     pub(crate) workers: u8,
     /// The welfare that is offered before any worker starts.
     pub(crate) first: u64,
@@ -75,13 +75,13 @@ fn seats_for<'a>(
 }
 
 /// A worker's work at its seat.
-fn share_of<'a, E: Explorer, T: Turnstile>(
+fn worked_seat<'a, E: Explorer, T: Turnstile>(
     task: &Task<E>,
     turnstile: &T,
     seat: Shared<'a>,
-) -> Share<'a>
+) -> WorkedSeat<'a>
     requires new { IsNewSeat seat.seat.table_id (2 ^ task.now.depth) seat }
-    ensures { IsShare task.now.problem.now task.now.depth task.now.nodes
+    ensures { IsWorkedSeat task.now.problem.now task.now.depth task.now.nodes
         seat.entry.seat.table_id result }
 {
     let mut seat = seat;
@@ -93,7 +93,7 @@ fn share_of<'a, E: Explorer, T: Turnstile>(
         &mut seat,
         turnstile,
     );
-    Share { seat, answers }
+    WorkedSeat { seat, answers }
 }
 
 /// Runs the workers, each on a thread of its own if threads can be made.
@@ -102,22 +102,22 @@ fn work_all<'a, R: Threads + Sync, E: Explorer + Sync, T: Turnstile + Sync>(
     task: &Task<E>,
     turnstile: &T,
     seats: Vec<Shared<'a>>,
-) -> Result<Vec<Share<'a>>, AllocError>
+) -> Result<Vec<WorkedSeat<'a>>, AllocError>
     requires new { All (λ s. IsNewSeat s.seat.table_id (2 ^ task.now.depth) s) seats.items }
-    ensures many { IfOk result (λ shares. vec_len shares ≡ vec_len seats.entry) }
-    ensures shares { (table : TableId)
+    ensures many { IfOk result (λ worked. vec_len worked ≡ vec_len seats.entry) }
+    ensures worked { (table : TableId)
         → All (λ s. IsNewSeat table (2 ^ task.now.depth) s) seats.entry.items
-        → IfOk result (λ shares. All (λ s. IsShare task.now.problem.now task.now.depth
-        task.now.nodes table s) shares.items) }
+        → IfOk result (λ worked. All (λ s. IsWorkedSeat task.now.problem.now task.now.depth
+        task.now.nodes table s) worked.items) }
 {
     thread::map_vec(
         rt,
         seats,
-        &|seat: Shared| -> Share
+        &|seat: Shared| -> WorkedSeat
             requires { IsNewSeat seat.seat.table_id (2 ^ task.now.depth) seat }
-            ensures { IsShare task.entry.now.problem.now task.entry.now.depth
+            ensures { IsWorkedSeat task.entry.now.problem.now task.entry.now.depth
                 task.entry.now.nodes seat.entry.seat.table_id result }
-        { share_of(task, turnstile, seat) },
+        { worked_seat(task, turnstile, seat) },
     )
 }
 
@@ -126,23 +126,23 @@ fn work_all<'a, R: Threads + Sync, E: Explorer + Sync, T: Turnstile + Sync>(
 fn gathered<'a, E: Explorer>(
     task: &Task<E>,
     first: &mut Shared<'a>,
-    mut shares: Vec<Share<'a>>,
+    mut worked: Vec<WorkedSeat<'a>>,
     mut answers: Vec<PieceAnswer>,
 ) -> Result<Vec<PieceAnswer>, AllocError>
     requires empty { answers.items ≡ [] }
     requires undrawn { (view_of first.old.seat).drawn ≡ [] }
-    requires shares { All (λ s. IsShare task.now.problem.now task.now.depth task.now.nodes
-        first.old.seat.table_id s) shares.items }
+    requires worked { All (λ s. IsWorkedSeat task.now.problem.now task.now.depth task.now.nodes
+        first.old.seat.table_id s) worked.items }
     ensures table { first.new.seat.table_id ≡ first.old.seat.table_id }
     ensures joined { IfOk result (λ answers.
         AreJoined task.now.problem.now task.now.depth task.now.nodes (view_of first.old.seat)
-        (vec_len shares.entry) (view_of first.new.seat) answers.items) }
+        (vec_len worked.entry) (view_of first.new.seat) answers.items) }
 {
-    while let Some(share) = shares.pop() {
-        let Share {
+    while let Some(worked_seat) = worked.pop() {
+        let WorkedSeat {
             seat,
             answers: found,
-        } = share;
+        } = worked_seat;
         first.join(seat);
         answers.extend_from_slice(&found?)?;
     }
@@ -170,8 +170,8 @@ fn shared_out<'a, R: Threads + Sync, E: Explorer + Sync, T: Turnstile + Sync>(
 {
     let answers = Vec::with_capacity(task.alloc, first.pieces() as usize)?;
     let seats = seats_for(first, task.alloc, task.workers)?;
-    let shares = work_all(rt, task, turnstile, seats)?;
-    gathered(task, first, shares, answers)
+    let worked = work_all(rt, task, turnstile, seats)?;
+    gathered(task, first, worked, answers)
 }
 
 /// The answers of all workers, and the contents of the words when they were closed.

@@ -1,7 +1,7 @@
 -- What a journal's file stands for while lines are written after a gate, the gate is opened, or the end is repaired.
-use Rattle.std.proofs.Common.{◌≡◌, inl, inr, ℕ, zero, suc, ◌+◌, ◌-◌, ◌<◌, ◌≤◌, ◌==◌, ◌&&◌, nat_lt, replicate, true, false, not, List, [], ◌∷◌, ◌++◌, Some, None, length, take, drop, slice_index, refl, sym, ap, ◌∙◌, subst, arith, append_assoc, length-append, length-drop, append-nil, take-append-drop}
-use Rattle.std.proofs.lemmas.Bool.{or_parts, or_from, or_cases, not-true, or_left, or_right, and_cases, both_ways, cases_lt, cases_Bool, cond-true, cond-false, eqb-true, lt-ltb, le-ltb}
-use Rattle.std.proofs.lemmas.List.{drop_at, drop_all, take_at, drop-drop, drop_more, get_or_past, take_rest, length-take-le}
+use Rattle.std.proofs.Common.{◌≡◌, inl, inr, ℕ, zero, suc, ◌+◌, ◌-◌, ◌<◌, ◌≤◌, ◌==◌, nat_lt, replicate, true, false, not, List, [], ◌∷◌, ◌++◌, Some, None, length, take, drop, slice_index, refl, sym, ap, ◌∙◌, subst, arith, append_assoc, length-append, length-drop, append-nil, take-append-drop}
+use Rattle.std.proofs.lemmas.Bool.{or_parts, or_from, or_cases, not-true, or_left, or_right, both_ways, cases_lt, cases_Bool, cond-true, cond-false, eqb-true, lt-ltb, le-ltb}
+use Rattle.std.proofs.lemmas.List.{length-replicate, drop_at, drop_all, take_at, drop-drop, drop_more, take_rest, length-take-le}
 use Rattle.std.proofs.lemmas.Slice.Eq.{bytes_eq-Decides}
 use Rattle.std.specs.Str.{bytes_eq}
 use Rattle.sqlite_disk.specs.Disk.{Torn, Holds}
@@ -168,11 +168,9 @@ module _ (file : List ℕ) (end : ℕ) (lines : List (List ℕ)) (r : IsJournal 
 
   module _ (last : has_newline (drop (end + 1) file) ≡ false) where
     -- the gate is there
-    pub closed_at_rest : end < length file → slice_index file end ≡ 45 → IsAtRest file end lines
-    closed_at_rest within gate =
-        at_rest_from lines (drop (end + 1) file) file end
-        (r.split ∙ ap (λ (l : List ℕ). written lines ++ l) (drop_more file end 0 within
-        ∙ ap (λ (b : ℕ). b ∷ drop (end + 1) file) gate)) r.end_is r.whole last r.short
+    pub closed_at_rest : drop end file ≡ 45 ∷ drop (end + 1) file → IsAtRest file end lines
+    closed_at_rest gate =
+        at_rest_from lines (drop (end + 1) file) file end (r.split ∙ ap (λ (l : List ℕ). written lines ++ l) gate) r.end_is r.whole last r.short
 
     module _ (room : end < most_bytes) (c : List ℕ) (torn : Torn end 1 file c) where
       moved_end : Torn end 1 (written lines ++ drop end file) c
@@ -242,24 +240,24 @@ module _ (file : List ℕ) (end : ℕ) (lines : List (List ℕ)) (r : IsJournal 
           ∙ ap (λ (l : List ℕ). front ++ (blanks ++ l)) (drop_all n tail (omega (arith, length-drop (end + 1) file)))
           ∙ ap (λ (l : List ℕ). front ++ l) (append-nil blanks) ∙ ap (λ (l : List ℕ). l ++ blanks) (sym blank_take)
 
-    pub blank_journal : (blanks : List ℕ) → end + 1 + length blanks ≡ length file → has_newline blanks ≡ false
-        → IsJournal (take (end + 1) file ++ blanks) end lines × (has_newline (drop (end + 1) (take (end + 1) file ++ blanks)) ≡ false)
-    blank_journal blanks long none =
-        let new = take (end + 1) file ++ blanks in
-        let front = written lines ++ first ∷ [] in
-        let is : new ≡ front ++ blanks = ap (λ (l : List ℕ). l ++ blanks) blank_take in
-        let is_split : new ≡ written lines ++ first ∷ blanks = is ∙ append_assoc (written lines) (first ∷ []) blanks in
-        let rest : drop end new ≡ first ∷ blanks = ap (drop end) is_split ∙ drop_at (written lines) (first ∷ blanks) end (sym r.end_is) in
-        let after : drop (end + 1) new ≡ blanks = ap (drop (end + 1)) is ∙ drop_at front blanks (end + 1) (sym blank_length) in (
-          record {
-            split = is_split ∙ ap (λ (l : List ℕ). written lines ++ l) (sym rest);
-            end_is = r.end_is;
-            whole = r.whole;
-            shut = subst IsShut (sym rest) (inl no_mark);
-            short = omega (arith, ap length is, length-append front blanks, blank_length, r.short);
-          },
-          ap has_newline after ∙ none,
-        )
+    module _ (blanks : List ℕ) where
+      blank_split : take (end + 1) file ++ blanks ≡ written lines ++ first ∷ blanks
+      blank_split = ap (λ (l : List ℕ). l ++ blanks) blank_take ∙ append_assoc (written lines) (first ∷ []) blanks
+
+      blank_end : drop end (take (end + 1) file ++ blanks) ≡ first ∷ blanks
+      blank_end = ap (drop end) blank_split ∙ drop_at (written lines) (first ∷ blanks) end (sym r.end_is)
+
+      pub blank_rest : drop end (take (end + 1) file ++ blanks) ≡ take 1 (drop end file) ++ blanks
+      blank_rest = blank_end ∙ ap (λ (l : List ℕ). take 1 l ++ blanks) (sym end_split)
+
+      pub blank_journal : end + 1 + length blanks ≡ length file → IsJournal (take (end + 1) file ++ blanks) end lines
+      blank_journal long = record {
+        split = blank_split ∙ ap (λ (l : List ℕ). written lines ++ l) (sym blank_end);
+        end_is = r.end_is;
+        whole = r.whole;
+        shut = subst IsShut (sym blank_end) (inl no_mark);
+        short = omega (arith, ap length blank_split, length-append (written lines) (first ∷ blanks), r.end_is, r.short);
+      }
 
 pub newline_within : (n : ℕ) (bytes : List ℕ) → has_newline (drop n bytes) ≡ true → n < length bytes
 newline_within n bytes some = elim (cases_lt n (length bytes)) [
@@ -271,16 +269,13 @@ pub no_newline_in : (n byte : ℕ) → (byte == 10) ≡ false → has_newline (r
 no_newline_in zero byte other = refl
 no_newline_in (suc n) byte other = or_from (byte == 10) (has_newline (replicate n byte)) other (no_newline_in n byte other)
 
-pub no_gate : (bytes : List ℕ) (at : ℕ) → (nat_lt at (length bytes) && slice_index bytes at == 45) ≡ false
-    → (slice_index bytes at == 45) ≡ false
-no_gate bytes at none = elim (cases_lt at (length bytes)) [
-  | inl within ↦
-      elim (and_cases (nat_lt at (length bytes)) (slice_index bytes at == 45) none) [
-        | inl past ↦ absurd (both_ways (nat_lt at (length bytes)) past (lt-ltb at (length bytes) within))
-        | inr other ↦ other
-      ]
-  | inr past ↦ ap (λ (b : ℕ). b == 45) (get_or_past bytes at 0 past)
-]
+pub gate_first : (bytes : List ℕ) → (slice_index bytes 0 == 45) ≡ true → bytes ≡ 45 ∷ drop 1 bytes
+gate_first [] gate = absurd (both_ways (0 == 45) refl gate)
+gate_first (byte ∷ bytes) gate = ap (λ (b : ℕ). b ∷ bytes) (eqb-true byte 45 gate)
+
+-- of the bytes from the end of the lines on, those after the first
+pub after_end : (file rest : List ℕ) (end : ℕ) → drop end file ≡ rest → drop (end + 1) file ≡ drop 1 rest
+after_end file rest end same = sym (drop-drop 1 end file) ∙ ap (drop 1) same
 
 -- the bytes from a place on, where blanks were put
 pub blanks_are : (bytes new : List ℕ) (at : ℕ) → at ≤ length bytes → new ≡ take at bytes ++ replicate (length bytes - at) 32
@@ -379,3 +374,61 @@ ended_of file end journal room = record {
   short = journal.short;
   room = room;
 }
+
+-- blanks in place of the bytes after the first
+pub blanks_last : (rest new : List ℕ) → has_newline (drop 1 rest) ≡ true → new ≡ take 1 rest ++ replicate (length rest - 1) 32
+    → has_newline (drop 1 new) ≡ false
+blanks_last rest new some is =
+    let past : 1 < length rest = newline_within 1 rest some in
+    ap (λ (l : List ℕ). has_newline (drop 1 l)) is
+    ∙ ap has_newline (drop_at (take 1 rest) (replicate (length rest - 1) 32) 1 (length-take-le 1 rest (omega arith)))
+    ∙ no_newline_in (length rest - 1) 32 refl
+
+-- blanks are written over the bytes after the first of those from the end of the lines on, among which a newline is
+module _ (file rest : List ℕ) (end : ℕ) (ended : IsEndedAt file end) (same : drop end file ≡ rest) (some : has_newline (drop 1 rest) ≡ true) where
+  abbrev blanks : List ℕ
+  blanks = replicate (length rest - 1) 32
+
+  lined : IsJournal file end (lines_in file)
+  lined = journal_of file end ended
+
+  newline : has_newline (drop (end + 1) file) ≡ true
+  newline = ap has_newline (after_end file rest end same) ∙ some
+
+  past_one : 1 < length rest
+  past_one = newline_within 1 rest some
+
+  length_is : length file ≡ end + length rest
+  length_is = omega (arith, journal_length file end (lines_in file) lined, ap length same)
+
+  has_end : end < length file
+  has_end = omega (arith, length_is, past_one)
+
+  blanks_long : end + 1 + length blanks ≡ length file
+  blanks_long = omega (arith, length-replicate {A = ℕ} (length rest - 1) 32, length_is, past_one)
+
+  module _ (slice : List ℕ) (slice_is : slice ≡ blanks) (c : List ℕ) (torn : Torn (end + 1) (length slice) file c) where
+    slice_long : end + 1 + length slice ≡ length file
+    slice_long = omega (arith, ap length slice_is, blanks_long)
+
+    pub blanked_torn : StandsFor (lines_in file) c
+    blanked_torn = blank_torn file end (lines_in file) lined has_end newline (length slice) slice_long c torn
+
+    module _ (holds : Holds c (end + 1) slice) where
+      blanked_is : c ≡ take (end + 1) file ++ blanks
+      blanked_is = blank_seen file end (lines_in file) lined has_end newline (length slice) slice_long c torn slice refl holds
+          ∙ ap (λ (l : List ℕ). take (end + 1) file ++ l) slice_is
+
+      blanked_journal : IsJournal c end (lines_in file)
+      blanked_journal = subst (λ (l : List ℕ). IsJournal l end (lines_in file))
+          (sym blanked_is) (blank_journal file end (lines_in file) lined has_end newline blanks blanks_long)
+
+      pub blanked_lines : lines_in c ≡ lines_in file
+      blanked_lines = journal_lines c end (lines_in file) blanked_journal
+
+      pub blanked_ended : IsEndedAt c end
+      blanked_ended = ended_of c end (subst (IsJournal c end) (sym blanked_lines) blanked_journal) ended.room
+
+      pub blanked_rest : drop end c ≡ take 1 rest ++ blanks
+      blanked_rest = ap (drop end) blanked_is ∙ blank_rest file end (lines_in file) lined has_end newline blanks
+          ∙ ap (λ (l : List ℕ). take 1 l ++ blanks) same

@@ -1,10 +1,10 @@
-ghost use Rattle.std.specs.Prelude.{◌≡◌, ◌⊎◌, List, ℕ, true, false, not, IsTrue, IfOk, IfErr, OnOk};
+ghost use Rattle.std.specs.Prelude.{◌≡◌, ◌⊎◌, ◌≤◌, List, ℕ, length, drop, true, false, not, IsTrue, IfOk, IfErr, OnOk};
 ghost use Rattle.dam_store.specs.Journal.{stands_for, text_of, StandsFor};
 ghost use Rattle.dam_store.specs.Store.{disk_of, found_on, is_broken, held, IsSafe, IsTidy, IsUntouched};
 ghost use Rattle.dam_store.specs.Faults.{is_failed_read, is_failed_sync, is_failed_write, is_failure, is_refusal, IsRefused};
 ghost use Rattle.dam_store.specs.History.{Known, IsKnown, IsPossible};
-ghost use Rattle.dam_store.specs.inside.Shape.{IsEnd};
-ghost use Rattle.dam_store.specs.inside.Synced.{IsRead};
+ghost use Rattle.dam_store.specs.inside.Shape.{IsEnd, rest_of};
+ghost use Rattle.dam_store.specs.inside.Synced.{IsRest, IsSynced};
 ghost use Rattle.dam_store.specs.declared.fault.StoreFault.TheVariants.{Memory};
 ghost use Rattle.sqlite_disk.specs.Disk.{MoreFaults, Only};
 
@@ -16,11 +16,32 @@ use crate::text::{FileLines, file_lines};
 use sqlite_disk::Disk;
 use std::alloc::Global;
 
-/// Syncs the file, and reads it.
+/// Keeps only the bytes from `at` on, and gives the memory of the others back.
+fn keep_from(bytes: &mut Vec<u8>, at: usize)
+    requires { at ≤ length bytes.old.items }
+    ensures { bytes.new.items ≡ drop at bytes.old.items }
+{
+    let len = bytes.len() - at;
+    bytes.copy_within(at.., 0);
+    bytes.truncate(len);
+    bytes.shrink_to_fit();
+}
+
+/// Keeps only the bytes from the end of the lines on; all, if the file was never made whole.
+fn keep_rest(file: &mut Vec<u8>, end: Option<usize>)
+    requires { IsEnd file.old.items end }
+    ensures { file.new.items ≡ rest_of file.old.items end }
+{
+    if let Some(end) = end {
+        keep_from(file, end);
+    }
+}
+
+/// Syncs the file, and reads it. Returns the bytes from the end of its lines on, and the lines.
 fn read_synced<D: Disk>(alloc: Global, disk: &mut D) -> Result<(Vec<u8>, FileLines), StoreFault>
     requires usable { IsTrue (D.Disk.is_usable disk.old) }
-    ensures read { IfOk result (λ found. IsRead D.Disk disk.new found.0.items) }
-    ensures ends { IfOk result (λ found. IsEnd found.0.items found.1.end) }
+    ensures synced { OnOk result (IsSynced D.Disk disk.new) }
+    ensures rest { IfOk result (λ found. IsRest D.Disk disk.new found.1.end found.0.items) }
     ensures text { IfOk result (λ found. IsTrue (D.Disk.is_clean disk.new)
         → (lines : List (List ℕ)) × StandsFor lines (D.Disk.seen disk.old)
         × (found.1.text.items ≡ text_of lines)) }
@@ -40,8 +61,9 @@ fn read_synced<D: Disk>(alloc: Global, disk: &mut D) -> Result<(Vec<u8>, FileLin
         (λ fault. D.Disk.is_usable disk.new ≡ not (is_failed_sync fault)) }
 {
     disk.sync().map_err(StoreFault::Sync)?;
-    let bytes = read_file(alloc, disk)?;
+    let mut bytes = read_file(alloc, disk)?;
     let lines = file_lines(alloc, &bytes)?;
+    keep_rest(&mut bytes, lines.end);
     Ok((bytes, lines))
 }
 
@@ -78,10 +100,10 @@ impl<D: Disk> Found<D> {
             → IsTrue (D.Disk.is_clean disk)) }
     {
         match read_synced(alloc, &mut disk) {
-            Ok((bytes, lines)) => Ok(Found {
+            Ok((rest, lines)) => Ok(Found {
                 text: lines.text,
                 disk,
-                bytes,
+                rest,
                 end: lines.end,
             }),
             Err(why) => Err(Unopened { why, disk }),
@@ -126,7 +148,7 @@ impl<D: Disk> Found<D> {
             ≡ D.Disk.is_clean (found_on self)) }
     {
         let mut disk = self.disk;
-        match repair(&mut disk, self.end, self.bytes) {
+        match repair(&mut disk, self.end, self.rest) {
             Ok(end) => Ok(Store {
                 disk,
                 end,

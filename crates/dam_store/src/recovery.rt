@@ -1,8 +1,8 @@
-ghost use Rattle.std.specs.Prelude.{◌≡◌, ◌⊎◌, ◌+◌, ◌∷◌, ◌<◌, ◌≤◌, [], List, ℕ, false, true, not, None, ◌&&◌, ◌==◌, ◌-◌, ◌++◌, nat_lt, slice_index, length, take, drop, replicate, IsTrue, IfOk, IfErr, OnOk};
+ghost use Rattle.std.specs.Prelude.{◌≡◌, ◌⊎◌, ◌+◌, ◌∷◌, ◌<◌, ◌≤◌, [], List, ℕ, false, true, not, None, ◌==◌, ◌-◌, ◌++◌, slice_index, length, take, drop, replicate, IsTrue, IfOk, IfErr, OnOk};
 ghost use Rattle.dam_store.specs.Limits.{most_bytes};
 ghost use Rattle.dam_store.specs.Journal.{is_unmade, head_line, lines_in, stands_for, StandsFor};
-ghost use Rattle.dam_store.specs.inside.Shape.{has_newline, IsAtRest, IsEnd, IsEndedAt, IsJournal};
-ghost use Rattle.dam_store.specs.inside.Synced.{IsSynced, IsRead, IsOpened, CrashLeaves};
+ghost use Rattle.dam_store.specs.inside.Shape.{has_newline, IsAtRest};
+ghost use Rattle.dam_store.specs.inside.Synced.{IsSynced, IsRead, IsReadFrom, IsRest, IsOpened, CrashLeaves};
 ghost use Rattle.dam_store.specs.Faults.{is_failed_sync, is_failed_write, is_failure};
 ghost use Rattle.dam_store.specs.declared.fault.StoreFault.TheVariants.{Memory};
 ghost use Rattle.sqlite_disk.specs.Disk.{MoreFaults};
@@ -27,11 +27,11 @@ pub(crate) fn is_unmade(bytes: &[u8]) -> bool
     }
 }
 
-/// Whether the mark of a line that doesn't count yet is at `at`.
-fn has_gate(bytes: &[u8], at: usize) -> bool
-    ensures { result ≡ (nat_lt at (length bytes.now) && slice_index bytes.now at == 45) }
+/// Whether the bytes begin with the mark of a line that doesn't count yet.
+fn has_gate(bytes: &[u8]) -> bool
+    ensures { result ≡ (slice_index bytes.now 0 == 45) }
 {
-    at < bytes.len() && bytes[at] == b'-'
+    matches!(bytes, [b'-', ..])
 }
 
 fn has_newline_after(bytes: &[u8], at: usize) -> bool
@@ -56,7 +56,7 @@ fn begin<D: Disk>(disk: &mut D, bytes: &[u8]) -> Result<(), StoreFault>
     ensures usable { IfErr result
         (λ fault. D.Disk.is_usable disk.new ≡ not (is_failed_sync fault)) }
 {
-    if has_gate(bytes, 0) {
+    if has_gate(bytes) {
         return Ok(());
     }
     put(disk, 0, b"-")?;
@@ -98,15 +98,13 @@ fn clear_after(bytes: &mut Vec<u8>, at: usize) -> Result<(), AllocError>
 }
 
 /// Writes blanks over the bytes after the byte at `end`, if a newline is among them.
-fn blank<D: Disk>(disk: &mut D, end: usize, bytes: &mut Vec<u8>) -> Result<(), StoreFault>
-    requires read { IsRead D.Disk disk.old bytes.old.items }
-    requires journal { IsJournal bytes.old.items end (lines_in bytes.old.items) }
-    requires room { end < most_bytes }
-    ensures read { OnOk result (IsRead D.Disk disk.new bytes.new.items) }
-    ensures journal { OnOk result (IsJournal bytes.new.items end (lines_in bytes.new.items)) }
-    ensures lines { OnOk result (lines_in bytes.new.items ≡ lines_in bytes.old.items) }
-    ensures last { OnOk result (has_newline (drop (end + 1) bytes.new.items) ≡ false) }
-    ensures crash { CrashLeaves D.Disk disk.new (StandsFor (lines_in bytes.old.items)) }
+fn blank<D: Disk>(disk: &mut D, end: usize, rest: &mut Vec<u8>) -> Result<(), StoreFault>
+    requires { IsReadFrom D.Disk disk.old end rest.old.items }
+    ensures read { OnOk result (IsReadFrom D.Disk disk.new end rest.new.items) }
+    ensures lines { OnOk result (IsTrue (D.Disk.is_clean disk.new)
+        → lines_in (D.Disk.seen disk.new) ≡ lines_in (D.Disk.seen disk.old)) }
+    ensures last { OnOk result (has_newline (drop 1 rest.new.items) ≡ false) }
+    ensures crash { CrashLeaves D.Disk disk.new (StandsFor (lines_in (D.Disk.seen disk.old))) }
     ensures clean { D.Disk.is_clean disk.new ≡ D.Disk.is_clean disk.old }
     ensures faults { OnOk result (D.Disk.faults disk.new ≡ D.Disk.faults disk.old) }
     ensures failure { IfErr result (λ fault. is_failure fault ≡ true
@@ -116,24 +114,22 @@ fn blank<D: Disk>(disk: &mut D, end: usize, bytes: &mut Vec<u8>) -> Result<(), S
     ensures usable { IfErr result
         (λ fault. D.Disk.is_usable disk.new ≡ not (is_failed_sync fault)) }
 {
-    if !has_newline_after(bytes, end + 1) {
+    if !has_newline_after(rest, 1) {
         return Ok(());
     }
-    clear_after(bytes, end + 1)?;
-    put(disk, end + 1, &bytes[end + 1..])?;
+    clear_after(rest, 1)?;
+    put(disk, end + 1, &rest[1..])?;
     Ok(())
 }
 
 /// Writes the mark of a line that doesn't count yet at `end`, unless it is there.
-fn close<D: Disk>(disk: &mut D, end: usize, bytes: &[u8]) -> Result<(), StoreFault>
-    requires read { IsRead D.Disk disk.old bytes.now }
-    requires journal { IsJournal bytes.now end (lines_in bytes.now) }
-    requires last { has_newline (drop (end + 1) bytes.now) ≡ false }
-    requires room { end < most_bytes }
+fn close<D: Disk>(disk: &mut D, end: usize, rest: &[u8]) -> Result<(), StoreFault>
+    requires read { IsReadFrom D.Disk disk.old end rest.now }
+    requires last { has_newline (drop 1 rest.now) ≡ false }
     ensures synced { OnOk result (IsSynced D.Disk disk.new) }
     ensures at_rest { OnOk result (IsTrue (D.Disk.is_clean disk.new)
-        → IsAtRest (D.Disk.seen disk.new) end (lines_in bytes.now)) }
-    ensures crash { CrashLeaves D.Disk disk.new (StandsFor (lines_in bytes.now)) }
+        → IsAtRest (D.Disk.seen disk.new) end (lines_in (D.Disk.seen disk.old))) }
+    ensures crash { CrashLeaves D.Disk disk.new (StandsFor (lines_in (D.Disk.seen disk.old))) }
     ensures clean { D.Disk.is_clean disk.new ≡ D.Disk.is_clean disk.old }
     ensures faults { OnOk result (D.Disk.faults disk.new ≡ D.Disk.faults disk.old) }
     ensures failure { IfErr result (λ fault. is_failure fault ≡ true
@@ -142,7 +138,7 @@ fn close<D: Disk>(disk: &mut D, end: usize, bytes: &[u8]) -> Result<(), StoreFau
     ensures usable { IfErr result
         (λ fault. D.Disk.is_usable disk.new ≡ not (is_failed_sync fault)) }
 {
-    if has_gate(bytes, end) {
+    if has_gate(rest) {
         return Ok(());
     }
     put(disk, end, b"-")?;
@@ -150,14 +146,13 @@ fn close<D: Disk>(disk: &mut D, end: usize, bytes: &[u8]) -> Result<(), StoreFau
 }
 
 /// Closes the end of a file that begins with the first line.
-fn close_end<D: Disk>(disk: &mut D, end: usize, mut bytes: Vec<u8>) -> Result<(), StoreFault>
-    requires read { IsRead D.Disk disk.old bytes.items }
-    requires ended { IsEndedAt bytes.items end }
+fn close_end<D: Disk>(disk: &mut D, end: usize, mut rest: Vec<u8>) -> Result<(), StoreFault>
+    requires { IsReadFrom D.Disk disk.old end rest.items }
     ensures synced { OnOk result (IsSynced D.Disk disk.new) }
     ensures opened { OnOk result (IsTrue (D.Disk.is_clean disk.new)
-        → IsOpened D.Disk disk.new bytes.items end) }
+        → IsOpened D.Disk disk.new (D.Disk.seen disk.old) end) }
     ensures crash { CrashLeaves D.Disk disk.new (λ file. stands_for file
-        ≡ stands_for bytes.items) }
+        ≡ stands_for (D.Disk.seen disk.old)) }
     ensures clean { D.Disk.is_clean disk.new ≡ D.Disk.is_clean disk.old }
     ensures faults { OnOk result (D.Disk.faults disk.new ≡ D.Disk.faults disk.old) }
     ensures failure { IfErr result (λ fault. is_failure fault ≡ true
@@ -167,25 +162,24 @@ fn close_end<D: Disk>(disk: &mut D, end: usize, mut bytes: Vec<u8>) -> Result<()
     ensures usable { IfErr result
         (λ fault. D.Disk.is_usable disk.new ≡ not (is_failed_sync fault)) }
 {
-    blank(disk, end, &mut bytes)?;
-    close(disk, end, &bytes)?;
+    blank(disk, end, &mut rest)?;
+    close(disk, end, &rest)?;
     Ok(())
 }
 
-/// Makes the file whole whose bytes are given, or closes its end. Returns where its lines end.
+/// Makes a file whole that never was, or closes its end. Returns where its lines end.
 pub(crate) fn repair<D: Disk>(
     disk: &mut D,
     end: Option<usize>,
-    bytes: Vec<u8>,
+    rest: Vec<u8>,
 ) -> Result<usize, StoreFault>
-    requires read { IsRead D.Disk disk.old bytes.items }
-    requires ends { IsEnd bytes.items end }
+    requires { IsRest D.Disk disk.old end rest.items }
     ensures synced { OnOk result (IsSynced D.Disk disk.new) }
     ensures opened { IfOk result (λ end. IsTrue (D.Disk.is_clean disk.new)
-        → IsOpened D.Disk disk.new bytes.items end) }
+        → IsOpened D.Disk disk.new (D.Disk.seen disk.old) end) }
     ensures room { IfOk result (λ end. end < most_bytes) }
     ensures crash { CrashLeaves D.Disk disk.new (λ file. stands_for file
-        ≡ stands_for bytes.items) }
+        ≡ stands_for (D.Disk.seen disk.old)) }
     ensures clean { D.Disk.is_clean disk.new ≡ D.Disk.is_clean disk.old }
     ensures faults { OnOk result (D.Disk.faults disk.new ≡ D.Disk.faults disk.old) }
     ensures failure { IfErr result (λ fault. is_failure fault ≡ true
@@ -197,11 +191,11 @@ pub(crate) fn repair<D: Disk>(
 {
     match end {
         Some(end) => {
-            close_end(disk, end, bytes)?;
+            close_end(disk, end, rest)?;
             Ok(end)
         }
         None => {
-            create(disk, &bytes)?;
+            create(disk, &rest)?;
             Ok(HEAD_LINE.len())
         }
     }

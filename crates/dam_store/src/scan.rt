@@ -23,7 +23,7 @@ fn line_len(bytes: &[u8]) -> Option<usize>
 pub(crate) struct Lines {
     /// The lines without their marks.
     pub(crate) text: Vec<u8>,
-    /// Where they end.
+    /// The end of them.
     pub(crate) end: usize,
 }
 

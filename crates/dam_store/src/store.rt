@@ -1,8 +1,8 @@
 ghost use Rattle.std.specs.Prelude.{◌≡◌, ◌<◌, false, IsTrue};
 ghost use Rattle.std.proofs.Props.{props};
 ghost use Rattle.dam_store.specs.Limits.{most_bytes};
-ghost use Rattle.dam_store.specs.inside.Shape.{IsClosed, IsEnd};
-ghost use Rattle.dam_store.specs.inside.Synced.{IsRead, IsSynced};
+ghost use Rattle.dam_store.specs.inside.Shape.{IsClosed};
+ghost use Rattle.dam_store.specs.inside.Synced.{IsRest, IsSynced};
 
 use crate::fault::StoreFault;
 use sqlite_disk::Disk;
@@ -25,11 +25,11 @@ pub struct Found<D: Disk> {
     /// The lines that it holds, with a newline at the end of each.
     pub text: Vec<u8>,
     pub(crate) disk: D,
-    pub(crate) bytes: Vec<u8>,
-    /// Where the lines end. None: the file was never made whole.
+    /// The end of the lines. None: the file was never made whole.
     pub(crate) end: Option<usize>,
-    ghost read: { IsRead D.Disk disk bytes.items },
-    ghost ends: { IsEnd bytes.items end } by { Prim.hlevel props },
+    /// The bytes of the file from there on, or all.
+    pub(crate) rest: Vec<u8>,
+    ghost found: { IsRest D.Disk disk end rest.items } by { Prim.hlevel props },
 }
 
 /// A disk that holds no store that can be opened now, and why.

@@ -1,3 +1,5 @@
+//! The lines of a store as a text, read from the bytes of its file.
+
 ghost use Rattle.std.specs.Prelude.{◌≡◌, ◌⊎◌, ◌≤◌, ℕ, List, length, IfOk, IfErr};
 ghost use Rattle.dam_store.specs.Limits.{most_bytes};
 ghost use Rattle.dam_store.specs.Journal.{text_of, StandsFor};
@@ -16,7 +18,7 @@ use std::alloc::Global;
 pub(crate) struct FileLines {
     /// The lines, with a newline at the end of each.
     pub(crate) text: Vec<u8>,
-    /// Where they end. None: the file was never made whole.
+    /// The end of them. None: the file was never made whole.
     pub(crate) end: Option<usize>,
 }
 

@@ -5,7 +5,7 @@ use Rattle.dam_book.specs.Book.{commands_of}
 use Rattle.dam_book.specs.declared.command.Command.{Command}
 use Rattle.dam_results.specs.Written.{command_line, written}
 use Rattle.dam_store.specs.Journal.{has_byte, text_of}
-use Rattle.dam_desk.specs.Lines.{Says, kept}
+use Rattle.dam_desk.specs.Lines.{Says, kept_bytes}
 use Rattle.dam_desk.specs.Journal.{Journal, State, AreAnswers, AreWhole, Reads, answer_to, day_of, journal_after, journal_text, next, replies_text}
 use Rattle.dam_desk.specs.inside.Day.{IsDayWith}
 use Rattle.dam_desk.specs.declared.day.Day.{Day}
@@ -55,7 +55,7 @@ pub record Answered (old new : Intake) (before : List ℕ) (journal : Option Jou
 pub record IsIn (intake : Intake) (state : State) (begun : List ℕ) : Type 0 where
   pub answered : intake.answered ≡ state.answered
   pub day : HasJournal intake.day state.journal
-  pub line : intake.line ≡ kept begun
+  pub line : intake.line ≡ kept_bytes begun
   pub unended : has_byte 10 begun ≡ false
 
 -- of the bytes that were given, the last ones are left, and the lines of the others are answered

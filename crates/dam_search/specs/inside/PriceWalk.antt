@@ -15,7 +15,7 @@ use Rattle.dam_bound.specs.declared.limits.Room.{Room}
 use Rattle.dam_bound.specs.Limits.{AreRooms, HasRoom}
 use Rattle.dam_bound.specs.Open.{is_among, IsOpen, AreFree}
 use Rattle.dam_bound.specs.Prices.{most_of, IsPriceBound}
-use Rattle.dam_search.specs.declared.piece.Progress.{Progress}
+use Rattle.dam_search.specs.declared.piece.WalkState.{WalkState}
 use Rattle.dam_search.specs.Piece.{IsMatched, Rises, welfare_found}
 use Rattle.dam_search.specs.inside.Collect.{IsLong}
 
@@ -82,7 +82,7 @@ CoversOpen problem taken left best read =
     → (w <ℤ pos read) ⊎ IsMatched w selection best
 
 -- a walk before it goes on, if these are the greatest value read of its incumbent and the greatest that was offered
-pub record IsReady (greatest_read greatest_offer : ℕ) (found : Progress) : Type 0 where
+pub record IsReady (greatest_read greatest_offer : ℕ) (found : WalkState) : Type 0 where
   pub read : found.read ≡ greatest_read
   pub long : IsLong found.best
   pub offered : welfare_found found.best ≤ greatest_offer
@@ -90,7 +90,7 @@ pub record IsReady (greatest_read greatest_offer : ℕ) (found : Progress) : Typ
 -- a walk over the open selections: its find and value read before and after, the greatest value offered to its
 -- incumbent before, and the greatest value read of it and offered to it after
 pub record IsWalkedOpen (problem : ProblemState) (taken : List Bool) (left : List ℕ)
-    (greatest_offer_before greatest_read_after greatest_offer_after : ℕ) (before after : Progress)
+    (greatest_offer_before greatest_read_after greatest_offer_after : ℕ) (before after : WalkState)
     : Type 0 where
   pub finds : FindsOpen problem taken left before.best after.best
   pub covers : CoversOpen problem taken left after.best after.read

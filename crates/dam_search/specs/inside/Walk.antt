@@ -7,7 +7,7 @@ use Rattle.dam_blocks.specs.Problem.{ProblemState}
 use Rattle.dam_blocks.specs.Eligible.{IsEligible}
 use Rattle.dam_bound.specs.Prefix.{IsCompletion}
 use Rattle.dam_bound.specs.Relaxed.{live_count}
-use Rattle.dam_search.specs.declared.piece.Progress.{Progress}
+use Rattle.dam_search.specs.declared.piece.WalkState.{WalkState}
 use Rattle.dam_search.specs.Piece.{IsFind, IsMatched, Rises, welfare_found, HasNeeded}
 
 -- the find changes to an eligible completion of the prefix, or not at all, and only rises
@@ -48,7 +48,7 @@ pub record Reads (left visited_before visited_after read_before read_after great
 
 -- a walk before it goes on: it may visit this number of nodes, and these are the greatest value read
 -- of its incumbent and the greatest that was offered
-pub record IsGoing (problem : ProblemState) (nodes greatest_read greatest_offer : ℕ) (found : Progress)
+pub record IsGoing (problem : ProblemState) (nodes greatest_read greatest_offer : ℕ) (found : WalkState)
     : Type 0 where
   pub room : found.visited ≤ nodes
   pub read : found.read ≤ greatest_read
@@ -59,7 +59,7 @@ pub record IsGoing (problem : ProblemState) (nodes greatest_read greatest_offer 
 -- after, and the greatest value read of its incumbent and offered to it before and after
 pub record IsWalked (problem : ProblemState) (prefix : List Bool)
     (nodes greatest_read_before greatest_offer_before greatest_read_after greatest_offer_after : ℕ)
-    (before after : Progress) (done : Bool) : Type 0 where
+    (before after : WalkState) (done : Bool) : Type 0 where
   pub finds : Finds problem prefix before.best after.best
   pub covers : done ≡ true → Covers problem prefix after.best after.read
   pub spends : Spends problem prefix (length problem.blocks - length prefix) greatest_read_before

@@ -1,5 +1,5 @@
 -- The bytes of a journal's file.
-use Rattle.std.specs.Prelude.{◌≡◌, ◌⊎◌, ℕ, ◌+◌, ◌<◌, ◌≤◌, ◌==◌, ◌||◌, Bool, true, false, not, Option, MatchOption, List, [], ◌∷◌, ◌++◌, length, drop, slice_index}
+use Rattle.std.specs.Prelude.{◌≡◌, ◌⊎◌, ℕ, ◌+◌, ◌<◌, ◌≤◌, ◌==◌, ◌||◌, Bool, true, false, not, Option, None, Some, MatchOption, List, [], ◌∷◌, ◌++◌, length, drop, slice_index}
 use Rattle.dam_store.specs.Limits.{most_bytes}
 use Rattle.dam_store.specs.Journal.{text_of, marked, marked_lines, written, lines_in, has_byte, is_unmade}
 
@@ -62,6 +62,11 @@ pub record IsEndedAt (file : List ℕ) (end : ℕ) : Type 0 where
 -- where the lines of a file end; it was never made whole if they end nowhere
 abbrev pub IsEnd : List ℕ → Option ℕ → Type 0
 IsEnd file end = MatchOption end (is_unmade file ≡ true) (IsEndedAt file)
+
+-- the bytes of the file from the end of its lines on; all, if they end nowhere
+abbrev pub rest_of : List ℕ → Option ℕ → List ℕ
+rest_of file None = file
+rest_of file (Some end) = drop end file
 
 -- the file is the first line and these lines up to `end`, and then one line that doesn't count yet
 pub record IsAtRest (file : List ℕ) (end : ℕ) (lines : List (List ℕ)) : Type 0 where

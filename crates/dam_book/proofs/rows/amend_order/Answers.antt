@@ -17,45 +17,45 @@ returns-in_default-get_index_mut-clause-rows g c =
     absurd (not_nowhere c.args.row.now c.args.places.now.entries c.in-Some.place c.in-Some.ensures.found
     c.in_default-get_index_mut.ensures.value)
 
-pub returns-in_default-place-clause-rows : goal.returns-in_default-place-clause-rows
-returns-in_default-place-clause-rows g c =
-    (gap_kept_at c.args.row.now c.args.places.now.entries c.in-Some.place c.in-Some-get_index_mut.place.now
+pub returns-in_default-content-clause-rows : goal.returns-in_default-content-clause-rows
+returns-in_default-content-clause-rows g c =
+    (gap_kept_at c.args.row.now c.args.places.now.entries c.in-Some.place c.in-Some-get_index_mut.content.now
     c.requires.unfilled c.requires.numbered c.requires.apart c.in-Some.ensures.found c.in-Some-get_index_mut.ensures.value
-    (amended c.args.price c.args.volumes.now) c.in_default-place.is).rows
+    (amended c.args.price c.args.volumes.now) c.in_default-content.is).rows
 
-pub returns-in_default-place-clause-count : goal.returns-in_default-place-clause-count
-returns-in_default-place-clause-count g c =
-    (gap_kept_at c.args.row.now c.args.places.now.entries c.in-Some.place c.in-Some-get_index_mut.place.now
+pub returns-in_default-content-clause-count : goal.returns-in_default-content-clause-count
+returns-in_default-content-clause-count g c =
+    (gap_kept_at c.args.row.now c.args.places.now.entries c.in-Some.place c.in-Some-get_index_mut.content.now
     c.requires.unfilled c.requires.numbered c.requires.apart c.in-Some.ensures.found c.in-Some-get_index_mut.ensures.value
-    (amended c.args.price c.args.volumes.now) c.in_default-place.is).count
+    (amended c.args.price c.args.volumes.now) c.in_default-content.is).count
 
-pub returns-in_default-place-clause-numbered : goal.returns-in_default-place-clause-numbered
-returns-in_default-place-clause-numbered g c =
-    (gap_kept_at c.args.row.now c.args.places.now.entries c.in-Some.place c.in-Some-get_index_mut.place.now
+pub returns-in_default-content-clause-numbered : goal.returns-in_default-content-clause-numbered
+returns-in_default-content-clause-numbered g c =
+    (gap_kept_at c.args.row.now c.args.places.now.entries c.in-Some.place c.in-Some-get_index_mut.content.now
     c.requires.unfilled c.requires.numbered c.requires.apart c.in-Some.ensures.found c.in-Some-get_index_mut.ensures.value
-    (amended c.args.price c.args.volumes.now) c.in_default-place.is).numbered
+    (amended c.args.price c.args.volumes.now) c.in_default-content.is).numbered
 
-pub returns-in_default-place-clause-apart : goal.returns-in_default-place-clause-apart
-returns-in_default-place-clause-apart g c =
-    apart-put c.args.places.now.entries c.in-Some.place c.in-Some-get_index_mut.place.now c.requires.apart
+pub returns-in_default-content-clause-apart : goal.returns-in_default-content-clause-apart
+returns-in_default-content-clause-apart g c =
+    apart-put c.args.places.now.entries c.in-Some.place c.in-Some-get_index_mut.content.now c.requires.apart
 
 pub returns-clause-rows : goal.returns-clause-rows
 returns-clause-rows g c =
-    (changed_at c.args.row.now c.args.places.now.entries c.in-Some.place c.in-Some-get_index_mut.place.now
+    (changed_at c.args.row.now c.args.places.now.entries c.in-Some.place c.in-Some-get_index_mut.content.now
     c.requires.unfilled c.requires.numbered c.requires.apart c.in-Some.ensures.found c.in-Some-get_index_mut.ensures.value
-    c.in-Some-place.boxed c.amend.new.self (amended c.args.price c.args.volumes.now) c.in-Some-place.is c.amend.ensures).rows
+    c.in-Some-content.boxed c.amend.new.self (amended c.args.price c.args.volumes.now) c.in-Some-content.is c.amend.ensures).rows
 
 pub returns-clause-count : goal.returns-clause-count
 returns-clause-count g c =
-    (changed_at c.args.row.now c.args.places.now.entries c.in-Some.place c.in-Some-get_index_mut.place.now
+    (changed_at c.args.row.now c.args.places.now.entries c.in-Some.place c.in-Some-get_index_mut.content.now
     c.requires.unfilled c.requires.numbered c.requires.apart c.in-Some.ensures.found c.in-Some-get_index_mut.ensures.value
-    c.in-Some-place.boxed c.amend.new.self (amended c.args.price c.args.volumes.now) c.in-Some-place.is c.amend.ensures).count
+    c.in-Some-content.boxed c.amend.new.self (amended c.args.price c.args.volumes.now) c.in-Some-content.is c.amend.ensures).count
 
 pub returns-clause-numbered : goal.returns-clause-numbered
 returns-clause-numbered g c =
-    (changed_at c.args.row.now c.args.places.now.entries c.in-Some.place c.in-Some-get_index_mut.place.now
+    (changed_at c.args.row.now c.args.places.now.entries c.in-Some.place c.in-Some-get_index_mut.content.now
     c.requires.unfilled c.requires.numbered c.requires.apart c.in-Some.ensures.found c.in-Some-get_index_mut.ensures.value
-    c.in-Some-place.boxed c.amend.new.self (amended c.args.price c.args.volumes.now) c.in-Some-place.is c.amend.ensures).numbered
+    c.in-Some-content.boxed c.amend.new.self (amended c.args.price c.args.volumes.now) c.in-Some-content.is c.amend.ensures).numbered
 
 pub returns-clause-apart : goal.returns-clause-apart
 returns-clause-apart g c = apart-put c.args.places.now.entries c.in-Some.place _ c.requires.apart

@@ -30,26 +30,26 @@ returns-in_default-get_index_mut-clause-rows g c =
 
 pub returns-clause-value : goal.returns-clause-value
 returns-clause-value g c =
-    c.take.ensures.value ∙ (took_at c.args.row.now c.args.places.now.entries c.in-Some.place c.in-Some-get_index_mut.place.now
+    c.take.ensures.value ∙ (took_at c.args.row.now c.args.places.now.entries c.in-Some.place c.in-Some-get_index_mut.content.now
     c.requires.unfilled c.requires.numbered c.requires.apart c.in-Some.ensures.found c.in-Some-get_index_mut.ensures.value
     c.take.new.self c.take.ensures.after).0
 
 pub returns-clause-rows : goal.returns-clause-rows
 returns-clause-rows g c =
-    (took_at c.args.row.now c.args.places.now.entries c.in-Some.place c.in-Some-get_index_mut.place.now
+    (took_at c.args.row.now c.args.places.now.entries c.in-Some.place c.in-Some-get_index_mut.content.now
     c.requires.unfilled c.requires.numbered c.requires.apart c.in-Some.ensures.found c.in-Some-get_index_mut.ensures.value
     c.take.new.self c.take.ensures.after).1
 
 pub returns-clause-count : goal.returns-clause-count
 returns-clause-count g c =
-    (took_at c.args.row.now c.args.places.now.entries c.in-Some.place c.in-Some-get_index_mut.place.now
+    (took_at c.args.row.now c.args.places.now.entries c.in-Some.place c.in-Some-get_index_mut.content.now
     c.requires.unfilled c.requires.numbered c.requires.apart c.in-Some.ensures.found c.in-Some-get_index_mut.ensures.value
     c.take.new.self c.take.ensures.after).2
     ∙ ap (λ (x : Option Order). gap_count c.args.places.now.entries + (if is_some x then 1 else 0)) (sym c.take.ensures.value)
 
 pub returns-clause-numbered : goal.returns-clause-numbered
 returns-clause-numbered g c =
-    (took_at c.args.row.now c.args.places.now.entries c.in-Some.place c.in-Some-get_index_mut.place.now
+    (took_at c.args.row.now c.args.places.now.entries c.in-Some.place c.in-Some-get_index_mut.content.now
     c.requires.unfilled c.requires.numbered c.requires.apart c.in-Some.ensures.found c.in-Some-get_index_mut.ensures.value
     c.take.new.self c.take.ensures.after).3
 

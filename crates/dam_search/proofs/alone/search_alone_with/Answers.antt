@@ -1,5 +1,5 @@
 -- The welfare of the first selection is reached, and the explorer suits the limit.
-use Rattle.dam_search.proofs.Shares.{first_reached}
+use Rattle.dam_search.proofs.Seats.{first_reached}
 use Rattle.dam_search.proofs.alone.search_alone_with.Goals as goal
 
 pub searched_alone-requires-clause-first : goal.searched_alone-requires-clause-first

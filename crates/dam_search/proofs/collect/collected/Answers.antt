@@ -15,7 +15,7 @@ pub unreachable-requires : goal.unreachable-requires
 unreachable-requires g c =
     let problem = c.args.problem.now in let depth = c.args.depth in let answers = c.args.answers.now in
     let one : AreOneEach answers (2 ^ depth) = subst (λ (n : ℕ). AreOneEach answers n) c.pieces.ensures.value c.in_default.ensures in
-    let are = conclusive problem depth c.args.nodes answers c.kept.ensures c.requires.depth c.requires.worked one
+    let are = conclusive problem depth c.args.nodes answers c.use_invariant.ensures c.requires.depth c.requires.worked one
     c.in_default-least_unfinished.ensures in
     c.collecting.ensures.found problem depth answers are c.in-None.ensures
 
@@ -23,7 +23,7 @@ pub returns-clause-ok : goal.returns-clause-ok
 returns-clause-ok g c =
     let problem = c.args.problem.now in let depth = c.args.depth in let answers = c.args.answers.now in
     let one : AreOneEach answers (2 ^ depth) = subst (λ (n : ℕ). AreOneEach answers n) c.pieces.ensures.value c.in_default.ensures in
-    let are = conclusive problem depth c.args.nodes answers c.kept.ensures c.requires.depth c.requires.worked one
+    let are = conclusive problem depth c.args.nodes answers c.use_invariant.ensures c.requires.depth c.requires.worked one
     c.in_default-least_unfinished.ensures in
     c.collecting.ensures.result problem depth answers c.in-Some-highest.best are c.in-Some-highest.ensures
 
@@ -31,7 +31,7 @@ pub returns-clause-needed : goal.returns-clause-needed
 returns-clause-needed g c =
     let problem = c.args.problem.now in let depth = c.args.depth in let answers = c.args.answers.now in
     let one : AreOneEach answers (2 ^ depth) = subst (λ (n : ℕ). AreOneEach answers n) c.pieces.ensures.value c.in_default.ensures in
-    let are = conclusive problem depth c.args.nodes answers c.kept.ensures c.requires.depth c.requires.worked one
+    let are = conclusive problem depth c.args.nodes answers c.use_invariant.ensures c.requires.depth c.requires.worked one
     c.in_default-least_unfinished.ensures in
     limit_needed problem depth c.args.nodes answers c.in-Some-highest.best c.requires.worked are.answered
     (c.collecting.ensures.result problem depth answers c.in-Some-highest.best are c.in-Some-highest.ensures)

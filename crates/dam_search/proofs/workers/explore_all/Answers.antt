@@ -5,7 +5,7 @@ use Rattle.atomic_table.specs.Seated.{TableId}
 use Rattle.atomic_table.specs.declared.shared.Seat.{Seat}
 use Rattle.dam_search.specs.declared.view.View.{View}
 use Rattle.dam_search.specs.Words.{IsClosed}
-use Rattle.dam_search.proofs.Shares.{begun, whole}
+use Rattle.dam_search.proofs.Seats.{begun, whole}
 use Rattle.dam_search.proofs.workers.explore_all.Goals as goal
 
 pub shared_out-requires-clause-pieces : goal.shared_out-requires-clause-pieces

@@ -1,5 +1,5 @@
 -- The welfare of the first selection is reached, and the explorer suits the plan.
-use Rattle.dam_search.proofs.Shares.{first_reached}
+use Rattle.dam_search.proofs.Seats.{first_reached}
 use Rattle.dam_search.proofs.workers.search_with.Goals as goal
 
 pub searched-requires-clause-first : goal.searched-requires-clause-first

@@ -5,7 +5,7 @@ use Rattle.std.proofs.lemmas.List.Elements.{All-push}
 use Rattle.dam_search.specs.declared.shared.Shared.{Shared}
 use Rattle.dam_search.specs.declared.view.View.{View}
 use Rattle.dam_search.specs.Words.{new_view, cut_left}
-use Rattle.dam_search.specs.inside.Share.{IsNewSeat}
+use Rattle.dam_search.specs.inside.Seats.{IsNewSeat}
 use Rattle.dam_search.proofs.workers.seats_for.Goals as goal
 
 fewer : (v : View) (a b : ℕ) → a ≡ b → record v { seats_left = a } ≡ record v { seats_left = b }

@@ -2,7 +2,7 @@
 use Rattle.std.proofs.Common.{◌≡◌, ◌-◌, ◌≤◌, vec_len, vec_capacity}
 use Rattle.std.specs.List.{All}
 use Rattle.dam_search.specs.declared.shared.Shared.{Shared}
-use Rattle.dam_search.specs.inside.Share.{IsNewSeat}
+use Rattle.dam_search.specs.inside.Seats.{IsNewSeat}
 use Rattle.dam_search.proofs.workers.seats_for.Given as goal
 
 abbrev pub invariant-loop : goal.invariant-loop

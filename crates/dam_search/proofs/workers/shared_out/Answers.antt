@@ -3,14 +3,14 @@ use Rattle.std.proofs.Common.{ℕ, sym, subst}
 use Rattle.std.specs.List.{All}
 use Rattle.atomic_table.specs.Seated.{TableId}
 use Rattle.dam_search.specs.declared.shared.Shared.{Shared}
-use Rattle.dam_search.specs.declared.workers.Share.{Share}
-use Rattle.dam_search.specs.inside.Share.{IsNewSeat, IsShare}
+use Rattle.dam_search.specs.declared.workers.WorkedSeat.{WorkedSeat}
+use Rattle.dam_search.specs.inside.Seats.{IsNewSeat, IsWorkedSeat}
 use Rattle.dam_search.proofs.workers.shared_out.Goals as goal
 
-pub gathered-requires-clause-shares : goal.gathered-requires-clause-shares
-gathered-requires-clause-shares g c =
+pub gathered-requires-clause-worked : goal.gathered-requires-clause-worked
+gathered-requires-clause-worked g c =
     let task = c.args.task.now in let table = c.args.first.now.seat.table_id in
     let new = subst (λ (n : ℕ). All (λ (s : Shared). IsNewSeat table n s) c.in_ok-seats.seats.items) c.requires.pieces
     c.in_ok-seats.ensures.seats in
-    subst (λ (t : TableId). All (λ (s : Share). IsShare task.problem.now task.depth task.nodes t s) c.in_ok-shares.shares.items)
-    (sym c.in_ok-seats.ensures.table) (c.in_ok-shares.ensures.shares table new)
+    subst (λ (t : TableId). All (λ (s : WorkedSeat). IsWorkedSeat task.problem.now task.depth task.nodes t s) c.in_ok-worked.worked.items)
+    (sym c.in_ok-seats.ensures.table) (c.in_ok-worked.ensures.worked table new)

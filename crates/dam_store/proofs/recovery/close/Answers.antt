@@ -1,26 +1,44 @@
-use Rattle.std.proofs.Common.{sym, ◌∙◌}
+use Rattle.std.proofs.Common.{List, ℕ, ◌∷◌, refl, sym, ap, ◌∙◌}
 use Rattle.dam_store.specs.Journal.{StandsFor, lines_in}
-use Rattle.dam_store.proofs.Rest.{closed_torn, closed_is}
-use Rattle.dam_store.proofs.Steps.{crash_step, seen_step}
+use Rattle.dam_store.specs.inside.Shape.{has_newline}
+use Rattle.dam_store.proofs.Rest.{after_end, closed_at_rest, closed_is, closed_torn, gate_first, journal_of}
+use Rattle.dam_store.proofs.Steps.{crash_step}
 use Rattle.dam_store.proofs.recovery.close.Goals as goal
+
+pub returns-then-has_gate-clause-at_rest : goal.returns-then-has_gate-clause-at_rest
+returns-then-has_gate-clause-at_rest g c clean =
+    let rest = c.args.rest.now in
+    let end = c.args.end in
+    let seen = g.D.Disk.seen c.args.disk.now in
+    let same = c.requires.read.same clean in
+    let after = after_end seen rest end same in
+    let gate = gate_first rest (sym c.has_gate.ensures ∙ c.if-has_gate.true) in
+    closed_at_rest seen end (lines_in seen) (journal_of seen end (c.requires.read.ended clean)) (ap has_newline after ∙ c.requires.last)
+    (same ∙ gate ∙ ap (λ (l : List ℕ). 45 ∷ l) (sym after))
 
 pub returns-in_err-put-clause-crash : goal.returns-in_err-put-clause-crash
 returns-in_err-put-clause-crash g c clean file left =
-    let bytes = c.args.bytes.now in
-    crash_step g.D.Disk c.args.disk.now c.put.new.disk bytes (c.requires.read.same (sym c.put.ensures.clean
-    ∙ clean)) c.args.end 1 (StandsFor (lines_in bytes)) c.requires.read.synced.durable c.put.ensures.crash
-    (closed_torn bytes c.args.end (lines_in bytes) c.requires.journal c.requires.last c.requires.room) file left
+    let end = c.args.end in
+    let old = sym c.put.ensures.clean ∙ clean in
+    let seen = g.D.Disk.seen c.args.disk.now in
+    let after = after_end seen c.args.rest.now end (c.requires.read.same old) in
+    crash_step g.D.Disk c.args.disk.now c.put.new.disk seen refl end 1 (StandsFor (lines_in seen)) c.requires.read.synced.durable c.put.ensures.crash
+    (closed_torn seen end (lines_in seen) (journal_of seen end (c.requires.read.ended old)) (ap has_newline after ∙ c.requires.last) c.requires.read.room) file left
 
 pub returns-clause-crash : goal.returns-clause-crash
 returns-clause-crash g c clean file left =
-    let bytes = c.args.bytes.now in
-    crash_step g.D.Disk c.args.disk.now c.put.new.disk bytes (c.requires.read.same (sym c.put.ensures.clean
-    ∙ clean)) c.args.end 1 (StandsFor (lines_in bytes)) c.requires.read.synced.durable c.put.ensures.crash
-    (closed_torn bytes c.args.end (lines_in bytes) c.requires.journal c.requires.last c.requires.room) file left
+    let end = c.args.end in
+    let old = sym c.put.ensures.clean ∙ clean in
+    let seen = g.D.Disk.seen c.args.disk.now in
+    let after = after_end seen c.args.rest.now end (c.requires.read.same old) in
+    crash_step g.D.Disk c.args.disk.now c.put.new.disk seen refl end 1 (StandsFor (lines_in seen)) c.requires.read.synced.durable c.put.ensures.crash
+    (closed_torn seen end (lines_in seen) (journal_of seen end (c.requires.read.ended old)) (ap has_newline after ∙ c.requires.last) c.requires.read.room) file left
 
 pub returns-clause-at_rest : goal.returns-clause-at_rest
 returns-clause-at_rest g c clean =
-    let bytes = c.args.bytes.now in
-    let torn = seen_step g.D.Disk c.args.disk.now c.put.new.disk bytes (c.requires.read.same (sym c.put.ensures.clean
-    ∙ clean)) c.args.end 1 c.put.ensures.others in
-    closed_is bytes c.args.end (lines_in bytes) c.requires.journal c.requires.last c.requires.room (g.D.Disk.seen c.put.new.disk) torn c.in_ok-put.ensures.written
+    let end = c.args.end in
+    let old = sym c.put.ensures.clean ∙ clean in
+    let seen = g.D.Disk.seen c.args.disk.now in
+    let after = after_end seen c.args.rest.now end (c.requires.read.same old) in
+    closed_is seen end (lines_in seen) (journal_of seen end (c.requires.read.ended old)) (ap has_newline after ∙ c.requires.last) c.requires.read.room
+    (g.D.Disk.seen c.put.new.disk) c.put.ensures.others c.in_ok-put.ensures.written

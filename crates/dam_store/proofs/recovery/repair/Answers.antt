@@ -1,11 +1,12 @@
-use Rattle.std.proofs.Common.{◌≡◌, true, sym, ◌∙◌, subst}
-use Rattle.dam_store.specs.Journal.{is_unmade}
-use Rattle.dam_store.specs.inside.Shape.{IsEnd}
+use Rattle.std.proofs.Common.{sym, ap, ◌∙◌, subst}
+use Rattle.dam_store.specs.Journal.{stands_for}
+use Rattle.dam_store.specs.inside.Synced.{IsRest}
 use Rattle.dam_store.proofs.Unmade.{unmade_stands}
 use Rattle.dam_store.proofs.recovery.repair.Goals as goal
 
 pub returns-in_err-create-in-None-clause-crash : goal.returns-in_err-create-in-None-clause-crash
 returns-in_err-create-in-None-clause-crash g c clean file left =
-    let bytes = c.args.bytes.items in
-    let unmade : is_unmade bytes ≡ true = subst (IsEnd bytes) c.in-None.is c.requires.ends in
-    c.create.ensures.crash clean file left ∙ sym (unmade_stands bytes unmade)
+    let rest = c.args.rest.items in
+    let unmade = subst (λ e. IsRest g.D.Disk c.args.disk.now e rest) c.in-None.is c.requires in
+    c.create.ensures.crash clean file left
+    ∙ sym (ap stands_for (unmade.0.same (sym c.create.ensures.clean ∙ clean)) ∙ unmade_stands rest unmade.1)

@@ -6,7 +6,7 @@ use Rattle.std.proofs.KnownBytes.{Appends-nil}
 use Rattle.dam_desk.specs.Answers.{fault_line}
 use Rattle.dam_desk.specs.Faults.{SaysCount}
 use Rattle.dam_desk.specs.Journal.{next}
-use Rattle.dam_desk.specs.Lines.{kept}
+use Rattle.dam_desk.specs.Lines.{kept_bytes}
 use Rattle.dam_desk.specs.declared.fault.LineFault.TheVariants.{CutShort}
 use Rattle.dam_desk.specs.declared.fault.DeskFault.TheVariants.{Memory}
 use Rattle.dam_desk.proofs.Desks.{written_part}
@@ -22,7 +22,7 @@ returns-then-is_empty-clause-ok g c begun line =
 
 pub returns-clause-ok : goal.returns-clause-ok
 returns-clause-ok g c begun line =
-    let some : ¬ (length (kept begun) ≡ 0) = λ none. eqb-false (length c.bytes.result.now) 0 (sym c.is_empty.ensures ∙ c.if-is_empty.false)
+    let some : ¬ (length (kept_bytes begun) ≡ 0) = λ none. eqb-false (length c.bytes.result.now) 0 (sym c.is_empty.ensures ∙ c.if-is_empty.false)
     (ap length (c.bytes.ensures ∙ line) ∙ none) in
     let text = c.as_slice.ensures.value ∙ c.in_ok-write_fault.ensures
     ∙ ap (λ (t : List ℕ). t ++ fault_line c.saturating_add-number.result CutShort) c.new-text.ensures.items
@@ -33,7 +33,7 @@ returns-clause-ok g c begun line =
 
 pub returns-clause-err : goal.returns-clause-err
 returns-clause-err g c begun line =
-    let some : ¬ (length (kept begun) ≡ 0) = λ none. eqb-false (length c.bytes.result.now) 0 (sym c.is_empty.ensures ∙ c.if-is_empty.false)
+    let some : ¬ (length (kept_bytes begun) ≡ 0) = λ none. eqb-false (length c.bytes.result.now) 0 (sym c.is_empty.ensures ∙ c.if-is_empty.false)
     (ap length (c.bytes.ensures ∙ line) ∙ none) in
     let text = c.as_slice.ensures.value ∙ c.in_ok-write_fault.ensures
     ∙ ap (λ (t : List ℕ). t ++ fault_line c.saturating_add-number.result CutShort) c.new-text.ensures.items

@@ -13,7 +13,7 @@ go_on-requires-clause-journal g c =
     let j : JournalState = c.self.inside.keeper.journal in
     let command = c.args.command.now in
     let ready = c.in_ok-ready.ensures.ready in
-    let same : c.ready_in_room.new.self.journal ≡ j = c.ready_in_room.ensures.journal in
+    let same : c.ready_packed.new.self.journal ≡ j = c.ready_packed.ensures.journal in
     let entry : c.in_ok-ready.ready.entry ≡ next_entry j command = ready.entry ∙ ap (λ (x : JournalState). next_entry x command) same in
     let book : c.in_ok-ready.ready.book ≡ book_after j.book command = ready.book
     ∙ ap (λ (x : JournalState). book_after x.book command) same in
@@ -26,7 +26,7 @@ go_on-requires-clause-day g c =
     let j : JournalState = c.self.inside.keeper.journal in
     let command = c.args.command.now in
     let book : c.in_ok-ready.ready.book ≡ book_after j.book command =
-    c.in_ok-ready.ensures.ready.book ∙ ap (λ (x : JournalState). book_after x.book command) c.ready_in_room.ensures.journal in
+    c.in_ok-ready.ensures.ready.book ∙ ap (λ (x : JournalState). book_after x.book command) c.ready_packed.ensures.journal in
     ap (λ (b : BookState). b.periods) book ∙ (book_after-periods j.book command ∙ c.self.invariant.1)
 
 pub returns-clause-entry : goal.returns-clause-entry
@@ -35,7 +35,7 @@ returns-clause-entry g c =
     ap₂ (λ (n : ℕ) (r : Reply). entry_of command (n, r)) c.number.ensures c.reply.ensures
     ∙ ap (λ (e : Entry). entry_of command (e.number, e.reply))
     (c.entry-entry.ensures ∙ (c.in_ok-ready.ensures.ready.entry
-    ∙ ap (λ (x : JournalState). next_entry x command) (c.ready_in_room.ensures.journal ∙ ap (λ (d : LockedState). d.journal) c.self.view_is)))
+    ∙ ap (λ (x : JournalState). next_entry x command) (c.ready_packed.ensures.journal ∙ ap (λ (d : LockedState). d.journal) c.self.view_is)))
 
 pub returns-clause-history : goal.returns-clause-history
 returns-clause-history g c =
@@ -51,8 +51,8 @@ returns-clause-history g c =
 
 pub returns-clause-journal : goal.returns-clause-journal
 returns-clause-journal g c =
-    c.take.ensures.step
-    ∙ ap₂ journal_after (c.ready_in_room.ensures.journal ∙ ap (λ (d : LockedState). d.journal) c.self.view_is)
+    c.append_step.ensures.step
+    ∙ ap₂ journal_after (c.ready_packed.ensures.journal ∙ ap (λ (d : LockedState). d.journal) c.self.view_is)
     (ap (λ (e : Entry). e.command) c.in_ok-ready.ensures.ready.entry)
 
 pub returns-clause-passes : goal.returns-clause-passes
@@ -68,11 +68,11 @@ with_journal passes journal = record { journal = journal; passes = passes }
 
 pub returns-in_err-slot-clause-err : goal.returns-in_err-slot-clause-err
 returns-in_err-slot-clause-err g c =
-    when_refused c.from_residual-in_err-slot.result (ap (with_journal c.self.inside.passes) c.ready_in_room.ensures.journal ∙ c.self.view_is)
+    when_refused c.from_residual-in_err-slot.result (ap (with_journal c.self.inside.passes) c.ready_packed.ensures.journal ∙ c.self.view_is)
 
 pub returns-in_err-after-clause-err : goal.returns-in_err-after-clause-err
 returns-in_err-after-clause-err g c =
-    when_refused c.from_residual-in_err-after.result (ap (with_journal c.self.inside.passes) c.ready_in_room.ensures.journal ∙ c.self.view_is)
+    when_refused c.from_residual-in_err-after.result (ap (with_journal c.self.inside.passes) c.ready_packed.ensures.journal ∙ c.self.view_is)
 
 pub invariant_of-self : goal.invariant_of-self
-invariant_of-self g c = rw c.ready_in_room.ensures.journal c.self.invariant
+invariant_of-self g c = rw c.ready_packed.ensures.journal c.self.invariant

@@ -5,6 +5,6 @@ use Rattle.dam_hour.proofs.hour.Hour.build.Given as goal
 
 abbrev pub invariant-loop-step : goal.invariant-loop-step
 invariant-loop-step g l = record {
-  items : l.kept.items ≡ take l.step-index l.steps;
-  in_range : AreInRange l.kept.items;
+  items : l.in_range_steps.items ≡ take l.step-index l.steps;
+  in_range : AreInRange l.in_range_steps.items;
 }

@@ -3,7 +3,7 @@ use Rattle.std.proofs.Common.{◌≡◌, ℕ, ◌-◌, ◌≤◌, ◌==◌, ◌&
 use Rattle.std.proofs.lemmas.Bool.Decides.{nat_tests}
 use Rattle.dam_search.specs.Piece.{all_nodes}
 use Rattle.dam_search.specs.inside.PriceWalk.{IsOrder}
-use Rattle.dam_search.proofs.Shares.{explored_whole}
+use Rattle.dam_search.proofs.Seats.{explored_whole}
 use Rattle.dam_search.proofs.explorer.ByPricesExplorer.explore.Goals as goal
 
 both_hold : (own depth most nodes : ℕ) → ((own == depth) && nat_le most nodes) ≡ true → (own ≡ depth) × (most ≤ nodes)

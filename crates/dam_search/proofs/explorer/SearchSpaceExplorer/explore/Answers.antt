@@ -1,5 +1,5 @@
 -- The answer of a walk that counts nodes as the limit does.
-use Rattle.dam_search.proofs.Shares.{explored_is}
+use Rattle.dam_search.proofs.Seats.{explored_is}
 use Rattle.dam_search.proofs.explorer.SearchSpaceExplorer.explore.Goals as goal
 
 pub returns-clause-explored : goal.returns-clause-explored

@@ -9,7 +9,7 @@ use Rattle.dam_search.proofs.first.Climb.greater.Goals as goal
 
 pub next_above-least-requires : goal.next_above-least-requires
 next_above-least-requires g c =
-    let within = c.magnitude.ensures c.args.self.now.problem.now c.args.best.selection (pos c.args.best.welfare) c.kept.ensures
+    let within = c.magnitude.ensures c.args.self.now.problem.now c.args.best.selection (pos c.args.best.welfare) c.use_invariant.ensures
     c.requires.eligible.welfare_is in
     let most = within.at_most in
     omega (arith, ints, most)
@@ -23,6 +23,6 @@ returns-clause-eligible g c =
     let value = to_z-of_z w64 w fits in
     let welfare = with_rows problem relaxed selection w c.args.self.now.same c.in-Some.ensures.some.0 in
     let is = eligible_leaf problem relaxed selection c.has_loss.result w c.args.self.now.same c.requires.long c.if-has_loss.false
-    c.has_loss.ensures (c.admissible.ensures.0 (search rules)) welfare (c.prices.ensures problem selection w c.kept.ensures welfare) in
+    c.has_loss.ensures (c.admissible.ensures.0 (search rules)) welfare (c.prices.ensures problem selection w c.use_invariant.ensures welfare) in
     subst (λ (z : ℤ). IsEligible problem c.best_of.result.selection z) (sym (c.best_of.ensures.welfare ∙ value))
     (subst (λ (xs : List Bool). IsEligible problem xs w) (sym c.best_of.ensures.selection) is)

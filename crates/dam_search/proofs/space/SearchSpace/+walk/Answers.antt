@@ -4,7 +4,7 @@ use Rattle.std.proofs.Common.{length, sym, subst, refl, Option, ℤ, arith}
 use Rattle.dam_book.specs.Limits.{most_blocks}
 use Rattle.dam_blocks.specs.Problem.{ProblemState}
 use Rattle.dam_bound.specs.Relaxed.{relaxed_welfare, reaches}
-use Rattle.dam_search.specs.declared.piece.Progress.{Progress}
+use Rattle.dam_search.specs.declared.piece.WalkState.{WalkState}
 use Rattle.dam_search.specs.inside.Walk.{Spends, Reads, IsWalked}
 use Rattle.dam_search.proofs.Ranks.{finds_nothing, finds_shorter, finds_twice, covers_both, welfare_rises}
 use Rattle.dam_search.proofs.Walks.{spends_none, spends_nothing, spends_one, spends_first, spends_both, reads_nothing, reads_asked}
@@ -107,7 +107,7 @@ returns-in_default-clause-walked g t c =
 -- ---- its two extensions
 
 -- the walk from the prefix with a decision more
-from_next : (problem : ProblemState) (next prefix : List Bool) (nodes told top told' top' : ℕ) (before after : Progress) (done seen : Bool)
+from_next : (problem : ProblemState) (next prefix : List Bool) (nodes told top told' top' : ℕ) (before after : WalkState) (done seen : Bool)
     → next ≡ prefix → done ≡ seen → IsWalked problem next nodes told top told' top' before after done
     → IsWalked problem prefix nodes told top told' top' before after seen
 from_next problem next prefix nodes told top told' top' before after done seen e f walked =

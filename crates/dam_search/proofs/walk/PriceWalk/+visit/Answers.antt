@@ -7,7 +7,6 @@ use Rattle.dam_search.specs.inside.PriceWalk.{IsNode, IsBounded, IsRoom, IsWalke
 use Rattle.dam_search.proofs.Opens.{all_within, accepts_taken, accepts_none_rejected, node_after, bounded_after, open_any, open_here, not_both}
 use Rattle.dam_search.proofs.Opens.{walked_nothing, walked_over, walked_both, node_is, bounded_is, under_bound}
 use Rattle.dam_search.proofs.Rooms.{no_room, room_after_is}
-use Rattle.dam_search.proofs.RulingOut.{ruled_out}
 use Rattle.dam_search.proofs.walk.PriceWalk.+visit.Goals as goal
 
 -- ---- both decisions
@@ -122,13 +121,3 @@ visit-returns-then-is_passed-clause-walked g t c =
     (λ sel w opened e. c.is_passed.ensures.passed c.if-is_passed.true sel w opened
     (under_bound problem relaxed c.args.prices.now node.taken node.rejected sel node.left.now _ w c.open_bound.ensures c.args.self.now.same
     c.requires.node c.requires.bounded opened e))
-
-pub visit-returns-then-rules_out-clause-walked : goal.visit-returns-then-rules_out-clause-walked
-visit-returns-then-rules_out-clause-walked g t c =
-    let problem = c.args.self.now.problem.now in let relaxed = g.P.Prices.problem c.args.self.now.prices.now in
-    let node = c.args.node.now in let was = c.requires.ready.read in
-    let read = c.read-found.ensures in let rises = read.rises in
-    walked_over problem node.taken node.left.now _ _ _ _ c.args.found.now _ c.requires.ready refl (omega (arith, was, rises))
-    (sym read.greatest_read) read.greatest_offer
-    (λ sel w opened e. absurd (ruled_out problem relaxed node.taken node.rejected sel node.left.now w c.args.self.now.same c.requires.node
-    (c.rules_out.ensures c.if-rules_out.true) opened e))

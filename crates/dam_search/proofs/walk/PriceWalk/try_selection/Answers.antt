@@ -52,6 +52,6 @@ returns-clause-walked g c =
     let now = c.in-Some-candidate.ensures.some in
     let welfare = with_rows problem relaxed taken c.in-Some.welfare c.args.self.now.same c.in-Some.ensures.some.0 in
     let is = eligible_leaf problem relaxed taken c.has_loss.result c.in-Some.welfare c.args.self.now.same c.requires.long c.if-has_loss.false
-    c.has_loss.ensures (c.admissible.ensures.0 (search rules)) welfare (c.prices.ensures problem taken c.in-Some.welfare c.kept.ensures welfare) in
+    c.has_loss.ensures (c.admissible.ensures.0 (search rules)) welfare (c.prices.ensures problem taken c.in-Some.welfare c.use_invariant.ensures welfare) in
     walked_leaf problem taken _ _ _ _ found _ best c.requires.long c.requires.ready refl refl now.0
     (subst (λ (z : ℤ). IsEligible problem taken z) (sym (now.1 ∙ value)) is) now.2 c.offer.ensures.greatest_read c.offer.ensures.greatest_offer

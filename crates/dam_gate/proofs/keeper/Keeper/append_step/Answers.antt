@@ -6,7 +6,7 @@ use Rattle.dam_gate.specs.Journal.{JournalState, is_full, next_entry}
 use Rattle.dam_gate.specs.Keeper.{KeeperState, ReadyState}
 use Rattle.dam_gate.proofs.Histories.{book_after-periods, journal_after_is}
 use Rattle.dam_gate.proofs.Steps.{same_reason}
-use Rattle.dam_gate.proofs.keeper.Keeper.take.Goals as goal
+use Rattle.dam_gate.proofs.keeper.Keeper.append_step.Goals as goal
 
 pub invariant_of-self : goal.invariant_of-self
 invariant_of-self g c =

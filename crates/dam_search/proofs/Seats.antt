@@ -22,7 +22,7 @@ use Rattle.dam_blocks.specs.declared.selection.Best.{Best}
 use Rattle.dam_blocks.specs.Eligible.{IsEligible}
 use Rattle.dam_search.specs.Words.{times, once_below, first_view, joined, standing, IsClosed}
 use Rattle.dam_search.specs.Work.{IsExplored, AreAnswersOf}
-use Rattle.dam_search.specs.inside.Share.{AreJoined, AreWhole}
+use Rattle.dam_search.specs.inside.Seats.{AreJoined, AreWhole}
 use Rattle.dam_search.proofs.Collecting.{spent_less, reached_less, reached_greater, reached_greatest}
 
 pub greatest_append : (xs ys : List PieceAnswer) → greatest_found (xs ++ ys) ≡ max (greatest_found xs) (greatest_found ys)

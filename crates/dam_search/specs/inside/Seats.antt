@@ -6,7 +6,7 @@ use Rattle.atomic_table.specs.Seated.{TableId}
 use Rattle.dam_blocks.specs.Problem.{ProblemState}
 use Rattle.dam_search.specs.declared.answer.PieceAnswer.{PieceAnswer}
 use Rattle.dam_search.specs.declared.shared.Shared.{Shared}
-use Rattle.dam_search.specs.declared.workers.Share.{Share}
+use Rattle.dam_search.specs.declared.workers.WorkedSeat.{WorkedSeat}
 use Rattle.dam_search.specs.declared.view.View.{View}
 use Rattle.dam_search.specs.Answer.{greatest_found}
 use Rattle.dam_search.specs.Words.{times, once_below, view_of, new_view}
@@ -17,9 +17,9 @@ pub record IsNewSeat (table : TableId) (pieces : ℕ) (s : Shared) : Type 0 wher
   pub table_is : s.seat.table_id ≡ table
   pub new : view_of s.seat ≡ new_view pieces 0
 
--- the share of a worker: its seat stopped at its first draw past the end, and has the answers
-pub record IsShare (problem : ProblemState) (depth nodes : ℕ) (table : TableId) (s : Share)
-    : Type 0 where
+-- a seat after the work at it: it stopped at its first draw past the end, and has the answers
+pub record IsWorkedSeat (problem : ProblemState) (depth nodes : ℕ) (table : TableId)
+    (s : WorkedSeat) : Type 0 where
   pub table_is : s.seat.seat.table_id ≡ table
   pub one_seat : (view_of s.seat.seat).seats ≡ 1
   pub none_left : (view_of s.seat.seat).seats_left ≡ 0

@@ -2,7 +2,7 @@
 use Rattle.std.proofs.Common.{List, Bool, length, ap, ◌∙◌, sym}
 use Rattle.dam_book.specs.Limits.{most_blocks}
 use Rattle.dam_blocks.proofs.Bits.{length-flags}
-use Rattle.dam_blocks.proofs.selection.Selection.kept.Goals as goal
+use Rattle.dam_blocks.proofs.selection.Selection.use_invariant.Goals as goal
 
 pub returns : goal.returns
 returns c = sym (ap (λ (xs : List Bool). length xs) c.self.view_is) ∙ length-flags most_blocks c.self.inside.accepted
