@@ -1,57 +1,86 @@
-"""How long `dam clear` takes by the default plan for a book with 24 blocks. It takes turns with itself on the same book without its blocks,
-with the program of before, with an enumeration of all selections, and with peers. There is a line for each book, and there are lines for
-many books together."""
+"""How long `dam clear` takes by the default plan for a book with 24 blocks: a line for each book, and lines for many books together.
+
+It takes turns with itself on the same book without its blocks, with the program of before, with other programs of a part, and with an
+enumeration of all selections with numpy, `tools/audit --best` by four threads, which also checks the results. Then it takes turns with HiGHS
+and CBC, where they are installed; peer.py describes their model. The time of a peer is that of its solver, and that of `dam clear` is from
+its start to its last byte. A run ends after 60 s, and a peer's after 20 s, or after the seconds of LIMIT and HIGHS_LIMIT in the environment.
+A run that didn't end counts as these in a sum. A program that takes longer than 1 s isn't run again."""
 
 import statistics
+import sys
 
-from figures import BEFORE, DAM, HIGHS_LIMIT, LIMIT, by_turns, enumeration, line, peak, ratio, seconds, write
+from figures import BEFORE, DAM, HIGHS_LIMIT, LIMIT, by_turns, line, ratio, seconds, write
 
-TURNS, SECONDS, ONCE = 5, 6.0, 1.0  # at most, for a book; a program that takes longer than ONCE has one run
+MOST = 0.15  # seconds, for a deep book
+TURNS, SECONDS, ONCE = 5, 6.0, 1.0  # at most, for a book; a program that takes longer than ONCE isn't run again
 PEERS = {"highs": "HiGHS", "cbc": "CBC"}
-MISSING, GAVE_UP = b"missing: ", b"gave up\n"
 SPARE = 15.0  # seconds that the program of a peer may take to be written
 LEAST_OF_PEER = 20  # times as long as `dam clear`
-MORE_THAN_BEFORE = 1.05  # times its peak memory, which varies from run to run
-MIB = "{:.1f} MiB".format
 OTHERS = {"alone": "the same without blocks", "before": "the program before", "enumeration": "the enumeration"}
 
 
+def kinds_of(books):
+    """The kinds of books that the command line names, or else all of these books."""
+    known = list(dict.fromkeys(drawn.kind for drawn in books))
+    kinds = sys.argv[1:] or known
+    return kinds if set(kinds) <= set(known) else sys.exit(f"{sys.argv[0]}: KIND is one of {' '.join(known)}")
+
+
+def walls_of(runs):
+    """The seconds of the runs of each program."""
+    return {name: [each.wall for each in found] for name, found in runs.items()}
+
+
+def welfare_of(cleared):
+    return int(cleared.text.split(b"welfare,")[1].split(b"\n")[0])
+
+
+def answer_of(asked):
+    """The welfare that a run of peer.py found, and why it found none."""
+    text = asked.text.decode().strip() if asked else "gave up"
+    if text.startswith("missing: "):
+        return None, f"is left out: {text.removeprefix('missing: ')} is missing"
+    return (None, f"gave up after {HIGHS_LIMIT:g} s") if text == "gave up" else (int(text), "")
+
+
 class Book:
-    """A book with blocks, and its figures. `walls` has the seconds of the runs of each program."""
+    """A book with blocks, and its figures. `walls` has the seconds of the runs of each program. A plan is that of `dam clear`."""
 
-    def __init__(self, part, drawn):
-        self.drawn, self.name = drawn, str(drawn)
-        self.path = self.write(part, drawn.words)
-        self.alone = self.write(part, drawn.words_without_blocks)
-        self.walls = {}
-
-    def write(self, part, words):
-        return write(f"out/{part}-{'-'.join(words)}.csv", self.drawn.script, *words)
+    def __init__(self, part, drawn, plan=()):
+        self.drawn, self.name, self.walls = drawn, drawn.name, {}
+        self.options = [word for pair in zip(("--workers", "--cut"), plan) for word in pair]
+        words = drawn.words, drawn.words_without_blocks
+        self.path, self.alone = (write(f"out/{part}-{'-'.join(each)}.csv", drawn.script, *each) for each in words)
 
     @property
     def what(self):
         return f"{self.name}: dam clear"
 
+    def in_turns(self, more, limit=LIMIT):
+        """The runs of `dam clear`, of itself on the book without its blocks, and of more programs that there are."""
+        clear = [DAM, "clear", *self.options]
+        words = {"dam": clear, "alone": clear, **{name: given for name, given in more.items() if given}}
+        return by_turns(words, self.path, TURNS, SECONDS, ONCE, inputs={"alone": self.alone}, limit=limit)
+
     def clear(self, more):
-        """Runs `dam clear` and other programs by turns; `more` has the words of further ones."""
-        words = {"dam": [DAM, "clear"], "alone": [DAM, "clear"], "before": BEFORE and [BEFORE, "clear"], **more}
-        words["enumeration"] = enumeration(self.path)
-        words = {name: given for name, given in words.items() if given}
-        runs = by_turns(words, self.path, TURNS, SECONDS, ONCE, inputs={"alone": self.alone})
-        self.walls = {name: [each.wall for each in found] for name, found in runs.items()}
+        """Runs `dam clear` and other programs by turns; `more` has the words of further ones. The twin must find the same welfare."""
+        runs = self.in_turns({"before": BEFORE and [BEFORE, "clear", *self.options], **more})
+        if runs["dam"] and any(int(each.text.split()[1]) != welfare_of(runs["dam"][0]) for each in runs.get("the twin", [])):
+            sys.exit(f"{self.name}: the twin finds another welfare")
+        self.walls = walls_of(runs)
 
     def median(self, name):
         """None if the program didn't end, or wasn't run."""
         return statistics.median(self.walls[name]) if self.walls.get(name) else None
 
     def show(self, most, others):
-        """Prints the seconds of `dam clear`, which may be `most`, and how many times as long as other programs it takes; `others` has
-        how many times that may be, or None."""
-        median = self.median("dam")
+        """Prints the seconds of `dam clear`, which may be `most`, if there is a target, and how many times as long as other programs it
+        takes; `others` has how many times that may be, or None."""
+        median, target = self.median("dam"), f"at most {seconds(most)}" if most else "ends"
         if median is None:
-            line(self.what, f"> {LIMIT:g} s", f"at most {seconds(most)}", False)
+            line(self.what, f"> {LIMIT:g} s", target, False)
             return
-        line(self.what, seconds(median), f"at most {seconds(most)}", median <= most)
+        line(self.what, seconds(median), target, not most or median <= most)
         for name, times in others.items():
             what = f"{self.what} compared with {OTHERS.get(name, name)}"
             if self.walls.get(name):
@@ -61,49 +90,24 @@ class Book:
                 line(what, "?", detail=f"it didn't end in {LIMIT:g} s")
 
     def peers(self):
-        """Runs `dam clear` and its peers by turns, and prints how many times as long each takes."""
+        """Runs `dam clear` and its peers by turns, and prints how many times as long each takes. The details have the time that the blocks add
+        to `dam clear`, which is nearer to that of a solver, since the rest reads and prints."""
         if not self.walls.get("dam"):
             return
-        words = {"dam": [DAM, "clear"], "alone": [DAM, "clear"]}
-        words |= {peer: ["./peer.py", peer, self.path, str(HIGHS_LIMIT)] for peer in PEERS}
-        limit = max(LIMIT, HIGHS_LIMIT + SPARE)
-        runs = by_turns(words, self.path, TURNS, SECONDS, ONCE, inputs={"alone": self.alone}, limit=limit)
+        runs = self.in_turns({peer: ["./peer.py", peer, self.path, str(HIGHS_LIMIT)] for peer in PEERS}, max(LIMIT, HIGHS_LIMIT + SPARE))
+        walls, welfare = walls_of(runs), welfare_of(runs["dam"][0])
+        added = max(statistics.median(walls["dam"]) - statistics.median(walls["alone"]), 0)
         for peer, name in PEERS.items():
-            self.peer(peer, f"{self.name}: {name} compared with dam clear", runs)
-
-    def peer(self, peer, what, runs):
-        """Prints how many times as long a peer takes. The details have the time that the blocks add to `dam clear`, which is nearer to that
-        of a solver, since the rest reads and prints."""
-        walls, alone = ([each.wall for each in runs[name]] for name in ("dam", "alone"))
-        welfare, found = welfare_of(runs["dam"][0]), runs[peer][0].text if runs[peer] else GAVE_UP
-        if found.startswith(MISSING):
-            line(what, "?", detail=left_out(runs[peer][0]))
-        elif found == GAVE_UP:
-            line(what, "?", detail=f"it gave up after {HIGHS_LIMIT:g} s")
-        elif int(found) > welfare:
-            line(what, "?", f"welfare {welfare}", False, f"it finds {int(found)}")
-        else:
-            note = f"the blocks add {seconds(max(statistics.median(walls) - statistics.median(alone), 0))}"
-            note += f"; it finds less welfare, {int(found)} of {welfare}" if int(found) < welfare else ""
-            ratio(what, [each.lap(peer) for each in runs[peer]], walls, least=LEAST_OF_PEER, note=note)
-
-    def memory(self, most):
-        """The memory that `dam clear` takes for the blocks, in MiB; and its whole memory, compared with that of the program before."""
-        whole = peak([DAM, "clear"], self.path)
-        more = whole - peak([DAM, "clear"], self.alone)
-        line(f"{self.what}, memory for its blocks", MIB(more), f"at most {MIB(most)}", more <= most)
-        if BEFORE:
-            before = peak([BEFORE, "clear"], self.path)
-            ratio(f"{self.what}, peak memory compared with the program before", [whole], [before], MORE_THAN_BEFORE, shown=MIB)
-
-
-def left_out(asked):
-    """Why a peer that isn't installed is left out."""
-    return f"left out: {asked.text[len(MISSING) :].decode().strip()} is missing"
-
-
-def welfare_of(cleared):
-    return int(cleared.text.split(b"welfare,")[1].split(b"\n")[0])
+            what = f"{self.name}: {name} compared with dam clear"
+            found, why = answer_of(runs[peer][0] if runs[peer] else None)
+            if found is None:
+                line(what, "?", detail=f"it {why}")
+            elif found > welfare:
+                line(what, "?", f"welfare {welfare}", False, f"it finds {found}")
+            else:
+                note = f"; it finds less welfare, {found} of {welfare}" if found < welfare else ""
+                lasted = [each.lap(peer) for each in runs[peer]]
+                ratio(what, lasted, walls["dam"], least=LEAST_OF_PEER, note=f"the blocks add {seconds(added)}{note}")
 
 
 class Together:

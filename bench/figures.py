@@ -17,15 +17,12 @@ sys.path.insert(0, str(Path(__file__).resolve().parent.parent / "tools"))
 from lib.tool import command
 
 DAM = os.environ.get("DAM", "../crates/dam_cli/out/dam_cli")
+DESK = os.environ.get("DESK", "../crates/dam_desk/out/dam_desk")
 MEASURES = "out/measures"
 BASELINE = "out/baseline"
 TWIN = "out/twin"
-# Programs that were built before a change, which take turns with `dam` and with the measures; none if they aren't named.
-BEFORE = os.environ.get("BEFORE")
-BEFORE_MEASURES = os.environ.get("BEFORE_MEASURES")
-PART = os.path.basename(sys.argv[0]).partition(".")[0]
-FIGURES = f"out/{PART}.tsv"
-TIME = "/usr/bin/time"
+BEFORE = os.environ.get("BEFORE")  # a program that was built before a change, which takes turns with `dam`; None if none is named
+FIGURES = f"out/{Path(sys.argv[0]).stem}.tsv"
 
 # The seconds after which a run is ended, and those that HiGHS gets for a book.
 LIMIT = float(os.environ.get("LIMIT", "60"))
@@ -43,17 +40,12 @@ class Run(NamedTuple):
     wall: float
     processor: float
 
-    def laps(self, name):
-        """The seconds of each lap of that name that the program reports."""
-        lines = (line.split() for line in self.stderr.decode().splitlines())
-        return [int(line[1]) / 1e9 for line in lines if line[0] == name]
-
     def lap(self, name):
-        """Their median."""
-        return statistics.median(self.laps(name))
+        """The seconds that the program reports for a part of this name."""
+        return int(dict(line.split() for line in self.stderr.decode().splitlines())[name]) / 1e9
 
 
-def run(words, given=os.devnull, statuses=(0,), limit=LIMIT, padding=0):
+def run(words, given=os.devnull, limit=LIMIT, padding=0):
     """Runs a program on a file. Returns None if it didn't end in time, and ends the bench if it failed. The padding is the number of bytes
     that are added to its environment, which move its stack."""
     with open(given, "rb") as text, tempfile.TemporaryFile() as printed, tempfile.TemporaryFile() as errors:
@@ -66,13 +58,14 @@ def run(words, given=os.devnull, statuses=(0,), limit=LIMIT, padding=0):
         wall = time.perf_counter() - begun
         clock.cancel()
         started.returncode = os.waitstatus_to_exitcode(status)
-        printed.seek(0)
-        errors.seek(0)
         if wall >= limit:
             return None
-        if started.returncode not in statuses:
-            sys.exit(f"{' '.join(words)} < {given}: status {started.returncode}, {errors.read().decode()}")
-        return Run(printed.read(), errors.read(), wall, used.ru_utime + used.ru_stime)
+        printed.seek(0)
+        errors.seek(0)
+        done = Run(printed.read(), errors.read(), wall, used.ru_utime + used.ru_stime)
+    if started.returncode:
+        sys.exit(f"{' '.join(words)} < {given}: status {started.returncode}, {done.stderr.decode()}")
+    return done
 
 
 def write(path, *words):
@@ -82,32 +75,42 @@ def write(path, *words):
     return path
 
 
-def by_turns(programs, given=os.devnull, most=31, seconds=5.0, once=math.inf, inputs=None, limit=LIMIT):
-    """Runs programs in turns. Returns for each name its runs: at most `most`, and no further one after `seconds`. A program that didn't end
-    in time has no runs, and one that takes longer than `once` has one run, which doesn't count among the seconds. A program reads the file
-    of its name among the inputs, or else the given one. Each turn has their stacks at another place, because the time of a walk varies with
-    that."""
-    runs = {name: [] for name in programs}
-    left = seconds
+def in_turns(functions, most=31, seconds=5.0, once=math.inf):
+    """Calls functions in turns, with the number of the turn. Returns for each name its results: at most `most`, and no further one after
+    `seconds`. A function isn't called again if it returned None, or if it took longer than `once`; that call doesn't count among the
+    seconds."""
+    found, left, again = {name: [] for name in functions}, seconds, dict(functions)
     for turn in range(most):
-        for name, words in programs.items():
-            if turn == 0 or runs[name] and runs[name][0].wall <= once:
-                begun = time.perf_counter()
-                done = run(words, (inputs or {}).get(name, given), limit=limit, padding=STACKS * (turn % PLACES))
-                runs[name] += [done] if done else []
-                taken = time.perf_counter() - begun
-                left -= taken if taken <= once else 0
+        for name, function in list(again.items()):
+            begun = time.perf_counter()
+            result = function(turn)
+            taken = time.perf_counter() - begun
+            if result is not None:
+                found[name].append(result)
+            if result is None or taken > once:
+                del again[name]
+            left -= taken if taken <= once else 0
         if left < 0:
             break
-    return runs
+    return found
+
+
+def by_turns(programs, given=os.devnull, most=31, seconds=5.0, once=math.inf, inputs=None, limit=LIMIT):
+    """Runs programs in turns, and returns the runs of each; a program that doesn't end in time has none. A program reads the file of its
+    name among the inputs, or else the given one. Each turn has their stacks at another place, because the time of a walk varies with
+    that."""
+
+    def runs(name, words):
+        read = (inputs or {}).get(name, given)
+        return lambda turn: run(words, read, limit=limit, padding=STACKS * (turn % PLACES))
+
+    return in_turns({name: runs(name, words) for name, words in programs.items()}, most, seconds, once)
 
 
 def peak(words, given):
     """The peak memory of a program in MiB. (The system's report on a child of this process also counts this process's pages.)"""
-    if not os.access(TIME, os.X_OK):
-        sys.exit(f"{TIME} is missing")
     with open(given, "rb") as text, tempfile.NamedTemporaryFile("r") as used:
-        timed = [TIME, "-f", "%M", "-o", used.name, *words]
+        timed = ["/usr/bin/time", "-f", "%M", "-o", used.name, *words]
         subprocess.run(timed, stdin=text, stdout=subprocess.DEVNULL, stderr=subprocess.DEVNULL, check=True)
         return int(used.read()) / 1024
 
@@ -115,7 +118,7 @@ def peak(words, given):
 def seconds(value):
     """A time with a unit that suits it."""
     for unit, size in (("s", 1), ("ms", 1e-3), ("us", 1e-6)):
-        if value >= size:
+        if value >= 0.9995 * size:  # which rounds to it
             return f"{value / size:.3g} {unit}"
     return f"{value / 1e-9:.3g} ns"
 
@@ -128,27 +131,39 @@ def line(what, shown, target="", holds=None, detail=""):
         print(what, shown, target, verdict, detail, sep="\t", file=kept)
 
 
+MIB, PER_SECOND = "{:.1f} MiB".format, "{:,.0f} a second".format
+
+
 def at_most(what, value, target, shown=seconds, detail=""):
     line(what, shown(value), f"at most {shown(target)}", value <= target, detail)
 
 
-def times(value):
-    """A multiple, with two digits at least that aren't 0."""
-    return f"{value:.2g} x" if value < 0.1 else f"{value:.2f} x" if value < 100 else f"{value:,.0f} x"
+def times(value, digits=2):
+    """A multiple, with at least so many digits that aren't 0."""
+    return f"{value:.{digits}g} x" if value < 0.1 else f"{value:.{digits}f} x" if value < 100 else f"{value:,.0f} x"
 
 
 def ratio(what, ones, others, most=None, least=None, shown=seconds, note=""):
     """Prints the median of `ones` as a multiple of `others`' median; the details have both, and the multiple for the least of both."""
     one, other = statistics.median(ones), statistics.median(others)
     value = one / other
-    target = f"at most {times(most)}" if most else f"at least {times(least)}" if least else ""
-    holds = None if not target else value <= most if most else value >= least
+    bound = most or least
+    holds = None if not bound else value <= most if most else value >= least
+    # a missed target has no equal figure
+    digits = 3 if holds is False and times(value) == times(bound) else 2
+    target = f"at most {times(most, digits)}" if most else f"at least {times(least, digits)}" if least else ""
     detail = f"{shown(one)} and {shown(other)}"
     if len(ones) > 1:
         detail += f"; of the least {times(min(ones) / min(others))}"
     if note:
         detail += f"; {note}"
-    line(what, times(value), target, holds, detail)
+    line(what, times(value, digits), target, holds, detail)
+
+
+def compare(what, ones, others, most=None, least=None):
+    """Prints the wall and the processor time of runs as multiples of those of others."""
+    for field in ("wall", "processor"):
+        ratio(f"{what}, {field} time", *([getattr(each, field) for each in runs] for runs in (ones, others)), most, least)
 
 
 def enumeration(path):

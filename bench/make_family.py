@@ -15,29 +15,14 @@ ties      blocks that don't change the welfare, so that all selections are equal
 import math
 import random
 import sys
-from dataclasses import dataclass, field
 from typing import NamedTuple
+
+from make_journal import CLOSE, PARTICIPANTS, Order, drawn_side
 
 HOURS = 24
 BLOCKS, MOST_HOURLY = 24, 4_000  # the limits of a book
-PARTICIPANTS = ["ALPHA", "BRAVO", "CHARLIE", "DELTA", "ECHO", "FOXTROT", "GOLF", "HOTEL"]
 SEED = 20_251_001
 MOST_THIN = 200  # hourly orders of a thin market
-
-
-@dataclass
-class Block:
-    side: str
-    price: int
-    volumes: dict[int, int]
-    who: str = "ALPHA"
-    parent: str = ""
-    group: str = ""
-    name: str = field(default="")
-
-    def record(self):
-        volumes = ";".join(f"{period}:{volume}" for period, volume in sorted(self.volumes.items()))
-        return f"submit,{self.who},{self.name},block,{self.side},{self.price},{volumes},{self.parent},{self.group}"
 
 
 class Day:
@@ -64,118 +49,95 @@ class Day:
     def mean_price(self, periods):
         return sum(map(self.curve, periods)) / len(periods)
 
+    def blocks(self, count, hours, sizes, above, side):
+        """Blocks over a span of so many hours, with one volume; `above` draws by how much the limit is above the mean price."""
+        for number in range(count):
+            periods, size = self.span(*hours), self.rng.randint(*sizes)
+            price = round(self.mean_price(periods) + above())
+            yield block(number, side(), price, dict.fromkeys(periods, size))
+
+    def side(self):
+        return drawn_side(self.rng)
+
+
+def block(number, side, price, volumes):
+    return Order("ALPHA", f"BLOCK-{number}", "block", side, price, volumes)
+
 
 def hourly(day, number):
     period = 1 + number % day.count
     side = "buy" if (number // day.count) % 2 == 0 else "sell"
     price = day.curve(period) + round(day.rng.gauss(0, 1_500)) + (700 if side == "buy" else -700)
-    return f"submit,{day.rng.choice(PARTICIPANTS)},HOUR-{number},hour,{side},{price},{period}:{day.rng.randint(50, 500)},,"
+    return Order(day.rng.choice(PARTICIPANTS), f"HOUR-{number}", "hour", side, price, {period: day.rng.randint(50, 500)})
 
 
 def flat(day, number):
     """Of each period, one buy and one sell that leave much of both at 6,000 cents, and small ones that never matter."""
     period, rank = 1 + number % day.count, number // day.count
     side = "buy" if rank % 2 == 0 else "sell"
-    if rank < 2:
-        return f"submit,ALPHA,HOUR-{number},hour,{side},6000,{period}:{50_000},,"
-    return f"submit,ALPHA,HOUR-{number},hour,{side},{1_000 if side == 'buy' else 11_000},{period}:1,,"
+    price, volume = (6_000, 50_000) if rank < 2 else (1_000 if side == "buy" else 11_000, 1)
+    return Order("ALPHA", f"HOUR-{number}", "hour", side, price, {period: volume})
 
 
 def market(day, count, volume):
-    for _ in range(count):
-        periods = day.span(4, 12)
-        size = day.rng.randint(volume // 2, volume)
-        price = round(day.mean_price(periods) + day.rng.gauss(0, 450))
-        yield Block(day.rng.choice(["buy", "sell"]), price, {period: size for period in periods})
+    return day.blocks(count, (4, 12), (volume // 2, volume), lambda: day.rng.gauss(0, 450), day.side)
 
 
 def paradox(day, count, volume):
-    for _ in range(count):
-        periods = day.span(3, 12)
-        size = day.rng.randint(volume // 2, volume)
-        price = round(day.mean_price(periods) - day.rng.uniform(0, 200))
-        yield Block("sell", price, {period: size for period in periods})
+    return day.blocks(count, (3, 12), (volume // 2, volume), lambda: -day.rng.uniform(0, 200), lambda: "sell")
 
 
 def spread(day, count, volume):
-    for _ in range(count):
-        periods = day.span(2, 24)
-        size = day.rng.randint(max(volume // 20, 1), max(volume // 4, 2))
-        price = round(day.mean_price(periods) + day.rng.uniform(-1_200, 1_200))
-        yield Block(day.rng.choice(["buy", "sell"]), price, {period: size for period in periods})
+    sizes = max(volume // 20, 1), max(volume // 4, 2)
+    return day.blocks(count, (2, 24), sizes, lambda: day.rng.uniform(-1_200, 1_200), day.side)
 
 
 def nearties(day, count, volume):
     periods = day.periods_of(8, 21)
-    for number in range(count):
-        price = round(day.mean_price(periods)) - 300 + 20 * number
-        yield Block("sell", price, {period: volume // 4 for period in periods})
+    price = round(day.mean_price(periods)) - 300
+    return [block(number, "sell", price + 20 * number, dict.fromkeys(periods, volume // 4)) for number in range(count)]
 
 
 def links(day, count, volume):
-    blocks = list(market(day, count, volume))
-    for number, block in enumerate(blocks):
-        block.side = "sell"
-        if number % 6:
-            block.parent = f"BLOCK-{number - 1}"
-    return blocks
+    for number, each in enumerate(market(day, count, volume)):
+        each.side, each.parent = "sell", f"BLOCK-{number - 1}" if number % 6 else ""
+        yield each
 
 
 def groups(day, count, volume):
-    blocks = list(market(day, count, 2 * volume))
-    for number, block in enumerate(blocks):
-        block.group = f"GROUP-{number // 3}"
-    return blocks
+    for number, each in enumerate(market(day, count, 2 * volume)):
+        each.group = f"GROUP-{number // 3}"
+        yield each
 
 
 def ties(day, count, _volume):
-    for _ in range(count):
-        yield Block("sell", 6_000, {period: 1 for period in day.span(1, 6)})
+    return [block(number, "sell", 6_000, dict.fromkeys(day.span(1, 6), 1)) for number in range(count)]
 
 
-FAMILIES = {"market": market, "paradox": paradox, "spread": spread, "nearties": nearties, "links": links, "groups": groups, "ties": ties}
+FAMILIES = {made.__name__: made for made in (market, paradox, spread, nearties, links, groups, ties)}
 
 
 class Book(NamedTuple):
-    """The generator of a family's book with the most blocks."""
+    """A book with the most blocks: its name, the script and the arguments that print it, and those that print it without blocks."""
 
-    family: str
-    hourly: int
-    parts: int
-    script = "./make_family.py"
-    note = ""  # no fact about such a book explains a long search
+    name: str
+    kind: str
+    script: str
+    words: list[str]
+    words_without_blocks: list[str]
+    is_thin: bool
+    note: str = ""  # a fact about the book that explains a long search
 
-    @property
-    def words(self):
-        """The arguments that print it."""
-        return self.with_blocks(BLOCKS)
 
-    @property
-    def words_without_blocks(self):
-        return self.with_blocks(0)
-
-    def with_blocks(self, blocks):
-        return [self.family, str(self.hourly), str(blocks), str(self.parts)]
-
-    @property
-    def kind(self):
-        return self.family
-
-    @property
-    def periods(self):
-        return HOURS * self.parts
-
-    @property
-    def is_thin(self):
-        return self.hourly <= MOST_THIN
-
-    def __str__(self):
-        return f"{self.family} {self.hourly:,}, {self.periods} periods"
+def book(family, hourly, parts):
+    name = f"{family} {hourly:,}, {HOURS * parts} periods"
+    words = ([family, str(hourly), str(blocks), str(parts)] for blocks in (BLOCKS, 0))
+    return Book(name, family, "./make_family.py", *words, is_thin=hourly <= MOST_THIN)
 
 
 HOURLY = (500, 4_000)
-BOOKS = [Book(family, hourly, parts) for family in FAMILIES for hourly in HOURLY for parts in (1, 4)]
-THIN = [Book(family, MOST_THIN, parts) for family in ("links", "groups") for parts in (1, 4)]
+BOOKS = [book(family, hourly, parts) for family in FAMILIES for hourly in HOURLY for parts in (1, 4)]
+THIN = [book(family, MOST_THIN, parts) for family in ("links", "groups") for parts in (1, 4)]
 
 
 def number_of(name, word, allowed, of=""):
@@ -195,15 +157,11 @@ def main():
     parts = number_of("PARTS", words[3], (1, 4), "1 or 4") if len(words) > 3 else 1
     day = Day(parts, random.Random(f"{SEED} {family} {orders}"))
     order = flat if family == "ties" else hourly
-    # a tenth of the volume of one side of a period
-    volume = max(orders * 275 // day.count // 20, 10)
+    volume = max(orders * 275 // day.count // 20, 10)  # a tenth of that of one side of a period
     print(f"day,{day.count},,,,,,,")
     for number in range(orders):
         print(order(day, number))
-    for number, block in enumerate(FAMILIES[family](day, count, volume)):
-        block.name = f"BLOCK-{number}"
-        print(block.record())
-    print("close,,,,,,,,")
+    print(*FAMILIES[family](day, count, volume), CLOSE, sep="\n")
 
 
 if __name__ == "__main__":

@@ -2,28 +2,44 @@
 """make_journal.py [day | blocks]: prints a journal of 10,000 records: a day of 24 periods, hourly orders and cancels of 8 participants,
 and a close; with `day` the close is replaced by another command. With `blocks` it prints a day of 100 periods and 10,000 commands, each
 of them a block with a volume of five digits in every period: 9 MB of the 16,777,216 bytes that may be read, about as long as a written
-journal gets.
-
-make_journal.py clearing HOURLY BLOCKS [LENGTH [HOURS [PERIODS]]]: prints the journal of a closed day of PERIODS periods (24), with HOURLY
-hourly orders, spread evenly over the first HOURS periods (24), and with BLOCKS blocks over LENGTH periods each (6). Every run with the
-same arguments prints the same bytes."""
+journal gets. Every run with the same arguments prints the same bytes."""
 
 import random
 import sys
+from dataclasses import dataclass
 
-RECORDS = 10_000
-PERIODS = 24
+RECORDS, PERIODS = 10_000, 24
 PARTICIPANTS = ["ALPHA", "BRAVO", "CHARLIE", "DELTA", "ECHO", "FOXTROT", "GOLF", "HOTEL"]
+DAY, CLOSE = f"day,{PERIODS},,,,,,,", "close,,,,,,,,"
 # Of a hundred commands, how many submit a new order and how many cancel one; the book refuses the rest.
 SUBMITS, CANCELS = 62, 33
 
 
-def submit(who, name, rng):
-    side = rng.choice(["buy", "sell"])
-    price = rng.randint(-5_000, 30_000)
-    period = rng.randint(1, PERIODS)
-    volume = rng.randint(1, 5_000)
-    return f"submit,{who},{name},hour,{side},{price},{period}:{volume},,"
+@dataclass
+class Order:
+    """An order, with its volume in each period. As text it is the record of its submit."""
+
+    who: str
+    name: str
+    kind: str
+    side: str
+    price: int
+    volumes: dict[int, int]
+    parent: str = ""
+    group: str = ""
+
+    def __str__(self):
+        pairs = ";".join(f"{period}:{volume}" for period, volume in self.volumes.items())
+        return f"submit,{self.who},{self.name},{self.kind},{self.side},{self.price},{pairs},{self.parent},{self.group}"
+
+
+def drawn_side(rng):
+    return rng.choice(["buy", "sell"])
+
+
+def hour_order(who, name, rng):
+    side, price = drawn_side(rng), rng.randint(-5_000, 30_000)
+    return Order(who, name, "hour", side, price, {rng.randint(1, PERIODS): rng.randint(1, 5_000)})
 
 
 def commands(count, rng):
@@ -32,62 +48,34 @@ def commands(count, rng):
         draw = rng.randrange(100)
         if draw < SUBMITS or not standing:
             made += 1
-            order = rng.choice(PARTICIPANTS), f"ORDER-{made}"
-            standing.append(order)
-            yield submit(*order, rng)
+            standing.append((rng.choice(PARTICIPANTS), f"ORDER-{made}"))
+            yield hour_order(*standing[-1], rng)
         elif draw < SUBMITS + CANCELS:
             who, name = standing.pop(rng.randrange(len(standing)))
             yield f"cancel,{who},{name},,,,,,"
         elif draw % 2 == 0:
-            yield submit(*rng.choice(standing), rng)
+            yield hour_order(*rng.choice(standing), rng)
         else:
             yield f"cancel,{rng.choice(PARTICIPANTS)},NEVER-{made},,,,,,"
 
 
 def blocks(count, rng):
     for number in range(count):
-        volumes = ";".join(f"{period}:{rng.randint(10_000, 99_999)}" for period in range(1, 101))
-        who, side, price = rng.choice(PARTICIPANTS), rng.choice(["buy", "sell"]), rng.randint(10_000, 99_999)
-        yield f"submit,{who},BLOCK-{number},block,{side},{price},{volumes},,"
-
-
-def hour_of(number, hours, rng):
-    side = rng.choice(["buy", "sell"])
-    price = rng.randint(2_000, 12_000) + (3_000 if side == "buy" else -3_000)
-    return f"submit,{rng.choice(PARTICIPANTS)},HOUR-{number},hour,{side},{price},{1 + number % hours}:{rng.randint(50, 500)},,"
-
-
-def block_of(number, length, periods, rng):
-    first = rng.randint(1, periods - length + 1)
-    volumes = ";".join(f"{period}:{rng.randint(50, 300)}" for period in range(first, first + length))
-    side = rng.choice(["buy", "sell"])
-    return f"submit,{rng.choice(PARTICIPANTS)},BLOCK-{number},block,{side},{rng.randint(6_000, 8_000)},{volumes},,"
-
-
-def clearing(hourly, blocks, length=6, hours=24, periods=24):
-    rng = random.Random(20_250_311)
-    yield f"day,{periods},,,,,,,"
-    for number in range(hourly):
-        yield hour_of(number, hours, rng)
-    for number in range(blocks):
-        yield block_of(number, length, periods, rng)
-    yield "close,,,,,,,,"
+        volumes = {period: rng.randint(10_000, 99_999) for period in range(1, 101)}
+        who, side = rng.choice(PARTICIPANTS), drawn_side(rng)
+        yield Order(who, f"BLOCK-{number}", "block", side, rng.randint(10_000, 99_999), volumes)
 
 
 def main():
-    if sys.argv[1:2] == ["clearing"]:
-        print(*clearing(*map(int, sys.argv[2:])), sep="\n")
-        return
-    rng = random.Random(20_240_601)
-    if sys.argv[1:] == ["blocks"]:
-        print("day,100,,,,,,,", *blocks(RECORDS, rng), sep="\n")
-        return
-    is_open = sys.argv[1:] == ["day"]
-    print(f"day,{PERIODS},,,,,,,")
-    for command in commands(RECORDS - 1 if is_open else RECORDS - 2, rng):
-        print(command)
-    if not is_open:
-        print("close,,,,,,,,")
+    kind, rng = sys.argv[1] if sys.argv[1:] else "closed", random.Random(20_240_601)
+    if kind == "blocks":
+        lines = ["day,100,,,,,,,", *blocks(RECORDS, rng)]
+    elif kind == "day":
+        lines = [DAY, *commands(RECORDS - 1, rng)]
+    else:
+        lines = [DAY, *commands(RECORDS - 2, rng), CLOSE]
+    print(*lines, sep="\n")
 
 
-main()
+if __name__ == "__main__":
+    main()

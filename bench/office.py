@@ -4,57 +4,32 @@ turns with it, a plain office (plain_office.py) of aiohttp and SQLite gives the 
 day of 9,950 commands; it is started again after a crash, and closes."""
 
 import asyncio
-import contextlib
-import os
-import socket
+import math
 import statistics
 import subprocess
 import sys
-import tempfile
-import time
 from pathlib import Path
 
-import figures
-from figures import DAM, at_most, line, ratio
+from figures import DAM, DESK, PER_SECOND, at_most, command, in_turns, line, ratio
 
 HERE = Path(__file__).resolve().parent
 sys.path.insert(0, str(HERE.parent / "tests" / "office"))
 
 import loads
-from served import DAY, free_port, names, served
+from served import Served, served
 
-from dam_tools.office import AsyncOffice
-
-DESK = os.environ.get("DESK", "../crates/dam_desk/out/dam_desk")
 CONNECTIONS, TURNS, COMMANDS = 50, 5, 40  # COMMANDS of each connection in a turn
 WHOLE_DAY = 199  # and on the whole day
-PER_SECOND = "{:,.0f} a second".format
 
 
-class Plain:
-    """The plain office, as a load sees it."""
+class Plain(Served):
+    """The plain office, next to which a folder and tokens are made as for the office."""
 
-    day, who = DAY, names(CONNECTIONS)
+    is_ready = Served.listens
 
-    def __init__(self, port):
-        self.url = f"http://127.0.0.1:{port}"
-
-    def asynchronous(self, who):
-        return AsyncOffice(self.url, f"{who}.none")
-
-
-@contextlib.contextmanager
-def plain():
-    with tempfile.TemporaryDirectory(dir="out") as room:
-        port = free_port()
-        with subprocess.Popen([sys.executable, "-B", HERE / "plain_office.py", f"{room}/rows", str(port)]) as process:
-            try:
-                until = time.monotonic() + 30
-                while socket.socket().connect_ex(("127.0.0.1", port)) and time.monotonic() < until:
-                    time.sleep(0.05)
-                yield Plain(port)
-            finally:
-                process.terminate()
+    def begin(self):
+        words = [sys.executable, "-B", HERE / "plain_office.py", f"{self.room.name}/rows", str(self.port)]
+        self.process = subprocess.Popen(words, env=self.environment)
 
 
 def loaded(office, count):
@@ -64,24 +39,25 @@ def loaded(office, count):
     return len(load.seconds) / took, statistics.median(load.seconds)
 
 
+def under_load(kind):
+    with served(DAM, DESK, kind=kind, count=CONNECTIONS) as office:
+        office.start()
+        return loaded(office, COMMANDS)
+
+
 def compare():
-    ours, theirs = [], []
-    for _ in range(TURNS):
-        with served(DAM, DESK, count=CONNECTIONS) as office:
-            office.start()
-            ours.append(loaded(office, COMMANDS))
-        with plain() as other:
-            theirs.append(loaded(other, COMMANDS))
+    found = in_turns({"ours": lambda _: under_load(Served), "theirs": lambda _: under_load(Plain)}, TURNS, math.inf)
+    (our_rates, our_times), (their_rates, their_times) = (zip(*results) for results in found.values())
     what = f"an office compared with a plain one, {CONNECTIONS} connections"
-    ratio(f"{what}, commands a second", [rate for rate, _ in ours], [rate for rate, _ in theirs], least=1, shown=PER_SECOND)
-    ratio(f"{what}, time of a command", [median for _, median in ours], [median for _, median in theirs], most=1)
+    ratio(f"{what}, commands a second", our_rates, their_rates, least=1, shown=PER_SECOND)
+    ratio(f"{what}, time of a command", our_times, their_times, most=1)
 
 
 def whole_day():
+    commands = CONNECTIONS * WHOLE_DAY
     with served(DAM, DESK, count=CONNECTIONS) as office:
         office.start()
         rate, _ = loaded(office, WHOLE_DAY)
-        commands = CONNECTIONS * WHOLE_DAY
         line(f"commands that an office takes, {commands:,} of a day", PER_SECOND(rate), f"at least {PER_SECOND(1_000)}", rate >= 1_000)
         office.kill("office", "desk")
         at_most(f"a start of an office after a crash, {commands:,} entries", office.start(), 1.0)
@@ -89,9 +65,7 @@ def whole_day():
 
 
 def main():
-    if not os.access(DESK, os.X_OK):
-        sys.exit(f"{DESK} isn't built: ../tools/prove dam_desk")
-    if not all(map(figures.command.has, ("aiohttp", "cryptography", "jinja2"))):
+    if not all(map(command.has, ("aiohttp", "cryptography", "jinja2"))):
         line("the office: python3-aiohttp, python3-cryptography or python3-jinja2 is missing", "")
         return
     compare()

@@ -2,7 +2,7 @@
 """page.py [PART..]: takes the figures that these parts of the bench have printed over into measured/PART.csv, notes the run in
 measured/runs.csv, and writes docs/MEASURED.md from all these files. Without a part it only writes the page again.
 
-If --before or --before-measures names a program, BEFORE_IS in the environment says what that is, such as its commit."""
+If --before names a program, BEFORE_IS in the environment says what that is, such as its commit."""
 
 import ast
 import collections
@@ -21,18 +21,17 @@ PAGE = HERE.parent / "docs" / "MEASURED.md"
 KEPT = HERE / "measured"
 WRITTEN = ["docs/MEASURED.md", "docs/growth.svg", "bench/measured"]  # by the bench itself
 PARTS = ["quick", "families", "blocks", "thin", "growth", "workers", "looks", "desk", "office"]
-PEERS = {"families": "HiGHS", "blocks": "HiGHS and CBC each", "thin": "HiGHS and CBC each"}  # the peers of each part
 COLUMNS = ["what", "figure", "target", "holds", "details"]
 RUN_COLUMNS = ["part", "date", "commit", "machine", "load", "kit", "notes"]
 # The figures that the page shows of each part, apart from those that miss a target; the others stand in the files alone. Of two groups the
 # first names the row of a table, and the second its column.
 SHOWN = {
-    "quick": r"(?:dam (?:replay|clear)|settle) .*(?:wall time|plain pass)",
+    "quick": r"(?:dam (?:replay|clear)|settle) .*(?:wall time|plain pass)|dam day compared with the baseline.*processor time",
     "families": r"(\w+) (\d+), plan 2 3: dam clear",
     "blocks": r"(\w+) (\d+), spread 50, seed 1: dam clear",
     "thin": r"(base|peaks|shaped|odd|random) 96, (500|1,500) orders, spread (?:0|20|50), seed 1: dam clear",
-    "workers": r"(?:base|odd) .*4 workers as fast as 1",
-    "looks": r"a look compared with a plain one, while [03] threads.*|a call, 4,000 orders held|dam day.*",
+    "workers": r"(?:base|odd) .*the rate of 4 workers compared with 1",
+    "looks": r"a look compared with a plain one, while [03] threads.*|a call, 4,000 orders held",
     "desk": r"dam replay compared with a desk.*wall time|records that a desk keeps.*|opening .* on disk.*wall time|memory of a desk.*records",
     "office": r".*",
 }
@@ -52,17 +51,17 @@ PICTURES = {
 UNITS = {"ns": 1e-9, "us": 1e-6, "ms": 1e-3}  # of a second
 HEAD = """# Measured figures
 
-`bench/run` runs the benchmarks, and `bench/page.py` writes this page. A time is the median of several runs, or of one of over a second; an
-office's whole day is run once. Compared programs run alternately. `A compared with B` is A's time divided by B's, or A's rate by B's. The
-docstring of each part's script describes its method. The load is the load average of the minute before. The baseline and the twin are
-[plain Rust programs](../crates/NOTES.md#words).
+`bench/run` runs the benchmarks, and `bench/page.py` writes this page. A time is the median of several runs. In `blocks` and `thin`, a
+program that took over a second isn't run again; an office's whole day is run once. Compared programs run alternately. `A compared with B`
+is A's time divided by B's, or A's rate by B's. The docstring of each part's script describes its method. The load is the average of the
+minute before. The baseline and the twin are [plain Rust programs](../crates/NOTES.md#words).
 
 A CSV file has every figure of a part, with its target; this page shows some, and the missed targets by kind.
 `grep MISSED bench/measured/*.csv` prints each.
 """
 
 
-def printed(words):
+def printed(*words):
     """The output of a program, or nothing if it is missing or fails."""
     try:
         return subprocess.run(words, stdout=subprocess.PIPE, stderr=subprocess.DEVNULL, text=True, check=True).stdout.strip()
@@ -70,22 +69,17 @@ def printed(words):
         return ""
 
 
-def processor():
-    with open("/proc/cpuinfo", encoding="utf-8") as text:
-        names = re.findall(r"(?m)^model name\s*: (.*)", text.read())
-    return names[0] if names else os.uname().machine
-
-
 def run_of(part):
     """The day, the commit, the machine and the kit of a part's figures, and other facts about them."""
-    commit = printed(["git", "rev-parse", "--short", "HEAD"]) or "unknown"
-    if printed(["git", "status", "--porcelain", "--", ":/", *(f":(top,exclude){name}" for name in WRITTEN)]):
+    commit = printed("git", "rev-parse", "--short", "HEAD") or "unknown"
+    if printed("git", "status", "--porcelain", "--", ":/", *(f":(top,exclude){name}" for name in WRITTEN)):
         commit += " with changes"
-    machine = f"{os.cpu_count()} processors ({processor()})"
+    processors = re.findall(r"(?m)^model name\s*: (.*)", Path("/proc/cpuinfo").read_text()) or [os.uname().machine]
     load, limit, before = (os.environ.get(name, "") for name in ("LOAD", "HIGHS_LIMIT", "BEFORE_IS"))
-    notes = [f"{PEERS[part]} had {limit} s for each book"] if limit and part in PEERS else []
+    notes = [f"HiGHS and CBC each had {limit} s for each book"] if limit and part in ("blocks", "thin") else []
     notes += [f"the program before is {before}"] if before else []
-    return [part, str(datetime.date.today()), commit, machine, load, printed(["rt", "version"]), "; ".join(notes)]
+    machine = f"{os.cpu_count()} processors ({processors[0]})"
+    return [part, str(datetime.date.today()), commit, machine, load, printed("rt", "version"), "; ".join(notes)]
 
 
 def read(path):
@@ -101,29 +95,12 @@ def write(path, columns, rows):
         csv.writer(text, lineterminator="\n").writerows([columns, *rows])
 
 
-def from_tables(text):
-    """The figures of tables, each with the heading of its table, the name of its row and the head of its column."""
-    for title, table in re.findall(r"^### (.*)\n\n((?:\|.*\n)+)", text, re.MULTILINE):
-        head, _, *rows = [[cell.strip() for cell in line.strip("|").split("|")] for line in table.splitlines()]
-        for row in rows:
-            for column, figure in zip(head[1:], row[1:]):
-                yield [f"{title}: {row[0]}, {column}".replace("`", ""), figure, "", "", ""]
-
-
-def figures(part):
-    """The figures that a part has just printed: those of its own tables if it wrote some."""
-    tables = HERE / "out" / f"{part}.md"
-    if tables.exists():
-        return list(from_tables(tables.read_text(encoding="utf-8")))
-    lines = (HERE / "out" / f"{part}.tsv").read_text(encoding="utf-8").splitlines()
-    return [line.split("\t") for line in lines]
-
-
 def take_over(parts):
-    """Replaces the kept figures and runs of these parts."""
+    """Replaces the kept figures and runs of these parts by those that they have just printed."""
     runs = {row[0]: row for row in read(KEPT / "runs.csv")}
     for part in parts:
-        write(KEPT / f"{part}.csv", COLUMNS, figures(part))
+        lines = (HERE / "out" / f"{part}.tsv").read_text(encoding="utf-8").splitlines()
+        write(KEPT / f"{part}.csv", COLUMNS, [line.split("\t") for line in lines])
         runs[part] = run_of(part)
     write(KEPT / "runs.csv", RUN_COLUMNS, [runs[part] for part in PARTS if part in runs])
 
@@ -132,11 +109,6 @@ def about(part):
     """The first paragraph of the part's script."""
     text = (HERE / f"{part}.py").read_text(encoding="utf-8")
     return ast.get_docstring(ast.parse(text)).split("\n\n")[0]
-
-
-def filled(text):
-    """A paragraph in lines of at most 140 columns."""
-    return "".join(f"{line}\n" for line in textwrap.wrap(text, 140))
 
 
 def row(fields):
@@ -149,27 +121,19 @@ def table(head, rows):
 
 def shown(part, rows):
     """The figures that the page shows of a part."""
-    if part not in SHOWN:
-        return ""
-    found = [(re.fullmatch(SHOWN[part], each[0]), *each[:4]) for each in rows]
-    found = [each for each in found if each[0]]
     if part not in CELLS:
-        return held(row for _, *row in found)
-    cells = {match.groups(): figure for match, _, figure, *_ in found}
+        return held(SHOWN.get(part, ""), rows)
+    cells = {match.groups(): figure for name, figure, *_ in rows if (match := re.fullmatch(SHOWN[part], name))}
     names, columns = (list(dict.fromkeys(pair[at] for pair in cells)) for at in (0, 1))
     what, column = CELLS[part]
     lines = [[name, *(cells.get((name, each), "") for each in columns)] for name in names]
-    return table([what, *map(column.format, columns)], lines) if found else ""
+    return table([what, *(column.format(f"{int(each):,}" if each.isdigit() else each) for each in columns)], lines) if cells else ""
 
 
-def held(rows):
-    """A table of figures, without those that miss a target."""
-    lines = [[what, figure, target] for what, figure, target, holds, *_ in rows if holds != "MISSED"]
+def held(names, rows):
+    """A table of the figures with such names, without those that miss a target."""
+    lines = [row[:3] for row in rows if re.fullmatch(names, row[0]) and row[3] != "MISSED"]
     return table(["What", "Figure", "Target"], lines) if lines else ""
-
-
-def together(rows):
-    return held(each for each in rows if re.fullmatch(TOGETHER, each[0]))
 
 
 def size(figure):
@@ -196,10 +160,10 @@ def missed(rows):
     figures, and which is furthest from the target."""
     kinds = collections.defaultdict(list)
     for what, figure, target, holds, _ in rows:
-        where, _, kind = what.rpartition(": ")
-        kinds[kind, target].append((where, figure, holds == "MISSED"))
+        book, _, kind = what.rpartition(": ")
+        kinds[kind, target].append((book, figure, holds == "MISSED"))
     for (kind, target), found in kinds.items():
-        wrong = [(where, figure) for where, figure, is_missed in found if is_missed]
+        wrong = [(book, figure) for book, figure, is_missed in found if is_missed]
         if wrong:
             furthest, _ = (min if target.startswith("at least") else max)(wrong, key=lambda each: size(each[1]))
             yield [kind, f"{len(wrong)} of {len(found)}", span([figure for _, figure in wrong]), target, furthest]
@@ -208,7 +172,7 @@ def missed(rows):
 def section(part):
     """The figures that the page shows of a part; a table by books begins with the words that say which books these are."""
     words, rows = f"{about(part)}\n" if part in CELLS else None, read(KEPT / f"{part}.csv")
-    return "\n".join(filter(None, [f"## `bench/run {part}`\n", words, shown(part, rows), together(rows), PICTURES.get(part)]))
+    return "\n".join(filter(None, [f"## `bench/run {part}`\n", words, shown(part, rows), held(TOGETHER, rows), PICTURES.get(part)]))
 
 
 def counted(part, date, commit, load, notes):
@@ -219,10 +183,15 @@ def counted(part, date, commit, load, notes):
     return [part, f"[{len(rows)}](../bench/measured/{part}.csv)", wrong, date, commit, load.split(" ")[0] or "unknown", notes]
 
 
-def without_figures(runs):
-    """The parts that haven't been measured, in words."""
-    left = [f"`{part}`" for part in PARTS if part not in {run[0] for run in runs}]
-    return f"Parts without figures yet: {', '.join(left)}. " if left else ""
+def by_value(runs, column, words):
+    """Says by these words which parts have which value in a column of the runs. The most common one comes last."""
+    parts = collections.defaultdict(list)
+    for run in runs:
+        parts[run[column]].append(f"`{run[0]}`")
+    *rare, common = sorted(parts, key=lambda value: len(parts[value]))
+    subjects = [(" and ".join(filter(None, [", ".join(parts[value][:-1]), parts[value][-1]])), value) for value in rare]
+    subjects.append(("The other parts" if rare else "All parts", common))
+    return "".join(f"{subject} {words.format(value)}.\n" for subject, value in subjects)
 
 
 def page():
@@ -231,11 +200,11 @@ def page():
     lines = [counted(*run[:3], run[4], " ".join(f"({notes.index(note) + 1})" for note in run[6].split("; ") if note)) for run in runs]
     when = table(["Part", "Figures", "Targets missed", "Day", "Commit", "Load", "Notes"], lines)
     notes = "; ".join(f"({number}) {note}" for number, note in enumerate(notes, 1))
-    machines = dict.fromkeys(f"{run[3]}, kit `{run[5]}`" for run in runs)
-    where = without_figures(runs) + "".join(f"Machine: {machine}.\n" for machine in machines) + (f"Notes: {notes}.\n" if notes else "")
+    circumstances = by_value(runs, 3, "ran on {}") + by_value(runs, 5, "used the kit `{}`")
+    circumstances += f"Notes: {notes}.\n" if notes else ""
     wrong = [[run[0], *each] for run in runs for each in missed(read(KEPT / f"{run[0]}.csv"))]
     wrong = table(["Part", "Missed", "How many", "Figures", "Target", "Worst"], wrong) if wrong else "None.\n"
-    return "\n".join([HEAD, when, filled(where), "## Missed targets\n", wrong, *map(section, (run[0] for run in runs))])
+    return "\n".join([HEAD, when, textwrap.fill(circumstances, 140) + "\n", "## Missed targets\n", wrong, *map(section, (run[0] for run in runs))])
 
 
 def main():

@@ -26,68 +26,55 @@ from lib.tool import command
 PACKAGES = {"highs": "python3-scipy", "cbc": "coinor-cbc"}
 OPTIONS = ["-ratioGap", "0", "-allowableGap", "0"]
 LATE = 5.0  # seconds after its limit at which CBC is ended
-OFF = "Stopped on time"
 
 
-class Highs:
-    """HiGHS, as `model` asks it."""
+def highs(model, left):
+    """A selection, or None if there is none, and the seconds that it took. Fails if there is no time left."""
+    begun = time.perf_counter()
+    return model.next(left), time.perf_counter() - begun
 
-    def __init__(self, model):
-        self.model, self.seconds = model, 0.0
 
-    def next(self, left):
-        """A selection; None if there is none. Fails if there is no time left."""
+def cbc(model, left):
+    """The same by CBC as a process of its own, which reads the program from a file. To write it isn't measured."""
+    with tempfile.TemporaryDirectory() as folder:
+        program, found = Path(folder, "program.mps"), Path(folder, "found.txt")
+        program.write_text(mps(model.program), encoding="ascii")
+        words = ["cbc", program, "-seconds", str(left), *OPTIONS, "-solve", "-solution", found]
         begun = time.perf_counter()
-        chosen = self.model.next(left)
-        self.seconds += time.perf_counter() - begun
-        return chosen
+        try:
+            subprocess.run(words, stdout=subprocess.DEVNULL, timeout=left + LATE, check=True)
+        except subprocess.TimeoutExpired:
+            raise TimeoutError from None
+        lasted, text = time.perf_counter() - begun, found.read_text(encoding="ascii")
+    if text.startswith("Stopped on time"):
+        raise TimeoutError
+    if not text.startswith("Optimal"):
+        return None, lasted
+    values = {int(column): float(value) for column, value in re.findall(r"(?m)^[ *]*\d+ +C(\d+) +(\S+)", text)}
+    return frozenset(place for place, column in enumerate(model.accepted) if values.get(column, 0) > 0.5), lasted
 
 
-class Cbc:
-    """CBC as a process of its own, which reads the program from a file. To write it isn't measured."""
-
-    def __init__(self, model):
-        self.model, self.seconds = model, 0.0
-
-    def next(self, left):
-        with tempfile.TemporaryDirectory() as folder:
-            program, found = Path(folder, "program.mps"), Path(folder, "found.txt")
-            program.write_text(mps(self.model.program), encoding="ascii")
-            words = ["cbc", program, "-seconds", str(left), *OPTIONS, "-solve", "-solution", found]
-            begun = time.perf_counter()
-            try:
-                subprocess.run(words, stdout=subprocess.DEVNULL, timeout=left + LATE, check=True)
-            except subprocess.TimeoutExpired:
-                raise TimeoutError from None
-            self.seconds += time.perf_counter() - begun
-            return self.read(found.read_text(encoding="ascii"))
-
-    def read(self, text):
-        status, *lines = text.splitlines()
-        if status.startswith(OFF):
-            raise TimeoutError
-        if not status.startswith("Optimal"):
-            return None
-        values = {int(name[1:]): float(value) for name, value in re.findall(r"(?m)^[ *]*\d+ +(C\d+) +(\S+)", "\n".join(lines))}
-        return frozenset(place for place, column in enumerate(self.model.accepted) if values.get(column, 0) > 0.5)
+def row_of(lower, upper):
+    """The kind of a row in MPS, and its side. The program has no row with two."""
+    if lower == upper:
+        return "E", lower
+    if upper == INFINITE:
+        return "G", lower
+    if lower == -INFINITE:
+        return "L", upper
+    raise ValueError(f"a row from {lower} to {upper}")
 
 
 def mps(program):
     """A program in the free form of MPS. A row is named R and its number, a column C and its number."""
-    rows, ranges, entries = [], [], [[] for _ in program.costs]
-    for number, (lower, upper) in enumerate(program.rows):
-        kind, side = ("E" if lower == upper else "G", lower) if lower > -INFINITE else ("L", upper)
-        rows.append((kind, number, side))
-        if kind == "G" and upper < INFINITE:
-            ranges.append(f" RANGE R{number} {upper - lower!r}")
+    rows, entries = [row_of(*sides) for sides in program.rows], [[] for _ in program.costs]
     for row, column, factor in program.at:
         entries[column].append(f" C{column} R{row} {float(factor)!r}")
-    lines = ["NAME program FREE", "ROWS", " N COST", *(f" {kind} R{number}" for kind, number, _ in rows), "COLUMNS"]
+    lines = ["NAME program FREE", "ROWS", " N COST", *(f" {kind} R{number}" for number, (kind, _) in enumerate(rows)), "COLUMNS"]
     for column, (cost, whole) in enumerate(zip(program.costs, program.whole)):
         own = [f" C{column} COST {float(cost)!r}", *entries[column]]
-        marked = [f" M{column} 'MARKER' 'INTORG'", *own, f" N{column} 'MARKER' 'INTEND'"]
-        lines += marked if whole else own
-    lines += ["RHS", *(f" RHS R{number} {float(side)!r}" for _, number, side in rows if side), "RANGES", *ranges, "BOUNDS"]
+        lines += [f" M{column} 'MARKER' 'INTORG'", *own, f" N{column} 'MARKER' 'INTEND'"] if whole else own
+    lines += ["RHS", *(f" RHS R{number} {float(side)!r}" for number, (_, side) in enumerate(rows) if side), "BOUNDS"]
     for column, (lower, upper) in enumerate(zip(program.lower, program.upper)):
         lines.append(f" LO BOUND C{column} {float(lower)!r}" if lower > -INFINITE else f" MI BOUND C{column}")
         lines += [f" UP BOUND C{column} {float(upper)!r}"] if upper < INFINITE else []
@@ -95,22 +82,24 @@ def mps(program):
 
 
 INFINITE = float("inf")
-SOLVERS = {"highs": Highs, "cbc": Cbc}
+SOLVERS = {"highs": highs, "cbc": cbc}
 
 
-def find(solver, problem, limit):
-    """The welfare; None if the solver gave up."""
-    while solver.seconds < limit:
+def find(solve, model, problem, limit):
+    """The welfare, and the seconds that the solver took; None if it gave up."""
+    lasted = 0.0
+    while lasted < limit:
         try:
-            chosen = solver.next(limit - solver.seconds)
+            chosen, taken = solve(model, limit - lasted)
         except TimeoutError:
             return None
+        lasted += taken
         if chosen is None:
             return None
         welfare = selection.eligible(problem, chosen)
-        if welfare is not None and solver.seconds < limit:  # at its limit HiGHS returns its selection, whether it is the best or not
-            return welfare
-        solver.model.forbid(chosen)
+        if welfare is not None and lasted < limit:  # at its limit HiGHS returns its selection, whether it is the best or not
+            return welfare, lasted
+        model.forbid(chosen)
     return None
 
 
@@ -133,13 +122,13 @@ def main():
     problem = selection.Problem(closed)
     model = solver.Model(problem)
     model.ask(0, [], solver.ROOM)
-    asked = SOLVERS[peer](model)
-    welfare = find(asked, problem, float(limit))
-    if welfare is None:
+    found = find(SOLVERS[peer], model, problem, float(limit))
+    if found is None:
         print("gave up")
         return
+    welfare, lasted = found
     print(welfare)
-    print(peer, round(asked.seconds * 1e9), file=sys.stderr)
+    print(peer, round(lasted * 1e9), file=sys.stderr)
 
 
 main()

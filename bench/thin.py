@@ -6,25 +6,18 @@ The thin ones have 200, 500 and 1,500 hourly orders on days of 24 and of 96 peri
 price, links and groups; ten are the hardest of a random search. Next to the wide books stand mixed ones, with baseload, peak, night and
 other spans.
 
-`dam clear` by the default plan takes turns with itself on the same book without its blocks, with the program of before, and with an
-enumeration of all selections with numpy, `tools/audit --best` by four threads, which also checks the results. A run ends after 60 s, or
-after the seconds of LIMIT in the environment; in a sum it counts as these. A program that takes longer than 1 s has one run. On the wide
-and mixed books, which are deep, `dam clear` then takes turns with HiGHS and CBC as in blocks.py.
+`dam clear` takes turns as clearing.py says; with HiGHS and CBC only on the wide and mixed books, which are deep.
 
-The books are drawn by make_blocks.py and make_family.py, and only the hardest ones, and two more, were chosen by their time. Each kind,
-number of hourly orders and length of a day has one book, and the spreads of 0, 20 and 50 cents take turns. For the hardest, the arguments
-of make_blocks.py were drawn at random for 20 minutes of one processor: one of six kinds, a spread of 0 to 300, a seed of 1 to 999, 24 or 96
-periods, 100 to 1,500 hourly orders, and in three of ten books links or groups. A plain search with bounds by prices tried each book, and
-the ten on which it took longest are kept. Where all limits are equal, a search looks for a subset of the volumes with the best sum, and
-hardly any bound helps; the lines of such books say so."""
+The books are drawn by make_blocks.py and make_family.py, and only the hardest ones, and two more, were chosen by their time: of books drawn
+at random for 20 minutes of one processor, those on which a plain search with bounds by prices took longest. If all limits are equal, a
+search looks for a subset of the volumes with the best sum, and hardly any bound helps; the lines of such books say so."""
 
 # thin.py [KIND..]: only these kinds and families. `bench/run thin` builds the files that it needs.
 
-import sys
-
 import make_blocks
 import make_family
-from clearing import Book, Together
+from clearing import Book, Together, kinds_of
+from figures import enumeration
 
 MOST = 3.0  # seconds
 MOST_OF_BEFORE, MOST_OF_SUM_BEFORE, ONE_IN = 2, 1 / 6, 20
@@ -34,12 +27,11 @@ BOOKS = {
     "linked and grouped thin books": make_blocks.BOUND + make_family.THIN,
     "wide and mixed books": make_blocks.DEEP,
 }
-KINDS = [*make_blocks.KINDS, *dict.fromkeys(drawn.kind for drawn in make_family.THIN)]
 
 
 def measured(drawn):
     book = Book("thin", drawn)
-    book.clear({})
+    book.clear({"enumeration": enumeration(book.path)})
     book.show(MOST, {"alone": None, "before": MOST_OF_BEFORE, "enumeration": MOST_OF_ENUMERATION[drawn.is_thin]})
     if not drawn.is_thin:
         book.peers()
@@ -47,9 +39,7 @@ def measured(drawn):
 
 
 def main():
-    kinds = sys.argv[1:] or KINDS
-    if not set(kinds) <= set(KINDS):
-        sys.exit(f"thin.py: KIND is one of {' '.join(KINDS)}")
+    kinds = kinds_of(each for drawn in BOOKS.values() for each in drawn)
     books = {name: [measured(each) for each in drawn if each.kind in kinds] for name, drawn in BOOKS.items()}
     sums = {"alone": None, "before": None, "enumeration": None}
     for name, found in books.items():

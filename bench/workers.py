@@ -10,14 +10,14 @@ import statistics
 
 import make_family
 from figures import LIMIT, MEASURES, by_turns, line, ratio, seconds, write
-from make_blocks import Book
+from make_blocks import book
 
 CUT = "8"
 DEFAULT, ONE = ("2", "3"), ("1", "0")
 LEAST = {"2": 1.8, "4": 3.2}  # times as fast as one worker
 ORDERS = ("500", "4000")
 # They are among the books of thin.py.
-LONG = [Book("base", 0, 1, 1, 200), Book("shaped", 20, 1, 4, 500), Book("odd", 0, 1, 4, 1_500), Book("random", 50, 1, 4, 200)]
+LONG = [book("base", 0, 1, 1, 200), book("shaped", 20, 1, 4, 500), book("odd", 0, 1, 4, 1_500), book("random", 50, 1, 4, 200)]
 
 
 def searched(plans, book, most):
@@ -27,12 +27,11 @@ def searched(plans, book, most):
 
 
 def speed(name, book):
-    plans = [(workers, CUT) for workers in ("1", *LEAST)]
-    found = searched(plans, book, most=8)
+    found = searched([(workers, CUT) for workers in ("1", *LEAST)], book, most=8)
     one = found["1", CUT]
     line(f"{name}, cut {CUT}: the search with 1 worker", seconds(statistics.median(one)))
     for workers, least in LEAST.items():
-        ratio(f"{name}, cut {CUT}: {workers} workers as fast as 1", one, found[workers, CUT], least=least)
+        ratio(f"{name}, cut {CUT}: the rate of {workers} workers compared with 1", one, found[workers, CUT], least=least)
 
 
 def default(name, book):
@@ -42,7 +41,7 @@ def default(name, book):
 
 def main():
     for drawn in LONG:
-        name, book = str(drawn), write(f"out/workers-{'-'.join(drawn.words)}.csv", drawn.script, *drawn.words)
+        name, book = drawn.name, write(f"out/workers-{'-'.join(drawn.words)}.csv", drawn.script, *drawn.words)
         speed(name, book)
         default(name, book)
     for family in make_family.FAMILIES:

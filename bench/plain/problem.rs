@@ -61,7 +61,8 @@ impl Problem {
         let mut lines = text.lines().map(|line| line.split(',').collect::<Vec<_>>());
         let periods = lines.next().expect("a day")[1].parse().expect("periods");
         let mut problem = Problem { hours: vec![Vec::new(); periods], blocks: Vec::new() };
-        let mut names = Names::default();
+        // The blocks that later ones may name, and the members of each group, as sets of blocks by bits.
+        let (mut names, mut groups) = (HashMap::new(), HashMap::<_, u32>::new());
         for fields in lines.filter(|fields| fields[0] == "submit") {
             let side = if fields[4] == "buy" { Side::Buy } else { Side::Sell };
             let price = fields[5].parse().expect("a price");
@@ -69,10 +70,15 @@ impl Problem {
             if fields[3] == "hour" {
                 let (at, volume) = volumes[0];
                 problem.hours[at].push(Step { side, price, volume });
-            } else {
-                let (parent, rivals) = names.enter(&fields, 1 << problem.blocks.len());
-                problem.add(Block { side, price, volumes, parent, descendants: 0, rivals });
+                continue;
             }
+            let own = 1 << problem.blocks.len();
+            let parent = names.get(&(fields[1], fields[7])).copied().unwrap_or(0);
+            names.insert((fields[1], fields[2]), own);
+            let members = groups.entry((fields[1], fields[8])).or_default();
+            let rivals = if fields[8].is_empty() { 0 } else { *members };
+            *members |= own;
+            problem.add(Block { side, price, volumes, parent, descendants: 0, rivals });
         }
         problem
     }
@@ -109,28 +115,6 @@ pub fn among(set: u32) -> impl Iterator<Item = usize> {
         left &= left.wrapping_sub(1);
         (place < u32::BITS as usize).then_some(place)
     })
-}
-
-/// The blocks that later ones may name, as sets of blocks by bits.
-#[derive(Default)]
-struct Names<'a> {
-    blocks: HashMap<(&'a str, &'a str), u32>,
-    groups: HashMap<(&'a str, &'a str), u32>,
-}
-
-impl<'a> Names<'a> {
-    /// Enters a block, and returns its parent and the earlier blocks of its group.
-    fn enter(&mut self, fields: &[&'a str], own: u32) -> (u32, u32) {
-        self.blocks.insert((fields[1], fields[2]), own);
-        let parent = self.blocks.get(&(fields[1], fields[7])).copied().unwrap_or(0);
-        if fields[8].is_empty() {
-            return (parent, 0);
-        }
-        let members = self.groups.entry((fields[1], fields[8])).or_default();
-        let rivals = *members;
-        *members |= own;
-        (parent, rivals)
-    }
 }
 
 /// Reads `PERIOD:VOLUME;..`.

@@ -7,7 +7,7 @@ use crate::classes::{BLOCKS, Bound, Classes};
 use crate::problem::among;
 
 /// How many places must be left for a node to get prices of its own.
-const EXAMINED: usize = 8;
+const EXAMINED: usize = 10;
 
 #[derive(Clone, Copy)]
 pub struct Best {
@@ -35,7 +35,7 @@ fn best_turn(classes: &Classes, bound: &Bound, best: Best, base: u32, from: usiz
 }
 
 /// From the empty selection, repeats the turn that gains most or, if none gains, the best pair of turns.
-pub fn first_selection(classes: &Classes) -> Best {
+fn first_selection(classes: &Classes) -> Best {
     let mut bound = Bound::empty();
     let places: Vec<usize> = (0..classes.problem.blocks.len()).collect();
     classes.bound_by_prices(0, &places, &mut bound);
@@ -197,7 +197,9 @@ impl Walk<'_> {
             if number >= 1 << depth {
                 return best;
             }
-            if let Some(found) = self.piece(number, depth, order) && best.is_none_or(|best| found.ranks_above(best)) {
+            if let Some(found) = self.piece(number, depth, order)
+                && best.is_none_or(|best| found.ranks_above(best))
+            {
                 best = Some(found);
             }
         }
@@ -212,9 +214,9 @@ fn order(classes: &Classes, depth: usize) -> Vec<usize> {
     places
 }
 
-/// The best selection, and the nodes that the workers visit, each on a thread of its own. `first` is the welfare with which they begin.
-pub fn search(classes: &Classes, workers: usize, depth: usize, first: i64) -> (Best, u64) {
-    let shared = &Shared { drawn: AtomicU32::new(0), greatest: AtomicI64::new(first) };
+/// The best selection, and the nodes that the workers visit, each on a thread of its own.
+pub fn search(classes: &Classes, workers: usize, depth: usize) -> (Best, u64) {
+    let shared = &Shared { drawn: AtomicU32::new(0), greatest: AtomicI64::new(first_selection(classes).welfare) };
     let (conflicts, order) = (&Conflicts::of(classes), &order(classes, depth));
     let work = || {
         let mut walk = Walk { classes, conflicts, shared, read: 0, best: None, visited: 0 };

@@ -1,0 +1,204 @@
+//! The journals of `dam`, without amends and without blocks that have a parent or a group.
+
+use std::fmt::{self, Display};
+
+/// The limits, as the code of `dam` has them.
+#[allow(dead_code)]
+pub mod limits {
+    include!("../../crates/dam_book/src/limits.rt");
+}
+
+use limits::{HIGHEST_PRICE, LOWEST_PRICE, MOST_ENTRIES};
+
+pub const MOST_BYTES: usize = 16_777_216;
+const MOST_RECORDS: usize = MOST_ENTRIES + 1;
+const LAST_PERIOD: u32 = 100;
+const FIELDS: usize = 9;
+
+#[derive(Clone, Copy, PartialEq, Eq)]
+pub enum Side {
+    Buy,
+    Sell,
+}
+
+impl Display for Side {
+    fn fmt(&self, f: &mut fmt::Formatter<'_>) -> fmt::Result {
+        f.write_str(if *self == Side::Buy { "buy" } else { "sell" })
+    }
+}
+
+#[derive(Clone, Copy, PartialEq, Eq)]
+pub struct HourOrder {
+    pub side: Side,
+    pub price: i32,
+    pub period: u8,
+    pub volume: u32,
+}
+
+#[derive(Clone, PartialEq, Eq)]
+pub struct BlockOrder {
+    pub side: Side,
+    pub price: i32,
+    pub volumes: Vec<(u8, u32)>,
+}
+
+#[derive(Clone, PartialEq, Eq)]
+pub enum Order {
+    Hour(HourOrder),
+    Block(Box<BlockOrder>),
+}
+
+pub type Key = (String, String);
+
+#[derive(Clone, PartialEq, Eq)]
+pub enum Command {
+    Submit(Key, Order),
+    Cancel(Key),
+    Close,
+}
+
+impl Display for Command {
+    fn fmt(&self, f: &mut fmt::Formatter<'_>) -> fmt::Result {
+        match self {
+            Command::Submit((who, name), Order::Hour(order)) => {
+                let HourOrder { side, price, period, volume } = order;
+                writeln!(f, "submit,{who},{name},hour,{side},{price},{period}:{volume},,")
+            }
+            Command::Submit((who, name), Order::Block(order)) => {
+                let BlockOrder { side, price, volumes } = &**order;
+                let pairs: Vec<String> = volumes.iter().map(|(period, volume)| format!("{period}:{volume}")).collect();
+                writeln!(f, "submit,{who},{name},block,{side},{price},{},,", pairs.join(";"))
+            }
+            Command::Cancel((who, name)) => writeln!(f, "cancel,{who},{name},,,,,,"),
+            Command::Close => writeln!(f, "close,,,,,,,,"),
+        }
+    }
+}
+
+/// The fields of the next record, and where it ends; `None` if no record is left.
+fn next_record(text: &[u8], mut at: usize) -> Option<(Vec<Vec<u8>>, usize)> {
+    while at < text.len() && matches!(text[at], b'\n' | b'\r') {
+        at += 1;
+    }
+    if at == text.len() {
+        return None;
+    }
+    let mut fields = vec![Vec::new()];
+    let (mut quoted, mut fresh) = (false, true);
+    while at < text.len() {
+        let byte = text[at];
+        at += 1;
+        let field = fields.last_mut()?;
+        match byte {
+            b'"' if quoted && text.get(at) == Some(&b'"') => {
+                field.push(byte);
+                at += 1;
+            }
+            b'"' if quoted => quoted = false,
+            _ if quoted => field.push(byte),
+            b'"' if fresh => quoted = true,
+            b',' => fields.push(Vec::new()),
+            b'\n' | b'\r' => break,
+            _ => field.push(byte),
+        }
+        fresh = byte == b',' && !quoted;
+    }
+    Some((fields, at))
+}
+
+/// A decimal number without leading zeros.
+fn number(text: &[u8]) -> Option<u32> {
+    let plain = text == b"0" || !text.starts_with(b"0");
+    if text.is_empty() || !plain || !text.iter().all(u8::is_ascii_digit) {
+        return None;
+    }
+    std::str::from_utf8(text).ok()?.parse().ok()
+}
+
+fn price(text: &[u8]) -> Option<i32> {
+    let value = match text.strip_prefix(b"-") {
+        Some(digits) => -i32::try_from(number(digits).filter(|n| *n > 0)?).ok()?,
+        None => i32::try_from(number(text)?).ok()?,
+    };
+    Some(value).filter(|cents| (LOWEST_PRICE..=HIGHEST_PRICE).contains(cents))
+}
+
+fn pair(text: &[u8]) -> Option<(u8, u32)> {
+    let colon = text.iter().position(|byte| *byte == b':')?;
+    let period = number(&text[..colon]).filter(|n| (1..=LAST_PERIOD).contains(n))?;
+    let volume = number(&text[colon + 1..]).filter(|n| (1..=99_999).contains(n))?;
+    Some((period as u8, volume))
+}
+
+/// Pairs by increasing period.
+fn pairs(text: &[u8]) -> Option<Vec<(u8, u32)>> {
+    let pairs = text.split(|byte| *byte == b';').map(pair).collect::<Option<Vec<_>>>()?;
+    pairs.is_sorted_by(|one, next| one.0 < next.0).then_some(pairs)
+}
+
+fn word(text: &[u8], most: usize, is_fine: impl Fn(u8) -> bool) -> Option<String> {
+    let fits = !text.is_empty() && text.len() <= most && text.iter().all(|byte| is_fine(*byte));
+    fits.then(|| String::from_utf8_lossy(text).into_owned())
+}
+
+/// A participant and the name of an order.
+fn key(fields: &[Vec<u8>]) -> Option<Key> {
+    let who = word(&fields[1], 8, |byte| byte.is_ascii_uppercase())?;
+    let name = word(&fields[2], 12, |byte| byte.is_ascii_uppercase() || byte.is_ascii_digit() || byte == b'-')?;
+    Some((who, name))
+}
+
+fn side(text: &[u8]) -> Option<Side> {
+    match text {
+        b"buy" => Some(Side::Buy),
+        b"sell" => Some(Side::Sell),
+        _ => None,
+    }
+}
+
+fn order(fields: &[Vec<u8>]) -> Option<Order> {
+    let (side, price) = (side(&fields[4])?, price(&fields[5])?);
+    match fields[3].as_slice() {
+        b"hour" => {
+            let (period, volume) = pair(&fields[6])?;
+            Some(Order::Hour(HourOrder { side, price, period, volume }))
+        }
+        b"block" => Some(Order::Block(Box::new(BlockOrder { side, price, volumes: pairs(&fields[6])? }))),
+        _ => None,
+    }
+}
+
+/// The command of a record of nine fields; `None` if a field breaks a rule.
+fn command(fields: &[Vec<u8>]) -> Option<Command> {
+    let (command, used) = match fields[0].as_slice() {
+        b"submit" => (Command::Submit(key(fields)?, order(fields)?), 7),
+        b"cancel" => (Command::Cancel(key(fields)?), 3),
+        b"close" => (Command::Close, 1),
+        _ => return None,
+    };
+    fields[used..].iter().all(Vec::is_empty).then_some(command)
+}
+
+/// The number of periods of a day, in its record of nine fields.
+fn day(fields: &[Vec<u8>]) -> Option<u8> {
+    let periods = number(&fields[1]).filter(|n| matches!(n, 23..=25 | 92 | 96 | 100))?;
+    (fields[0] == b"day" && fields[2..].iter().all(Vec::is_empty)).then_some(periods as u8)
+}
+
+/// The number of periods and the commands; `None` if the text breaks a rule.
+pub fn read_journal(text: &[u8]) -> Option<(u8, Vec<Command>)> {
+    if text.len() > MOST_BYTES || !text.is_ascii() {
+        return None;
+    }
+    let (first, mut at) = next_record(text, 0).filter(|(fields, _)| fields.len() == FIELDS)?;
+    let periods = day(&first)?;
+    let mut commands = Vec::new();
+    while let Some((fields, end)) = next_record(text, at) {
+        at = end;
+        if fields.len() != FIELDS || commands.len() + 1 == MOST_RECORDS {
+            return None;
+        }
+        commands.push(command(&fields)?);
+    }
+    Some((periods, commands))
+}
