@@ -52,7 +52,7 @@ extern "C" {
 /* Enough nodes for every book. Greater limits are allowed too: 0xFFFFFFFF is always enough. */
 #define DAM_MOST_NODES UINT32_C(67108864)
 
-/* The greatest length of an answer. */
+/* No answer is longer. */
 #define DAM_MOST_ANSWER 300000
 
 struct dam_answer {
@@ -78,7 +78,7 @@ struct dam_answer dam_replay(const uint8_t *text, size_t text_length, uint8_t *b
 struct dam_answer dam_clear(const uint8_t *text, size_t text_length, uint32_t nodes, uint8_t *buffer, size_t buffer_length);
 
 /* The same two calls, for journals from people who are not trusted. Names are hashed with the first 16 bytes of the secret. The hash of the
- * two calls above is public, so somebody can choose names that collide: 4,000 of them make a call take some 60 times as long. The secret
+ * two calls above is public, so somebody can choose names that collide: 4,000 of them make a call take dozens of times as long. The secret
  * must be random and new for each call; the answer doesn't depend on it. Bytes after the first 16 aren't used. With fewer bytes the hash is
  * easier to guess, and without any it is public. */
 struct dam_answer dam_replay_seeded(const uint8_t *secret, size_t secret_length, const uint8_t *text, size_t text_length,

@@ -8,12 +8,12 @@ import textwrap
 from lib.tool import command
 from lib.base.place import TOOLS
 
-from . import formats
+from . import formats, shells
 from .clone import TOP, environment
 
-# The commands, each with those of its words that have help of their own.
+# The commands, each with those of its words that have help of their own. Those of `dam` are in its help.
 COMMANDS = {
-    "dam": ("replay", "clear", "day"),
+    "dam": (),
     "dam-desk": (),
     **{f"dam-{tool}": () for tool in TOOLS},
     "dam-office": ("init", "serve", "status", "close", "publish", "revoke", "renew", "demo"),
@@ -31,7 +31,7 @@ STATUSES = re.compile(r"^## Statuses and faults\n\n\| Status \| Meaning \|\n\|--
 STATUS = re.compile(r"\| (\d+) \| (.*) \|")
 DESK_STATUSES = re.compile(r"^## Statuses\n\n(?:.+\n)+\n\| Status \| Why \| Do \|\n\|---\|---\|---\|\n((?:\|.*\n)+)", re.MULTILINE)
 DESK_STATUS = re.compile(r"\| (\d+|other) \| (.*) \| (.*) \|")
-NOT_OF = {"dam": {"70"}, "dam-replay": {"3", "70"}, "dam-clear": {"70"}, "dam-day": {"70"}}
+OF_THE_LAUNCHER, OF_A_LIMIT = "70", "3"
 MORE = (
     "With any other status, the shell or a signal ended the run. In the manual, docs/FORMATS.md has the line that each fault prints on"
     " standard error, and docs/OPERATING.md says how to go on after each status."
@@ -78,10 +78,12 @@ def statuses(paragraph):
     return "\n".join(found)
 
 
-def statuses_of_program(name):
-    """The statuses of the program, or of one of its commands, as the manual has them."""
+def statuses_of_program(words, text):
+    """The statuses of the program, or of one of its commands, as the manual has them. A command whose help has no limit on nodes can't
+    reach one."""
+    without = {OF_THE_LAUNCHER, *([OF_A_LIMIT] if len(words) > 1 and "--nodes" not in text else [])}
     rows = STATUS.findall(STATUSES.search(FORMATS.read_text(encoding="utf-8"))[1])
-    kept = [f".TP\n.B {number}\n{roff_line(words.replace('`', ''))}" for number, words in rows if number not in NOT_OF[name]]
+    kept = [f".TP\n.B {number}\n{roff_line(about.replace('`', ''))}" for number, about in rows if number not in without]
     return "\n".join([*kept, roff(MORE)])
 
 
@@ -132,41 +134,48 @@ def summary(paragraph):
     return words[:1].lower() + words[1:]
 
 
-def page(name, text, clone, room):
-    """The page of a command."""
-    told, words, lists, sections = split(text)
+def page(words, helps, clone, room):
+    """The page of a command, which is given with its words."""
+    name, text = "-".join(words), helps[words]
+    told, about, lists, sections = split(text)
     (room / f"{name}.help").write_text("\n\n".join([told, *lists]) + "\n", encoding="utf-8")
     # help2man runs a command to see its help
     shown, more = room / name, room / f"{name}.more"
     shown.write_text(f"#!/bin/sh\nexec cat {name}.help\n", encoding="utf-8")
     shown.chmod(0o755)
-    if name in NOT_OF:
-        sections["EXIT STATUS"] = [statuses_of_program(name)]
+    if words[0] == "dam":
+        sections["EXIT STATUS"] = [statuses_of_program(words, text)]
     if name == "dam-desk":
         sections["EXIT STATUS"] = [statuses_of_desk()]
     if name in ("dam", "dam-desk"):
         sections["VERSION"] = [VERSION.format(clone.version, roff_line(name))]
     # in a section that help2man writes too, this comes first
     blocks = [f"[{title}]\n" + "\n".join(parts) for title, parts in sections.items() if parts]
-    more.write_text("\n\n".join([*blocks, "[SEE ALSO]\n" + see_also(name)]) + "\n", encoding="utf-8")
-    line = ["help2man", "--no-info", "--section=1", f"--version-string={clone.version}", f"--name={words}", f"--include={more.name}"]
+    more.write_text("\n\n".join([*blocks, "[SEE ALSO]\n" + see_also(words, helps)]) + "\n", encoding="utf-8")
+    line = ["help2man", "--no-info", "--section=1", f"--version-string={clone.version}", f"--name={about}", f"--include={more.name}"]
     ran = subprocess.run([*line, f"./{name}"], cwd=room, capture_output=True, env=environment(clone.seconds))
     if ran.returncode:
         raise command.Stop(f"help2man failed: {ran.stderr.decode(errors='replace')}", command.FAILED)
     return ran.stdout
 
 
-def see_also(name):
+def see_also(words, helps):
     """The other pages, and where the whole manual is."""
-    of = next(other for other in sorted(COMMANDS, reverse=True) if name == other or name.removeprefix(f"{other}-") in COMMANDS[other])
-    others = sorted({*COMMANDS, *(f"{of}-{word}" for word in COMMANDS[of])} - {name})
+    others = sorted("-".join(other) for other in helps if other != words and (len(other) == 1 or other[0] == words[0]))
     listed = ",\n".join(f".BR {other} (1)" for other in others).replace(" (1),", " (1),")
     return f"{listed}\n.PP\n{formats.MANUAL}"
 
 
-def pages(bin_folder, clone, room):
-    """Each page with its name."""
-    every = [(name, *rest) for name, words in COMMANDS.items() for rest in [(), *((word,) for word in words)]]
+def helps(bin_folder):
+    """The help of each command by its words."""
+    of_dam = tuple(shells.commands(help_of(bin_folder, ("dam",))))
+    every = [(name, *rest) for name, words in {**COMMANDS, "dam": of_dam}.items() for rest in [(), *((word,) for word in words)]]
     with concurrent.futures.ThreadPoolExecutor() as pool:
-        made = pool.map(lambda words: page("-".join(words), help_of(bin_folder, words), clone, room), every)
-        return {"-".join(words): data for words, data in zip(every, made)}
+        return dict(zip(every, pool.map(lambda words: help_of(bin_folder, words), every)))
+
+
+def pages(found, clone, room):
+    """Each page with its name, from the helps."""
+    with concurrent.futures.ThreadPoolExecutor() as pool:
+        made = pool.map(lambda words: page(words, found, clone, room), found)
+        return {"-".join(words): data for words, data in zip(found, made)}

@@ -12,7 +12,7 @@ from lib.crates.sources import sum_of_file
 from manual import site
 from manual.pages import held as with_held
 
-from . import changelog, formats, pages
+from . import changelog, formats, pages, shells
 from . import clone as made_of
 
 LIBRARY = "lib/x86_64-linux-gnu"
@@ -28,9 +28,7 @@ TAKEN = {
     f"{LIBRARY}/libdam.a": made_of.STATIC,
     f"{LIBRARY}/libdam.so.1": made_of.SHARED,
     "include/dam.h": "library/dam.h",
-    **{f"share/bash-completion/completions/{name}": f"package/completions/{name}.bash" for name in ("dam", "dam-desk")},
-    **{f"share/zsh/vendor-completions/_{name}": f"package/completions/_{name}" for name in ("dam", "dam-desk")},
-    **{f"share/fish/vendor_completions.d/{name}.fish": f"package/completions/{name}.fish" for name in ("dam", "dam-desk")},
+    **{place.format("dam-desk"): f"package/completions/dam-desk.{shell}" for shell, place in shells.PLACES.items()},
     "share/lintian/overrides/dam": "package/lintian-overrides",
     f"{DOC}/copyright": "package/copyright",
     f"{DOC}/examples/caller.c": "tests/library/caller.c",
@@ -100,8 +98,8 @@ def write(path, data, mode=0o644):
 def script(tool):
     """A tool as a command of Debian's Python, which has the packages that it needs."""
     first, rest = (made_of.TOP / "tools" / tool).read_bytes().split(b"\n", 1)
-    assert first == b"#!/usr/bin/env -S python3 -I", first
-    return b"#!/usr/bin/python3 -I\n" + rest
+    assert first == b"#!/usr/bin/env -S python3 -I -S", first
+    return b"#!/usr/bin/python3 -IS\n" + rest  # Linux passes all options of this line as one argument
 
 
 def definitions():
@@ -146,7 +144,10 @@ def make(clone, folder, totals):
         (folder / name).symlink_to(target)
     room = folder.parent / "pages"
     room.mkdir()
-    for name, data in pages.pages(folder / "bin", clone, room).items():
+    helps = pages.helps(folder / "bin")
+    for target, data in shells.made(helps).items():
+        write(folder / target, data)
+    for name, data in pages.pages(helps, clone, room).items():
         write(folder / "share/man/man1" / f"{name}.1.gz", compressed(data))
     for name, data in formats.made(clone.version, installed).items():
         write(folder / "share/man/man5" / f"{name}.5.gz", compressed(data))

@@ -180,7 +180,7 @@ def clear_many(
     that is the journal's fault; if it takes no more, `Fault` is raised, and so it is if there is neither library nor program.
 
     `nodes` limits each search, and `timeout` each run in seconds: a day that takes longer is the fault `TimedOut`. With a timeout the
-    program is run, since a call of the library can't be stopped.
+    program is run, since a call of the library can't be stopped; without one, a run of the program may take an hour.
 
     The results of a day are read and checked when they are first used, so that a program which only wants `day.text`, the bytes that
     `dam clear` prints, waits for nothing else. At a terminal a bar of tqdm, if that is installed, says how far the days are, unless

@@ -164,7 +164,7 @@ class Office(Calls):
     def prices(self, day: str) -> list[tuple[int, int, int]]:
         """After the close, each period's number, price in cents per MWh and volume in tenths of a MW."""
         lines = self.ask(Asked("GET", f"/days/{day}/prices")).decode().splitlines()
-        return [tuple(map(int, line.split(",")[1:])) for line in lines if line.startswith("period,")]
+        return [tuple(map(int, line.split(",")[1:4])) for line in lines if line.startswith("period,")]
 
     def statement(self, day: str) -> list[dict]:
         """After the close, what became of each command, and why."""

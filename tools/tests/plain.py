@@ -1,11 +1,13 @@
 """The rules once more, by trying everything: the welfare and the prices of a selection of blocks from all executions, and the
 families of a rejected block from all sets of blocks. For small days; nothing of lib is used but the reading of a journal and the limits
-on prices."""
+on prices and groups."""
 
 import itertools
+from collections import Counter
 
 from lib.base.rules import GREATEST_PRICE as GREATEST
 from lib.base.rules import LEAST_PRICE as LEAST
+from lib.base.rules import MOST_OF_GROUP
 
 
 class Plain:
@@ -65,8 +67,8 @@ class Plain:
         return {place: -gain for place, gain in gains.items() if gain < 0}
 
     def admits(self, accepted):
-        groups = [self.groups[place] for place in accepted if self.groups[place]]
-        return len(set(groups)) == len(groups) and all(self.parents[place] in {None, *accepted} for place in accepted)
+        groups = Counter(self.groups[place] for place in accepted if self.groups[place])
+        return max(groups.values(), default=0) <= MOST_OF_GROUP and all(self.parents[place] in {None, *accepted} for place in accepted)
 
     def best(self):
         """The eligible selection of greatest welfare, of equals the one that accepts the earlier block."""

@@ -1,12 +1,11 @@
 """The parts that the tests of receipts share: journals under a seal, and a folder with a sealed day."""
 
 import os
-import tempfile
 import unittest
 from pathlib import Path
 from unittest import mock
 
-from support import AUCTION, AUCTION_RESULTS, tool
+from support import AUCTION, AUCTION_RESULTS, new_folder, tool
 
 from lib.journal import book, journal
 from lib.seal import heads
@@ -46,10 +45,9 @@ class InFolder(unittest.TestCase):
     """A test in a folder of its own, with a key, a journal and its replies."""
 
     def setUp(self):
-        folder = tempfile.TemporaryDirectory()
-        self.addCleanup(folder.cleanup)
+        folder = new_folder(self)
         self.addCleanup(os.chdir, os.getcwd())
-        os.chdir(folder.name)
+        os.chdir(folder)
         Path("day.csv").write_bytes(AUCTION.read_bytes())
         Path("replies.txt").write_bytes(replies_of(AUCTION.read_bytes()))
         self.run_tool(0, "keys", "key.pem")

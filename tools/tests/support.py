@@ -1,10 +1,12 @@
 """The common parts of the tests: the repository's worked cases, random days, and runs of the tools."""
 
+import contextlib
 import importlib.machinery
 import importlib.util
 import itertools
 import os
 import random
+import re
 import runpy
 import signal
 import subprocess
@@ -42,6 +44,13 @@ def loaded(name):
 def heed_interrupts(case):
     """Lets a test's processes be interrupted: a shell's command in the background ignores the signal, and so would all that it starts."""
     case.addCleanup(signal.signal, signal.SIGINT, signal.signal(signal.SIGINT, signal.default_int_handler))
+
+
+def new_folder(case):
+    """A folder, which is removed after a test."""
+    folder = tempfile.TemporaryDirectory()
+    case.addCleanup(folder.cleanup)
+    return Path(folder.name)
 
 
 def cases(file):
@@ -90,12 +99,19 @@ def ranked(day):
     return sorted(((welfare, accepted) for welfare, accepted in found if welfare is not None), key=lambda pair: -pair[0])
 
 
+@contextlib.contextmanager
+def written(**contents):
+    """The paths of files with these bytes, each of its name, which are removed at the end."""
+    with tempfile.TemporaryDirectory() as folder:
+        paths = [Path(folder, name) for name in contents]
+        for path, content in zip(paths, contents.values()):
+            path.write_bytes(content)
+        yield paths
+
+
 def day_of(data, text):
     """A day as the tools have it, of bytes."""
-    with tempfile.TemporaryDirectory() as folder:
-        paths = Path(folder, "journal"), Path(folder, "results")
-        for path, content in zip(paths, (data, text)):
-            path.write_bytes(content)
+    with written(journal=data, results=text) as paths:
         return command.Day(*map(str, paths))
 
 
@@ -119,6 +135,15 @@ def tool(name, *words, data=b"", python=None):
         return copied(str(TOOLS / name), words, data)
     ran = subprocess.run([*(python or [sys.executable]), TOOLS / name, *words], input=data, capture_output=True)
     return ran.returncode, ran.stdout, ran.stderr.decode()
+
+
+def unsaid(name, record, *parts):
+    """The members of a record of receipts or an office, and of its parts, that neither docs/FORMATS.md nor its command's help names."""
+    page = (TOP / "docs" / "FORMATS.md").read_text().partition("\nThose of `tools/receipts` and `tools/office` have ")[2]
+    text = tool(name, record["command"], "--help")[1].decode()
+    words = re.search(r"^  --json +print .*?\bJSON,\s+with (.*?)(?=^  -|^$)", text, re.MULTILINE | re.DOTALL)[1]
+    known = {*re.findall(r"`(\w+)`", page), *re.findall(r"\w+", words)}
+    return {member for part in (record, *parts) for member in part} - known
 
 
 def load(name):
@@ -168,8 +193,5 @@ def run_in_copy(path, words, files):
 
 def audit(data, text, *words):
     """A run of the audit on a journal and results."""
-    with tempfile.TemporaryDirectory() as folder:
-        paths = Path(folder, "journal"), Path(folder, "results")
-        for path, content in zip(paths, (data, text)):
-            path.write_bytes(content)
+    with written(journal=data, results=text) as paths:
         return tool("audit", *words, *paths)

@@ -13,7 +13,8 @@ import unittest.mock
 from fractions import Fraction
 
 import support
-from support import AUCTION, AUCTION_RESULTS, audit, cleared_cases, journal_of, printed, problem, ranked, results_of, small_problems, tool
+from support import AUCTION, AUCTION_RESULTS, QUARTERS, audit, cleared_cases, journal_of, printed, problem, ranked, results_of, small_problems
+from support import tool
 
 import days
 from lib.audit import best, verdict
@@ -301,7 +302,7 @@ class Best(unittest.TestCase):
         from lib.audit import solver
 
         tried = 0
-        for day, selections in [*small_problems(80), *self.equal_prices()]:
+        for day, selections in [*small_problems(80), *self.equal_prices(), *self.equal_blocks()]:
             for rank, (welfare, accepted) in enumerate(selections[:4]):
                 found, _ = solver.better(day, accepted, welfare, Progress("audit", 60))
                 self.assertEqual(found is None, rank == 0)
@@ -321,6 +322,21 @@ class Best(unittest.TestCase):
         )
         day = problem(data)
         yield day, ranked(day)
+
+    def equal_blocks(self):
+        """Books in which the later one of two equal blocks is accepted alone: the earlier one has a group or a parent, or the later one has
+        a child."""
+        for blocks in (
+            ("X,block,sell,1000,2:20,,G", "K1,block,sell,4000,1:10,,G", "K2,block,sell,4000,1:10,,"),
+            ("X,block,sell,9000,2:20,,", "K1,block,sell,4000,1:10,X,", "K2,block,sell,4000,1:10,,"),
+            ("K1,block,sell,4000,1:10,,", "K2,block,sell,4000,1:10,,", "X,block,sell,1000,2:20,K2,"),
+        ):
+            orders = ("B1,hour,buy,6000,1:10,,", "B2,hour,buy,6000,2:20,,", *blocks)
+            day = problem(journal_of(*(f"submit,A,{order}" for order in orders)))
+            selections = ranked(day)
+            accepted = {day.blocks[place].name for place in selections[0][1]}
+            self.assertEqual(("K1" in accepted, "K2" in accepted), (False, True), blocks)
+            yield day, selections
 
     def methods(self):
         return ["enumeration", "highs"] if command.has("scipy") else ["enumeration"]
@@ -630,6 +646,11 @@ class CommandLine(unittest.TestCase):
             (12_394_787_000, Fraction(1, 4), "3,098,696.75"),
         ):
             self.assertEqual(exact_euros(amount, hours), said)
+
+    def test_amounts_of_quarter_hours(self):
+        _, out, _ = audit(QUARTERS.read_bytes(), printed(QUARTERS))
+        self.assertIn(b", welfare 3,098,696.75 EUR, ", out)
+        self.assertIn(b"buyers pay 885,657.75 EUR, sellers receive 885,657.75 EUR; ", out)
 
     def test_the_words_for_what_was_tried(self):
         self.assertEqual(best.tried(0, 1), "there is no block to select")

@@ -39,6 +39,12 @@ class Together(unittest.TestCase):
                 show()
             return [line.split("\t") for line in kept.read_text().splitlines()]
 
+    def test_a_missed_multiple_has_no_equal_figure(self):
+        """And one that holds has two digits."""
+        for value, shown in ((0.1734, ["0.173 x", "at most 0.167 x", "MISSED"]), (0.1634, ["0.16 x", "at most 0.17 x", "holds"])):
+            ((_, *fields, _),) = self.printed(lambda value=value: figures.ratio("a sum", [value], [1], 1 / 6))
+            self.assertEqual(fields, shown)
+
     def test_sums_and_the_slowest(self):
         books = [Timed("a", dam=[1.0, 3.0, 2.0], before=[8.0]), Timed("b", dam=[4.0], before=[4.0]), Timed("c", dam=[0.5])]
         lines = self.printed(lambda: clearing.Together("three", books).show({"before": 0.6, "enumeration": None}))

@@ -5,14 +5,14 @@ import functools
 import json
 import os
 import resource
+import signal
 import subprocess
 import sys
-import tempfile
 import unittest
 import unittest.mock
 from pathlib import Path
 
-from support import AUCTION, QUARTERS, TOOLS, printed, results_of, tool
+from support import AUCTION, QUARTERS, TOOLS, new_folder, printed, results_of, tool
 
 from lib.audit import days, verdict
 from lib.base import record, text
@@ -24,9 +24,7 @@ DATA, TEXT = AUCTION.read_bytes(), printed(AUCTION)
 
 class Days(unittest.TestCase):
     def setUp(self):
-        folder = tempfile.TemporaryDirectory()
-        self.addCleanup(folder.cleanup)
-        self.folder = Path(folder.name)
+        self.folder = new_folder(self)
 
     def write(self, **texts):
         for name, (data, text) in texts.items():
@@ -190,6 +188,30 @@ class Days(unittest.TestCase):
         said = "its process can't be started: Too many open files"
         self.assertEqual((made["status"], made["verdict"], made["message"]), (command.FAILED, verdict.FAILED, said))
 
+    def test_a_process_that_hangs(self):
+        """It's ended, and another day has its record."""
+        hanging, real, begun = self.folder / "hanging", subprocess.Popen, []
+        hanging.write_text("import time; time.sleep(600)")
+        hung = days.Pair("a", Path("a.csv"), Path("a.txt"))
+
+        def start(*words, **streams):
+            begun.append(real(*words, **streams))
+            return begun[-1]
+
+        with unittest.mock.patch.object(days, "TOOL", hanging), unittest.mock.patch.object(subprocess, "Popen", side_effect=start):
+            found = days.audit_all([hung, hung._replace(unread="x")], [], 2, unittest.mock.Mock(), 0.5)
+        self.assertEqual([made["message"] for made in found], ["its process didn't end in 0.5 seconds", "x"])
+        self.assertEqual([made["status"] for made in found], [command.FAILED, command.NO_INPUT])
+        self.assertEqual([process.returncode for process in begun], [-signal.SIGKILL])
+
+    def test_how_long_a_process_may_take(self):
+        """Its search has its own limit."""
+        args = unittest.mock.Mock(best=False, seconds=None)
+        self.assertEqual(days.seconds_of(args), 600)
+        for seconds, whole in ((None, 1_200), (0, 600), (7.5, 607.5)):
+            args = unittest.mock.Mock(best=True, seconds=seconds)
+            self.assertEqual(days.seconds_of(args), whole)
+
     def test_each_day_is_read_under_its_own_guard(self):
         """Files without an end, that are too large for the memory, or that are none; each day has its record, and the good one its verdict."""
         self.write(a=(DATA, TEXT))
@@ -236,6 +258,19 @@ class Days(unittest.TestCase):
         with unittest.mock.patch.object(days.threading.Thread, "start", side_effect=RuntimeError("can't start new thread")):
             found = days.audit_all([pairs[0]._replace(unread="x")] * 2, [], 2, bar)
         self.assertEqual([made["message"] for made in found], ["x", "x"])
+
+    def test_the_time_grows_with_the_number_of_days(self):
+        """While days are audited, the records of others aren't gone through again."""
+        reads, bar = [], unittest.mock.Mock()
+
+        class Counted(dict):
+            def __getitem__(self, name):
+                reads.append(name)
+                return super().__getitem__(name)
+
+        with unittest.mock.patch.object(days, "audited", side_effect=lambda *_: Counted(status=command.DIFFERS)):
+            found = days.audit_all([days.Pair("a", Path("a.csv"), None)] * 50, [], 2, bar)
+        self.assertEqual((len(found), len(reads), bar.step.call_args.args), (50, 50, (1, "50 wrong")))
 
     def test_a_record_without_days(self):
         for place in ("/nowhere", self.folder):

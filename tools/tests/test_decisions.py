@@ -7,7 +7,7 @@ import unittest
 from support import AUCTION, TOP, day_of, journal_of, printed, problem, results_of
 
 from lib.journal import book, journal
-from lib.results import decisions, period, selection
+from lib.results import decisions, families, period, selection
 from lib.sheets import tables
 from plain import Plain
 
@@ -33,6 +33,15 @@ IF = "were added and the other blocks stayed as they are,"
 
 
 class Hand(unittest.TestCase):
+    def test_the_best_family_of_the_page_of_rules(self):
+        page = " ".join((TOP / "docs" / "RULES.md").read_text().split())
+        said = r"Say A loses (\d+) EUR at the prices, its child B gains (\d+), and its child C loses (\d+): then A and B are the best family of both"
+        loss, gain, other = map(int, re.search(said, page).groups())
+        blocks = [f"submit,GAS,{name},block,sell,5000,1:10,{parent}," for name, parent in (("A", ""), ("B", "A"), ("C", "A"))]
+        found = [families.best_family(problem(journal_of(*blocks)), frozenset(), [-loss, gain, -other], place) for place in range(3)]
+        self.assertEqual([(family.members, family.gain()) for family in found[:2]], [({0, 1}, gain - loss)] * 2)
+        self.assertEqual(found[2].members, {0, 1, 2})
+
     def test_a_family_that_would_gain(self):
         # Of 100 MW that are bought at 170 EUR 60 are offered at 100. The price is 170: START loses 1 MW times 10 EUR, and RUN gains
         # 49 MW times 50 EUR. With both 110 MW are offered, and the price is 100.
@@ -181,7 +190,10 @@ class Hand(unittest.TestCase):
         why = "would gain 59.00 EUR at the prices, but A,K1 offers the same and stands earlier in the book"
         self.assertEqual(told(data, {0})[1], (decisions.PARADOX, why))
         other = data.replace(b"submit,B,K1,block,sell,100", b"submit,B,K1,block,sell,101")
-        self.assertIn(f"if it {IF} period 8 wouldn't balance: 1.0 MW would have no buyer", told(other, {0})[1][1])
+        unmatched = f"if it {IF} period 8 wouldn't balance: 1.0 MW would have no buyer"
+        self.assertIn(unmatched, told(other, {0})[1][1])
+        # Of results that accept the later one, it isn't the reason: they aren't the best.
+        self.assertIn(unmatched, told(data, {1})[0][1])
 
     def test_codes(self):
         """Each is in the page of the tables, and each of a block that results can have is found."""

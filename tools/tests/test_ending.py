@@ -1,8 +1,10 @@
 """How a tool ends that fails itself, is interrupted, or can't write: one line on standard error, and a status that is no verdict."""
 
+import ast
 import contextlib
 import errno
 import io
+import json
 import os
 import re
 import resource
@@ -11,6 +13,7 @@ import signal
 import subprocess
 import sys
 import tempfile
+import threading
 import time
 import unittest
 from pathlib import Path
@@ -19,7 +22,7 @@ from unittest import mock
 from support import AUCTION, AUCTION_RESULTS, TOOLS, TOP, heed_interrupts, journal_of, results_of
 
 from lib.audit import better
-from lib.base import aside, children
+from lib.base import aside, children, ending
 from lib.tool import command
 from lib.base.progress import Progress
 from lib.runs import engine
@@ -27,6 +30,54 @@ from lib.runs import engine
 RUN = "from lib.base import ending; ending.watch('audit'); from lib.tool import command; command.run('audit', lambda: CALL)"
 IGNORING = "import os, signal, sys; signal.signal(signal.SIGCHLD, signal.SIG_IGN); os.execv(sys.argv[1], sys.argv[1:])"
 SECONDS = 60
+# A run of a tool that gets Ctrl-C as soon as it imports a module.
+IMPORTING = """
+import builtins, os, signal, sys
+sys.dont_write_bytecode, path, sought, real = True, sys.argv[1], sys.argv[2], builtins.__import__
+def imported(name, *words, **more):
+    if name == sought:
+        builtins.__import__ = real
+        os.kill(os.getpid(), signal.SIGINT)
+    return real(name, *words, **more)
+builtins.__import__, sys.argv = imported, [path, "--help"]
+exec(compile(open(path).read(), path, "exec"), {"__name__": "__main__", "__file__": path})
+"""
+# A signal comes while an object goes away, some times.
+GOING = """
+import os, sys, time, weakref
+from lib.base import ending
+ending.watch("audit")
+from lib.tool import command
+class Object: pass
+def going(_):
+    os.kill(os.getpid(), int(sys.argv[1]))
+    time.sleep(0.05)
+def main():
+    for _ in range(int(sys.argv[2])):
+        a = Object()
+        held = weakref.ref(a, going)
+        del a
+    time.sleep(60)
+command.run("audit", main)
+"""
+# A run that begins what a signal has to end.
+BEGUN = """
+import os, sys, time
+from pathlib import Path
+from lib.base import ending
+ending.watch("audit")
+from lib.audit import days
+from lib.base.progress import Bar
+from lib.pictures import drawing
+from lib.tool import command
+days.TOOL = Path(sys.argv[1])
+pairs = [days.Pair(str(number), Path(sys.argv[1]), None) for number in range(8)]
+def main():
+    with drawing.apart():
+        days.audit_all(pairs, [], 3, Bar("audit", 8, "days"))
+command.run("audit", main)
+"""
+WORKER = "import os, sys, time; open(os.path.dirname(sys.argv[0]) + '/pids', 'a').write(f'{os.getpid()}\\n'); time.sleep(600)"
 PACKAGES = {"audit": [], "lint": [], "plot": ["matplotlib"], "report": ["matplotlib", "jinja2"], "table": []}
 
 
@@ -78,6 +129,17 @@ class Failing(unittest.TestCase):
         self.assertTrue(err.startswith("Traceback (most recent call last):\n") and err.endswith(said), err)
         self.assertIn("\\x1b[31m", self.failed("{}['\\x1b[31m']")[2])
 
+    def test_a_defect_of_the_launcher(self):
+        """It has statuses of its own: `tools/unproved` prints the status of the program."""
+        said = "a defect of this tool, please report it: RuntimeError: no (DAM_DEBUG=1 shows where)\n"
+        for name, status, prefix in (("prove", 1, "prove"), ("unproved", 70, "dam")):
+            script = (TOOLS / name).read_text()
+            code = f"__file__ = {str(TOOLS / name)!r}\n" + script[: script.rindex("\n\n\nif __name__")] + "\nraise RuntimeError('no')\n"
+            ran = subprocess.run([sys.executable, "-I", "-S", "-c", code], capture_output=True, text=True)
+            self.assertEqual((ran.returncode, ran.stdout, ran.stderr), (status, "", f"{prefix}: {said}"))
+            for folder in ("base/ending", "base/place", "base/surroundings"):
+                ast.parse((TOOLS / "lib" / f"{folder}.py").read_text(), feature_version=(3, 8))
+
     def test_memory(self):
         said = (command.FAILED, "", "audit: out of memory\n")
         for call in (
@@ -112,6 +174,15 @@ class Failing(unittest.TestCase):
                 self.assertEqual((status, out, err), (command.FAILED, b"", "lint: out of memory\n"))
             else:
                 self.assertEqual((status, out.count(b"\n"), err), (command.FAULTY, 9_002, ""))
+
+    def test_a_record_of_more_faults_than_memory(self):
+        """The faults have room, and their record doesn't."""
+        data = b"day,24,,,,,,,\n" + b"submit,a,b,c,d,e,f,g,h\n" * 9_000
+        for megabytes in (40, 60, 80):
+            status, out, err = limited([TOOLS / "lint", "--json", "-"], megabytes, data)
+            made = json.loads(out)
+            found = made["verdict"], made["status"], made["message"], made["faults"]
+            self.assertEqual((status, err, found), (command.FAILED, "lint: out of memory\n", ("failed", command.FAILED, "out of memory", [])))
 
     def test_a_failed_import(self):
         run = "import sys; from lib.base import ending; ending.watch('lint'); raise MemoryError"
@@ -150,6 +221,134 @@ class Interrupted(unittest.TestCase):
             if all(map(command.has, packages)):
                 with self.subTest(name):
                     self.assertEqual(self.interrupted(name), (130, b"", f"{name}: interrupted\n"))
+
+    def test_while_it_imports(self):
+        """At its first module, then with one line: in the midst of an import that may take the exception for its own."""
+        names = [path.name for path in sorted(TOOLS.iterdir()) if path.is_file() and path.read_bytes().startswith(b"#!")]
+        self.assertEqual(len(names), 14)
+        for name in names:
+            with self.subTest(name):
+                is_launchers = name in ("prove", "unproved")
+                late = ("lib.crates",) if is_launchers else ("lib.tool", "argparse")
+                for module in ("sys", "lib.base", *late):
+                    words = [sys.executable, "-I", "-S", "-B", "-c", IMPORTING, TOOLS / name, module]
+                    ran = subprocess.run(words, capture_output=True, text=True, stdin=subprocess.DEVNULL)
+                    said = f"{'dam' if name == 'unproved' else name}: interrupted\n"
+                    right = (command.INTERRUPTED, "", said) if module in late else (-signal.SIGINT, "", "")
+                    self.assertEqual((ran.returncode, ran.stdout, ran.stderr), right, module)
+                # Packages of the system may run code before the tool, unless Python is to leave them.
+                self.assertEqual((TOOLS / name).read_text().partition("\n")[0], "#!/usr/bin/env -S python3 -I -S")
+
+    def test_a_signal_while_an_object_goes_away(self):
+        """Python ignores an exception of a call for it, and says so."""
+        for number, said in ((signal.SIGTERM, "ended by SIGTERM"), (signal.SIGHUP, "ended by SIGHUP"), (signal.SIGINT, "interrupted")):
+            self.addCleanup(signal.signal, number, signal.signal(number, signal.SIG_DFL))  # whatever this process ignores
+            for times in (1, 3):
+                words = [sys.executable, "-B", "-c", GOING, str(int(number)), str(times)]
+                ran = subprocess.run(words, cwd=TOOLS, capture_output=True, text=True, timeout=SECONDS)
+                self.assertEqual((ran.returncode, ran.stdout, ran.stderr), (128 + number, "", f"audit: {said}\n"), times)
+
+    def test_an_ignored_interrupt_stays_ignored(self):
+        code = "import os, signal, sys; signal.signal(signal.SIGINT, signal.SIG_IGN); os.execv(sys.executable, [sys.executable, *sys.argv[1:]])"
+        for module in ("sys", "argparse"):
+            words = [sys.executable, "-c", code, "-I", "-S", "-B", "-c", IMPORTING, TOOLS / "lint", module]
+            ran = subprocess.run(words, capture_output=True, text=True, stdin=subprocess.DEVNULL)
+            self.assertEqual((ran.returncode, ran.stdout[:6], ran.stderr), (0, "usage:", ""), module)
+
+    def test_each_signal_leaves_no_process_and_no_folder(self):
+        if not command.has("matplotlib"):
+            self.skipTest("matplotlib is missing (Debian's python3-matplotlib)")
+        for number, said in ((signal.SIGTERM, "ended by SIGTERM"), (signal.SIGHUP, "ended by SIGHUP"), (signal.SIGINT, "interrupted")):
+            self.addCleanup(signal.signal, number, signal.signal(number, signal.SIG_DFL))  # whatever this process ignores
+            with self.subTest(said), tempfile.TemporaryDirectory() as folder:
+                tool, pids, room = Path(folder, "tool"), Path(folder, "pids"), Path(folder, "room")
+                room.mkdir()
+                tool.write_text(WORKER)
+                words = [sys.executable, "-B", "-c", BEGUN, tool]
+                running = subprocess.Popen(words, stderr=subprocess.PIPE, cwd=TOOLS, text=True, env={**os.environ, "TMPDIR": str(room)})
+                self.assertEqual(self.children_of(running, pids, 3), 3)
+                self.assertEqual(len(list(room.iterdir())), 1)
+                running.send_signal(number)
+                _, err = running.communicate(timeout=SECONDS)
+                self.assertEqual((running.returncode, err), (128 + number, f"audit: {said}\n"))
+                self.assertEqual(list(room.iterdir()), [])
+                self.assertEqual([pid for pid in pids.read_text().split() if not self.is_gone(pid)], [])
+
+    def children_of(self, running, pids, count):
+        """How many processes a run has started, of as many as it should."""
+        self.addCleanup(lambda: (running.kill(), running.communicate()))
+        end = time.monotonic() + SECONDS
+        while time.monotonic() < end and running.poll() is None and (not pids.exists() or pids.read_text().count("\n") < count):
+            time.sleep(0.02)
+        return pids.read_text().count("\n") if pids.exists() else 0
+
+    def is_gone(self, pid):
+        """Whether a process ends at once."""
+        end = time.monotonic() + SECONDS
+        while Path(f"/proc/{pid}/stat").exists() and Path(f"/proc/{pid}/stat").read_text().rpartition(")")[2].split()[0] != "Z":
+            if time.monotonic() >= end:
+                os.kill(int(pid), signal.SIGKILL)
+                return False
+            time.sleep(0.02)
+        return True
+
+    def test_a_program_that_is_just_starting_ends_too(self):
+        """Its thread may be between the start and the note of it, and none begins another one."""
+        running, begun = engine.Running(), threading.Event()
+
+        class Slow(subprocess.Popen):
+            def __init__(self, *words, **more):
+                begun.set()
+                time.sleep(0.3)
+                super().__init__(*words, **more)
+
+        found = []
+
+        def run():
+            with running.started(["/bin/sleep", "600"]) as process:
+                found.append(process)
+                process.wait()
+
+        with mock.patch.object(subprocess, "Popen", Slow):
+            thread = threading.Thread(target=run, daemon=True)
+            thread.start()
+            begun.wait()
+            running.end()
+        thread.join(SECONDS)
+        self.assertEqual([process.returncode for process in found], [-signal.SIGKILL])
+        with self.assertRaisesRegex(engine.Fault, "^/bin/sleep isn't run any more$"), running.started(["/bin/sleep", "600"]):
+            pass
+
+    def test_copies_of_a_tool_end_without_a_word(self):
+        """As those of a pool, which ends them by SIGTERM."""
+        copy = "made = multiprocessing.get_context('fork').Process(target=time.sleep, args=(600,))"
+        ends = "made.start(), time.sleep(0.5), made.terminate(), made.join(), print(made.exitcode)"
+        code = f"import multiprocessing, time\nfrom lib.tool import command\ndef main():\n    {copy}\n    {ends}\ncommand.run('report', main)\n"
+        ran = subprocess.run([sys.executable, "-B", "-c", code], cwd=TOOLS, capture_output=True, text=True, timeout=SECONDS)
+        self.assertEqual((ran.returncode, ran.stdout, ran.stderr), (0, f"{-signal.SIGTERM}\n", ""))
+
+    def test_signals_after_one(self):
+        """They don't stop its end, but a later one is heeded again."""
+        with mock.patch.object(ending, "heeded", []), mock.patch.object(time, "monotonic") as clock:
+            for now, is_heeded in ((100, True), (100, False), (104, False), (105, True)):
+                clock.return_value = now
+                if is_heeded:
+                    self.assertRaises(ending.Ended, ending.end, signal.SIGTERM, None)
+                else:
+                    self.assertIsNone(ending.end(signal.SIGHUP, None))
+
+    def test_a_call_of_a_library_ends_at_once(self):
+        """Python wouldn't see a signal until its end."""
+        for number in (signal.SIGTERM, signal.SIGHUP):
+            before = signal.getsignal(number)
+            self.addCleanup(signal.signal, number, before)
+            signal.signal(number, ending.end)
+            with ending.at_once():
+                self.assertEqual(signal.getsignal(number), signal.SIG_DFL)
+            self.assertEqual(signal.getsignal(number), ending.end)
+            signal.signal(number, signal.SIG_IGN)
+            with ending.at_once():
+                self.assertEqual(signal.getsignal(number), signal.SIG_IGN)
 
     def test_a_step_of_a_run(self):
         def main():
@@ -264,8 +463,9 @@ class Start(unittest.TestCase):
 
     def test_python_does_not_start(self):
         page = TOP.joinpath("docs", "FORMATS.md").read_text()
-        said = re.search(r"If Python doesn't start,\s+the status may also be ([0-9, ]+) or a signal's", page)[1]
-        statuses, words = set(map(int, said.split(", "))), f"{shlex.quote(str(TOOLS / 'audit'))} --json {AUCTION} {AUCTION_RESULTS}"
+        said = re.search(r"If Python doesn't start,\s+the\s+status may also be ([0-9, ]+), a signal's or ([0-9]+)\.", page)
+        statuses = {*map(int, said[1].split(", ")), int(said[2])}
+        words = f"{shlex.quote(str(TOOLS / 'audit'))} --json {AUCTION} {AUCTION_RESULTS}"
         with tempfile.TemporaryDirectory() as folder:
             Path(folder, "python3").mkdir()
             Path(folder, "other").mkdir()

@@ -9,6 +9,8 @@ from fractions import Fraction
 
 from support import QUARTERS, SUNNY, SUNNY_RESULTS, TOP, book, journal, printed, problem, selection, tool
 
+from lib.audit import best
+
 SCRIPT = TOP / "examples" / "make_sunny_day.py"
 LINE = re.compile(r"`((?:period|hour|block),[^`]*|\d+,(?:done|refused,\w+))`")
 
@@ -98,9 +100,26 @@ class SunnyDay(Walk, unittest.TestCase):
                 self.says_euros(found.welfare)
                 self.assertEqual(list(losses), losing)
 
+    def test_the_day_without_three_blocks(self):
+        """The best selection of the day on which START, STAY and EVENING aren't submitted accepts UNIT-7."""
+        lines = SUNNY.read_bytes().splitlines(keepends=True)
+        left = problem(b"".join(line for line in lines if not re.match(b"[a-z]+,GAS,(START|STAY|EVENING),", line)))
+        found, _ = best.enumerate_all(left)
+        self.assertIn("UNIT-7", {left.blocks[place].name for place in found.accepted})
+        self.assertEqual(len(left.blocks), len(self.problem.blocks) - 3)
+        self.says_euros(found.welfare)
+
     def test_the_price_between_two_ends(self):
         found = self.outcome()[0].cleared[19]
         self.assertRegex(self.text, rf"from {found.low / 100:.2f} EUR, [^.]*, to {found.high // 100} EUR")
+
+    def test_the_plants_of_the_evening_peak(self):
+        """Of those with hourly orders, only the two with the highest limits don't run."""
+        limits = dict(re.findall(r"^submit,(\w+,[\w-]+),hour,sell,(-?\d+),20:", SUNNY.read_text(), re.MULTILINE))
+        dearest = sorted(limits, key=lambda order: int(limits[order]))[-2:]
+        idle = [order for order in re.findall(r"^hour,(.*),0$", printed(SUNNY).decode(), re.MULTILINE) if order in limits]
+        self.assertEqual(sorted(idle), sorted(dearest))
+        self.assertIn("All plants with hourly orders run except the two most expensive.", self.text)
 
 
 class QuarterHours(Walk, unittest.TestCase):

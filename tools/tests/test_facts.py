@@ -13,17 +13,27 @@ from support import TOP, loaded, worked
 from lib.base import rules
 from lib.journal import book
 from lib.runs import engine
+from lib.crates import crates
 from lib.crates.specs import Repository
 
 PAGES = [TOP / "README.md", TOP / "CHANGELOG.md", TOP / "library" / "dam.h", *sorted((TOP / "docs").glob("*.md"))]
 PAGES += sorted((TOP / "crates").glob("*/*.md"))
 FORMATS = (TOP / "docs" / "FORMATS.md").read_text()
 CHECKLISTS = TOP / "crates" / "CHECKLISTS.md"
-# A comment's line that has the limit on blocks or on nodes as a number.
-OF_BLOCKS = re.compile(r"\s*//.*(?:\b67[_,]?108[_,]?864\b|\b24\b.{0,60}\bblocks?\b|\bblocks?\b.{0,60}\b24\b)")
+# The limit on nodes as a number, and a comment's line that has it or the limit on blocks.
+OF_NODES = re.compile(rf"\b{f'{engine.MOST_NODES:,}'.replace(',', '[_,]?')}\b")
+BLOCKS = rf"\b{rules.MOST_BLOCKS}\b"
+OF_BLOCKS = re.compile(rf"\s*//.*(?:{OF_NODES.pattern}|{BLOCKS}.{{0,60}}\bblocks?\b|\bblocks?\b.{{0,60}}{BLOCKS})")
+# The files that may have the limit on nodes.
+WITH_NUMBERS = ["*.md", "docs/*.md", "library/*", "examples/**/*", "bench/*.py", "crates/**/*.rt", "crates/**/*.antt", "crates/**/*.md"]
+WITH_NUMBERS += ["crates/**/*.edit", "tests/**/*", "tools/*", "tools/**/*.py"]
 NUMBER = r"(-?\d[\d,]*)"
 CONSTANT = re.compile(r"^pub const (\w+): \w+ = (-?[\d_]+);$", re.MULTILINE)
 FUNCTION = re.compile(r"^\s*(?:pub(?:\(crate\))? )?(?:extern \"C\" )?fn \w+", re.MULTILINE)
+NUMERALS = "one two three four five six seven eight nine ten".split()
+# A function with its contract, up to its body or semicolon; and a function that a page names, with names in brackets.
+HEAD = re.compile(r"^ *(?:pub(?:\(crate\))? )?(?:extern \"C\" )?fn (\w+)\b(.*?)(?:^ *\{|;$)", re.MULTILINE | re.DOTALL)
+NAMED = re.compile(r"`([\w:]+)` \(((?:`\w+`(?:, |, and )?)+)\)")
 # How a limit is said, and its numbers. At the first two words of a line a comment may begin.
 LIMITS = {
     rf"{NUMBER} hourly orders and {NUMBER} blocks": (rules.MOST_HOURLY, rules.MOST_BLOCKS),
@@ -58,7 +68,7 @@ ONCE = {
     r"cents per MWh times tenths of a MW, and are": ["RULES.md"],
     r"0.25 MWh, 4,000 are\b": ["RULES.md"],
     r"\b92, 96 or 100\b": ["CHANGELOG.md", "RULES.md"],
-    r"\b24 blocks (?:\(|or 4,000 )|\bat most 4,000 hourly": ["README.md", "RULES.md"],
+    rf"\b{rules.MOST_BLOCKS} blocks (?:\(|or 4,000 )|\bat most 4,000 hourly": ["README.md", "RULES.md"],
     r"the launcher `\./dam` has no program": ["FORMATS.md"],
     r"\| `device: read` \|": ["FORMATS.md"],
     r"no run is known": ["FORMATS.md"],
@@ -68,7 +78,7 @@ ONCE = {
     r"[Tt]ies go to the larger bought volume, and|Ties go to the selection": ["RULES.md", "RULES.md"],
     r"\b\d+ of `must-fail/`": ["CHECK.md"],
     r"from memory": ["RULES.md", "THEOREM.md"],
-    r"\b60 times\b": ["dam.h"],
+    r"\bdozens of times\b": ["dam.h"],
     r"each of the 2\^n selections": ["AUDIT.md"],
     r"refused orders don't appear in the results": ["USING.md"],
     r"critical path dominates": ["CHECK.md"],
@@ -121,6 +131,7 @@ class Facts(unittest.TestCase):
             "LAST_PERIOD": rules.GREATEST_PERIOD,
             "MOST_HOURLY": rules.MOST_HOURLY,
             "MOST_BLOCKS": rules.MOST_BLOCKS,
+            "MOST_OF_GROUP": rules.MOST_OF_GROUP,
             "MOST_ENTRIES": rules.MOST_RECORDS - 1,
             "LONGEST_NAME": rules.LONGEST_NAME,
             "LONGEST_PARTICIPANT": rules.LONGEST_PARTICIPANT,
@@ -138,13 +149,15 @@ class Facts(unittest.TestCase):
         self.assertEqual(rows[: len(reasons) + 1], list(book.REASONS))
 
     def test_the_greatest_sums(self):
-        """As numbers of cents per MWh times tenths of a MW: the laws of `dam_blocks` have them as products of the limits."""
+        """As numbers of cents per MWh times tenths of a MW, which the law `limits` of `dam_blocks` states."""
         price = max(-rules.LEAST_PRICE, rules.GREATEST_PRICE)
         hourly = rules.MOST_HOURLY * rules.GREATEST_VOLUME * price
         blocks = rules.MOST_BLOCKS * rules.GREATEST_PERIOD * rules.GREATEST_VOLUME * price
         surplus = rules.GREATEST_PERIOD * rules.GREATEST_VOLUME * (rules.GREATEST_PRICE - rules.LEAST_PRICE)
-        self.assertEqual((hourly, blocks, surplus), (159_998_400_000_000, 95_999_040_000_000, 4_499_955_000_000))
-        self.assertEqual(hourly + blocks, 255_997_440_000_000)
+        law = (TOP / "crates" / "dam_blocks" / "src" / "laws.rt").read_text()
+        stated = {name: int(number) for name, number in re.findall(r"ensures (\w+)_is \{ greatest_\w+ ≡ (\d+) \}", law)}
+        wanted = {"hourly_value": hourly, "block_value": blocks, "surplus": surplus, "selection_welfare": hourly + blocks}
+        self.assertEqual(stated, wanted)
 
     def test_the_rules_at_a_terminal_show_the_limits(self):
         advice = (TOP / "crates" / "dam_cli" / "src" / "advice.rt").read_text()
@@ -206,13 +219,48 @@ class Facts(unittest.TestCase):
         self.assertEqual(said, [str(count)])
 
     def test_the_parts_of_the_recorded_run(self):
-        """CHECK.md names those that came later."""
+        """CHECK.md names those that are newer."""
         check, notes = (TOP / "docs/CHECK.md").read_text(), (TOP / "tests/NOTES.md").read_text()
         parts = set(re.findall(r"^\| (\w+) \| `", check, re.MULTILINE))
         recorded = set(re.findall(r"^(\w+) +[\d.]+ +[\d.]+ +\d+ passed", notes, re.MULTILINE)) - {"all"}
         self.assertGreater(len(recorded), 9)
-        later = re.search(r"The parts? ([^.]*) came later", plain(TOP / "docs/CHECK.md"))
+        later = re.search(r"The parts? ([^.]*) (?:is|are) newer\.", plain(TOP / "docs/CHECK.md"))
         self.assertEqual(parts - recorded, set(re.findall(r"`(\w+)`", later[1])) if later else set())
+
+    def test_the_times_of_the_recorded_run(self):
+        """CHECK.md and THEOREM.md round those of the notes on the tests."""
+        notes, check, theorem = (plain(TOP / path) for path in ("tests/NOTES.md", "docs/CHECK.md", "docs/THEOREM.md"))
+        day = re.search(r"The last recorded whole run of `\./check`: commit \w+ \((\S+)\)", notes)[1]
+        wanted = re.search(r" all +([\d.]+) +([\d.]+) +\d+ passed", notes).groups()
+        wanted += re.search(r"The proofs of the crates took ([\d.]+) CPU-minutes .*? the wrong bodies of `must-fail/` ([\d.]+) ", notes).groups()
+        wanted = [f"{float(number):.0f}" for number in wanted]
+        self.assertEqual(re.search(r"\(\.\./tests/NOTES\.md#recorded-runs\) took .*? on (\d{4}-\d\d-\d\d)", check)[1], day)
+        said = re.search(r"took (\d+) minutes .*? and (\d+) CPU-minutes: (\d+) for the proofs of the crates, (\d+) for the wrong bodies", check)
+        self.assertEqual(list(said.groups()), wanted)
+        self.assertEqual(re.search(r"Proving the crates took \[(\d+) CPU-minutes\]", theorem)[1], wanted[2])
+
+    def test_the_clauses_that_pages_name_are_those_of_their_functions(self):
+        """Or definitions in their contracts. `market` is a module. A fault or a definition before the brackets has no contract."""
+        heads = {}
+        for path in (TOP / "crates").glob("*/src/**/*.rt"):
+            text = path.read_text()
+            for name, head in HEAD.findall(text):
+                heads.setdefault(name, set()).update(re.findall(r"\w+", head))
+            if path.stem == "market":
+                heads.setdefault("market", set()).update(re.findall(r"\w+", text))
+        names = ("docs/ARCHITECTURE.md", "docs/ASSURANCE.md", "docs/TESTED.md", "docs/THEOREM.md", "crates/NOTES.md")
+        pages = {TOP / name: plain(TOP / name) for name in names}
+        for path in (TOP / "crates").glob("*/README.md"):
+            pages[path] = plain(path).partition("## Promises")[2].partition("## Only tested")[0]
+        counted = 0
+        for page, text in pages.items():
+            for function, names in NAMED.findall(text):
+                name = function.rpartition("::")[2]
+                if name[0].islower():
+                    counted += 1
+                    with self.subTest(page=str(page.relative_to(TOP)), function=function, names=names):
+                        self.assertEqual(set(re.findall(r"\w+", names)) - heads.get(name, set()), set())
+        self.assertGreater(counted, 30)
 
     def test_the_laws_that_state_limits_as_numbers(self):
         laws = sorted((TOP / "crates").glob("*/src/laws.rt"))
@@ -220,18 +268,30 @@ class Facts(unittest.TestCase):
         said = re.search(r"the laws `limits` of ([^.]*?) state each limit", plain(CHECKLISTS))[1]
         self.assertGreater(len(wanted), 4)
         self.assertEqual(set(re.findall(r"`(\w+)`", said)), wanted)
+        others = {path.parts[-3] for path in laws if "\npub fn limits()\n" in path.read_text()} - wanted
+        self.assertEqual(re.findall(r"The law `limits` of `(\w+)` only equates", plain(CHECKLISTS)), sorted(others))
 
-    def test_the_comments_that_state_the_limit_on_blocks(self):
-        """Or on nodes, which follows from it."""
-        crates = TOP / "crates"
-        sources = {path: path.read_text().splitlines() for path in crates.glob("*/src/**/*.rt")}
-        wanted = {str(path.relative_to(crates)) for path, lines in sources.items() if any(map(OF_BLOCKS.match, lines))}
-        said = set()
-        for part in re.search(r"\| Comments and examples \| (.*) \|", CHECKLISTS.read_text())[1].split("; "):
-            folder, _, names = part.rpartition(": ")
-            said |= {folder.strip("`") + name for name in re.findall(r"`([^`]*)`", names)}
-        self.assertGreater(len(wanted), 4)
-        self.assertEqual(said, wanted)
+    def test_the_files_with_the_limit_on_nodes(self):
+        """Where more blocks are allowed, each is named, with its ending or without; an edit by its own name, a page as pages are."""
+        section = re.search(r"^## To allow more blocks\n(.*?)^## ", CHECKLISTS.read_text(), re.MULTILINE | re.DOTALL)[1]
+        said = {word.rpartition("/")[2] for word in re.findall(r"[\w./-]*\w", section)}
+        wanted = set()
+        for path in (path for pattern in WITH_NUMBERS for path in TOP.glob(pattern) if path.is_file() and "out" not in path.parts):
+            text = path.read_text(errors="replace")
+            if path.suffix == ".edit":
+                wanted |= {part.split()[0] for part in text.split("name: ") if OF_NODES.search(part)}
+            elif OF_NODES.search(text) and path != CHECKLISTS:
+                wanted.add(path.name)
+        self.assertGreater(len(wanted), 15)
+        self.assertEqual({name for name in wanted if not {name, name.split(".")[0]} & said}, set())
+
+    def test_no_comment_states_the_limit_on_blocks(self):
+        """Or on nodes, which follows from it: a comment names the constant."""
+        for line in (f"/// Some of {rules.MOST_BLOCKS} blocks.", f"// a block of {rules.MOST_BLOCKS}", f"/// up to {engine.MOST_NODES:,}"):
+            self.assertRegex(line, OF_BLOCKS)
+        sources = {path: path.read_text().splitlines() for path in (TOP / "crates").glob("*/src/**/*.rt")}
+        self.assertGreater(len(sources), 100)
+        self.assertEqual([(path.name, line) for path, lines in sources.items() for line in lines if OF_BLOCKS.match(line)], [])
 
     def test_the_figures_of_the_notes_on_the_gate(self):
         """They are those of the bench, or nearly so if they are said in words."""
@@ -310,9 +370,29 @@ class Facts(unittest.TestCase):
         tool, text = loaded("reading-list"), plain(TOP / "docs" / "ASSURANCE.md")
         repository = Repository(TOP)
         nodes = {node for _, _, new in tool.lists(repository) for node in new}
-        for said, count in (r"some (\d+) definitions and types", len(nodes)), (r"some (\d+) lines", len(tool.few_texts(repository).splitlines())):
-            with self.subTest(said):
-                self.assertAlmostEqual(int(re.search(said, text)[1]) / count, 1, delta=0.1)
+        sizes = dict(tool.reached_sizes(repository))["`run_clear`"]
+        counts = {
+            r"some (\d+) definitions and types": [len(nodes)],
+            r"some (\d+) lines": [len(tool.few_texts(repository).splitlines())],
+            r"contract reaches \(some \[(\d+), in ([\d,]+) lines\]": sizes,
+        }
+        for said, wanted in counts.items():
+            for number, count in zip(map(found, re.search(said, text).groups()), wanted):
+                with self.subTest(said):
+                    self.assertAlmostEqual(number / count, 1, delta=0.1)
+
+    def test_the_crates_that_are_proved_for_the_programs(self):
+        """Their number, and the length of the longest chain in which each uses the next."""
+        used = crates.own(crates.listed_in(TOP))
+
+        def longest(name):
+            return 1 + max(map(longest, used[name]), default=0)
+
+        programs = ("dam_cli", "dam_desk")
+        needed = {name for program in programs for name in (program, *crates.all_below(used, program))}
+        text = plain(TOP / "docs" / "CHECK.md")
+        self.assertEqual(int(re.search(r"`\./dam prove` proves (\d+) of the crates", text)[1]), len(needed))
+        self.assertEqual(re.search(r"a chain of (\w+) crates", text)[1], NUMERALS[max(map(longest, programs)) - 1])
 
 
 if __name__ == "__main__":

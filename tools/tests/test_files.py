@@ -8,13 +8,12 @@ import os
 import resource
 import subprocess
 import sys
-import tempfile
 import unittest
 import zipfile
 from pathlib import Path
 from unittest import mock
 
-from support import AUCTION, AUCTION_RESULTS, TOOLS, printed, tool
+from support import AUCTION, AUCTION_RESULTS, TOOLS, new_folder, printed, tool
 
 from lib.base import replacing
 from lib.sheets import tables
@@ -38,9 +37,7 @@ def at_a_terminal(name, *words, cwd):
 
 class Files(unittest.TestCase):
     def setUp(self):
-        folder = tempfile.TemporaryDirectory()
-        self.addCleanup(folder.cleanup)
-        self.folder = Path(folder.name)
+        self.folder = new_folder(self)
         self.journal, self.results = self.folder / "day.csv", self.folder / "results.txt"
         self.write(AUCTION.read_bytes(), printed(AUCTION))
 
@@ -150,12 +147,66 @@ class Files(unittest.TestCase):
             note = NOTE if name == "table" else ""
             self.assertEqual(at_a_terminal(name, *texts, *words, cwd=self.folder), f"{note}{name}: {out} was written\n")
 
+    def test_a_name_that_a_tool_chooses_replaces_no_file(self):
+        """A page has the name of the journal, which may be a stranger's choice."""
+        here, texts = Path.cwd(), [self.journal.name, self.results.name]
+        os.chdir(self.folder)
+        self.addCleanup(os.chdir, here)
+        for name, out, *words in (("plot", "day.svg"), ("report", "day.html", "--no-limits", "--curves", "none")):
+            own = self.folder / out
+            for kind in ("a file", "a link"):
+                own.write_bytes(b"mine") if kind == "a file" else own.symlink_to("gone")
+                said = f"{name}: {out} is there already: name it by --out to replace it\n"
+                self.assertEqual(tool(name, *texts, *words), (command.COMMAND_LINE, b"", said), kind)
+                self.assertEqual(own.is_symlink() or own.read_bytes(), kind == "a link" or b"mine")
+                own.unlink()
+            self.assertEqual(tool(name, *texts, *words), (0, b"", ""))
+            right = own.read_bytes()
+            own.write_bytes(b"mine")
+            self.assertEqual((tool(name, *texts, *words, "-o", out), own.read_bytes()), ((0, b"", ""), right))
+
     def test_a_folder_is_made(self):
         texts, folder = [self.journal, self.results], self.folder / "a" / "b"
         self.assertEqual(tool("table", *texts, "--all", folder), (0, b"", NOTE))
         self.assertEqual({path.name for path in folder.iterdir()}, {f"{name}.csv" for name in tables.TABLES})
         said = f"{NOTE}table: {self.journal} can't be made: File exists\n"
         self.assertEqual(tool("table", *texts, "--all", self.journal), (command.NO_INPUT, b"", said))
+
+    def test_tables_replace_no_file_that_is_there(self):
+        """Not by names that the tool gives them: the other tables aren't written either."""
+        texts, own = [self.journal, self.results], self.folder / "orders.csv"
+        for kind in ("a file", "a link"):
+            if kind == "a file":
+                own.write_bytes(b"orders of mine\n")
+            else:
+                own.unlink()
+                own.symlink_to("gone.csv")
+            for words in ([], ["--decimal-comma"]):
+                said = f"table: {own} is there already: name another folder, or replace it by --replace\n"
+                found = tool("table", *texts, "--all", self.folder, *words)
+                self.assertEqual(found, (command.COMMAND_LINE, b"", said), kind)
+        self.assertEqual({path.name for path in self.folder.iterdir()}, {"day.csv", "results.txt", "orders.csv"})
+        self.assertEqual(tool("table", *texts, "--all", self.folder, "--json"), (0, b"", NOTE))
+        self.assertTrue(own.is_symlink())
+
+    def test_tables_replace_files_if_they_are_asked_to(self):
+        texts, folder = [self.journal, self.results], self.folder / "tables"
+        folder.mkdir()
+        Path(folder, "orders.csv").write_bytes(b"of another day\n")
+        Path(folder, "mine.csv").write_bytes(b"mine\n")
+        for _ in range(2):
+            self.assertEqual(tool("table", *texts, "--replace", "--all", folder), (0, b"", NOTE))
+        self.assertEqual(Path(folder, "orders.csv").read_bytes(), tool("table", *texts, "--rows", "orders")[1])
+        self.assertEqual(Path(folder, "mine.csv").read_bytes(), b"mine\n")
+        said = f"table: {self.journal} is one of the inputs, and would be lost: write to another file\n"
+        named = self.folder / "periods.csv"
+        self.journal.rename(named)
+        self.journal.symlink_to(named.name)
+        self.assertEqual(tool("table", *texts, "--replace", "--all", self.folder), (command.COMMAND_LINE, b"", said.replace("day.csv", "periods.csv")))
+        for words in ([], ["--all", self.folder / "a.xlsx"], ["-o", self.folder / "a.csv"], ["--journal"]):
+            status, out, err = tool("table", *texts, "--replace", *words)
+            said = "--replace goes with --all and the name of a folder"
+            self.assertEqual((status, out, said in err), (command.COMMAND_LINE, b"", True), words)
 
     def test_what_is_odd_about_results_is_said_in_words(self):
         """They are read nevertheless, and every tool first says the same as the audit."""

@@ -1,7 +1,10 @@
 """Nothing of the working folder and little of the environment reaches the tools: no module, no settings, no other library for pictures."""
 
 import errno
+import hashlib
+import json
 import os
+import pwd
 import subprocess
 import sys
 import tempfile
@@ -9,9 +12,10 @@ import unittest
 from pathlib import Path
 from unittest import mock
 
-from support import AUCTION, AUCTION_RESULTS, TOOLS, TOP, tool
+from support import AUCTION, AUCTION_RESULTS, TOOLS, TOP, new_folder, tool
 
-from lib.base import place
+from lib.base import place, surroundings
+from lib.crates import sources
 from lib.tool import command
 
 PACKAGES = ("jinja2", "matplotlib", "numpy", "openpyxl", "pandas", "scipy", "tqdm")
@@ -22,15 +26,13 @@ STRANGE = {"PYTHONSAFEPATH": "1", "PYTHONOPTIMIZE": "2", "MPLBACKEND": "nosuch",
 
 class Isolation(unittest.TestCase):
     def setUp(self):
-        folder = tempfile.TemporaryDirectory()
-        self.addCleanup(folder.cleanup)
-        self.folder = Path(folder.name)
+        self.folder = new_folder(self)
         for name in (*PACKAGES, "lib", "argparse", "zipfile"):
             self.folder.joinpath(f"{name}.py").write_text(STRANGER)
 
-    def ran(self, name, *words, options=(), **environment):
+    def ran(self, name, *words, options=(), seconds=300, **environment):
         line = [sys.executable, *options, TOOLS / name, *words]
-        ended = subprocess.run(line, cwd=self.folder, capture_output=True, env={**os.environ, **environment}, timeout=300)
+        ended = subprocess.run(line, cwd=self.folder, capture_output=True, env={**os.environ, **environment}, timeout=seconds)
         self.assertFalse(self.folder.joinpath("ran").exists(), (name, words, options, environment))
         return ended.returncode, ended.stdout, ended.stderr
 
@@ -58,10 +60,60 @@ class Isolation(unittest.TestCase):
         subprocess.run([TOP / "dam", "--proved", "--version"], cwd=self.folder, capture_output=True, env={**os.environ, "PYTHONPATH": ":"})
         self.assertFalse(self.folder.joinpath("ran").exists())
 
+    def test_no_translations_and_settings_of_openssl_are_obeyed(self):
+        """Nobody writes to these files, so a tool that reads one doesn't end."""
+        self.folder.joinpath("LC_MESSAGES").mkdir()
+        for name in ("LC_MESSAGES/messages.mo", "openssl.cnf"):
+            os.mkfifo(self.folder / name)
+        for folder in ("/proc/self/cwd", str(self.folder)):
+            for locale in ({"LANGUAGE": folder}, {"LANGUAGE": "", "LC_ALL": folder}):
+                self.assertEqual(self.ran("audit", "--version", seconds=30, **locale)[::2], (0, b""), locale)
+        for words in (("audit", AUCTION, AUCTION_RESULTS), ("table", AUCTION, AUCTION_RESULTS, "--quiet")):
+            self.assertEqual(self.ran(*words, seconds=30, OPENSSL_CONF="openssl.cnf")[::2], (0, b""), words)
+
+    def test_only_whole_paths_of_the_environment_stay(self):
+        homes, user = ({"HOME": "."}, {"HOME": "here"}, {}), mock.Mock(pw_dir="/a/home")
+        for relative in homes:
+            given = {**relative, "DASK_CONFIG": "dask", "OPENSSL_CONF": "/etc/ssl.cnf", "XDG_CACHE_HOME": "", "LC_ALL": "/tmp"}
+            for found, home in (({"return_value": user}, "/a/home"), ({"side_effect": KeyError}, surroundings.NO_HOME)):
+                with mock.patch.dict(os.environ, given, clear=True), mock.patch.object(pwd, "getpwuid", **found):
+                    surroundings.keep_apart()
+                    self.assertEqual(
+                        dict(os.environ),
+                        {"HOME": home, "OPENSSL_CONF": "/etc/ssl.cnf", "XDG_CACHE_HOME": "", "LC_ALL": "/tmp", "LANGUAGE": "C"},
+                    )
+
+    def test_a_list_of_paths_has_none_that_is_relative(self):
+        for name in surroundings.LISTS:
+            for given, stays in (("/a:/b", True), ("/a:.", False), ("b:/a", False), ("/a:", False)):
+                with mock.patch.dict(os.environ, {name: given}):
+                    surroundings.keep_apart()
+                    self.assertEqual(name in os.environ, stays, (name, given))
+        words = ("table", AUCTION, AUCTION_RESULTS, "--date", "2026-11-25", "--quiet")
+        for places in (".", f"/nowhere:{self.folder}/..:."):
+            self.assertEqual(self.ran(*words, PYTHONTZPATH=places)[::2], (0, b""), places)
+
+    @unittest.skipUnless(command.has("matplotlib"), "matplotlib is missing (Debian's python3-matplotlib)")
+    def test_the_cache_of_pictures_is_apart_too(self):
+        names = {path.name for path in self.folder.iterdir()}
+        words = ("plot", AUCTION, AUCTION_RESULTS, "-o", "-")
+        self.assertEqual(self.ran(*words, HOME=".", XDG_CACHE_HOME=".", XDG_CONFIG_HOME=".")[0], 0)
+        self.assertEqual({path.name for path in self.folder.iterdir()}, names)
+
     def test_the_scripts_of_the_launcher_start_too(self):
         self.assertEqual(self.ran("prove", "--help", **STRANGE)[::2], (0, b""))
         sources = [sys.executable, "-I", "-B", TOOLS / "lib" / "crates" / "sources.py", "dam_plan"]
         self.assertEqual(subprocess.run(sources, cwd=self.folder, stdout=subprocess.DEVNULL).returncode, 0)
+
+    def test_no_program_of_the_working_folder_runs(self):
+        """The launcher keeps unproved programs in the user's cache. Without a kit it has none to compile."""
+        name = hashlib.sha256(json.dumps(sources.sums("dam_cli"), sort_keys=True).encode()).hexdigest()[:16]
+        for cache, given in ((".", {"XDG_CACHE_HOME": "."}), (".cache", {"XDG_CACHE_HOME": "", "HOME": "."})):
+            program = self.folder / cache / "dam" / "unproved" / f"dam_cli-{name}"
+            program.parent.mkdir(parents=True)
+            program.write_text("#!/bin/sh\necho > ran\n")
+            program.chmod(0o755)
+            self.ran("unproved", "--version", options=["-I", "-S"], PATH="/nowhere", **given)
 
     @unittest.skipUnless(command.has("matplotlib"), "matplotlib is missing (Debian's python3-matplotlib)")
     def test_no_settings_of_pictures_are_obeyed(self):
@@ -118,7 +170,7 @@ class Isolation(unittest.TestCase):
             mock.patch.object(sys, "argv", ["/bin/dam-audit", "--best"]),
         ):
             command.python_with("numpy")
-        execv.assert_called_once_with(command.DEBIAN_PYTHON, [command.DEBIAN_PYTHON, "-I", str(TOOLS / "audit"), "--best"])
+        execv.assert_called_once_with(command.DEBIAN_PYTHON, [command.DEBIAN_PYTHON, "-I", "-S", str(TOOLS / "audit"), "--best"])
 
 
 if __name__ == "__main__":

@@ -36,8 +36,8 @@ class Library(unittest.TestCase):
     def test_the_most_nodes_are_those_of_a_plan(self):
         number = r"([\d_]+)"
         sources = {
-            "crates/dam_plan/src/plan.rt": rf"^pub const MOST_NODES: u32 = {number};$",
-            "library/dam.h": rf"^#define DAM_MOST_NODES UINT32_C\({number}\)$",
+            "crates/dam_plan/src/plan.rt": rf"^pub const MOST_NODES: Nodes = {number};$",
+            "library/dam.h": rf"^#define DAM_MOST_NODES UINT\d+_C\({number}\)$",
             "tools/lib/runs/engine.py": rf"^MOST_NODES, MOST_ANSWER = {number}, ",
         }
         found = {path: re.findall(line, (TOP / path).read_text(), re.MULTILINE) for path, line in sources.items()}

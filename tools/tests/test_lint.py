@@ -3,6 +3,7 @@
 import hashlib
 import json
 import random
+import re
 import time
 import tracemalloc
 import unittest
@@ -13,7 +14,7 @@ from support import AUCTION, AUCTION_RESULTS, FIRST, cases, journal_of, tool
 
 import days
 from lib.base import rules
-from lib.journal import book, journal
+from lib.journal import book, fields, journal
 from lib.lint import lint
 from lib.tool import command
 
@@ -285,6 +286,12 @@ class CommandLine(unittest.TestCase):
         self.assertEqual(self.record("-")[1]["faults"][0]["field"], None)
         status, made, _ = self.record(AUCTION)
         self.assertEqual((status, made["verdict"], made["faults"], len(made["refused"])), (command.DIFFERS, "refused", [], 1))
+
+    def test_the_fields_of_the_page(self):
+        page = (support.TOP / "docs" / "FORMATS.md").read_text().partition("\n`tools/lint --json` prints ")[2]
+        said = re.search(r"a `field` \(([^)]*) or null\)", page)[1]
+        self.assertEqual(re.findall(r"`(\w+)`", said), [*fields.NAMES, "periods"])
+        self.assertEqual(self.record("-", data=GOOD.replace(b"24", b"26"))[1]["faults"][0]["field"], "periods")
 
     def test_a_record_of_a_file_that_cannot_be_read(self):
         status, made, err = self.record("/nowhere/a.csv")

@@ -10,14 +10,13 @@ import shutil
 import signal
 import subprocess
 import sys
-import tempfile
 import time
 import unittest
 import unittest.mock
 from pathlib import Path
 
 import support
-from support import AUCTION, FIRST, QUARTERS, journal_of, printed
+from support import AUCTION, FIRST, QUARTERS, journal_of, new_folder, printed
 
 import dam_tools
 from dam_tools.lib.runs import engine
@@ -35,12 +34,12 @@ ECHO = """
 struct answer { uint8_t status; size_t length; };
 struct answer dam_clear_seeded(const uint8_t *secret, size_t secret_length, const uint8_t *text, size_t length, uint32_t nodes,
                                uint8_t *buffer, size_t room) {
-    struct answer found = {length == 0 || secret_length != 16 || nodes != 67108864, length};
+    struct answer found = {length == 0 || secret_length != 16 || nodes != MOST_NODES, length};
     if (found.status) found.length = 14;
     memcpy(buffer, found.status ? "input: NotDay\\n" : (const char *)text, found.length < room ? found.length : room);
     return found;
 }
-"""
+""".replace("MOST_NODES", str(engine.MOST_NODES))
 
 
 def ends(process):
@@ -58,9 +57,7 @@ def ends(process):
 
 class Many(unittest.TestCase):
     def setUp(self):
-        folder = tempfile.TemporaryDirectory()
-        self.addCleanup(folder.cleanup)
-        self.folder = Path(folder.name)
+        self.folder = new_folder(self)
         self.program = self.script("dam", f'PYTHONPATH="{FAKE.parent}" exec "{sys.executable}" "{FAKE}" "$@"')
 
     def script(self, name, line):
@@ -160,7 +157,7 @@ class Many(unittest.TestCase):
             with self.assertRaisesRegex(TypeError, "^journals should be several"):
                 dam_tools.clear_many(one)
         for nodes in (0, engine.MOST_NODES + 1):
-            with self.assertRaisesRegex(ValueError, "^nodes should be from 1 to 67108864$"):
+            with self.assertRaisesRegex(ValueError, f"^nodes should be from 1 to {engine.MOST_NODES}$"):
                 dam_tools.clear_many([AUCTION], nodes=nodes)
         with self.assertRaisesRegex(dam_tools.Fault, "^a file with an empty name can't be read$"):
             dam_tools.clear("")

@@ -12,12 +12,6 @@ from support import TOP
 sys.path.insert(0, str(TOP / "bench"))
 import page
 
-TABLES = """### Time of `dam clear`
-
-| Family | 8 blocks | 24 blocks |
-|---|---|---|
-| market, 24 periods | 1 ms | 9 ms |
-"""
 ROWS = [
     ["links 500, plan 2 3: dam clear", "2 ms", "ends", "holds", ""],
     ["links 4000, plan 2 3: dam clear", "8 ms", "", "", ""],
@@ -34,20 +28,7 @@ class Measured(unittest.TestCase):
     def test_every_kept_file_is_of_a_part_and_a_run(self):
         parts = [row[0] for row in page.read(page.KEPT / "runs.csv")]
         self.assertEqual({path.stem for path in page.KEPT.iterdir()}, {*parts, "runs"})
-        self.assertLessEqual(set(parts), set(page.PARTS))
-
-    def test_parts_without_figures_are_named(self):
-        text = page.PAGE.read_text(encoding="utf-8")
-        missing = [part for part in page.PARTS if not (page.KEPT / f"{part}.csv").exists()]
-        self.assertEqual(re.findall(r"Parts without figures yet: (.*?)\.", text), [", ".join(f"`{part}`" for part in missing)] if missing else [])
-        self.assertEqual(page.without_figures([[part] for part in page.PARTS]), "")
-        self.assertEqual(page.without_figures([[page.PARTS[0]]]).count("`"), 2 * len(page.PARTS[1:]))
-
-    def test_figures_of_tables(self):
-        self.assertEqual(
-            list(page.from_tables(TABLES)),
-            [[f"Time of dam clear: market, 24 periods, {blocks} blocks", figure, "", "", ""] for blocks, figure in ((8, "1 ms"), (24, "9 ms"))],
-        )
+        self.assertEqual(set(parts), set(page.PARTS))
 
     def test_every_missed_target_is_counted(self):
         text, total = page.PAGE.read_text(encoding="utf-8"), 0
@@ -74,6 +55,14 @@ class Measured(unittest.TestCase):
         (said,) = re.findall(r"24 blocks, the slowest took (\S+) ms\.", plain)
         self.assertEqual(said, f"{slowest:.0f}")
 
+    def test_the_parts_of_each_machine(self):
+        runs = [["quick", "old"], ["thin", "new"], ["desk", "new"], ["looks", "old"], ["office", "old"]]
+        self.assertEqual(page.by_value(runs, 1, "ran on {}"), "`thin` and `desk` ran on new.\nThe other parts ran on old.\n")
+        self.assertEqual(page.by_value(runs[1:3], 1, "ran on {}"), "All parts ran on new.\n")
+        runs += [["growth", "own"], ["workers", "new"], ["blocks", "old"]]
+        said = "`growth` ran on own.\n`thin`, `desk` and `workers` ran on new.\nThe other parts ran on old.\n"
+        self.assertEqual(page.by_value(runs, 1, "ran on {}"), said)
+
     def test_a_span(self):
         self.assertEqual(page.span(["1.90 x", "1.20 x", "1.5 x"]), "1.20 to 1.90 x")
         self.assertEqual(page.span(["1.9 ms", "800 us", "0.1 s"]), "800 us to 0.1 s")
@@ -90,11 +79,13 @@ class Measured(unittest.TestCase):
             with unittest.mock.patch.multiple(page, HERE=here, KEPT=here / "measured"):
                 with unittest.mock.patch.dict("os.environ", {"HIGHS_LIMIT": "5", "BEFORE_IS": "that of yesterday"}):
                     page.take_over(["families"])
+                    of_peers = [page.run_of(part)[-1] for part in ("blocks", "thin")]
                 text = page.page()
-        self.assertIn("Notes: (1) HiGHS had 5 s for each book; (2) the program before is that of yesterday.", " ".join(text.split()))
-        self.assertRegex(text, r"\| families \| \[5\]\(../bench/measured/families.csv\) \| 2 of 3 \| .* \| \(1\) \(2\) \|\n")
+        self.assertEqual(of_peers, ["HiGHS and CBC each had 5 s for each book; the program before is that of yesterday"] * 2)
+        self.assertIn("Notes: (1) the program before is that of yesterday.", " ".join(text.split()))
+        self.assertRegex(text, r"\| families \| \[5\]\(../bench/measured/families.csv\) \| 2 of 3 \| .* \| \(1\) \|\n")
         self.assertIn("Hard books.\n", text)
-        self.assertIn("| links | 2 ms | 8 ms |\n", text)
+        self.assertIn("| `dam clear` by the default plan | 500 hourly orders | 4,000 hourly orders |\n|---|---|---|\n| links | 2 ms | 8 ms |\n", text)
         self.assertIn("| deep books together: dam clear | 10 ms |  |\n", text)
         kind = "dam clear compared with the twin"
         self.assertIn(f"| families | {kind} | 2 of 2 | 2.46 to 2.70 x | at most 2.00 x | links 500, plan 2 3 |\n", text)

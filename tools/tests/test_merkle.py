@@ -120,6 +120,9 @@ class Merkle(unittest.TestCase):
                     self.assertFalse(merkle.is_consistent(old, roots[0], size, roots[1], path[:-1]))
                 self.assertFalse(merkle.is_consistent(old, roots[0], size, roots[1], [*path, wrong]))
                 self.assertFalse(merkle.is_consistent(size, roots[1], old, roots[0], path))
+            self.assertTrue(merkle.is_consistent(size, self.roots[size], size, self.roots[size], []))
+            self.assertFalse(merkle.is_consistent(size, self.roots[size], size, wrong, []))
+            self.assertFalse(merkle.is_consistent(size, self.roots[size], size, self.roots[size], [wrong]))
 
     def test_a_changed_leaf_changes_the_roots_from_there_on(self):
         for place in range(20):

@@ -15,7 +15,7 @@ import unittest.mock
 from pathlib import Path
 
 import support
-from support import AUCTION, AUCTION_RESULTS, FIRST, TOP, printed
+from support import AUCTION, AUCTION_RESULTS, FIRST, TOP, new_folder, printed
 
 import dam_tools
 from dam_tools.lib.runs import engine
@@ -28,9 +28,7 @@ FAKE = support.TOOLS / "tests" / "fake_dam.py"
 
 class Module(unittest.TestCase):
     def setUp(self):
-        folder = tempfile.TemporaryDirectory()
-        self.addCleanup(folder.cleanup)
-        self.program = Path(folder.name, "dam")
+        self.program = new_folder(self) / "dam"
         self.program.write_text(f'#!/bin/sh\nPYTHONPATH="{FAKE.parent}" exec "{sys.executable}" "{FAKE}" "$@"\n')
         self.program.chmod(0o755)
 

@@ -7,6 +7,7 @@ import datetime
 import errno
 import http.server
 import io
+import itertools
 import json
 import logging
 import os
@@ -22,7 +23,7 @@ import unittest
 from pathlib import Path
 from unittest import mock
 
-from support import AUCTION, AUCTION_RESULTS, FIRST, QUARTERS, QUARTERS_RESULTS, SUNNY, SUNNY_RESULTS, TOOLS, TOP, tool
+from support import AUCTION, AUCTION_RESULTS, FIRST, QUARTERS, QUARTERS_RESULTS, SUNNY, SUNNY_RESULTS, TOOLS, TOP, tool, unsaid
 
 from dam_tools import office as client
 from lib.base import rules
@@ -49,6 +50,7 @@ DAY = "2026-11-29"
 NAMES = ("A", "GAS", "LONGNAME")
 LENGTHS = sorted(rules.DAYS)
 SECONDS = 300  # that a test may take at most, also on a loaded machine
+LATEST = 50  # that a desk may take to open
 PAST, FUTURE = (datetime.datetime.fromtimestamp(seconds, datetime.timezone.utc) for seconds in (1_000, 4_000_000_000))
 
 
@@ -418,6 +420,63 @@ class Crashes(Office):
         self.assertEqual(disk.records, ["cancel,GAS,A,,,,,,"])
 
 
+    async def test_requests_keep_their_order_if_the_desk_ends(self):
+        """Those of the batch at which it ends come before those that came meanwhile, and the close comes last."""
+        records = [f"cancel,GAS,{name},,,,,," for name in "AB"]
+        for ends in ((0, 0), (1, 0)):
+            self.setUp()
+            self.make()
+            disk = Disk()
+            disk.ends = [ends]
+            with opener(disk):
+                given = self.gate()
+                task = asyncio.create_task(given.run())
+                await given.is_ready.wait()
+                first = given.submit("GAS", 1, commands(records[0]))
+                while not given.entering:
+                    await asyncio.sleep(0)
+                second = given.submit("GAS", 2, commands(records[1]))
+                given.close()
+                self.assertEqual(await asyncio.gather(first, second), [[1], [2]])
+                await task
+            self.assertEqual((disk.records, disk.openings), ([*records, "close,,,,,,,,"], 2))
+
+
+class Opening(unittest.IsolatedAsyncioTestCase):
+    def setUp(self):
+        if aiohttp is None:
+            self.skipTest("python3-aiohttp, python3-jinja2 or python3-cryptography is missing")
+
+    async def test_a_full_journal_with_the_longest_replies(self):
+        """A program in place of the desk prints it at once."""
+        reason = max(book.REASONS, key=len)
+        lines = "".join(f"{number},refused,{reason}\n" for number in range(1, rules.MOST_RECORDS))
+        records = "cancel,A,B,,,,,,\n" * (rules.MOST_RECORDS - 1)
+        with tempfile.TemporaryDirectory() as room:
+            path, program = Path(room, "day.desk"), Path(room, "dam-desk")
+            path.write_text(f"day,24\n{lines}day,24\nfault,2,NotOneRecord\n")
+            Path(room, "journal").write_text(f"day,24,,,,,,,\n{records}")
+            program.write_text(f'#!/bin/sh\n[ "$1" != --journal ] || exec cat {room}/journal\ncat "$1"\nexec cat > {room}/given\n')
+            program.chmod(0o755)
+            desk, shown, replies = await asyncio.wait_for(Desk.opened(program, path, 24), LATEST)
+            await desk.close()
+            given = Path(room, "given").read_text()
+        self.assertEqual((shown, replies), (records.splitlines(), [f"refused,{reason}"] * len(shown)))
+        self.assertEqual((desk.size, given), (len(shown), "day,24,,,,,,,\n\n"))
+
+    async def test_a_desk_that_hangs_once_its_output_is_closed(self):
+        with tempfile.TemporaryDirectory() as room:
+            program = Path(room, "dam-desk")
+            program.write_text("#!/bin/sh\nexec >&-\nexec sleep 3600\n")
+            program.chmod(0o755)
+            with mock.patch.multiple("lib.office.desk", ANSWER_SECONDS=0.5, END_SECONDS=0.5):
+                opening = asyncio.create_task(Desk.opened(program, Path(room, "day.desk"), 24))
+                ended, _ = await asyncio.wait([opening], timeout=LATEST)
+                opening.cancel()
+        self.assertEqual(ended, {opening})
+        self.assertIsInstance(opening.exception(), asyncio.TimeoutError)
+
+
 class SignedHeads(Office):
     """The newest signed head is in a file, and a journal that doesn't have its entries isn't served."""
 
@@ -532,6 +591,20 @@ class SignedHeads(Office):
         self.assertIsNone(await self.started(disk))
         self.assertFalse(given.files.has(folder.STOPPED_DAY))
 
+    async def test_an_opening_shows_the_entries_and_the_replies_that_were_answered(self):
+        self.make()
+        with opener(Disk()):
+            async with self.running(self.gate()) as given:
+                await given.submit("GAS", 1, commands(*self.RECORDS))
+                records, replies = map(list, zip(*((entry.record, entry.reply) for entry in given.ledger.seal.entries)))
+                given.ledger.take(records, replies)
+                others = [record.replace("GAS", "OIL") for record in records], ["done"] * 3
+                self.assertNotIn("done", replies)
+                for changed in ((others[0], replies), (records, others[1]), (records[:2], replies[:2])):
+                    with self.subTest(changed), self.assertRaisesRegex(Contradiction, "journal doesn't begin with the 3 entries"):
+                        given.ledger.take(*changed)
+                self.assertEqual(given.ledger.size, 3)
+
     async def test_a_start_notes_the_head_of_the_journal_that_it_serves(self):
         disk = Disk()
         path = await self.entered(disk)
@@ -611,6 +684,8 @@ class Numbers(Office):
                 self.assertEqual(await given.submit("GAS", 2, commands(second, third)), [2, 3])
                 self.assertEqual(await self.refused(given, "GAS", 2, first), ("NumberUsed", {"number": 2, "next": 4}))
                 self.assertEqual(await self.refused(given, "GAS", 3, second, first), ("NumberUsed", {"number": 3, "next": 4}))
+                self.assertEqual(await self.refused(given, "GAS", 1, first, third), ("NumberUsed", {"number": 2, "next": 4}))
+                self.assertEqual(await self.refused(given, "GAS", 2, second, first, third), ("NumberUsed", {"number": 3, "next": 4}))
                 self.assertEqual(await self.refused(given, "GAS", 4, first, first, first), ("ShareUsed", {"next": 4}))
                 with self.assertRaisesRegex(gate.Refused, "^you may enter 5 commands on this day, and have entered 3$"):
                     await given.submit("GAS", 4, commands(first, first, first))
@@ -625,11 +700,12 @@ class Numbers(Office):
         with opener(Disk()):
             async with self.running(self.gate()) as given:
                 waiting = [
-                    given.submit("GAS", number, commands(record))
-                    for number, record in ((1, first), (1, first), (1, second), (2, second), (3, third))
+                    given.submit("GAS", number, commands(*records))
+                    for number, *records in ((1, first), (1, first), (1, second), (2, second), (1, first, third), (3, third))
                 ]
                 found = await asyncio.gather(*waiting, return_exceptions=True)
-        self.assertEqual([one if isinstance(one, list) else one.fault for one in found], [[1], [1], "NumberUsed", [2], [3]])
+        faults = [one if isinstance(one, list) else one.fault for one in found]
+        self.assertEqual(faults, [[1], [1], "NumberUsed", [2], "NumberUsed", [3]])
 
 
 class Closing(Office):
@@ -759,15 +835,25 @@ class Closing(Office):
         again = self.gate()
         await again.run()
         self.assertIn("isn't of the journal", again.fault or "")
-        for damage in (None, b"", b"\xff", kept[:-3], kept + b"close,,,,,,,,\n", kept.replace(b"cancel", b"cancle")):
-            journal_file.unlink(missing_ok=True)
-            if damage is not None:
-                journal_file.write_bytes(damage)
-            again = self.gate()
-            await again.run()
-            with self.subTest(damage=damage):
-                self.assertEqual(again.fault, "journal.csv, replies.txt or head.json is missing or damaged")
-        journal_file.write_bytes(kept)
+        replies = given.files.read(folder.REPLIES)
+        for name, whole, damages in (
+            (folder.JOURNAL, kept, (b"\xff", kept[:-3], kept + b"close,,,,,,,,\n", kept.replace(b"cancel", b"cancle"))),
+            (folder.REPLIES, replies, (replies.replace(b"\n1,", b"\n2,"), replies.replace(b"\n1,", b"\n01,"), replies[:-1] + b"x\n")),
+        ):
+            first = whole.replace(b"day,24", b"day,25")
+            for damage in (None, b"", first, whole.replace(b"\n", b"\r\n"), whole[:-1], whole + b"\n", b"\n" + whole, *damages):
+                given.files.drop(name)
+                if damage is not None:
+                    self.assertNotEqual(damage, whole)
+                    given.files.file(name).write_bytes(damage)
+                again = self.gate()
+                await again.run()
+                with self.subTest(name=name, damage=damage):
+                    self.assertEqual(again.fault, "journal.csv, replies.txt or head.json is missing or damaged")
+            given.files.file(name).write_bytes(whole)
+        again = self.gate()
+        await again.run()
+        self.assertIsNone(again.fault)
         given.files.drop(folder.HEAD)
         again = self.gate()
         await again.run()
@@ -1013,6 +1099,8 @@ class Requests(unittest.TestCase):
                 self.assertLessEqual(set(re.findall("[0-9][0-9.,]*", shown["why"])), set(gain.groups() if gain else ()))
                 self.assertNotRegex(shown["why"].replace("EUR", ""), "[A-Z]{2,}")
         self.assertLessEqual({"would-lose", "group", "loses", "covered"}, codes)
+        compared = {"group", "parent", "unbalanced", "would-lose", "less-welfare", "tie", "better"}  # with another selection
+        self.assertEqual(set(clearing.HIDDEN), compared)
         for code, words in clearing.HIDDEN.items():
             for why in ("period 8 wouldn't balance: 1.0 MW would have no buyer", "with A and B-1 it would gain 8.00 EUR at the prices, but x"):
                 shown = clearing.guarded({"code": code, "why": why})["why"]
@@ -1112,6 +1200,88 @@ class AsyncClients(Clients):
         return client.AsyncOffice(f"http://127.0.0.1:{self.server.server_port}", "GAS.x")
 
 
+class Connection(argparse.Namespace):
+    """A connection as a handler sees it: of its server and its transport."""
+
+    def __init__(self):
+        super().__init__(request_handler=None, request_factory=None, is_aborted=False)
+
+    def connection_made(self, *_):
+        pass
+
+    def get_extra_info(self, *_):
+        pass
+
+    def is_closing(self):
+        return self.is_aborted
+
+    def abort(self):
+        self.is_aborted = True
+
+
+class RequestHeads(unittest.IsolatedAsyncioTestCase):
+    """The limit of a request's head, in any pieces, and after any requests."""
+
+    def setUp(self):
+        if aiohttp is None:
+            self.skipTest("python3-aiohttp is missing")
+
+    def connection(self):
+        made, transport = guards.Handler(Connection(), loop=asyncio.get_running_loop(), access_log=None), Connection()
+        made.connection_made(transport)
+        self.addCleanup(made._task_handler.cancel)
+        return made
+
+    def head(self, size, end="\r\n", last="\r\n"):
+        """A head of so many bytes."""
+        lines = ["GET /days HTTP/1.1", "Host: x"]
+        while (left := size - len(end.join([*lines, "X: "]) + end + last)) > 3_000:
+            lines.append(f"X: {'a' * 2_900}")
+        lines.append(f"X: {'a' * left}")
+        made = (end.join(lines) + end + last).encode()
+        self.assertEqual(len(made), size)
+        return made
+
+    async def test_a_head_is_counted_whole_whatever_its_pieces(self):
+        rng = random.Random(1)
+        small = b"GET /days HTTP/1.1\r\n\r\n"
+        put = b"PUT /days HTTP/1.1\r\nContent-Length: %d\r\n\r\n"
+        empty_lines = b"\r\n\n" * 300
+        befores = (0, b""), (1, small), (2, put % 20_000 + b"a\n\r\n" * 5_000 + small), (1, put % guards.PIECE + b"\n" * guards.PIECE)
+        for size in (100, guards.PIECE, guards.PIECE + 1, guards.MOST_HEAD, guards.MOST_HEAD + 1, 40_000, 3 * guards.PIECE - 1, 100_000):
+            for (count, before), line_end, cut in itertools.product(befores, (("\r\n", "\r\n"), ("\n", "\n"), ("\n", "\r\n")), range(8)):
+                data = before + self.head(size, *line_end) + b"GET"
+                cuts = [0, *sorted(rng.sample(range(1, len(data)), cut)), len(data)]
+                made = self.connection()
+                for begin, end in zip(cuts, cuts[1:]):
+                    made.data_received(data[begin:end])
+                is_taken = size <= guards.MOST_HEAD
+                with self.subTest(size=size, count=count, line_end=line_end, cuts=cuts):
+                    self.assertEqual((len(made._messages), made.transport.is_aborted), (count + is_taken, not is_taken))
+        made = self.connection()
+        made.data_received(empty_lines * 40 + small)
+        self.assertTrue(made.transport.is_aborted, "empty lines before a request count")
+
+    async def test_nothing_is_read_behind_a_head_whose_end_isnt_known(self):
+        """The parser takes these: the last line of one ends with CR and any byte; in the others a header without a name changes the length,
+        as the office sees it."""
+        put = b"PUT /days HTTP/1.1\r\n%s\r\nContent-Length: 20\r\n\r\n" + b"a" * 20
+        for odd in (b"GET /days HTTP/1.1\r\nX:\r \n", *(put % header for header in (b": 9", b": -9", b": x"))):
+            for cut in (0, 30, 70):
+                made, data = self.connection(), odd + self.head(33_000)
+                for part in filter(None, (data[:cut], data[cut:])):
+                    made.data_received(part)
+                with self.subTest(odd=odd, cut=cut):
+                    self.assertEqual((len(made._messages), made.is_deaf), (1, True))
+
+    async def test_a_head_that_comes_byte_by_byte(self):
+        for size in (guards.MOST_HEAD, guards.MOST_HEAD + 1):
+            made = self.connection()
+            for byte in self.head(size):
+                made.data_received(bytes([byte]))
+            self.assertEqual(made.transport.is_aborted, size > guards.MOST_HEAD)
+
+
 class Tokens(Office):
     def test_tokens_are_random_hashed_and_one_participants(self):
         self.make()
@@ -1133,11 +1303,23 @@ class Tokens(Office):
         new = register.renew("GAS")
         self.assertTrue(served.knows("GAS", new) and not served.knows("GAS", made["GAS"]))
 
+    def test_a_new_token_counts_also_within_the_resolution_of_the_file_s_time(self):
+        self.make()
+        path = self.office.file(folder.PARTICIPANTS)
+        register, served = tokens.Register(path), tokens.Register(path)
+        old = register.renew("GAS")
+        self.assertTrue(served.knows("GAS", old))
+        before = path.stat()
+        new = register.renew("GAS")
+        os.utime(path, ns=(before.st_atime_ns, before.st_mtime_ns))
+        self.assertEqual(path.stat().st_size, before.st_size)
+        self.assertEqual([served.knows("GAS", token) for token in (old, new)], [False, True])
+
     def test_no_change_of_the_tokens_is_lost(self):
         """Several processes change them at the same time: here threads, each with the file for itself."""
         self.make()
         path = self.office.file(folder.PARTICIPANTS)
-        names = [[f"P{thread}N{number}" for number in range(5)] for thread in range(8)]
+        names = [[thread + number for number in "VWXYZ"] for thread in "ABCDEFGH"]
         made = {}
 
         def change(own):
@@ -1251,7 +1433,20 @@ class Tokens(Office):
             for number in range(100):
                 now[0] += 10_000
                 buckets.take(number)
-        self.assertLessEqual(len(buckets.held), 6)
+            self.assertLessEqual(len(buckets.held), 6)
+            buckets.take("d", 2)
+            for number in range(100):
+                buckets.take(number)
+        self.assertEqual(buckets.left("d"), 1, "many names don't fill a bucket again")
+
+
+def others(value):
+    """JSON like that of a file of an office, with a value in each place that this one may not have."""
+    yield json.dumps([*value.items()]).encode()
+    for name in value:
+        for other in ([], {"\ud800": 1}, {"GAS": "1"}, {"GAS": -1}, 1.5, True, "2026-11-28T11:00:00" if name == "closes" else []):
+            yield json.dumps({**value, name: other}).encode()
+    yield json.dumps({**value, "x": None}).encode()
 
 
 class Setup(Office):
@@ -1265,6 +1460,8 @@ class Setup(Office):
         self.assertEqual(self.terms().closes.isoformat(), "2026-11-28T11:00:00+00:00")
         self.assertEqual(self.terms(day="2026-07-02").closes.isoformat(), "2026-07-01T10:00:00+00:00")
         self.assertEqual(self.terms(close="2026-11-27T09:30", zone="UTC").closes.isoformat(), "2026-11-27T09:30:00+00:00")
+        twice = self.terms(close="2026-10-25T02:30", day="2026-10-26")  # the earlier one of the two
+        self.assertEqual(twice.closes.isoformat(), "2026-10-25T00:30:00+00:00")
         for periods, day in ((23, "2026-03-29"), (92, "2026-03-29"), (25, "2026-10-25"), (100, "2026-10-25"), (96, DAY)):
             self.assertEqual(self.terms(periods=periods, day=day).periods, periods)
 
@@ -1285,6 +1482,17 @@ class Setup(Office):
             with self.subTest(**words), self.assertRaises(command.Stop) as caught:
                 self.terms(**words)
             self.assertEqual(caught.exception.status, command.COMMAND_LINE)
+
+    def test_a_day_that_is_not_made_makes_no_token(self):
+        """Nobody would see it, and a further day prints only new ones."""
+        self.participants("participant\nGAS\n")
+        words, path = ["--close", "12:00", "--participants", self.office.path.parent / "p.csv"], self.office.path
+        self.assertEqual(tool("office", "init", path, "--day", "2099-11-29", *words)[0], command.DONE)
+        self.participants("participant\nGAS\nWIND\n")
+        self.assertEqual(tool("office", "init", path, "--day", "2099-11-29", *words)[:2], (command.NO_INPUT, b""))
+        status, out, _ = tool("office", "init", path, "--day", "2099-11-30", *words)
+        self.assertEqual((status, [line[:5] for line in out.splitlines()[-1:]]), (command.DONE, [b"WIND."]))
+        self.assertEqual(sorted(self.office.days()), ["2099-11-29", "2099-11-30"])
 
     def participants(self, text):
         path = self.office.path.parent / "p.csv"
@@ -1368,6 +1576,15 @@ class Setup(Office):
         for side in ("buy", "sell"):
             self.assertEqual({one.order.volumes[0][0] for one in found if one.order.side == side}, set(range(1, 25)))
 
+    def test_a_demo_that_closes_too_early(self):
+        """Before the orders are in that are its own."""
+        for seconds in ("0", "-1", "86401", "1.5", "x"):
+            self.assertEqual(tool("office", "demo", "--no-browser", "--seconds", seconds)[0], command.COMMAND_LINE, seconds)
+        told = mock.Mock(is_ready=mock.Mock(wait=mock.AsyncMock()), submit=mock.AsyncMock(side_effect=gate.Refused("Closed", "closed")))
+        with self.assertRaisesRegex(command.Stop, r"^the demo's own orders weren't entered \(closed\): give more --seconds$") as raised:
+            asyncio.run(demo.enter_orders(told))
+        self.assertEqual(raised.exception.status, command.COMMAND_LINE)
+
     def test_the_command_line(self):
         room = self.office.path.parent
         (room / "p.csv").write_text("participant\nGAS\n")
@@ -1391,6 +1608,50 @@ class Setup(Office):
         made = json.loads(tool("office", "init", self.office.path, *words, "--json")[1])
         self.assertEqual((made["revoked"], made["tokens"]), (["GAS"], {}))
         self.assertEqual(tool("office", "status", self.office.path, "--desk", "true")[0], 0)
+
+    def test_the_members_of_each_record_are_described(self):
+        (self.office.path.parent / "p.csv").write_text("participant\nGAS\n")
+        words = ["--day", "2099-11-28", "--close", "12:00", "--participants", self.office.path.parent / "p.csv"]
+        seen = []
+        for name, *more in (["init", *words], ["revoke", "GAS"], ["renew", "GAS"], ["close"], ["status", "--desk", "true"], ["publish"]):
+            if name == "publish":
+                (file,) = (files.file(folder.RESULTS) for files in self.office.days().values())
+                file.touch()
+            made = json.loads(tool("office", name, self.office.path, *more, "--json")[1])
+            parts = [part for day in made.get("days", []) for part in (day, *(of_one for of_one in day["commands"].values()))]
+            seen += parts
+            with self.subTest(name):
+                self.assertEqual((made["status"], made["message"]), (0, None))
+                self.assertEqual(unsaid("office", made, *parts), set())
+        self.assertEqual(len(seen), 2)
+
+    def test_the_events_of_the_page(self):
+        """The page has each event of the log, and no other."""
+        sources = "".join(path.read_text() for path in (TOOLS / "lib" / "office").glob("*.py"))
+        events = set(re.findall(r'\blog(?:_event|\.write)?\("([a-z ]+)"', sources))
+        table = (TOP / "docs" / "OFFICE.md").read_text().partition("\n| Event | Meaning |\n")[2].partition("\n\n")[0]
+        self.assertGreater(len(events), 10)
+        self.assertEqual({event for line in table.splitlines() for event in re.findall(r"`([a-z ]+)`", line.split("|")[1])}, events)
+
+    def test_the_limits_of_the_page(self):
+        text = " ".join((TOP / "docs" / "SECURITY.md").read_text().split())
+        for words in (
+            f"{guards.MOST_CONNECTIONS:,} connections, before",
+            f"{guards.MOST_HEAD >> 10} KiB for a request's head",
+            f"{guards.MOST_AHEAD} requests ahead",
+            f"{web.MOST_BODY >> 20} MiB a body",
+            f"{guards.IDLE_SECONDS} s for a head, {web.BODY_SECONDS} s for its body, {guards.BUSY_SECONDS} s until its answer",
+            f"{web.COMMANDS_A_SECOND} commands and {web.READS_A_SECOND} other requests a second",
+            f"(at first {web.MOST_COMMANDS:,} and {web.MOST_READS})",
+            f"{web.LOOKS_A_SECOND} requests a second for each address (at first {web.MOST_LOOKS:,})",
+            f"after {web.MOST_GUESSES} wrong tokens of an address, one more a second",
+            f"A /{guards.NETWORK} of IPv6",
+            f"all shares together are at most {folder.MOST_COMMANDS:,}",
+        ):
+            with self.subTest(words):
+                self.assertIn(words, text)
+        self.assertEqual(web.GUESSES_A_SECOND, 1)
+        self.assertIn(f"The file may lack the last {newest.PAUSE} s.", " ".join((TOP / "docs" / "OFFICE.md").read_text().split()))
 
     def test_a_fault_of_the_disk_names_the_file(self):
         self.addCleanup(os.umask, os.umask(0o077))
@@ -1429,6 +1690,26 @@ class Setup(Office):
         with mock.patch.object(os, "fsync", side_effect=full), self.assertRaises(OSError) as caught:
             folder.DayFolder(self.office.path).need_room()
         self.assertEqual(caught.exception.filename, str(self.office.path))
+
+    def test_a_file_is_on_the_disk_before_it_has_its_name(self):
+        """And the folder with the name after that: a crash leaves the old file or the whole new one."""
+        self.make()
+        path, data, calls, rename = self.office.path / "results.txt", b"new" * 100, [], os.rename
+
+        def synced(number):
+            found = Path(os.readlink(f"/proc/self/fd/{number}"))
+            calls.append(("sync", found, found.is_file() and found.read_bytes()))
+
+        def renamed(made, target):
+            calls.append(("rename", Path(made), Path(target)))
+            rename(made, target)
+
+        for old in (None, b"old"):
+            calls.clear()
+            with mock.patch.object(os, "fsync", synced), mock.patch.object(os, "rename", renamed):
+                folder.put(path, data)
+            made = calls[0][1]
+            self.assertEqual(calls, [("sync", made, data), ("rename", made, path), ("sync", path.parent, False)], old)
 
     async def test_a_day_that_cant_be_read_is_named_and_the_others_are_served(self):
         self.make()
@@ -1534,11 +1815,12 @@ class Setup(Office):
         terms, participants = self.office.days()[DAY].file(folder.TERMS), self.office.file(folder.PARTICIPANTS)
         for path, kind in ((terms, "the terms of a day"), (participants, "the digests of the participants' tokens")):
             kept = path.read_bytes()
-            path.write_bytes(b"{")
-            status, _, err = tool("office", "status", self.office.path, "--desk", "true")
+            for damage in (b"{", b"[" * 100_000, *others(json.loads(kept))):
+                path.write_bytes(damage)
+                status, _, err = tool("office", "status", self.office.path, "--desk", "true")
+                self.assertEqual(status, command.NO_INPUT)
+                self.assertIn(f"{path} can't be used: it isn't {kind}", err)
             path.write_bytes(kept)
-            self.assertEqual(status, command.NO_INPUT)
-            self.assertIn(f"{path} can't be used: it isn't {kind}", err)
 
     def test_the_status_has_the_other_days_of_one_that_cant_be_read(self):
         self.addCleanup(os.umask, os.umask(0o077))

@@ -10,7 +10,7 @@ import time
 import unittest
 from pathlib import Path
 
-from support import AUCTION, AUCTION_RESULTS, TOOLS, TOP, printed
+from support import AUCTION, AUCTION_RESULTS, TOOLS, TOP, new_folder, printed
 
 from lib.journal import book, journal
 from lib.runs import engine
@@ -30,9 +30,8 @@ def kill(run):
 
 class Day(unittest.TestCase):
     def setUp(self):
-        folder = tempfile.TemporaryDirectory()
-        self.addCleanup(folder.cleanup)
-        self.bin, self.day = Path(folder.name, "bin"), Path(folder.name, "2026 11-29")
+        folder = new_folder(self)
+        self.bin, self.day = folder / "bin", folder / "2026 11-29"
         for path in (self.bin, self.day):
             path.mkdir()
         for tool in ("audit", "lint"):
@@ -65,6 +64,8 @@ class Day(unittest.TestCase):
         page = (TOP / "docs" / "OPERATING.md").read_text()
         self.assertIn(f"```sh\n{SCRIPT.read_text()}```", page)
         self.assertTrue(os.access(SCRIPT, os.X_OK))
+        said = re.search(r"The script exits with (10) .*?, (20) .*?, (75) ", " ".join(page.split())).groups()
+        self.assertEqual(set(re.findall(r"\bexit (\d+)", SCRIPT.read_text())), set(said))
 
     def test_a_day(self):
         replies = book.replies_text(journal.read_journal(AUCTION.read_bytes())).encode()
@@ -133,6 +134,11 @@ class Day(unittest.TestCase):
     def test_a_folder_that_is_not_there(self):
         self.day = self.day / "none"
         self.assertEqual(self.run_once()[0], 10)
+
+    def test_a_lock_that_cannot_be_opened(self):
+        """A redirection of `exec` alone that fails would end the shell, with its own status."""
+        Path(self.day, "lock").mkdir()
+        self.assertEqual((self.run_once()[0], self.names()), (10, ["day.csv"]))
 
     def test_the_units(self):
         service, timer = ((FOLDER / f"dam-day.{kind}").read_text() for kind in ("service", "timer"))

@@ -28,6 +28,16 @@ def imports(path):
                 yield module[1], [name.name for name in node.names]
 
 
+def private_names(tree):
+    """The private names that are asked of what is imported from tools/lib."""
+    nodes = list(ast.walk(tree))
+    froms = [node for node in nodes if isinstance(node, ast.ImportFrom) and (node.level or "lib" in (node.module or "").split("."))]
+    imported = {name.asname or name.name for node in froms for name in node.names}
+    for node in nodes:
+        if isinstance(node, ast.Attribute) and re.match(r"_[^_]", node.attr) and getattr(node.value, "id", "") in imported:
+            yield f"{node.value.id}.{node.attr}"
+
+
 class Packages(unittest.TestCase):
     def test_every_module_is_in_a_package(self):
         self.assertEqual([path.name for path in LIB.glob("*.py")], ["__init__.py"])
@@ -43,6 +53,13 @@ class Packages(unittest.TestCase):
                     used.add(other)
             with self.subTest(package=package):
                 self.assertEqual(used - {package}, allowed(package))
+
+    def test_no_private_name_is_asked_of_another_module(self):
+        self.assertEqual(list(private_names(ast.parse("from ..journal import book\nbook._rows, book.rows, self._rows"))), ["book._rows"])
+        users = [*LIB.rglob("*.py"), *(TOP / "bench").glob("*.py"), *(TOP / "tests").rglob("*.py"), *(TOP / "tools" / "tests").glob("*.py")]
+        for path in users:
+            with self.subTest(path=str(path.relative_to(TOP))):
+                self.assertEqual(list(private_names(ast.parse(path.read_text()))), [])
 
     def test_the_notes_have_each_package(self):
         rows = re.findall(r"^\| (`.*?`) \|", (TOP / "tools" / "NOTES.md").read_text(), re.MULTILINE)

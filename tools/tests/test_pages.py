@@ -54,11 +54,11 @@ MOST_BYTES = {
     "MEASURED.md": 8_000,
     "OPERATING.md": 7_100,
     "PYTHON.md": 6_200,
-    "RULES.md": 10_752,
+    "RULES.md": 10_640,
     "TABLES.md": 13_700,
-    "TESTED.md": 6_500,
-    "TRUST.md": 11_700,
-    "USING.md": 9_216,
+    "TESTED.md": 6_656,
+    "TRUST.md": 11_500,
+    "USING.md": 8_704,
     "WHATIF.md": 6_912,
 }
 WRITTEN = re.compile(r"<!-- the (.*?): tools/reading-list --write -->.*?<!-- the end of the \1 -->", re.DOTALL)
@@ -186,6 +186,20 @@ class Pages(unittest.TestCase):
                 with self.subTest(crate=crate.name, word=word):
                     self.assertTrue((TOP / "crates" / word).exists() or word.split("::")[-1] in SOURCES)
 
+    def test_the_names_of_code_on_pages_are_there(self):
+        """A crate of the kit and a package that tests need have names, too. A function is in a file with its type, or in its module."""
+        others = set(re.findall(r"\w+", (TOP / "crates.txt").read_text() + (TOP / "tests" / "packages").read_text()))
+        sources = {path: path.read_text() for path in (TOP / "crates").glob("*/src/**/*.rt")}
+        functions = {(home, name) for path, text in sources.items() for name in re.findall(r"\bfn (\w+)", text)
+                     for home in {path.stem, *re.findall(r"\b[A-Z]\w+", text)}}
+        modules = {(path.parts[-3], path.stem) for path in sources}
+        for page in ("ARCHITECTURE", "ASSURANCE", "TESTED", "THEOREM"):
+            for word in re.findall(r"`(\w+(?:::\w+)*)`", (TOP / "docs" / f"{page}.md").read_text()):
+                *_, home, name = "", *word.split("::")
+                with self.subTest(page=page, word=word):
+                    self.assertIn(name, SOURCES | others)
+                    self.assertTrue(not home or (home, name) in functions | modules)
+
     def test_the_files_that_notes_name_are_there(self):
         notes = sorted(path for path in (TOP / "crates").glob("*/*.md") if "The files of `src/`" in path.read_text())
         self.assertGreater(len(notes), 2)
@@ -218,6 +232,15 @@ class Pages(unittest.TestCase):
         _, reasons = book.run(journal.read_journal(SUNNY.read_bytes()))
         refused = [lines[place + 1] for place, reason in enumerate(reasons) if reason]
         self.assertEqual(refused, [line.split("  ")[0] for line in quoted if "  refused: " in line])
+
+    def test_the_files_of_the_demo(self):
+        """GUIDE.md names the files that the office's page saves."""
+        page, pages = (TOP / "docs" / "GUIDE.md").read_text(), TOP / "tools" / "lib" / "report" / "templates"
+        self.assertIn("save(await ask(own(\"receipts\")), \"application/jsonl\", `${who()}-${state.day}.jsonl`)", (pages / "office.js").read_text())
+        self.assertIn("`GAS-DAY.jsonl`", page)
+        for name in re.findall(r'<a [^>]*download="([\w.]+)"', (pages / "office.html").read_text()):
+            if name != "journal.csv":
+                self.assertIn(f"`{name}`", page)
 
     def test_the_table_of_orders_makes_a_journal(self):
         table = re.search(r"```text\n(participant,order,.*?)```", (TOP / "docs" / "USING.md").read_text(), re.DOTALL)[1]

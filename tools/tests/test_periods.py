@@ -55,5 +55,35 @@ class Clock(unittest.TestCase):
         self.assertEqual([clock.begins(100, number) for number in (12, 13, 16, 17)], ["02:45", "02:00", "02:45", "03:00"])
 
 
+class Between(unittest.TestCase):
+    def refused(self, periods, first, last, words):
+        with self.subTest(periods=periods, first=first, last=last), self.assertRaisesRegex(ValueError, f"^{words}$"):
+            clock.periods_between(periods, first, last)
+
+    def test_times_of_each_length_of_a_day(self):
+        for periods, length in rules.DAYS.items():
+            hour = int(1 / length)
+            evening = periods - 7 * hour
+            with self.subTest(periods):
+                self.assertEqual(clock.periods_between(periods, "00:00", "24:00"), list(range(1, periods + 1)))
+                self.assertEqual(clock.periods_between(periods, "00:00", "01:00"), list(range(1, hour + 1)))
+                self.assertEqual(clock.periods_between(periods, "01:00", "03:00"), list(range(hour + 1, periods - 21 * hour + 1)))
+                self.assertEqual(clock.periods_between(periods, "17:00", "19:00"), list(range(evening + 1, evening + 2 * hour + 1)))
+                self.refused(periods, "17:00", "16:00", "16:00 isn't after 17:00")
+                self.refused(periods, "17:05", "18:00", "no period of the day begins at 17:05")
+
+    def test_times_that_come_twice(self):
+        twice = "comes twice on this day: write the numbers of periods, such as"
+        for periods, begins, ends in (25, "3 or 4", "2 or 3"), (100, "9 or 13", "8 or 12"):
+            self.refused(periods, "02:00", "04:00", f"02:00 {twice} {begins}")
+            self.refused(periods, "00:00", "02:00", f"02:00 {twice} {ends}")
+        self.refused(100, "02:45", "03:00", f"02:45 {twice} 12 or 16")
+
+    def test_times_that_are_left_out(self):
+        for periods in (23, 92):
+            self.refused(periods, "02:00", "04:00", "no period of the day begins at 02:00")
+            self.assertEqual(clock.periods_between(periods, "00:00", "02:00"), clock.periods_between(periods, "00:00", "03:00"))
+
+
 if __name__ == "__main__":
     unittest.main()

@@ -107,8 +107,25 @@ class Figures(unittest.TestCase):
             self.assertEqual(len(peak) * rules.DAYS[periods], 12)
             self.assertEqual(clock.begins(periods, peak[0]), "08:00")
 
+    def test_sums_are_those_of_the_tables(self):
+        """Also of quarter-hours, whose energy and amounts are a fourth."""
+        lengths = set()
+        for name, day in days():
+            with self.subTest(name):
+                lengths.add(day.problem.hours)
+                found = {row["figure"]: row["value"] for row in read(published.figures(day))}
+                participants = read(tables.participants(day))
+                self.assertEqual(Fraction(found["energy"]), total(read(tables.periods(day)), "volume_mw") * day.problem.hours)
+                self.assertEqual(Fraction(found["energy"]), total(participants, "bought_mwh"))
+                self.assertEqual(Fraction(found["paid"]), total(participants, "paid_eur"))
+                self.assertEqual(Fraction(found["welfare"]), Fraction(found["hourly_surplus"]) + Fraction(found["block_surplus"]))
+                self.assertEqual(Fraction(found["welfare"]), day.said.welfare * day.problem.hours / 1_000)
+        self.assertEqual(lengths, {1, Fraction(1, 4)})
+
     def test_rounding(self):
         self.assertEqual([published.mean(pair) for pair in ([1, 2], [-1, -2], [1, 1, 2], [])], [2, -1, 1, None])
+        halves = [text.shown(Fraction(number, 8), 2) for number in (1, 3, -1, -3)]
+        self.assertEqual(halves, ["0.13", "0.38", "-0.13", "-0.38"])  # away from 0
 
 
 class Long(unittest.TestCase):

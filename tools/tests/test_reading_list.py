@@ -52,6 +52,16 @@ impl Gate {
     }
 }
 """
+PAGE = """# A page
+
+<!-- the theorem: tools/reading-list --write -->
+%s<!-- the end of the theorem -->
+
+## Sizes
+
+<!-- the sizes: tools/reading-list --write -->
+%s<!-- the end of the sizes -->
+"""
 SIZE = "use crate::unit::Unit;\n\npub enum Size {\n    Unit,\n    Small,\n    Large { unit: Unit },\n}\n"
 UNIT = """pub struct Unit {
     bytes: Hidden,
@@ -133,27 +143,50 @@ pub fn law()
 """
         self.assertEqual(loaded("reading-list").clause_lines(text), 5)
 
-    def theorem(self, listed, named):
+    def theorem(self, listed, others, is_printed=True):
         """The tool's theorem with these definitions in the repository of this test."""
         module = loaded("reading-list")
-        module.THEOREM = {"run_clear": {"sizes": (listed, named)}}
+        module.THEOREM = {"run_clear": (is_printed, listed, others)}
         with tempfile.TemporaryDirectory() as folder:
             self.repository(folder)
             return module.theorem(module.Repository(Path(folder)))
 
-    def test_the_theorem_has_the_listed_definitions_and_names_the_others(self):
-        text = self.theorem(["IsSize"], ["Printed"])
-        self.assertIn("\n| sizes | `Printed` |\n", text)
-        self.assertIn("\nabbrev pub IsSize : ℕ → Type 0\nIsSize n = n ≤ greatest\n```\n", text)
-        self.assertNotIn("Printed n = Rule n", text)
+    def test_the_theorem_has_the_listed_definitions_and_the_sentences_of_others(self):
+        text = self.theorem(["Printed"], ["IsSize"])
+        self.assertIn("\n| `IsSize` | a size |\n", text)
+        self.assertIn("\nabbrev pub Printed : ℕ → Type 0\nPrinted n = Rule n\n```\n", text)
+        self.assertNotIn("IsSize n = n ≤ greatest", text)
 
-    def test_the_theorem_only_names_definitions_that_the_contract_reaches(self):
-        for listed, named in (["IsSize", "other"], []), (["IsSize"], ["other"]):
-            with self.subTest(named), self.assertRaisesRegex(Exception, "^the contract of run_clear doesn't reach other$"):
-                self.theorem(listed, named)
+    def test_the_theorem_has_the_contract_unless_it_is_left_out(self):
+        for is_printed in (True, False):
+            with self.subTest(is_printed):
+                text = self.theorem(["Printed"], [], is_printed)
+                self.assertEqual("pub fn run_clear(size: Size) -> u8" in text, is_printed)
+
+    def test_the_theorem_only_has_definitions_that_the_contract_reaches(self):
+        for listed, others in (["IsSize", "other"], []), (["IsSize"], ["other"]):
+            with self.subTest(others), self.assertRaisesRegex(Exception, "^the contract of run_clear doesn't reach other$"):
+                self.theorem(listed, others)
+
+    def test_a_sentence_that_is_missing_is_named(self):
+        with self.assertRaisesRegex(Exception, "^crates/dam_engines/specs/Engine.antt says nothing above Printed$"):
+            self.theorem(["IsSize"], ["Printed"])
 
     def test_the_pages_have_the_lists_of_this_repository(self):
         self.assertEqual(tool("reading-list", "--check"), (0, b"", ""))
+
+    def test_lists_that_are_right_are_not_written_again(self):
+        module = loaded("reading-list")
+
+        def renewed(text, theorem, sizes):
+            parts = {"theorem": (lambda _: theorem, str.__eq__), "sizes": (lambda _: sizes, module.is_near)}
+            return module.renewed(None, text, parts)
+
+        page = PAGE % ("one\n", "| 100 |\n")
+        self.assertEqual(renewed(page, "one\n", "| 100 |\n"), (page, True))
+        self.assertEqual(renewed(page, "one\n", "| 105 |\n"), (page, True))
+        self.assertEqual(renewed(page, "two\n", "| 105 |\n"), (PAGE % ("two\n", "| 100 |\n"), False))
+        self.assertEqual(renewed(page, "one\n", "| 150 |\n"), (PAGE % ("one\n", "| 150 |\n"), False))
 
     def test_the_page_of_definitions(self):
         """Every definition of a module needs a sentence, also one that the page leaves out."""

@@ -16,7 +16,7 @@ import unittest
 from pathlib import Path
 
 from signed import DAY, NEEDS_CRYPTOGRAPHY, InFolder, lines_of, replies_of, sealed_of, verdict_of
-from support import AUCTION, FIRST, QUARTERS, SUNNY, TOOLS, TOP, tool
+from support import AUCTION, FIRST, QUARTERS, SUNNY, TOOLS, TOP, tool, unsaid
 
 from lib.journal import book, journal
 from lib.seal import heads, merkle
@@ -63,6 +63,17 @@ class Receipts(unittest.TestCase):
         largest = heads.line(heads.Receipt(heads.MOST_ENTRIES, LONGEST, reply, path[0], path, head))
         self.assertLess(len(largest), heads.LONGEST_LINE)
         self.assertLessEqual(len(largest) - len(LONGEST), 1_100)
+
+    def test_the_longest_paths_of_a_full_journal_are_read(self):
+        cancels = b"cancel,A,B,,,,,,\n" * (heads.MOST_ENTRIES - 1)
+        seal = sealed_of(b"day,24,,,,,,,\n%sclose,,,,,,,,\n" % cancels, key=self.key)
+        head = seal.head()
+        for number in (1, 8_192, 8_193, heads.MOST_ENTRIES):
+            self.assertEqual(verdict_of(heads.line(seal.receipt(number, head)), head, self.public), receipts.RIGHT)
+        self.assertEqual(len(seal.receipt(1, head).path), heads.LONGEST_PATH)
+        old = max(range(1, head.size), key=lambda size: len(seal.tree.consistency(size)))
+        found, _ = heads.parsed(heads.line(seal.extension(seal.head(old), head)), heads.extension_read)
+        self.assertEqual((len(found.path), found.is_right()), (heads.LONGEST_PROOF, True))
 
     def test_every_change_of_a_byte_is_found(self):
         """Changed bytes of receipts, of the published head and of the public key."""
@@ -157,6 +168,16 @@ class Receipts(unittest.TestCase):
         with self.assertRaisesRegex(heads.Wrong, "^it lacks the member salt$"):
             heads.parsed(json.dumps({**without, said: 1}).encode(), heads.receipt_read)
 
+    def test_a_record_stands_in_its_written_form(self):
+        """Another writing of the same command would be another entry with the same meaning."""
+        value = json.loads(lines_of(sealed_of(AUCTION.read_bytes(), key=self.key))[0])
+        record = value["record"]
+        self.assertEqual(heads.parsed(json.dumps(value).encode(), heads.receipt_read)[0].record, record)
+        quoted = '"submit"' + record.removeprefix("submit")
+        for other in (quoted, f"{record}\n", f"{record}\r", f"\n{record}", f"{record}\n{record}", f"{record} ", ""):
+            with self.subTest(other), self.assertRaisesRegex(heads.Wrong, "isn't a record of a written journal$"):
+                heads.parsed(json.dumps({**value, "record": other}).encode(), heads.receipt_read)
+
     def test_each_base64(self):
         """With exactly its padding, on each Python: bits that say nothing are another writing of the same bytes."""
         for count in (heads.HASH_BYTES, heads.SIGNATURE_BYTES):
@@ -189,12 +210,19 @@ class Receipts(unittest.TestCase):
         for data in (*unread, line.replace(b"\n", b" " * heads.LONGEST_LINE + b"\n")):
             with self.subTest(data):
                 self.assertEqual(verdict_of(data, head, self.public), receipts.UNREAD)
+        # an empty line is white space of a head, which has a file of its own
+        for data in (heads.line(head) + b"\n", b"\n" + heads.line(head)):
+            odd = []
+            self.assertEqual(receipts.head_of("head", data, self.public, odd), head)
+            self.assertEqual(receipts.verdict(odd), receipts.ENCODING)
 
     def test_the_first_of_several_statuses(self):
         order = (receipts.WRONG, receipts.UNREAD, receipts.UNDECIDED, receipts.ENCODING, receipts.RIGHT)
         self.assertEqual([receipts.STATUSES[verdict] for verdict in order], [1, 3, 4, 6, 0])
         page = (TOP / "docs" / "FORMATS.md").read_text()
         self.assertIn("The status of `verify` and `heads` is the first of 1, 3, 4, 6 and 0 that applies.", page)
+        for one in receipts.STATUSES:
+            self.assertIn(f"`{one}`", page)
         for at, first in enumerate(order):
             for others in (order[at:], order[: at - 1 : -1] if at else order[::-1]):
                 self.assertEqual(receipts.verdict([receipts.Finding("file", 1, verdict, "") for verdict in others]), first)
@@ -484,6 +512,24 @@ class Command(InFolder):
             self.assertEqual(stat.S_IMODE(path.stat().st_mode), 0o600)
         self.assertEqual(stat.S_IMODE(Path("sealed/receipts").stat().st_mode), 0o700)
 
+    def test_the_members_of_each_record_are_described(self):
+        def record(name, *words):
+            return json.loads(tool("receipts", name, "--json", *words)[1])
+
+        self.seal()
+        receipt, head, key = "sealed/receipts/STAD.jsonl", "sealed/head.json", ["--key", "key.pem"]
+        public = ["--key", "key.pem.pub"]
+        found = record("verify", receipt, receipt, "--head", head, *public)
+        wrong = record("heads", head, head, "nothing", *public)
+        Path("replies").write_bytes(book.replies_text(journal.read_journal(AUCTION.read_bytes())).encode())
+        made = [record("keys", "other.pem"), record("seal", AUCTION, "replies", "--day", DAY, *key, "-o", "again")]
+        made += [record("extend", "again", AUCTION, "replies", *key, "-o", "later")]
+        for one, parts in [(one, []) for one in made] + [(found, found["receipts"]), (wrong, wrong["findings"])]:
+            with self.subTest(one["command"]):
+                self.assertIsNone(one["message"])
+                self.assertEqual(unsaid("receipts", one, *parts), set())
+        self.assertTrue(found["receipts"] and wrong["findings"])
+
     def error(self, status, *words):
         """What `verify` says on standard error."""
         ran = tool("receipts", "verify", "sealed/receipts/STAD.jsonl", "--key", "key.pem.pub", "--head", "sealed/head.json", *words)
@@ -636,6 +682,15 @@ class Command(InFolder):
         self.seal(status=3)
         self.assertEqual((Path("key.pem").read_bytes(), Path("sealed/head.json").read_bytes()), (key, head))
         self.assertEqual(sorted(path.name for path in Path().iterdir()), ["day.csv", "key.pem", "key.pem.pub", "replies.txt", "sealed"])
+
+    def test_a_working_folder_that_is_gone(self):
+        here, gone = Path.cwd(), Path("gone")
+        gone.mkdir()
+        os.chdir(gone)
+        self.addCleanup(os.chdir, here)
+        here.joinpath(gone).rmdir()
+        words = [here / "day.csv", here / "replies.txt", "--day", DAY, "--key", here / "key.pem", "-o", "sealed"]
+        self.assertEqual(tool("receipts", "seal", *words), (3, b"", "receipts: sealed can't be made: No such file or directory\n"))
 
     def test_files_of_other_kinds(self):
         self.seal()

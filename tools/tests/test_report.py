@@ -131,6 +131,7 @@ class Page(unittest.TestCase):
             "18:30",
             "65 to 84",
             f"3{THIN}098{THIN}696.75",
+            f"12{THIN}500.00",  # MWh
             "paradoxically rejected",
             "would gain 675.00 EUR at the prices, but if it were added and the other blocks stayed as they are, the block itself would lose"
             " 6,660.00 EUR, COAL,PEAK would lose 3,780.00 EUR",

@@ -9,13 +9,12 @@ import socket
 import statistics
 import subprocess
 import sys
-import tempfile
 import tracemalloc
 import unittest
 import unittest.mock
 from pathlib import Path
 
-from support import AUCTION, TOOLS, journal_of, tool
+from support import AUCTION, TOOLS, journal_of, new_folder, tool
 
 from lib.base import rules
 from lib.journal import book, journal
@@ -53,21 +52,84 @@ class Tables(unittest.TestCase):
         found, notes = self.read("scenario,what,participant,order\nnone,cancel,GEN,UNIT\n")
         self.assertEqual([list(found["none"]), notes], [[("CITY", "TOWN")], []])
 
+    def test_each_begins_with_the_book_of_the_day(self):
+        """None counts the blocks or the children of those before it."""
+        child = "{0},submit,GEN,K{0},block,sell,40,1,2,UNIT,\n"
+        lines = "".join(map(child.format, range(rules.MOST_BLOCKS + 1)))
+        found, _ = self.read(f"{COMMANDS}{lines}none,cancel,GEN,UNIT,,,,,,,\n")
+        self.assertEqual([len(found["0"]), list(found["none"])], [3, [("CITY", "TOWN")]])
+
+    def test_all_scenarios_are_tried_out_in_one_book(self):
+        """It is a copy, in which each finds the book of the day, whatever those before it did."""
+        first = [
+            "A,submit,GEN,P,block,sell,10,1,2,,", "A,submit,GEN,C,block,sell,10,1,2,P,", "A,cancel,CITY,TOWN,,,,,,,",
+            "A,submit,CITY,TOWN,block,buy,10,1,2,,", "A,submit,CITY,T,block,buy,10,1,2,TOWN,", "A,amend,GEN,UNIT,,,1,2-3,9,,",
+        ]  # fmt: skip
+        table = COMMANDS + "".join(f"{line}\n" for line in first)
+        rights = ["B,cancel,CITY,TOWN,,,,,,,", "B,cancel,GEN,UNIT,,,,,,,", "B,submit,GEN,P,block,sell,10,1,2,,", "B,amend,CITY,TOWN,,,1,3,9,,"]
+        for right in rights:
+            self.assertEqual(list(self.read(f"{table}{right}\n")[0]), ["A", "B"], right)
+        for wrong, reason in (
+            ("cancel,GEN,P,,,,,,,", "UnknownOrder"),
+            ("submit,GEN,X,block,sell,1,1,1,P,", "UnknownParent"),
+            ("submit,CITY,X,block,buy,1,1,1,TOWN,", "ParentNotBlock"),
+            ("amend,CITY,TOWN,,,1,2-3,9,,", "WrongShape"),
+            ("submit,GEN,UNIT,block,sell,1,1,1,,", "NameTaken"),
+        ):
+            with self.assertRaisesRegex(engine.Fault, rf"^a.csv: line 8: .*\({reason}\)"):
+                self.read(f"{table}B,{wrong}\n")
+        full = journal.read_journal(journal_of(*(f"submit,A,O-{number},block,sell,1,1:1,," for number in range(rules.MOST_BLOCKS))))
+        held, more = changes.before_close(full), "submit,A,X,block,sell,1,1,1,,"
+        lines = "".join(f"{name},cancel,A,O-{name},,,,,,,\n{name},{more}\n" for name in range(rules.MOST_BLOCKS))
+        with unittest.mock.patch.object(book.Book, "copy", autospec=True, side_effect=book.Book.copy) as copy:
+            self.assertEqual(len(scenarios.read_table("a.csv", (COMMANDS + lines).encode(), held)[0]), rules.MOST_BLOCKS)
+        self.assertEqual(copy.call_count, 1)
+        with self.assertRaisesRegex(engine.Fault, r"\(BlocksFull\)"):
+            scenarios.read_table("a.csv", f"{COMMANDS}{lines}last,{more}\n".encode(), held)
+
     def test_the_texts_are_those_of_the_books(self):
         found, _ = scenarios.read_table("a.csv", (HEADS + "A,WIND,M-1,hour,sell,10.00,1,2,,\n").encode(), HELD)
-        held, _ = book.run(journal.read_journal(found[0].text))
-        self.assertEqual(held.rows, found[0].rows())
+        (scenario,) = found
+        held, _ = book.run(journal.read_journal(scenario.text))
+        self.assertEqual(held.rows, scenario.rows())
 
     def test_many_scenarios_take_little_memory(self):
-        """Of each scenario only its commands are kept, not its book."""
+        """None is kept: they are read again when they are needed."""
         held = changes.before_close(journal.read_journal(AUCTION.read_bytes()))
         table = HEADS + "".join(f"S{number},,,,,,,,,\n" for number in range(1_000))
         tracemalloc.start()
         found, _ = scenarios.read_table("a.csv", table.encode(), held)
         most = tracemalloc.get_traced_memory()[1]
         tracemalloc.stop()
-        self.assertEqual((len(found), found[999].text), (1_000, cleared.book_text(held.rows, 24)))
-        self.assertLess(most, 3 * 2**20)
+        self.assertEqual((len(found), {scenario.text for scenario in found}), (1_000, {cleared.book_text(held.rows, 24)}))
+        self.assertEqual([scenario.name for scenario in found], [f"S{number}" for number in range(1_000)])
+        self.assertLess(most, 2**20)
+
+    def test_the_most_rows(self):
+        """A longer table isn't read: the fault names the first line that is too many, after an empty one."""
+        for ending in ("\n", "\r\n"):
+            table = HEADS + "".join(f"S{number}{ending}" for number in range(scenarios.MOST_ROWS))
+            self.assertEqual(len(scenarios.read_table("a.csv", table.encode(), HELD)[0]), 50_000)
+            with self.assertRaisesRegex(engine.Fault, "^a.csv: line 50003: a table has at most 50,000 rows after its first$"):
+                scenarios.read_table("a.csv", f"{table}\nmore{ending * 9}x".encode(), HELD)
+
+    def test_a_table_of_any_shape_takes_little_memory(self):
+        """Of 5 MB: a scenario in each row, one of all rows, many cells, and long ones."""
+        amend, wide = "amend,GEN,UNIT,,,60.5,{},{},,", ";".join(str(100 + number) for number in range(24))
+        shapes = {
+            "many scenarios": (f"S{number},{amend.format('7-20', number % 900 + 1)}" for number in range(scenarios.MOST_ROWS)),
+            "one scenario": (f"S,{amend.format('7-20', number % 900 + 1)}" for number in range(scenarios.MOST_ROWS)),
+            "volumes": (f"S{number},{amend.format('1-24', wide)}" for number in range(30_000)),
+            "names": (f"{'S' * 90}{number}" for number in range(scenarios.MOST_ROWS)),
+        }
+        for shape, lines in shapes.items():
+            table = (COMMANDS + "".join(f"{line}\n" for line in lines)).encode()
+            tracemalloc.start()
+            found, _ = scenarios.read_table("a.csv", table[: table.rindex(b"\n", 0, 5_000_000)], HELD)
+            most = tracemalloc.get_traced_memory()[1]
+            tracemalloc.stop()
+            self.assertLess(most, 32 << 20, shape)
+            self.assertGreater(len(found) * (shape != "one scenario"), 25_000 * (shape != "one scenario") - 1)
 
     def test_bad_tables(self):
         for table, said in (
@@ -103,10 +165,30 @@ class Distribution(unittest.TestCase):
         self.assertEqual(row, ["GEN", "UNIT", "40.00", 40, 20, "0.5000", "5.25", "1.00", "5.00", "10.00", "15.00", "19.00"])
         self.assertEqual(list(scenarios.words(over)),
                          ["GEN UNIT is accepted in 20 of 40 scenarios; the median of its surplus is then 10.00 EUR"])
+        held = changes.before_close(journal.read_journal(journal_of(*SMALL).replace(b"day,24,", b"day,96,")))
+        quarters = scenarios.Distribution(held, [("GEN", "UNIT")])
+        quarters.surpluses, quarters.rejected = over.surpluses, over.rejected
+        self.assertEqual(list(quarters.table())[1][7:], ["0.25", "1.25", "2.50", "3.75", "4.75"])
+        self.assertIn("the median of its surplus is then 2.50 EUR", list(scenarios.words(quarters))[0])
         none = scenarios.Distribution(HELD, [("GEN", "UNIT")])
         none.add(b"day,24\nblock,GEN,UNIT,rejected,5\n")
         self.assertEqual(list(none.table())[1][4:], [0, "0.0000", "0.00", "", "", "", "", ""])
 
+
+    @unittest.skipUnless(command.has("matplotlib"), "matplotlib is missing (Debian's python3-matplotlib)")
+    def test_the_median_of_a_picture(self):
+        """Of quarter-hours it is a fourth."""
+        from lib.pictures.drawing import pyplot
+        from lib.whatif import scenario_picture
+
+        for periods, median in ((24, "10.00"), (96, "2.50")):
+            held = changes.before_close(journal.read_journal(journal_of(*SMALL).replace(b"day,24,", b"day,%d," % periods)))
+            over = scenarios.Distribution(held, [("GEN", "UNIT")])
+            over.surpluses["GEN", "UNIT"] = [number * 1_000 for number in range(1, 21)]
+            figure, axes = pyplot.subplots()
+            scenario_picture.draw(axes, over, ("GEN", "UNIT"))
+            self.assertEqual(axes.get_legend_handles_labels()[1], [f"median of the surplus: {median} EUR"])
+            pyplot.close(figure)
 
     def test_an_output_that_is_none(self):
         over = scenarios.Distribution(HELD, [("GEN", "UNIT")])
@@ -167,9 +249,7 @@ class Samples(unittest.TestCase):
 
 class Tool(unittest.TestCase):
     def setUp(self):
-        folder = tempfile.TemporaryDirectory()
-        self.addCleanup(folder.cleanup)
-        self.folder = Path(folder.name)
+        self.folder = new_folder(self)
         self.journal, self.table = Path(self.folder, "day.csv"), Path(self.folder, "s.csv")
         self.journal.write_bytes(journal_of(*SMALL))
         self.table.write_text(COMMANDS + "as is,,,,,,,,,,\nmill,submit,WIND,MILL,hour,sell,10,1,2,,\nhigh,amend,GEN,UNIT,,,60,1,2,,\n")
@@ -296,6 +376,55 @@ class Tool(unittest.TestCase):
                     self.assertRaisesRegex(engine.Fault, f"the cluster {address} can't be reached: {said}$"),
                 ):
                     cluster.Cluster(address)
+
+
+class Hanging(unittest.TestCase):
+    """A worker of a cluster that doesn't answer ends the run in time, with its name."""
+
+    def test_one_worker_of_several(self):
+        """The others report all the time."""
+        made, clock = self.cluster(), 100.0
+        for clock in (100, 105, 109.9):
+            self.assertEqual(self.look(made, clock, {"tcp://a:1": 1, "tcp://b:2": clock}), 2)
+        for clock in (110, 114):
+            with self.assertRaisesRegex(engine.Lost, "^the worker tcp://a:1 of the cluster C doesn't answer any more$"):
+                self.look(made, clock, {"tcp://a:1": 1, "tcp://b:2": clock})
+        made.listen()
+        self.assertEqual(self.look(made, 115, {"tcp://a:1": 1, "tcp://b:2": 115}), 2)
+        self.assertEqual(self.look(made, 120, {"tcp://a:1": 2, "tcp://b:2": 120}), 2)
+        self.assertEqual(self.look(made, 129, {"tcp://a:1": 3, "tcp://b:2": 129}), 2)
+
+    def test_all_workers(self):
+        """Not at the same moment."""
+        made = self.cluster()
+        self.assertEqual(self.look(made, 100, {"tcp://a:1": 1, "tcp://b:2": 1}), 2)
+        self.assertEqual(self.look(made, 101, {"tcp://a:1": 1, "tcp://b:2": 2}), 2)
+        self.assertEqual(self.look(made, 110, {"tcp://a:1": 1, "tcp://b:2": 2}), 2)
+        with self.assertRaisesRegex(engine.Lost, "^the workers of the cluster C don't answer any more$"):
+            self.look(made, 111, {"tcp://a:1": 1, "tcp://b:2": 2})
+
+    def test_no_worker(self):
+        made = self.cluster()
+        self.assertEqual([self.look(made, clock, {}) for clock in (100, 109)], [0, 0])
+        self.assertEqual(self.look(made, 109.5, {"tcp://a:1": 1}), 1)
+        self.assertEqual([self.look(made, clock, {}) for clock in (110, 119)], [0, 0])
+        with self.assertRaisesRegex(engine.Lost, "^the cluster C has no workers$"):
+            self.look(made, 119.5, {})
+
+    def cluster(self):
+        """A cluster at second 100, whose scheduler isn't there."""
+        made = cluster.Cluster.__new__(cluster.Cluster)
+        made.name, made.reports, made.client = "the cluster C", {}, unittest.mock.Mock()
+        with unittest.mock.patch.object(cluster.time, "monotonic", return_value=100.0):
+            made.listen()
+        return made
+
+    def look(self, made, now, seen):
+        """A look at a time at the workers' last reports."""
+        workers = {address: {"last_seen": when, "status": "running"} for address, when in seen.items()}
+        made.client.sync.return_value = {"workers": workers}
+        with unittest.mock.patch.object(cluster.time, "monotonic", return_value=now):
+            return made.workers()
 
 
 if __name__ == "__main__":

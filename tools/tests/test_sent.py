@@ -7,7 +7,7 @@ import time
 import unittest
 from pathlib import Path
 
-from support import AUCTION, AUCTION_RESULTS, journal_of, printed, tool
+from support import AUCTION, AUCTION_RESULTS, journal_of, printed, tool, written
 
 import days
 from lib.base import common, rules
@@ -18,12 +18,9 @@ from lib.tool import command
 
 def audit(published, own, who="A", *words):
     """A run of the tool on a journal and a participant's sent commands."""
-    with tempfile.TemporaryDirectory() as folder:
-        paths = Path(folder, "journal"), Path(folder, "sent")
-        for path, content in zip(paths, (published, own)):
-            path.write_bytes(content)
-        status, out, err = tool("audit", paths[0], "--sent", paths[1], "--participant", who, *words)
-        return status, out.decode(), err.replace(f"{folder}/", "")
+    with written(journal=published, sent=own) as (journal, sent_file):
+        status, out, err = tool("audit", journal, "--sent", sent_file, "--participant", who, *words)
+        return status, out.decode(), err.replace(f"{journal.parent}/", "")
 
 
 def own_lines(data, who):
@@ -87,6 +84,18 @@ class Worked(unittest.TestCase):
         other = OWN[2].replace(",300,", ",301,")
         said = f"sent record 3 is changed: it was '{other}', and record 5 (command 4) of the journal is '{OWN[2]}'"
         self.assertEqual(self.differences([*OWN[:2], other, OWN[3]]), [said])
+
+    def test_several_changes_of_one_order(self):
+        """They are paired in their order."""
+        begin = "submit,A,H1,hour,buy,100,1:10,,"
+        amends = [f"amend,A,H1,,,{price},1:10,," for price in (201, 301, 401)]
+        others = [f"amend,A,H1,,,{price},1:10,," for price in (202, 302, 402)]
+        status, out, _ = audit(journal_of(begin, *amends), text_of([begin, *others]))
+        said = [
+            f"sent record {number} is changed: it was '{was}', and record {number + 1} (command {number}) of the journal is '{now}'"
+            for number, (was, now) in enumerate(zip(others, amends), 2)
+        ]
+        self.assertEqual((status, out.splitlines()[1:]), (command.DIFFERS, said))
 
     def test_moved(self):
         said = f"sent record 1 is moved: record 7 (command 6) of the journal is out of its order: {OWN[3]}"

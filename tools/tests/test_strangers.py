@@ -78,6 +78,8 @@ class Tools(unittest.TestCase):
                 self.said(name, *words, f"{path}.none")
             self.said("plot", path, "-o", path)
             self.said("audit", path, f"--{BAD[:-1]}", path)
+            for words in ([path] * 2 + ["x\nas the rules say"], ["--x\nas the rules say"]):
+                self.assertIn(r"arguments: x\nas the rules say" if path in words else r"\nas the rules say", self.said("audit", *words))
 
 
 if __name__ == "__main__":

@@ -2,6 +2,7 @@
 
 import csv
 import io
+import re
 import tempfile
 import unittest
 from fractions import Fraction
@@ -273,7 +274,21 @@ class CommandLine(unittest.TestCase):
             status, out, _ = tool("table", "--journal", "-", "--open", "--periods=25", data=f"{HEADER}\n{HOUR}\n".encode())
             self.assertEqual((status, out), (0, b"day,25,,,,,,,\nsubmit,NORD,WIND-8,hour,sell,1250,8:450,,\n"))
 
-    def test_commands_and_their_replies(self):
+    def test_the_page_names_the_tables_with_periods(self):
+        page = (support.TOP / "docs" / "TABLES.md").read_text().partition("\n## The long form\n")[2].partition("\n## ")[0]
+        forms, options = (re.findall(r"\*\*(\w+)\*\*", part) for part in page.strip().split("\n\n"))
+        self.assertEqual((len(forms), set(forms)), (4, set(tables.LONG)))
+        day = day_of(AUCTION.read_bytes(), AUCTION_RESULTS.read_bytes())
+        shown, longer = ([name for name, make in form.items() if "period" in next(iter(make(day)))] for form in (tables.TABLES, tables.LONG))
+        self.assertEqual((options, set(longer)), ([*shown, "statement"], set(tables.LONG)))
+        texts = [AUCTION, AUCTION_RESULTS]
+        for name in tables.TABLES:
+            for more, is_done in ((["--only", "8"], name in shown), (["--date", "2026-11-25"], name in shown), (["--date", "2026-11-25", "--json"], True)):
+                with self.subTest(name, more=more):
+                    status, _, said = tool("table", *texts, "--rows", name, *more)
+                    self.assertEqual(status, command.DONE if is_done else command.COMMAND_LINE)
+                    self.assertEqual("give --rows orders --long" in said, name == "statement" and not is_done)
+
         names = ["command", "what", "order", "price_eur_mwh", "periods", "volume_mw", "reply", "reason"]
         status, out, err = tool("table", "--rows", "commands", "-", data=FIRST)
         self.assertEqual((status, err), (0, ""))

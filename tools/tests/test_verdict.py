@@ -12,7 +12,7 @@ import tempfile
 import unittest
 from pathlib import Path
 
-from support import AUCTION, AUCTION_RESULTS, TOOLS, TOP, audit, cleared_cases, journal_of, printed, results_of, tool
+from support import AUCTION, AUCTION_RESULTS, QUARTERS, TOOLS, TOP, audit, cleared_cases, journal_of, printed, results_of, tool
 
 from lib.audit import verdict
 from lib.base import rules
@@ -95,6 +95,10 @@ class Record(unittest.TestCase):
         self.assertEqual((made["search"]["selections"], made["search"]["tried"], made["search"]["better"]), (512, 512, None))
         self.assertEqual((made["day"]["welfare_eur"], made["day"]["accepted"], made["day"]["refused"]), ("3021520.000", 6, 1))
 
+    def test_amounts_of_quarter_hours(self):
+        made, _ = self.record(QUARTERS.read_bytes(), printed(QUARTERS))
+        self.assertEqual((made["day"]["welfare_eur"], made["day"]["paid_eur"]), ("3098696.75000", "885657.75000"))
+
     def test_each_fault_is_a_record(self):
         made, _ = self.record(DATA, TEXT.replace(b"period,19,16500,", b"period,19,16501,"))
         (fault,) = [fault for fault in made["faults"] if fault["kind"] == "price"]
@@ -113,11 +117,25 @@ class Record(unittest.TestCase):
         for member in self.record(DATA, TEXT)[0]:
             self.assertRegex(page, rf"\n\| (`\w+`, )?`{member}`[, ].*\|")
         for kind, words in faults.KINDS.items():
-            self.assertIn(f"| `{kind}` |", page)
+            self.assertRegex(page, rf"\n\| (`\w+`, )*`{kind}`(, `\w+`)* \|")
             self.assertTrue(words)
         source = "".join(path.read_text() for path in (TOP / "tools" / "lib").rglob("*.py") if path.name != "faults.py")
         for kind in faults.KINDS:
             self.assertIn(f'"{kind}"', source)
+
+    def test_a_day_has_the_figures_of_what_is_compared(self):
+        """As docs/FORMATS.md has it."""
+        counts, orders = ["periods", "commands", "refused"], ["hourly_orders", "blocks"]
+        day = DATA[: DATA.index(b"close,")]
+        for data, text, words, wanted in (
+            (DATA, b"day,24\n", ["--replies"], counts),
+            (day, TEXT, [], counts),
+            (DATA, b"words\n", [], [*counts, *orders]),
+            (DATA, TEXT, [], [*counts, *orders, "accepted"]),
+        ):
+            made, _ = self.record(data, text, *words)
+            with self.subTest(wanted=wanted, words=words):
+                self.assertEqual([name for name in made["day"] if not name.endswith("_eur")], wanted)
 
     def test_no_verdict_is_a_record_too(self):
         made, err = self.record(b"day,24\n", TEXT)
@@ -125,6 +143,7 @@ class Record(unittest.TestCase):
         self.assertEqual([entry["role"] for entry in made["inputs"]], ["journal", "results"])
         made, _ = self.record(DATA, TEXT, "--best", "--seconds", "0")
         self.assertEqual((made["verdict"], made["search"]["tried"], made["search"]["selections"]), ("undecided", 0, 512))
+        self.assertEqual((made["search"]["better"], made["search"]["how"]), (None, None))
         for words in ("--quiet", "--all"):
             self.assertEqual(audit(DATA, TEXT, "--json", words)[0], command.COMMAND_LINE)
 

@@ -10,14 +10,14 @@ import re
 import signal
 import subprocess
 import sys
-import tempfile
 import time
 import unittest
 import unittest.mock
+from fractions import Fraction
 from pathlib import Path
 
 import support
-from support import AUCTION, AUCTION_RESULTS, FIRST, QUARTERS, QUARTERS_RESULTS, journal_of, printed, tool
+from support import AUCTION, AUCTION_RESULTS, FIRST, QUARTERS, QUARTERS_RESULTS, journal_of, new_folder, printed, tool
 
 import compare
 from lib.base import rules, text
@@ -36,8 +36,8 @@ BUYER = ("submit,GEN,PLANT,hour,sell,2000,1:20,,", "submit,CITY,TOWN,block,buy,3
 NEVER = ("submit,CITY,TOWN,hour,buy,5000,1:20,,", "submit,GEN,A,block,sell,4000,1:20,,G", "submit,GEN,B,block,sell,4000,1:20,A,G")
 
 
-def search(*lines, key):
-    held, _ = book.run(journal.read_journal(journal_of(*lines)))
+def search(*lines, key, periods=24):
+    held, _ = book.run(journal.read_journal(journal_of(*lines).replace(b"day,24,", b"day,%d," % periods)))
     return limits.Search(held, key, lambda text: support.results_of(text, best(text)))
 
 
@@ -61,6 +61,31 @@ class Limits(unittest.TestCase):
         self.assertLessEqual(found.clearings, limits.MOST_CLEARINGS)
         self.assertEqual(limits.others(one, found), [("CITY", "TOWN")])
 
+    def test_amounts_of_quarter_hours_are_a_fourth(self):
+        """The same orders in a quarter of an hour have the same limits and prices, and a fourth of the energy and of each amount."""
+        orders = [order.replace("1:20,", "1:200,") for order in SMALL]
+        days = [search(*orders, key=("GEN", "UNIT"), periods=periods) for periods in (24, 96)]
+        founds = [one.worst() for one in days]
+        hour, quarter = (limits.record(one, found) for one, found in zip(days, founds))
+        self.assertEqual(hour["cases"][0]["surplus_eur"], 200.0)
+        for case, other in zip(hour["cases"], quarter["cases"]):
+            self.assertEqual(case["limit_eur_mwh"], other["limit_eur_mwh"])
+            for name in ("surplus_eur", "gain_eur", "welfare_eur"):
+                self.assertEqual(case[name], 4 * other[name])
+        (one,), (other,) = hour["others"], quarter["others"]
+        self.assertEqual([(each["past_mwh"], each["at_mwh"]) for each in (one, other)], [(0.0, 20.0), (0.0, 5.0)])
+        past = [limits.row(one, found._replace(at=found.past)) for one, found in zip(days, founds)]
+        self.assertEqual([Fraction(cell) for cell in past[0][6:8]], [4 * Fraction(cell) for cell in past[1][6:8]])
+        lines = [limits.lines(*each) for each in zip(days, founds)]
+        numbers = [[list(map(Fraction, re.findall(r"-?[0-9]+\.[0-9]+", line))) for line in each] for each in lines]
+        heads = [line.split(",")[0] for line in lines[0]]
+        self.assertEqual(numbers[0][0], [20, 40])  # the energy and the limit
+        self.assertEqual(numbers[1][0], [5, 40])
+        for name in ("surplus at these prices", "gain of GEN", "welfare"):
+            one, other = (each[heads.index(name)] for each in numbers)
+            self.assertEqual(one, [4 * number for number in other])
+        self.assertEqual([each[-1] for each in numbers], [[0, 20], [0, 5]])
+
     def test_periods_without_trade(self):
         """Their prices are nominal: a record marks them, and a table leaves them out."""
         one = search(SMALL[0], SMALL[1].replace("4000", "6000"), key=("GEN", "UNIT"))
@@ -78,6 +103,12 @@ class Limits(unittest.TestCase):
         self.assertEqual((found.limit, found.past_limit), (2000, 1999))
         lines = "\n".join(limits.lines(one, found))
         self.assertIn("Its worst limit is 20.00 EUR/MWh: with it, and with every higher limit, it is accepted; with a lower one", lines)
+
+    def test_a_name_that_begins_another(self):
+        """UNIT10 stands first, and offers the same for less than UNIT1: each is found by its whole name."""
+        offers = [f"submit,GEN,{name},block,sell,{price},1:20,," for name, price in (("UNIT10", 4000), ("UNIT1", 4500))]
+        founds = [search(SMALL[0], *offers, key=("GEN", name)).worst() for name in ("UNIT10", "UNIT1")]
+        self.assertEqual([(found.limit, found.past_limit) for found in founds], [(4500, 4501), (3999, 4000)])
 
     def test_no_limit_is_enough(self):
         one = search(*NEVER, key=("GEN", "B"))
@@ -220,9 +251,7 @@ class Entered(unittest.TestCase):
 
 class Tools(unittest.TestCase):
     def setUp(self):
-        folder = tempfile.TemporaryDirectory()
-        self.addCleanup(folder.cleanup)
-        self.folder = Path(folder.name)
+        self.folder = new_folder(self)
         stand_in = self.script("dam", f'PYTHONPATH="{FAKE.parent}" exec "{sys.executable}" "{FAKE}" "$@"')
         self.program = engine.BUILT if engine.BUILT.exists() else stand_in  # the built program is far quicker
         self.journal = self.file("day.csv", journal_of(*SMALL))
@@ -276,6 +305,10 @@ class Tools(unittest.TestCase):
         self.assertTrue(err.startswith(said), err)
         err = self.whatif("limit", self.journal, *words[:4], "--from", "50", "--to", "51")[2]
         self.assertTrue(err.startswith("whatif: sampled at 2 limits: between"), err)
+        quarters = self.file("quarters.csv", journal_of(*SMALL).replace(b"day,24,", b"day,96,"))
+        for path, welfare in ((self.journal, 20), (quarters, 5)):
+            out = self.whatif("limit", path, *words[:4], "--from", "50", "--to", "51")[1]
+            self.assertEqual(Fraction(self.rows(out)[0]["welfare_eur"]), welfare)
 
     def test_a_change_and_the_comparison_of_the_two_days(self):
         more = self.file("more.csv", b"submit,WIND,MILL,hour,sell,1000,1:20,,\n")
@@ -448,7 +481,11 @@ class Tools(unittest.TestCase):
 
     def test_no_program_and_one_that_fails(self):
         status, out, err = tool("whatif", "limit", "--program", "/nowhere/dam", self.journal, "--participant", "GEN", "--order", "UNIT")
-        self.assertEqual((status, out, err), (3, b"", "whatif: /nowhere/dam can't be run: No such file or directory\n"))
+        self.assertEqual((status, out, err), (command.FAILED, b"", "whatif: /nowhere/dam can't be run: No such file or directory\n"))
+        with unittest.mock.patch.dict(os.environ, {"DAM_LIBRARY": "/nowhere/libdam.so"}):
+            status, out, err = tool("whatif", "limit", self.journal, "--participant", "GEN", "--order", "UNIT")
+        self.assertEqual((status, out), (command.FAILED, b""))
+        self.assertRegex(err, "^whatif: the library /nowhere/libdam.so can't be used: .*\n$")
         limit = ["limit", self.journal, "--participant", "GEN"]
         for end, status in (("exit 1", 3), ("exit 3", 3), ("exit 4", 5), ("exit 5", 5), ("exit 70", 5), ("kill -9 $$", 5)):
             self.program = self.script("fails", f"echo words >&2; {end}")
@@ -457,17 +494,17 @@ class Tools(unittest.TestCase):
                     self.assertEqual(self.whatif(*words, data=TABLE + b"cancel,GEN,UNIT,,,,,\n"), (status, b"", "whatif: words\n"))
 
     def test_a_program_that_cant_be_started(self):
-        """It isn't a fault of a file if memory or open files run out."""
+        """It is no fault of a file, whether memory or open files run out or it can't be run."""
         table = f"scenario,{','.join(tables.ORDER)}\nas it was{',' * len(tables.ORDER)}\n".encode()
         runs = [
             (["limit", self.journal, "--participant", "GEN", "--order", "UNIT"], b"", ""),
             (["scenarios", self.journal, "-"], table, "the day as it was: "),
         ]
-        for number, status in ((errno.EMFILE, command.FAILED), (errno.ENOMEM, command.FAILED), (errno.EACCES, command.NO_INPUT)):
+        for number in (errno.EMFILE, errno.ENOMEM, errno.EACCES, errno.ENOENT):
             with unittest.mock.patch.object(subprocess, "Popen", side_effect=OSError(number, os.strerror(number))):
                 for words, data, before in runs:
                     said = f"whatif: {before}{self.program} can't be run: {os.strerror(number)}\n"
-                    self.assertEqual(self.whatif(*words, data=data), (status, b"", said))
+                    self.assertEqual(self.whatif(*words, data=data), (command.FAILED, b"", said))
 
     def test_a_program_that_prints_something_else(self):
         limit, more = ["limit", self.journal, "--participant", "GEN"], TABLE + b"cancel,GEN,UNIT,,,,,\n"
@@ -478,6 +515,24 @@ class Tools(unittest.TestCase):
             self.program = self.script("other", line)
             for words in [*limit, "--all"], [*limit, "--order", "UNIT"], ["change", self.journal, "-"]:
                 self.assertEqual(self.whatif(*words, data=more), (3, b"", f"whatif: {said.format(self.program)}\n"))
+
+    def test_a_program_that_hangs(self):
+        """It's ended, and named; also others of the team, which began later."""
+        late = f"mkdir {self.folder}/first 2> {os.devnull} || sleep 1"
+        hang = self.script("hang", f"{late}; echo $$ >> {self.folder}/pids; exec sleep 600")
+        table, limit = self.file("s.csv", b"scenario,what,participant,order\nA,cancel,GEN,UNIT\n"), ["limit", "--participant", "GEN"]
+        self.assertEqual(engine.RUN_SECONDS, 3_600)
+        for words, begin in (
+            (["scenarios", "--jobs", "2", self.journal, table], "the day as it was: "),
+            ([*limit, "--all", self.journal], ""),
+            ([*limit, "--order", "UNIT", self.journal], ""),
+        ):
+            Path(self.folder, "pids").unlink(missing_ok=True)
+            with unittest.mock.patch.object(engine, "RUN_SECONDS", 3):
+                found = support.tool("whatif", *words, "--program", hang)
+            said = f"whatif: {begin}{hang} took longer than 3 seconds\n"
+            self.assertEqual(found, (command.FAILED, b"", said), words)
+            self.assertTrue(all(map(ends, Path(self.folder, "pids").read_text().split())))
 
     def test_an_interrupt_ends_the_program_too(self):
         support.heed_interrupts(self)
@@ -510,9 +565,7 @@ class Examples(unittest.TestCase):
     """The page, and the section on many days: that the commands work, one after another, and print the quotes."""
 
     def setUp(self):
-        folder = tempfile.TemporaryDirectory()
-        self.addCleanup(folder.cleanup)
-        self.folder = folder.name
+        self.folder = new_folder(self)
         for name, target in (("tools", support.TOOLS), ("examples", support.TOP / "examples"), ("dam", engine.BUILT)):
             Path(self.folder, name).symlink_to(target)
         docs = support.TOP / "docs"

@@ -1,10 +1,12 @@
 """Excel workbooks of strangers: nothing in them is lost, and each fault has its place."""
 
 import csv
+import io
 import tempfile
 import time
 import tracemalloc
 import unittest
+import zipfile
 from pathlib import Path
 from unittest import mock
 
@@ -206,6 +208,24 @@ class Faults(Read):
         for data in (first + last, first[:-2] + len(last).to_bytes(2, "little") + last, b"PK\3\4" + last):
             self.assertEqual(self.fault(data), said)
         self.assertEqual(self.orders(last), [("K1", "")])
+
+    def test_bytes_behind_an_archive(self):
+        """Such as another workbook that was cut: of it no row would be read."""
+        first, last = book(order(2, "K1")), book(order(2, "K1"), order(3, "K2"))
+        said = "line 1: the Excel workbook can't be read: other bytes stand after its archive, such as another workbook"
+        for data in (first + last[:-22], first + b"x", first + b"\n"):
+            self.assertEqual(self.fault(data), said)
+        with_comment = first[:-2] + (4).to_bytes(2, "little") + b"note"
+        self.assertEqual(self.orders(with_comment), [("K1", "")])
+        self.assertEqual(self.fault(with_comment + b"x"), said)
+
+    def test_a_part_twice_with_a_slash(self):
+        """A slash before the name of a part makes no other one of it."""
+        data = io.BytesIO(book(order(2, "K1")))
+        with zipfile.ZipFile(data, "a") as archive:
+            name = next(name for name in archive.namelist() if "worksheets/" in name)
+            archive.writestr(f"/{name}", archive.read(name))
+        self.assertEqual(self.fault(data.getvalue()), f"line 1: the Excel workbook can't be read: two parts are named '/{name}'")
 
     def test_other_archives(self):
         said = "line 1: the Excel workbook can't be read: it isn't an Excel workbook (.xlsx), but another archive"
@@ -462,6 +482,18 @@ class Unlike(unittest.TestCase):
             data = made.of_sheet(made.OPEN.replace(b">group<", b">scenario<"), b"<row r='2'>" + b"<c/>" * 8 + cell.encode() + b"</row>", made.CLOSE)
             with self.assertRaisesRegex(engine.Fault, f"^a table: line 2, column scenario: {said}"):
                 scenarios.read_table("a table", data, Book(24))
+
+    def test_dates_of_both_systems(self):
+        """A workbook may count days from 1904 on. A time of day is the same in both."""
+        formats = '<cellXfs><xf numFmtId="0"/><xf numFmtId="14"/></cellXfs>'
+        styles = {"xl/styles.xml": f'<styleSheet xmlns="{made.MAIN[0]}">{formats}</styleSheet>'.encode()}
+        listed = '<workbook xmlns="{0}" xmlns:r="{1}">{2}<sheets><sheet name="orders" r:id="r1"/></sheets></workbook>'
+        told = {"": 1462, '<workbookPr date1904="0"/>': 1462, '<workbookPr date1904="1"/>': 0, '<workbookPr date1904="true"/>': 0}
+        for words, first in told.items():
+            book = {"xl/workbook.xml": listed.format(made.MAIN[0], made.OFFICE[0], words).encode()}
+            for number, shown in ((first + 1, "1904-01-02"), (first + 44_792.25, "2026-08-20"), (0.75, "18:00")):
+                _, fault = self.read({**styles, **book}, B=f'<c s="1"><v>{number}</v></c>')
+                self.assertIn(f"'{shown}' is a date or a time", fault)
 
 
 class Long(unittest.TestCase):

@@ -79,15 +79,16 @@ class Search:
         return self.best
 
     def descend(self, place, accepted, taken, net, worth, value):
-        """Tries the selections that accept these blocks before a place: `taken` are the groups that they use up, `net` and `worth` the net
+        """Tries the selections that accept these blocks before a place: `taken` are their numbers by group, `net` and `worth` the net
         volumes and welfares of the periods, `value` the welfare that the blocks themselves add."""
         if place == len(self.problem.blocks):
             self.look(accepted, net, worth, value)
             return
         order = self.problem.blocks[place].order
         parent, group = self.problem.parents[place], self.group_of.get(place)
-        if (parent is None or parent in accepted) and group not in taken:
-            groups = taken if group is None else {**taken, group: place}
+        of_group = 0 if group is None else taken.get(group, 0)
+        if (parent is None or parent in accepted) and of_group < rules.MOST_OF_GROUP:
+            groups = taken if group is None else {**taken, group: of_group + 1}
             self.descend(place + 1, accepted | {place}, groups, *self.with_block(order, net, worth, value))
         self.descend(place + 1, accepted, taken, net, worth, value)
 

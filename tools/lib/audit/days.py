@@ -14,6 +14,7 @@ from . import verdict
 from ..runs.engine import Running
 from ..base.progress import Bar
 
+MORE_SECONDS = 600  # that the audit of a day may take besides its search, before it is taken for one that hangs
 TOOL = Path(__file__).resolve().parents[2] / "audit"
 JOURNAL, RESULTS = ".csv", ".txt"
 NAME, COLUMNS = "day", ["journal", "results"]  # the columns of a manifest: the day's name, and those that it needs
@@ -75,7 +76,7 @@ def pair_of(name, journal, published):
 def listed_pairs(path):
     """The pairs of a manifest: a table with the columns `journal` and `results`, whose files are sought from its own folder."""
     try:
-        rows = sheets.text_rows(command.read_bytes(path))[0]
+        rows = sheets.text_rows(command.read_bytes(path))
     except sheets.Wrong as fault:
         raise command.Stop(f"{command.shown(path)} isn't a table of days: {fault}") from None
     heads = [cell.strip().lower() for cell in rows[0][1]] if rows else []
@@ -129,25 +130,37 @@ def file_name(path):
     return "./-" if str(path) == "-" else str(path)
 
 
-def audited(pair, options, running):
+def seconds_of(args):
+    """How long the process of a day may take."""
+    return MORE_SECONDS + (verdict.SECONDS if args.seconds is None else args.seconds) * args.best
+
+
+def audited(pair, options, running, seconds=MORE_SECONDS):
     """The record of the audit of a day, also if the audit fails."""
     if pair.unread is not None:
         return failed(pair, command.NO_INPUT, pair.unread)
     try:
-        return of_process(pair, *ran(pair, options, running))
+        return of_process(pair, *ran(pair, options, running, seconds))
+    except subprocess.TimeoutExpired as fault:
+        return failed(pair, command.FAILED, f"its process didn't end in {fault.timeout:g} seconds")
     except OSError as fault:
         return failed(pair, command.FAILED, f"its process can't be started: {fault.strerror}")
     except Exception as fault:
         return failed(pair, command.FAILED, ending.words(fault))
 
 
-def ran(pair, options, running):
-    """The status of the process of a day, its output and its lines on standard error. Until it ends, it is among the `running`."""
+def ran(pair, options, running, seconds):
+    """The status of the process of a day, its output and its lines on standard error. Until it ends, it is among the `running`; after so many
+    seconds it is ended."""
     files = [file_name(path) for path in (pair.journal, pair.results) if path is not None]
     words = [*command.this_python(), os.fspath(TOOL), "--json", *options, "--", *files]
-    process = subprocess.Popen(words, stdin=subprocess.DEVNULL, stdout=subprocess.PIPE, stderr=subprocess.PIPE)
-    with running.holds(process):
-        out, err = process.communicate()
+    with running.started(words, stdin=subprocess.DEVNULL, stdout=subprocess.PIPE, stderr=subprocess.PIPE) as process:
+        try:
+            out, err = process.communicate(timeout=seconds)
+        except subprocess.TimeoutExpired:
+            process.kill()
+            process.communicate()
+            raise
     return process.returncode, out, err
 
 
@@ -175,10 +188,11 @@ def failed(pair, status, message):
 class Work:
     """The audits of all days, which threads take one by one. `records` has those that are made, in the order of the days."""
 
-    def __init__(self, pairs, options):
-        self.pairs, self.options, self.running = pairs, options, Running()
+    def __init__(self, pairs, options, seconds):
+        self.pairs, self.options, self.seconds, self.running = pairs, options, seconds, Running()
         self.records, self.places = [None] * len(pairs), iter(range(len(pairs)))
         self.lock, self.done = threading.Lock(), threading.Semaphore(0)
+        self.wrong = 0  # how many of the records are of wrong days
 
     def next(self):
         with self.lock:
@@ -188,11 +202,16 @@ class Work:
         """The work of a thread."""
         while (at := self.next()) is not None:
             try:
-                self.records[at] = audited(self.pairs[at], self.options, self.running)
+                self.keep(at, audited(self.pairs[at], self.options, self.running, self.seconds))
             except MemoryError:
                 pass  # it gets its record at the end
             finally:
                 self.done.release()
+
+    def keep(self, at, made):
+        with self.lock:
+            self.records[at] = made
+            self.wrong += made["status"] == command.DIFFERS
 
     def start(self, jobs):
         """Starts threads, or fewer if memory is short, and does the work itself if there is none."""
@@ -211,15 +230,14 @@ class Work:
         self.running.end()
 
 
-def audit_all(pairs, options, jobs, bar):
-    """The records of all days, in their order."""
-    work = Work(pairs, options)
+def audit_all(pairs, options, jobs, bar, seconds=MORE_SECONDS):
+    """The records of all days, in their order; each may take so many seconds."""
+    work = Work(pairs, options, seconds)
     try:
         work.start(jobs)
         for _ in pairs:
             work.done.acquire()
-            wrong = sum(made is not None and made["status"] == command.DIFFERS for made in work.records)
-            bar.step(1, f"{wrong} wrong" if wrong else "")
+            bar.step(1, f"{work.wrong} wrong" if work.wrong else "")
     finally:
         work.end()
         bar.end()
@@ -273,4 +291,4 @@ def audit(args):
     """The records of all days."""
     pairs = pairs_of(args.days)
     jobs = min(args.jobs or os.cpu_count() or 1, len(pairs))
-    return audit_all(pairs, options_of(args), jobs, Bar("audit", len(pairs), "days", args.quiet))
+    return audit_all(pairs, options_of(args), jobs, Bar("audit", len(pairs), "days", args.quiet), seconds_of(args))

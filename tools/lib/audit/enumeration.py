@@ -13,6 +13,7 @@ Only a selection that ranks above the published one is checked for a loss. A sel
 
 All numbers are whole, of 64 bits, which no sum exceeds (`greatest_sum`)."""
 
+import itertools
 import threading
 from concurrent.futures import ThreadPoolExecutor
 
@@ -99,10 +100,13 @@ class Links:
     def __init__(self, problem):
         count = len(problem.blocks)
         bit = [1 << (count - 1 - place) for place in range(count)]
-        # A child's bit needs its parent's, which is higher; two bits of a group don't go together.
+        # A child's bit needs its parent's, which is higher; too many bits of a group don't go together.
         self.needs = [(bit[child], bit[parent]) for child, parent in enumerate(problem.parents) if parent is not None]
+        too_many = rules.MOST_OF_GROUP + 1
         self.apart = [
-            bit[one] | bit[other] for members in problem.groups().values() for one in members for other in members if one < other
+            sum(bit[place] for place in places)
+            for members in problem.groups().values()
+            for places in itertools.combinations(members, too_many)
         ]
 
     def within(self, bits, numbers):
@@ -111,9 +115,9 @@ class Links:
         for child, parent in self.needs:
             if child & bits and parent & bits:
                 admitted &= (numbers & child == 0) | (numbers & parent != 0)
-        for pair in self.apart:
-            if pair & bits == pair:
-                admitted &= numbers & pair != pair
+        for these in self.apart:
+            if these & bits == these:
+                admitted &= numbers & these != these
         return numbers[admitted]
 
     def across(self, low_bits, numbers, high):
@@ -122,9 +126,10 @@ class Links:
         for child, parent in self.needs:
             if child <= low_bits < parent and not high & parent:
                 admitted &= numbers & child == 0
-        for pair in self.apart:
-            if pair > low_bits and pair & low_bits and high & pair:
-                admitted &= numbers & pair == 0
+        for these in self.apart:
+            low = these & low_bits
+            if low and low != these and high & these == these - low:
+                admitted &= numbers & low != low
         return admitted
 
 

@@ -162,7 +162,7 @@ class Model:
             if parent is not None:
                 self.program.row([(self.accepted[place], -1), (self.accepted[parent], 1)], lower=0)
         for members in self.problem.groups().values():
-            self.program.row([(self.accepted[place], 1) for place in members], upper=1)
+            self.program.row([(self.accepted[place], 1) for place in members], upper=rules.MOST_OF_GROUP)
         for one, other in equal_blocks(self.problem):
             self.program.row([(self.accepted[one], 1), (self.accepted[other], -1)], lower=0)
 

@@ -1,15 +1,26 @@
 """How a tool ends if it fails itself, because memory or files run out or it has a defect: with one line on standard error, and a status that
 is no verdict. With DAM_DEBUG=1 in the environment Python's traceback comes before the line.
 
-A tool calls `watch` before it imports anything else of this folder, since an import may fail too."""
+A tool calls `watch` before it imports anything else of this folder, since an import may fail too, and Ctrl-C may come in the midst of it. The
+launcher's call `guard`, for which Python 3.8 is enough.
+From `heed` on, signals are exceptions: so the tool's processes are ended, and its temporary files removed."""
 
+import atexit
+import contextlib
 import os
+import signal
 import sys
+import threading
+import time
 
-from . import place
+from . import place, surroundings
 
 FAILED = 5
-INTERRUPTED = 130  # as shells have it for Ctrl-C
+OF_SIGNALS = 128  # what shells add to the number of a signal that ends a process
+INTERRUPTED = OF_SIGNALS + signal.SIGINT
+ENDING = signal.SIGTERM, signal.SIGHUP  # besides Ctrl-C
+PAUSE = 5  # seconds after such a signal in which others aren't heeded: they would stop the end
+AGAIN = 0.01  # seconds until a signal whose exception was lost is raised again
 
 # The messages of the system's loader, of Python's threads and of code in C if there is no memory for them.
 NO_MEMORY = ("cannot allocate memory", "failed to map segment", "can't start new thread", "can't allocate", "out of memory",
@@ -18,7 +29,18 @@ NO_MEMORY = ("cannot allocate memory", "failed to map segment", "can't start new
 NO_FILES = ("too many open files", "cannot open shared object file: error 24")
 # What a tool has to do before it ends like this: a call that gets the status and the message.
 last_duties = []
-watched = []  # the name of the tool that `watch` was called for
+watched = []  # the name of the tool, once it is guarded
+of_failures = [FAILED]  # the tool's status if it fails
+heeded = []  # when the last signal was heeded
+lost = []  # the exception of a signal, if it was lost
+
+
+class Ended(KeyboardInterrupt):
+    """A signal that ends the tool as Ctrl-C does."""
+
+    def __init__(self, number):
+        super().__init__(number)
+        self.number = number
 
 
 def is_memory(fault):
@@ -41,12 +63,19 @@ def words(fault):
     return f"a defect of this tool, please report it: {type(fault).__name__}: {first} (DAM_DEBUG=1 shows where)"
 
 
+def interrupted(fault):
+    """The status with which Ctrl-C or a signal ends a tool, and the message."""
+    if isinstance(fault, Ended):
+        return OF_SIGNALS + fault.number, f"ended by {signal.Signals(fault.number).name}"
+    return INTERRUPTED, "interrupted"
+
+
 def fail(tool, fault):
     """Ends the process at once."""
-    status, said = FAILED, None
+    status, said = of_failures[0], None
     try:
         if isinstance(fault, KeyboardInterrupt):
-            status, said = INTERRUPTED, "interrupted"
+            status, said = interrupted(fault)
         else:
             said = words(fault)
             if os.environ.get("DAM_DEBUG") == "1":
@@ -66,9 +95,86 @@ def leave(status, said):
 
 
 def watch(tool):
-    """From now on any exception that nothing handles ends the tool in this way. An old Python ends it at once."""
+    """Guards a tool, for which the packages of the system are found. An old Python ends it at once."""
     if sys.version_info < (3, 10):
         os.write(2, f"{tool}: it needs Python 3.10 or newer\n".encode())
         sys.exit(FAILED)
-    watched[:] = [tool]
+    guard(tool)
+    if sys.flags.no_site:  # the packages of the system, which may run code of their own, are left until now
+        import site
+
+        site.main()
+
+
+def guard(tool, failed=FAILED):
+    """From now on any exception that nothing handles ends the tool in this way, with the status `failed`, and Ctrl-C at once, and the tool is
+    apart from the working folder."""
+    watched[:], of_failures[:] = [tool], [failed]
+    surroundings.keep_apart()
     sys.excepthook = lambda _, fault, trace: fail(tool, fault.with_traceback(trace))
+    if signal.getsignal(signal.SIGINT) != signal.SIG_IGN:
+        signal.signal(signal.SIGINT, stop)
+
+
+def stop(*_):
+    """Ctrl-C while modules are imported, of which some would take the exception for a fault of their own."""
+    fail(watched[0], KeyboardInterrupt())
+
+
+def heed():
+    """From now on Ctrl-C and the signals that end a process are exceptions, unless the one that started it ignores them."""
+    if signal.getsignal(signal.SIGINT) == stop:
+        signal.signal(signal.SIGINT, signal.default_int_handler)
+    for number in ENDING:
+        if signal.getsignal(number) == signal.SIG_DFL:
+            signal.signal(number, end)
+    sys.unraisablehook = unraised
+
+
+def unraised(ignored):
+    """Python ignores an exception of a call for an object that goes away. A signal that came in the midst of it is raised again."""
+    if not issubclass(ignored.exc_type, KeyboardInterrupt):
+        sys.__unraisablehook__(ignored)
+        return
+    lost[:] = [ignored.exc_value or KeyboardInterrupt()]
+    atexit.register(signal.setitimer, signal.ITIMER_REAL, 0)
+    signal.signal(signal.SIGALRM, raise_lost)
+    signal.setitimer(signal.ITIMER_REAL, AGAIN)
+
+
+def raise_lost(*_):
+    raise lost[0]
+
+
+def end(number, _):
+    """A signal that ends the tool came."""
+    now = time.monotonic()
+    if not heeded or now - heeded[0] >= PAUSE:
+        heeded[:] = [now]
+        raise Ended(number)
+
+
+def forget():
+    """A copy of this process ends at once by a signal, as the one that made it expects."""
+    for number in ENDING:
+        if signal.getsignal(number) == end:
+            signal.signal(number, signal.SIG_DFL)
+
+
+os.register_at_fork(after_in_child=forget)
+
+
+@contextlib.contextmanager
+def at_once():
+    """In the main thread, the signals besides Ctrl-C end the process at once in this block: a call of a library, which would keep Python from
+    seeing them until it returns, and which leaves no process and no file."""
+    heeding = []
+    if threading.current_thread() is threading.main_thread():
+        heeding = [number for number in ENDING if signal.getsignal(number) == end]
+    for number in heeding:
+        signal.signal(number, signal.SIG_DFL)
+    try:
+        yield
+    finally:
+        for number in heeding:
+            signal.signal(number, end)

@@ -5,7 +5,27 @@ import threading
 import time
 
 
-class Progress:
+class Line:
+    """A line on standard error, which is written over."""
+
+    shown = 0  # columns of the line
+
+    def show(self, line):
+        """Writes over the line that was shown last."""
+        sys.stderr.write(f"\r{line:{self.shown}}")
+        sys.stderr.flush()
+        self.shown = len(line)
+
+    def end(self):
+        """No line is left."""
+        if self.shown:
+            self.show("")
+            sys.stderr.write("\r")
+            sys.stderr.flush()
+            self.shown = 0
+
+
+class Progress(Line):
     """Counts the steps of a run, which several threads may report. It ends the run, at a step, when its time is over or it is
     stopped."""
 
@@ -17,7 +37,6 @@ class Progress:
         self.stopped = False
         self.done = self.steps = 0
         self.lock = threading.Lock()
-        self.shown = 0  # columns of the line
 
     def expect(self, steps):
         """More steps are to come."""
@@ -60,22 +79,13 @@ class Progress:
             if self.told:
                 self.show(f"{self.tool}: {100 * self.done // max(self.steps, 1)} % of all selections, {took:.0f} s")
 
-    def show(self, line):
-        """Writes over the line that was shown last."""
-        sys.stderr.write(f"\r{line:{self.shown}}")
-        sys.stderr.flush()
-        self.shown = len(line)
-
     def end(self):
         """The run is over: no line is left, and its threads end at their next step."""
         self.stopped = True
-        if self.shown:
-            self.show("")
-            sys.stderr.write("\r")
-            sys.stderr.flush()
+        super().end()
 
 
-class Bar:
+class Bar(Line):
     """How far a run of many equal steps is: a line on standard error, if that is a terminal and the run takes longer than a moment."""
 
     MOMENT = 0.5  # seconds before the first line
@@ -86,7 +96,7 @@ class Bar:
         self.tool, self.whole, self.unit = tool, whole, unit
         self.told = not quiet and sys.stderr.isatty()
         self.begun = self.last = time.monotonic()
-        self.done = self.shown = 0
+        self.done = 0
 
     def step(self, steps=1, words=""):
         """So many more steps are done."""
@@ -98,17 +108,3 @@ class Bar:
             bar = "#" * full + "." * (self.WIDTH - full)
             more = f", {words}" if words else ""
             self.show(f"{self.tool}: [{bar}] {self.done:,} of {self.whole:,} {self.unit}{more}, {now - self.begun:.0f} s")
-
-    def show(self, line):
-        """Writes over the line that was shown last."""
-        sys.stderr.write(f"\r{line:{self.shown}}")
-        sys.stderr.flush()
-        self.shown = len(line)
-
-    def end(self):
-        """No line is left."""
-        if self.shown:
-            self.show("")
-            sys.stderr.write("\r")
-            sys.stderr.flush()
-            self.shown = 0

@@ -17,6 +17,7 @@ GREATEST_VOLUME = 99_999  # tenths of a MW, of one order in one period
 LONGEST_PARTICIPANT, LONGEST_NAME = 8, 12  # characters
 
 MOST_HOURLY, MOST_BLOCKS = 4_000, 24  # orders in a book
+MOST_OF_GROUP = 1  # accepted blocks of an exclusive group
 MOST_BYTES, MOST_RECORDS = 16_777_216, 10_001  # of a journal
 MOST_DAY_COMMANDS, MOST_DAY_PARTICIPANTS = 9_999, 8  # of the input of `dam day`
 

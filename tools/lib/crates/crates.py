@@ -1,5 +1,8 @@
 """The list of crates: crates.txt, and the lists of the tests and of the bench that have its form. It runs with Python 3.8."""
 
+import os
+import shutil
+
 
 def listed(text, with_kinds=False):
     """The libraries that each crate of such a list uses, by its name, in the order of the list. A crate that comes twice uses what both
@@ -34,3 +37,11 @@ def all_below(crates, name):
         if library in crates:
             found |= {library} | all_below(crates, library)
     return found
+
+
+def linked(source, target):
+    """Makes a hard link, or a copy if the file system has none. For the files of a built library, which no one changes in place."""
+    try:
+        os.link(source, target)
+    except OSError:
+        shutil.copy2(source, target)

@@ -71,6 +71,17 @@ class Book:
             case Close():
                 self.closed = True
 
+    def put_back(self, key, before):
+        """Gives a participant and name the order that they had before, or None. The order may then have another place in the book's order,
+        on which no reply depends."""
+        for order, count in ((self.rows.pop(key, None), -1), (before, 1)):
+            if order is not None:
+                self.held[order.kind] += count
+                if order.parent:
+                    self.children[key[0], order.parent] += count
+        if before is not None:
+            self.rows[key] = before
+
 
 class Reason(NamedTuple):
     """Why the book refuses a command."""

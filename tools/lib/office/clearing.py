@@ -116,11 +116,13 @@ def guarded(row):
 
 
 def load(files, ledger):
-    """The ledger, with the journal of a day that is published, which has to be that of its head."""
+    """The ledger, with the journal of a day that is published, which has to be that of its head. The files of it are compared whole."""
     try:
-        records = files.read(folder.JOURNAL).decode("ascii").splitlines()[1:]
-        replies = [line.partition(",")[2] for line in files.read(folder.REPLIES).decode("ascii").splitlines()[1:]]
-        ledger.take(records, replies)
+        written, replies = files.read(folder.JOURNAL), files.read(folder.REPLIES)
+        own = [line.partition(",")[2] for line in replies.decode("ascii").splitlines()[1:]]
+        ledger.take(written.decode("ascii").splitlines()[1:], own)
+        if (written, replies) != (ledger.journal_text(), ledger.replies_text()):
+            raise Contradiction("the entries are right, and their files have other bytes")
         head = files.read(folder.HEAD)
     except (FileNotFoundError, ValueError, Contradiction):
         raise Contradiction(f"{folder.JOURNAL}, {folder.REPLIES} or {folder.HEAD} is missing or damaged") from None

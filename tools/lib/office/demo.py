@@ -9,6 +9,7 @@ import webbrowser
 from ..seal import heads
 from ..tool import command
 from . import folder, observed, setup, tokens
+from .gate import Refused
 from .serve import Office, serve
 
 DAY_AFTER = datetime.timedelta(days=1)
@@ -56,7 +57,10 @@ async def enter_orders(gate):
     for who in PARTICIPANTS:
         commands = [found for found in map(heads.command_of, ORDERS) if found.who == who]
         if commands:
-            await gate.submit(who, 1, commands)
+            try:
+                await gate.submit(who, 1, commands)
+            except Refused as fault:
+                raise command.Stop(f"the demo's own orders weren't entered ({fault}): give more --seconds", command.COMMAND_LINE) from None
 
 
 async def run(args, programs):

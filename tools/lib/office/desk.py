@@ -85,11 +85,11 @@ class Desk:
 
     async def opening(self):
         """The lines that the desk prints until it is open."""
-        try:
-            async with async_timeout.timeout(ANSWER_SECONDS):
+        async with async_timeout.timeout(ANSWER_SECONDS):
+            try:
                 data = await self.process.stdout.readuntil(OPENED)
-        except (asyncio.IncompleteReadError, asyncio.LimitOverrunError):
-            raise await self.why() from None
+            except (asyncio.IncompleteReadError, asyncio.LimitOverrunError):
+                raise await self.why() from None
         return data.removesuffix(OPENED).decode("ascii").splitlines()
 
     async def ended(self):

@@ -43,7 +43,22 @@ class Terms(NamedTuple):
 
 def terms_read(data):
     value = json.loads(data)
-    return Terms(**{**value, "closes": datetime.datetime.fromisoformat(value["closes"])})
+    made = Terms(**{**value, "closes": datetime.datetime.fromisoformat(value["closes"])})
+    if not is_name(heads.DAY, made.day) or type(made.periods) is not int or made.periods not in rules.DAYS or made.closes.tzinfo is None:
+        raise ValueError
+    if not isinstance(made.zone, str) or not is_by_participant(made.shares, lambda share: type(share) is int and share >= 0):
+        raise ValueError
+    return made
+
+
+def is_name(form, word):
+    return isinstance(word, str) and form.fullmatch(word) is not None
+
+
+def is_by_participant(value, is_right):
+    """Whether a value that was read has a right value for each participant, by its name."""
+    names = isinstance(value, dict) and all(text.participant(name.encode(errors="replace")) for name in value)
+    return names and all(map(is_right, value.values()))
 
 
 def put(path, data):
@@ -84,7 +99,7 @@ def sound(path, kind):
     """Ends what reads a file of the office with a fault that names it, if it is damaged."""
     try:
         yield
-    except (ValueError, TypeError, KeyError, heads.Wrong):
+    except (ValueError, TypeError, KeyError, RecursionError, heads.Wrong):
         raise command.Stop(f"{command.shown(path)} can't be used: it isn't {kind}") from None
 
 

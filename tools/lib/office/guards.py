@@ -3,6 +3,7 @@
 import asyncio
 import contextlib
 import ipaddress
+import re
 
 from aiohttp import web, web_protocol
 
@@ -15,6 +16,7 @@ MOST_AHEAD = 4  # requests that a connection may send before the answers
 PIECE = 1 << 14  # bytes that are parsed without a look at these limits
 MOST_UNSENT = 1 << 16  # bytes of an answer in pieces that wait to be sent
 MOST_HEAD = 1 << 15  # bytes of a request's head
+HEAD_END = re.compile(rb"\n(?:\n|\r.)", re.DOTALL)  # of its last line, and an empty one; as lax as the parser, to which CR is enough
 MOST_LINE = 1 << 12  # bytes of a line of a head
 MOST_BUCKETS = 10_000
 NETWORK = 64  # bits of an IPv6 address that all addresses of one connection to the network have
@@ -54,15 +56,27 @@ class Buckets:
         return 0
 
 
+def length_of(message):
+    """The number of bytes of a request's body; 0 if it isn't known."""
+    word = message.headers.get("Content-Length", "") if hasattr(message, "headers") else ""
+    return int(word) if word.isascii() and word.isdigit() else 0
+
+
 class Handler(web_protocol.RequestHandler):
     """A connection. A request that can't be read gets a fixed answer, in which nothing of it stands."""
 
-    __slots__ = ("head_bytes", "payload", "is_deaf")
+    __slots__ = ("head_bytes", "head_tail", "payload", "length", "is_deaf")
 
     def __init__(self, *words, **how):
         super().__init__(*words, max_line_size=MOST_LINE, max_field_size=MOST_LINE, **how)
-        self.head_bytes, self.payload = 0, None  # since the last request; the body of that one
+        self.head_bytes, self.head_tail = 0, b""  # of the head that is coming: how many have come, and the last ones
+        self.payload, self.length = None, 0  # the body of the last request, and how many bytes it has
         self.is_deaf = False  # what comes isn't read any more, and the connection ends after its answer
+
+    @property
+    def body_left(self):
+        """How many bytes of the body are still to come."""
+        return max(0, self.length - self.payload.total_bytes) if self.length else 0
 
     def begin(self):
         """A request has come, and is answered from now on."""
@@ -70,30 +84,48 @@ class Handler(web_protocol.RequestHandler):
 
     def data_received(self, data):
         """Parses what has come, in pieces, so that no connection holds up the others for long."""
-        for at in range(0, len(data), PIECE):
+        at = 0
+        while at < len(data):
             if self.is_deaf or self.transport is None or self.transport.is_closing():
                 return
+            piece = self.first_piece(data[at : at + PIECE])
+            at += len(piece)
             try:
-                self.take(data[at : at + PIECE])
+                self.take(piece)
             except Exception:  # a stranger's bytes at which aiohttp fails
                 self._manager.counts.add("connections_malformed_total")
                 self.transport.abort()
 
+    def first_piece(self, data):
+        """The beginning of some bytes up to the end of a body or a head, so that each piece is of one of them alone."""
+        if self.body_left:
+            return data[: self.body_left]
+        known = self.head_tail + data
+        head = known if self.head_tail else known.lstrip(b"\r\n")  # empty lines before a head don't end it
+        end = HEAD_END.search(head)
+        self.head_tail = b"" if end else head[-2:]
+        return data[: len(data) - len(head) + end.end()] if end else data
+
     def take(self, piece):
+        self.head_bytes += 0 if self.body_left else len(piece)
+        if self.head_bytes > MOST_HEAD:  # it isn't parsed: a head that is whole would be answered
+            self.transport.abort()
+            return
         before = self._request_count
         super().data_received(piece)
         count = self._request_count - before  # of requests that have come
         for place in range(len(self._messages) - count, len(self._messages)):
             message, self.payload = self._messages[place]
-            # no route takes a body in chunks, which is dear to read, or another protocol
+            # no route takes a body in chunks, which is dear to read, or another protocol; and a head ends at a known end
             odd = getattr(message, "chunked", False) or getattr(message, "upgrade", False) or getattr(message, "method", "") == "CONNECT"
-            self.is_deaf = self.is_deaf or odd
+            self.is_deaf = self.is_deaf or odd or self.head_tail != b""
+            self.head_bytes, self.length = 0, length_of(message)
             if hasattr(message, "url") and message.url.is_absolute():  # the office has one name: to decode another may take seconds
                 self._messages[place] = message._replace(url=message.url.relative()), self.payload
+        if self.payload is not None and self.payload.is_eof() == (self.body_left > 0):
+            self.is_deaf = True  # an odd header hides the length of the body, and so the start of the next head
         self._message_tail = b""  # what comes after a request for another protocol
-        is_body = self.payload is not None and not self.payload.is_eof()
-        self.head_bytes = 0 if count or is_body else self.head_bytes + len(piece)
-        if len(self._messages) > MOST_AHEAD or self.head_bytes > MOST_HEAD:
+        if len(self._messages) > MOST_AHEAD:
             self.transport.abort()
 
     async def finish_response(self, request, response, began):

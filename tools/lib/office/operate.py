@@ -121,7 +121,7 @@ def why_waiting(day, files):
 
 
 def publish(office, day, files):
-    """Publishes the journal and the replies of a day that has results."""
+    """Publishes the results of all orders, the journal and the replies of a day that has results."""
     if not files.has(folder.RESULTS):
         raise command.Stop(f"{day} has no results yet, and is published after them")
     request(files, folder.OPEN_JOURNAL)

@@ -220,7 +220,8 @@ async def serve(office, host, port, tls=None, behind_proxy=False, demo=None, sta
     runner = guards.Runner(application, office.counts, keepalive_timeout=KEEP_SECONDS)
     days = asyncio.create_task(office.run())
     stopped, listener = asyncio.Event(), None
-    for number in (signal.SIGTERM, signal.SIGINT):
+    is_hung_up = signal.getsignal(signal.SIGHUP) != signal.SIG_IGN  # as nohup has it
+    for number in (signal.SIGTERM, signal.SIGINT, *[signal.SIGHUP] * is_hung_up):
         asyncio.get_running_loop().add_signal_handler(number, stopped.set)
     try:
         await runner.setup()

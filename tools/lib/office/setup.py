@@ -1,5 +1,6 @@
 """Making the folder of an office, its participants and its days."""
 
+import contextlib
 import csv
 import datetime
 import os
@@ -123,7 +124,13 @@ def make_office(office):
 
 
 def make_day(office, terms):
-    """Makes the folder of a day, whole or not at all."""
+    with new_day(office, terms):
+        pass
+
+
+@contextlib.contextmanager
+def new_day(office, terms):
+    """Makes the folder of a day, whole or not at all: it is there once the block has ended."""
     days = office.file(folder.DAYS)
     if (days / terms.day).exists():
         raise command.Stop(f"there is a day {terms.day} already")
@@ -134,6 +141,7 @@ def make_day(office, terms):
         folder.put(files.file(folder.TERMS), folder.as_json(terms.value()))
         for path in (files.file(folder.SALTS), files.file(folder.TERMS), made):
             folder.give(path, office.path)
+        yield
         os.rename(made, days / terms.day)
         folder.sync(days)
     finally:
@@ -149,6 +157,6 @@ def init(office, args):
     given = participants_read(args.participants) if args.participants else dict.fromkeys(register.names())
     terms = terms_of(args, shares_of(given))
     make_office(office)
-    made = register.add(given)
-    make_day(office, terms)
+    with new_day(office, terms):  # a token is made only if it is shown
+        made = register.add(given)
     return terms, made

@@ -7,11 +7,13 @@ import hashlib
 import hmac
 import json
 import os
+import re
 import secrets
 
 from . import folder
 
 BYTES = 32
+DIGEST = re.compile(r"[0-9a-f]{64}")
 NOBODY = hashlib.sha256(secrets.token_bytes(BYTES)).hexdigest()  # of no token that anyone has
 
 
@@ -21,6 +23,14 @@ def made(who):
 
 def digest(token):
     return hashlib.sha256(token.encode(errors="replace")).hexdigest()
+
+
+def digests_read(data):
+    """The digest of each participant's token, or None if it has none."""
+    value = json.loads(data)
+    if not folder.is_by_participant(value, lambda digest: digest is None or folder.is_name(DIGEST, digest)):
+        raise ValueError
+    return value
 
 
 class Register:
@@ -34,7 +44,7 @@ class Register:
         state = found.st_mtime_ns, found.st_ino, found.st_size
         if state != self.seen:
             with folder.sound(self.path, "the digests of the participants' tokens"):
-                self.digests, self.seen = dict(json.loads(self.path.read_bytes())), state
+                self.digests, self.seen = digests_read(self.path.read_bytes()), state
 
     def knows(self, who, token):
         """Whether a token is the participant's. The comparison takes the same time for every token, and for a name that isn't known."""

@@ -69,6 +69,13 @@ RULES = "LEAST_PRICE", "GREATEST_PRICE", "GREATEST_VOLUME", "LONGEST_NAME", "MOS
 OPENAPI = Path(__file__).with_name("openapi.json")
 
 
+def description(is_demo):
+    """The requests of an office or of a demo, as OpenAPI. The file has both; it marks those that only a demo answers."""
+    api = json.loads(OPENAPI.read_text(encoding="utf-8"))
+    api["paths"] = {path: methods for path, methods in api["paths"].items() if is_demo or not methods.get("x-demo")}
+    return json.dumps(api, indent=1) + "\n"
+
+
 def fault(name, words, seconds=None, **more):
     headers = {} if seconds is None else {"Retry-After": str(max(1, round(seconds)))}
     if name == "Token":
@@ -92,7 +99,7 @@ class Web:
         self.guesses = Buckets(GUESSES_A_SECOND, MOST_GUESSES, time.monotonic)
         self.looks = Buckets(LOOKS_A_SECOND, MOST_LOOKS, time.monotonic)
         self.files = {path: (self.page(name), kind) for path, (name, kind) in PARTS.items()}
-        self.files["/openapi.json"] = OPENAPI.read_text(encoding="utf-8"), "application/json"
+        self.files["/openapi.json"] = description(is_demo=bool(demo)), "application/json"
         self.files["/key"] = office.public_key, "application/x-pem-file"
         self.demo = demo
         self.tables = asyncio.Semaphore(TABLES_AT_ONCE)
@@ -103,6 +110,7 @@ class Web:
         known = {"reasons": reasons, "rules": {name.lower(): getattr(rules, name) for name in RULES}}
         made = {name: Markup(json.dumps(value)) for name, value in known.items()}
         made["most_blocks"] = rules.MOST_BLOCKS
+        made["most_of_group"] = "one" if rules.MOST_OF_GROUP == 1 else rules.MOST_OF_GROUP
         return style.style(name) if name.endswith(".css") else style.TEMPLATES.get_template(name).render(**made)
 
     def application(self):

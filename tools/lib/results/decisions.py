@@ -62,7 +62,7 @@ class Judge:
             return Decision(ACCEPTED, self.accepted_why(place), self.accepted_code(place))
         conflict = families.never(self.problem, place)
         if conflict:
-            return Decision(REJECTED, self.never_why(place, *conflict), NEVER)
+            return Decision(REJECTED, self.never_why(place, conflict), NEVER)
         family = families.best_family(self.problem, self.accepted, self.surpluses, place)
         if family is None:
             return Decision(REJECTED, self.unknown_why(place), NO_PRICE)
@@ -125,12 +125,11 @@ class Judge:
             why += f" by itself, and with {self.names(helping)} it {does} {self.eur(abs(together))}"
         return why + (f", and its parent {self.name(parent)} is accepted" if parent is not None else "")
 
-    def never_why(self, place, upper, lower):
-        group = self.problem.blocks[upper].order.group
-        both = f"{self.name(upper)} and {self.name(lower)}, from which it descends, are both"
-        if lower == place:
-            both = f"{self.name(upper)}, from which it descends, and it are both"
-        return f"can never be accepted, because {both} of the group {group}"
+    def never_why(self, place, of_group):
+        group = self.problem.blocks[of_group[0]].order.group
+        above = [self.name(other) for other in of_group if other != place]
+        words = f"{listed(above)}, from which it descends," + (" and it" if place in of_group else "")
+        return f"can never be accepted, because {words} are {'both' if len(of_group) == 2 else 'all'} of the group {group}"
 
     def unknown_why(self, place):
         why = "has a period that doesn't balance, and so has no price"

@@ -4,14 +4,17 @@ A block is accepted only with its ancestors, and its accepted descendants may ma
 judged with those of its ancestors that are rejected, and with the rejected descendants that add most."""
 
 import itertools
+from collections import Counter
 from typing import NamedTuple
+
+from ..base import rules
 
 
 class Family(NamedTuple):
     needed: tuple  # the block and its rejected ancestors, the topmost first
     members: frozenset  # these, and the rejected blocks that descend from them and add most
     gains: dict  # by needed block: its gain at the prices, together with the members that descend from it
-    rivals: tuple  # the accepted blocks of the groups of the needed ones
+    rivals: tuple  # the accepted blocks for which the groups of the needed ones have no room next to these
     removed: frozenset  # the rivals, and the accepted blocks that descend from them
 
     def gain(self):
@@ -36,14 +39,15 @@ def group_of(problem, place):
 
 
 def never(problem, place):
-    """Two blocks of one group of which a block descends or is one, so that it can never be accepted; None if there are none."""
+    """Blocks of one group, too many to be accepted together, from which a block descends or of which it is one, the topmost first. So it
+    can never be accepted. None if there are none."""
     seen = {}
     for member in [place, *ancestors(problem, place)]:
         group = group_of(problem, member)
-        if group in seen:
-            return member, seen[group]
-        if group is not None:
-            seen[group] = member
+        of_group = [member, *seen.get(group, [])]
+        if group is not None and len(of_group) > rules.MOST_OF_GROUP:
+            return of_group
+        seen[group] = of_group
     return None
 
 
@@ -60,22 +64,33 @@ def below(problem, accepted, root):
     return sorted(found)
 
 
-def rivals(problem, accepted, places):
-    groups = {group_of(problem, place) for place in places} - {None}
-    return tuple(place for place in sorted(accepted) if group_of(problem, place) in groups)
+def room(problem, places):
+    """How many more blocks each group of these blocks admits next to them."""
+    counts = Counter(group_of(problem, place) for place in places)
+    return {group: rules.MOST_OF_GROUP - count for group, count in counts.items() if group is not None}
+
+
+def rivals(problem, accepted, places, surpluses):
+    """The accepted blocks that have to go, so that the groups have room for these places: of each group those of least surplus."""
+    found = []
+    for group, left in room(problem, places).items():
+        members = [place for place in sorted(accepted) if group_of(problem, place) == group]
+        by_surplus = sorted(members, key=lambda place: (surpluses[place] is not None, surpluses[place] or 0, -place))
+        found += by_surplus[: max(0, len(members) - left)]
+    return tuple(sorted(found))
 
 
 def admitted(problem, tree, path, staying):
-    """The sets of blocks of a tree that groups admit in addition to the needed ones: in turn each of the choices of one block of
-    each group of which the tree has several."""
-    taken = {group_of(problem, place) for place in [*path, *staying]}
-    free = [place for place in tree if place not in path and group_of(problem, place) not in taken - {None}]
-    groups = {}
-    for place in free:
-        groups.setdefault(group_of(problem, place), []).append(place)
+    """The sets of blocks of a tree that groups admit in addition to the needed ones: in turn each of the choices of as many blocks of
+    each group of the tree as it has room for."""
+    left, groups = room(problem, [*path, *staying]), {}
+    for place in tree:
+        if place not in path:
+            groups.setdefault(group_of(problem, place), []).append(place)
     alone = groups.pop(None, [])
-    for choice in itertools.product(*groups.values()):
-        yield {*path, *alone, *choice}
+    most = {group: min(left.get(group, rules.MOST_OF_GROUP), len(members)) for group, members in groups.items()}
+    for choices in itertools.product(*(itertools.combinations(members, most[group]) for group, members in groups.items())):
+        yield {*path, *alone, *itertools.chain(*choices)}
 
 
 def grown(problem, surpluses, tree, path, allowed):
@@ -98,7 +113,7 @@ def best_family(problem, accepted, surpluses, place):
     path = needed(problem, accepted, place)
     if any(surpluses[member] is None for member in path):
         return None
-    out = rivals(problem, accepted, path)
+    out = rivals(problem, accepted, path, surpluses)
     removed = {other for rival in out for other in [rival, *problem.rescuers[rival]] if other in accepted}
     tree = [member for member in below(problem, accepted, path[0]) if surpluses[member] is not None]
     found = (grown(problem, surpluses, tree, path, allowed) for allowed in admitted(problem, tree, path, accepted - removed))

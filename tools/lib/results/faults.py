@@ -10,7 +10,7 @@ KINDS = {
     "stray": "a line that doesn't belong there",
     "journal": "the results seem to be of another journal, or the journal has none",
     "link": "a block is accepted and its parent isn't",
-    "group": "more than one block of an exclusive group is accepted",
+    "group": "too many blocks of an exclusive group are accepted",
     "loss": "an accepted block loses; or, by the published numbers, an hourly order or a participant does",
     "balance": "no execution balances the accepted blocks in a period",
     "welfare": "the welfare",

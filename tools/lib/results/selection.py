@@ -76,9 +76,9 @@ def link_faults(problem, accepted):
             yield place, "link", f"block {problem.blocks[place]} is accepted and its parent {problem.blocks[parent]} isn't"
     for (who, group), members in problem.groups().items():
         chosen = [place for place in members if place in accepted]
-        if len(chosen) > 1:
+        if len(chosen) > rules.MOST_OF_GROUP:
             names = " ".join(str(problem.blocks[place]) for place in chosen)
-            yield chosen[1], "group", f"group {group} of {who} has {len(chosen)} accepted blocks: {names}"
+            yield chosen[rules.MOST_OF_GROUP], "group", f"group {group} of {who} has {len(chosen)} accepted blocks: {names}"
 
 
 def surplus(order, prices):

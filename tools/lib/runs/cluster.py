@@ -1,5 +1,5 @@
-"""A dask cluster as an executor. If its scheduler or its workers go away, that is a fault after some seconds, and Ctrl-C ends a run at once:
-dask itself would wait for them."""
+"""A dask cluster as an executor. If its scheduler or one of its workers goes away, that is a fault after some seconds, and Ctrl-C ends a run
+at once: dask itself would wait for them."""
 
 import concurrent.futures
 import contextlib
@@ -52,21 +52,24 @@ class Cluster:
             raise Fault(f"{self.name} can't be reached: {words}") from None
 
     def listen(self):
-        """From now on a worker has to report in time."""
-        self.heard = time.monotonic()
+        """From now on each worker has to report in time, and there has to be one."""
+        self.heard, self.had = {}, time.monotonic()
 
     def workers(self):
-        """How many workers the cluster has. A fault if it doesn't answer, or if none of them has reported for long."""
+        """How many workers the cluster has. A fault if it doesn't answer or has none, or if one of them hasn't reported for long: its
+        scenarios would never come."""
         try:
             found = self.client.sync(self.client.scheduler.identity, callback_timeout=SECONDS)["workers"]
         except Exception:
             raise self.lost() from None
         reports = {address: worker["last_seen"] for address, worker in found.items() if worker["status"] == "running"}
-        if not reports.items() <= self.reports.items():
-            self.listen()
-        self.reports = reports
-        if time.monotonic() - self.heard >= SECONDS:
-            raise Lost(f"the workers of {self.name} don't answer any more" if reports else f"{self.name} has no workers")
+        now = time.monotonic()
+        self.heard = {address: self.heard.get(address, now) if self.reports.get(address) == seen else now for address, seen in reports.items()}
+        self.reports, self.had = reports, now if reports else self.had
+        if now - self.had >= SECONDS:
+            raise Lost(f"{self.name} has no workers")
+        if said := hanging(self.heard, now, self.name):
+            raise Lost(said)
         return len(reports)
 
     def lost(self):
@@ -77,6 +80,17 @@ class Cluster:
             return Awaited(self, self.executor.submit(call, *words))
         except Exception:  # of a client that is closed
             raise self.lost() from None
+
+
+def hanging(heard, now, name):
+    """The words on a cluster's workers that haven't reported for long, by when each was heard last: if one was heard lately, on the others. Nothing if
+    it isn't clear yet."""
+    silent = [address for address, last in heard.items() if now - last >= SECONDS]
+    if silent and len(silent) == len(heard):
+        return f"the workers of {name} don't answer any more"
+    if silent and any(now - last < SECONDS / 2 for last in heard.values()):
+        return f"the worker {text.safe(silent[0])} of {name} doesn't answer any more"
+    return None
 
 
 class Awaited:

@@ -31,9 +31,12 @@ WHEELS = place.FOLDER / LIBRARY.name
 MOST_NODES, MOST_ANSWER = 67_108_864, 300_000  # of library/dam.h
 ONE_WORKER = ("clear", "--workers=1", "--cut=0")  # as the library searches: many days share the processors
 RESULTS = re.compile(rb"day,[0-9]+\nwelfare,-?[0-9]+\n")  # the beginning of the results of a day
-LATE, SHORT = "late", "short"  # instead of the status of a run that took too long, or that memory or open files were short for
+LATE, UNSTARTED = "late", "unstarted"  # instead of the status of a run that took too long, or that didn't begin
 FAILURES = (4, 5, 70)  # statuses of `dam` and its launcher that aren't about the journal: see docs/FORMATS.md
 RELAYED = set()  # lines of runs that were passed on
+PIPES = {name: subprocess.PIPE for name in ("stdin", "stdout", "stderr")}  # of a run
+RUN_SECONDS = 3_600  # that a run may take if no timeout is named: of one that hangs, the others would wait for ever
+START_SECONDS = 10  # that programs may take to start, if they are no longer wanted
 AHEAD = 2  # texts for each job that wait for a thread
 MOST_AHEAD = 1_024  # texts that wait for an executor
 
@@ -54,8 +57,8 @@ class TimedOut(Fault):
     """A run of the program that took longer than its timeout."""
 
 
-class Exhausted(Fault):
-    """A run of the program that didn't begin, because memory or open files ran out."""
+class Unstarted(Fault):
+    """A run of the program that didn't begin: it is missing or can't be run, or memory or open files ran out. Or a library like that."""
 
 
 class Lost(Fault):
@@ -145,7 +148,7 @@ def clear_call(path):
     try:
         call = ctypes.CDLL(path).dam_clear_seeded
     except (OSError, AttributeError) as fault:
-        raise Fault(f"the library {path} can't be used: {fault}") from None
+        raise Unstarted(f"the library {path} can't be used: {fault}") from None
     bytes_of = [ctypes.c_char_p, ctypes.c_size_t]
     call.restype, call.argtypes = Answer, [*bytes_of, *bytes_of, ctypes.c_uint32, *bytes_of]
     return call
@@ -164,30 +167,31 @@ buffers = Buffers()
 def called(path, text, nodes=MOST_NODES):
     """The status and the text that the library prints for a text; names are hashed with random bytes. Other threads run in the meantime."""
     secret, buffer = os.urandom(16), buffers.own
-    answer = clear_call(path)(secret, len(secret), text, len(text), nodes, buffer, MOST_ANSWER)
+    with ending.at_once():
+        answer = clear_call(path)(secret, len(secret), text, len(text), nodes, buffer, MOST_ANSWER)
     return answer.status, ctypes.string_at(buffer, min(answer.length, MOST_ANSWER))
 
 
 def program_of(program=None):
     if program == "":
-        raise Fault("a program with an empty name can't be run")
+        raise Unstarted("a program with an empty name can't be run")
     named = program or os.environ.get("DAM")
     found = None if named else built()
     if not named and not found:
-        raise Fault("no program was found: build it, or name it as `program` or in the environment variable DAM")
+        raise Unstarted("no program was found: build it, or name it as `program` or in the environment variable DAM")
     return os.fspath(named or found.path)
 
 
 def ran(words, text, timeout=None, running=None):
     """The status of a run of a program, its output, and its lines on standard error. While it runs, it is among `running`."""
     if not children.are_heeded():
-        raise Fault(f"{words[0]} can't be run: this process ignores SIGCHLD, so it wouldn't see with which status a run ends")
-    try:
-        process = subprocess.Popen(words, stdin=subprocess.PIPE, stdout=subprocess.PIPE, stderr=subprocess.PIPE)
-    except OSError as fault:
-        kind = Exhausted if ending.is_memory(fault) or ending.is_files(fault) else Fault
-        raise kind(f"{words[0]} can't be run: {fault.strerror}") from None
-    with process, running.holds(process) if running else contextlib.nullcontext():
+        raise Unstarted(f"{words[0]} can't be run: this process ignores SIGCHLD, so it wouldn't see with which status a run ends")
+    with contextlib.ExitStack() as ends:
+        try:
+            process = ends.enter_context((running or Running()).started(words, **PIPES))
+        except OSError as fault:
+            raise Unstarted(f"{words[0]} can't be run: {fault.strerror}") from None
+        ends.enter_context(process)
         try:
             out, said = process.communicate(text, timeout=timeout)
         except subprocess.TimeoutExpired:
@@ -241,19 +245,32 @@ class Running:
 
     def __init__(self):
         self.processes, self.is_over = set(), False
+        self.starting, self.changed = 0, threading.Condition()
 
     @contextlib.contextmanager
-    def holds(self, process):
-        self.processes.add(process)
-        if self.is_over:
-            process.kill()
+    def started(self, words, **streams):
+        """A process of these words. None is started any more once the threads are no longer wanted."""
+        with self.changed:
+            if self.is_over:
+                raise Fault(f"{words[0]} isn't run any more")
+            self.starting += 1
         try:
-            yield
+            process = subprocess.Popen(words, **streams)
+            self.processes.add(process)
+        finally:
+            with self.changed:
+                self.starting -= 1
+                self.changed.notify_all()
+        try:
+            yield process
         finally:
             self.processes.discard(process)
 
     def end(self):
-        self.is_over = True
+        """Ends all programs, also those that threads are just starting."""
+        with self.changed:
+            self.is_over = True
+            self.changed.wait_for(lambda: not self.starting, START_SECONDS)
         for process in list(self.processes):
             process.kill()
 
@@ -326,7 +343,7 @@ def team_of(jobs):
 
 def answer(text, program=None, running=None, nodes=MOST_NODES, timeout=None):
     """The output of `dam clear` for a journal's text, as a pair of None and these bytes; or else of the status (0 if there is none, LATE
-    of a run that took too long, SHORT of one that didn't begin) and the words of the fault. By the library if there is one, unless a
+    of a run that took too long, UNSTARTED of one that didn't begin) and the words of the fault. By the library if there is one, unless a
     program is named, or a timeout, which only a run of the program can have. The pair has no type of this package, so that any executor
     can send it."""
     try:
@@ -336,13 +353,13 @@ def answer(text, program=None, running=None, nodes=MOST_NODES, timeout=None):
             said = out
         else:
             words = [program_of(program), *ONE_WORKER, f"--nodes={nodes}"]
-            status, out, said = ran(words, text, timeout, running)
+            status, out, said = ran(words, text, RUN_SECONDS if timeout is None else timeout, running)
             if not status and not has_results(out):
                 return 0, f"{words[0]} printed no results of this journal"
     except TimedOut as fault:
         return LATE, str(fault)
-    except Exhausted as fault:
-        return SHORT, str(fault)
+    except Unstarted as fault:
+        return UNSTARTED, str(fault)
     except Fault as fault:
         return 0, str(fault)
     if not status:
@@ -353,8 +370,8 @@ def answer(text, program=None, running=None, nodes=MOST_NODES, timeout=None):
 def result(answered):
     """The bytes of an answer, or its fault."""
     status, found = answered
-    if status in (LATE, SHORT):
-        return TimedOut(found) if status == LATE else Exhausted(found)
+    if status in (LATE, UNSTARTED):
+        return TimedOut(found) if status == LATE else Unstarted(found)
     return found if status is None else Fault(found, status or None)
 
 

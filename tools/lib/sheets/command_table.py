@@ -18,16 +18,18 @@ class Columns:
 
     def __init__(self, found, needed):
         self.places = {name: at for at, name in reversed(list(enumerate(header_of(found))))}  # the first of each name
-        self.table = order_table.table_of("", found, self.needed([cells for _, cells in found.rows[1:]]), (*needed, WHAT))
+        self.table = order_table.table_of("", found, self.needed(found.rest()), (*needed, WHAT))
         for name in needed:
             if name not in self.places:
                 raise order_table.Wrong(f"line 1: there is no column {name}")
 
     def needed(self, rows):
         """The columns of orders that the commands of the rows need; all of them if there are none."""
-        filled = [cells for cells in rows if any(self.cell(cells, name) for name in (WHAT, *order_table.ORDER))]
-        every = [NEEDED.get(self.cell(cells, WHAT).lower(), order_table.NEEDED) for cells in filled]
-        return {name for names in every for name in names} if every else order_table.NEEDED
+        commands = set()
+        for _, cells in rows:
+            if any(self.cell(cells, name) for name in (WHAT, *order_table.ORDER)):
+                commands.add(self.cell(cells, WHAT).lower())
+        return set().union(*(NEEDED.get(what, order_table.NEEDED) for what in commands)) if commands else order_table.NEEDED
 
     def given(self, cells, name):
         """A cell as the table has it."""
@@ -50,7 +52,7 @@ class Columns:
 
 def header_of(found):
     """The names of a table's columns, by its cells."""
-    return [cell.strip().lower() for cell in found.rows[0][1]]
+    return [cell.strip().lower() for cell in found.header()]
 
 
 def is_command_table(found):
@@ -73,7 +75,7 @@ def read_command(row, what):
     if what == "amend":
         who, name = row.read("participant", order_table.read_participant), row.read("order", order_table.read_name)
         price = row.read("price_eur_mwh", lambda cell: order_table.read_price(cell, row.decimal_comma))
-        numbers = row.read("periods", lambda cell: order_table.read_periods(cell, row.periods))
+        numbers = row.read("periods", lambda cell: order_table.kept_periods(cell, row.periods))
         volumes = row.read(
             "volume_mw", lambda cell: order_table.read_volumes(cell, numbers or row.many(cell), row.decimal_comma)
         )

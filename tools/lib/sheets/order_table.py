@@ -2,6 +2,8 @@
 column."""
 
 import difflib
+import functools
+import itertools
 import re
 from fractions import Fraction
 from typing import NamedTuple
@@ -20,6 +22,7 @@ WHAT = "what"
 COMMANDS_ALONE = ("amend", "cancel", "close")
 MOST_ERRORS = 20
 MOST_ROWS = rules.MOST_RECORDS - 1  # after the first one: as many as a journal has commands
+MOST_KEPT = 2**12  # cells whose values are kept, since those of a table are often alike
 ALIKE = 0.75  # a column whose name is at least so similar to one that is missing is probably meant to be that
 TIMES = re.compile(r"([0-9]{1,2}:[0-9]{2})-([0-9]{1,2}:[0-9]{2})")
 TIME = re.compile(r"([0-9]{1,2}):([0-5][0-9])")
@@ -87,6 +90,7 @@ def refuse_unlike(cell, is_name):
         raise Wrong(unlike(cell))
 
 
+@functools.lru_cache(MOST_KEPT)
 def scaled(cell, factor, least, greatest, unit, decimal_comma):
     """A decimal number times a factor, which must be whole and in a range. Further digits are refused even if they are zeros: 2.000 may be
     meant for two thousand."""
@@ -100,7 +104,7 @@ def scaled(cell, factor, least, greatest, unit, decimal_comma):
     if len(rest or "") > digits:
         hint = ": write thousands without a separator" if len(rest) == 3 else ""
         raise Wrong(f"{text.quoted(cell)} has more than {digits} digit{'s' * (digits > 1)} after the decimal point{hint}")
-    value = Fraction(f"{whole}.{rest or 0}") * factor * (-1 if sign else 1)
+    value = int(f"{sign}{whole}{(rest or '').ljust(digits, '0')}")
     if not least <= value <= greatest:
         ends = [text.fixed(Fraction(end) / factor, digits) for end in (least, greatest)]
         raise Wrong(f"{text.quoted(cell)} should be from {ends[0]} to {ends[1]} {unit}")
@@ -136,6 +140,12 @@ def read_periods(cell, periods):
         late = next(number for number in numbers if number > periods)
         raise Wrong(f"the day has periods 1 to {periods}, so there is no period {late} (PeriodOutOfDay)")
     return numbers
+
+
+@functools.lru_cache(MOST_KEPT)
+def kept_periods(cell, periods):
+    """The same, kept for other cells."""
+    return tuple(read_periods(cell, periods))
 
 
 def refuse_many(found, cell):
@@ -179,7 +189,7 @@ def refuse_thousands(cell):
     """Refuses a list with a part that may be one number, with spaces as separators of thousands, or several numbers."""
     for part in cell.split(";"):
         numbers = part.split()
-        found = GROUPED.fullmatch(" ".join(numbers))
+        found = GROUPED.fullmatch(" ".join(numbers)) if len(numbers) > 1 else None
         if found and found[2] == " ":
             either = f"write {''.join(numbers)} or {';'.join(numbers)}"
             raise Wrong(f"{text.quoted(part.strip())} may be one number or {len(numbers)}: {either}")
@@ -209,6 +219,7 @@ def read_word(*words):
 def read_field(name):
     """A name, as a field of a journal; for one that breaks its rule the message says the right form."""
 
+    @functools.lru_cache(MOST_KEPT)
     def read(cell):
         found, wrong = fields.read(name, cell)
         if wrong:
@@ -275,7 +286,7 @@ class Row:
         kind = self.read("kind", read_word("hour", "block"))
         side = self.read("side", read_word("buy", "sell"))
         price = self.read("price_eur_mwh", lambda cell: read_price(cell, self.decimal_comma))
-        numbers = self.read("periods", lambda cell: read_periods(cell, self.periods))
+        numbers = self.read("periods", lambda cell: kept_periods(cell, self.periods))
         if kind == "hour" and numbers and len(numbers) != 1:
             self.wrong.append(f"column periods: an hourly order has one period, not {len(numbers)}")
         volumes = self.read("volume_mw", lambda cell: read_volumes(cell, numbers or self.many(cell), self.decimal_comma))
@@ -320,11 +331,21 @@ class Entered:
         return f"{parent} {where} is an hourly order, not a block (ParentNotBlock)" if kind == "hour" else None
 
 
+class Below:
+    """The rows of a table below its header, without those that repeat it."""
+
+    def __init__(self, found):
+        self.found, self.header = found, found.header()
+
+    def __iter__(self):
+        return (row for row in self.found.rest() if row[1] != self.header)
+
+
 class Table(NamedTuple):
     """A table of orders: its name in messages, its rows with their lines, where its columns stand, and how many its header has."""
 
     name: str
-    rows: list
+    rows: Below
     places: dict
     width: int
     decimal_comma: bool
@@ -348,55 +369,71 @@ class Cells(NamedTuple):
     """The cells of a table: its rows that aren't empty, each with the number of its first line; whether a comma may be the decimal point;
     and notes on what was read of the file."""
 
-    rows: list
+    rows: object  # of a long text they are read again whenever they are gone through
     decimal_comma: bool
     read: list
 
+    def header(self):
+        return next(iter(self.rows))[1]
 
-def cells_of(data, most=MOST_ROWS):
-    """The cells of a table of `most` rows after its first one; None allows any number."""
+    def rest(self):
+        """The rows after the first one."""
+        return itertools.islice(self.rows, 1, None)
+
+
+def cells_of(data, most=MOST_ROWS, is_long=False):
+    """The cells of a table of `most` rows after its first one. Those of a text that may be long aren't kept."""
     kind, read = kinds.kind_of(data), []
     if kind in (kinds.JOURNAL, kinds.DAY):
         raise Wrong("this seems to be a journal already")
     if kind in kinds.FILES - {kinds.EXCEL}:
         raise Wrong(f"this is {kind}: {kinds.ADVICE[kind]}")
     try:
-        rows, decimal_comma = sheets.rows_of(data, NEEDED, read, most)
+        rows, decimal_comma = sheets.rows_of(data, NEEDED, read, most, is_long)
+        if isinstance(rows, list):
+            rows = [(number, cells) for number, cells in ((number, sheets.trimmed(cells)) for number, cells in rows) if cells]
+        count = refuse_many_rows(rows, most)
     except sheets.Wrong as fault:
         raise Wrong(str(fault)) from None
-    rows = [(number, cells) for number, cells in ((number, sheets.trimmed(cells)) for number, cells in rows) if cells]
-    if not rows:
+    if not count:
         raise Wrong(f"the table is empty: its first line should name the columns {', '.join(ORDER)}")
-    if most is not None and len(rows) > most + 1:
-        raise Wrong(f"line {rows[most + 1][0]}: a table has at most {most:,} rows after its first")
     return Cells(rows, decimal_comma, read)
+
+
+def refuse_many_rows(rows, most):
+    """How many rows there are, if they aren't too many."""
+    count = 0
+    for number, _ in rows:
+        count += 1
+        if count > most + 1:
+            raise Wrong(f"line {number}: a table has at most {most:,} rows after its first")
+    return count
 
 
 def table_of(name, found, needed=NEEDED, further=()):
     """A table of orders by its cells, of which the header has been read; or one that needs other columns, and has further ones."""
-    rows, decimal_comma, read = found
-    header = rows[0][1]
+    header, read = found.header(), found.read
     if WHAT not in further:
-        refuse_commands(header, rows[1:])
+        refuse_commands(header, found.rest())
     try:
         places, notes = columns_of(header, needed, further)
-        refuse_unnamed(header, rows[1:])
+        refuse_unnamed(header, found.rest())
     except Wrong as fault:
         raise Wrong("\n".join([str(fault), *read])) from None
     notes = [*read, *notes]
-    again = [number for number, cells in rows[1:] if cells == header]
+    again = [number for number, cells in found.rest() if cells == header]
     if again:
         notes.append(f"line {', '.join(map(str, again))} names the columns once more")
-    rows = [(number, cells) for number, cells in rows[1:] if cells != header]
-    return Table(name, rows, places, len(header), decimal_comma, notes, read)
+    return Table(name, Below(found), places, len(header), found.decimal_comma, notes, read)
 
 
 def refuse_unnamed(header, rows):
     """Refuses a table with a cell below an empty heading, which may be one that orders have: of each such column the first cell."""
-    first = {}
-    for line, cells in rows:
-        for at, (heading, cell) in enumerate(zip(header, cells), 1):
-            if cell.strip() and not heading.strip() and at not in first:
+    first, unnamed = {}, [at for at, heading in enumerate(header, 1) if not heading.strip()]
+    for line, cells in rows if unnamed else []:
+        for at in unnamed:
+            cell = cells[at - 1] if at <= len(cells) else ""
+            if cell.strip() and at not in first:
                 first[at] = f"line {line}, column {at}: {text.quoted(cell.strip())} is in a column without a name: write one, or remove it"
     if first:
         raise Wrong("\n".join(first.values()))

@@ -29,14 +29,15 @@ def is_workbook(data):
     return data.startswith(XLSX)
 
 
-def rows_of(data, needed=(), notes=None, most=None):
+def rows_of(data, needed=(), notes=None, most=None, is_long=False):
     """The rows of a table, each with the number of its first line; and whether a comma may be the decimal point. A text is separated by
     commas, semicolons or tabs, whichever its first line has most of. Of a workbook it is the sheet `orders`, or else the first that has the
     needed columns. It isn't read further if it has more than `most` rows after its first one. Notes say which sheet was read, and that a
-    text isn't in UTF-8."""
+    text isn't in UTF-8. The rows of a text that may be long aren't kept."""
     notes = [] if notes is None else notes
     if not is_workbook(data):
-        return text_rows(data, notes, most)
+        text = Text(data, notes, most, MANY if is_long or most is None else 1)
+        return text if is_long else list(text), text.has_decimal_comma
     try:
         rows, note = workbooks.rows_of(data, PREFERRED, needed, most)
     except workbooks.Wrong as fault:
@@ -107,11 +108,12 @@ class Count:
     def add(self, line, cells):
         if len(cells) > workbooks.LAST_COLUMN:
             raise Wrong(f"line {line}: a row has at most {workbooks.LAST_COLUMN} cells")
-        for column, cell in enumerate(cells, 1):
+        whole = "".join(cells)
+        for column, cell in enumerate(cells if len(whole) > workbooks.LONGEST_CELL else [], 1):
             if len(cell) > workbooks.LONGEST_CELL:
                 raise Wrong(f"line {line}, column {column}: it has more than {workbooks.LONGEST_CELL:,} characters")
         self.cells += len(cells)
-        self.size += sum(map(workbooks.size_of, cells))
+        self.size += len(whole) if whole.isascii() else sum(map(workbooks.size_of, cells))
         for count, most, things in (
             (self.cells, self.most_cells, "cells"),
             (self.size, self.most_text, "bytes of text"),
@@ -128,24 +130,41 @@ def trimmed(cells):
     return cells[:count]
 
 
-def text_rows(data, notes=None, most=None):
-    """The rows of a text that aren't empty, in bounded memory and time: if they have more than `most` after the first, only one more."""
-    encoding = encoding_of(data, [] if notes is None else notes)
-    file = io.TextIOWrapper(io.BytesIO(data), encoding, "replace" if encoding == "utf-16" else "strict", newline="")
-    delimiter = max(",;\t", key=file.readline(LONGEST_ROW).count)
-    file.seek(0)
-    lines, rows, count = Lines(file, delimiter), [], Count(MANY if most is None else 1)
-    try:
-        for cells in csv.reader(lines, delimiter=delimiter, strict=True):
-            if cells := trimmed(cells):
-                count.add(lines.number, cells)
-                rows.append((lines.number, cells))
-            lines.line = ""
-            if most is not None and len(rows) > most + 1:
-                break
-    except csv.Error as fault:
-        raise Wrong(f"line {lines.number}: the table can't be read: {fault}") from None
-    return rows, delimiter != ","
+class Text:
+    """The rows of a text that aren't empty, each with its number, in bounded memory and time: if they have more than `most` after the first,
+    only one more. Whoever goes through them reads the text once more."""
+
+    def __init__(self, data, notes, most, times):
+        """`times`: how many times the cells and the text of a workbook it may have."""
+        self.data, self.most, self.times = data, most, times
+        self.encoding = encoding_of(data, notes)
+        self.delimiter = max(",;\t", key=self.file().readline(LONGEST_ROW).count)
+        self.has_decimal_comma = self.delimiter != ","
+        self.is_counted = False  # once it was read to its end, it keeps to the limits
+
+    def file(self):
+        return io.TextIOWrapper(io.BytesIO(self.data), self.encoding, "replace" if self.encoding == "utf-16" else "strict", newline="")
+
+    def __iter__(self):
+        lines, found, count = Lines(self.file(), self.delimiter), 0, Count(self.times)
+        try:
+            for cells in csv.reader(lines, delimiter=self.delimiter, strict=True):
+                if cells := trimmed(cells):
+                    if not self.is_counted:
+                        count.add(lines.number, cells)
+                    found += 1
+                    yield lines.number, cells
+                lines.line = ""
+                if self.most is not None and found > self.most + 1:
+                    return
+        except csv.Error as fault:
+            raise Wrong(f"line {lines.number}: the table can't be read: {fault}") from None
+        self.is_counted = True
+
+
+def text_rows(data):
+    """The rows of a text that aren't empty."""
+    return list(Text(data, [], None, MANY))
 
 
 def written(rows, decimal_comma=False):

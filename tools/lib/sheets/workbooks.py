@@ -37,6 +37,7 @@ CHUNK = 65_536
 LAST_ROW, LAST_COLUMN, LONGEST_CELL = 2**20, 2**14, 32_767
 
 DIRECTORY = b"PK\x01\x02"  # begins the entry of a file in the directory of a zip archive
+END, END_SIZE = b"PK\x05\x06", 22  # begins the end of the archive, which a comment may follow; its bytes
 PACKAGING = ("http://schemas.openxmlformats.org/package/2006/relationships",)
 SPREADSHEET = ("http://schemas.openxmlformats.org/spreadsheetml/2006/main", "http://purl.oclc.org/ooxml/spreadsheetml/main")
 RELATION = (
@@ -186,6 +187,8 @@ class Package:
         files = self.archive.infolist()
         if files and min(info.header_offset for info in files):
             raise broken("other bytes stand before its archive, such as another workbook")
+        if not data.startswith(END, len(data) - len(self.archive.comment) - END_SIZE):
+            raise broken("other bytes stand after its archive, such as another workbook")
         for info in files:
             if self.parts.setdefault(key(info.filename), info) is not info:
                 raise broken(f"two parts are named {text.quoted(info.filename)}")
@@ -220,7 +223,7 @@ class Package:
 
 def key(name):
     """The name of a part, as it is looked up."""
-    return name.replace("\\", "/").lower()
+    return name.replace("\\", "/").lstrip("/").lower()
 
 
 def unzipped(call):

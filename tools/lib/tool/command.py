@@ -24,6 +24,7 @@ DEBIAN_PYTHON = "/usr/bin/python3"
 ISOLATED = [DEBIAN_PYTHON, "-I"]  # from the environment and the working folder
 LONGEST_PATH = 400  # characters of the name of a file in a message
 MOST_BYTES, PART = 64 << 20, 1 << 20  # of a file that a tool reads, and of those how many at once
+NAMED_BY_OUT = ": name it by --out to replace it"
 SEE_AUDIT = place.as_here("see tools/audit")
 # Debian's packages; tests/packages lists them all.
 PACKAGES = {
@@ -54,9 +55,10 @@ class Stop(Exception):
 
 
 def run(name, main):
-    """Runs a tool's `main`, and ends with its status. A fault, or Ctrl-C, is one line on standard error."""
+    """Runs a tool's `main`, and ends with its status. A fault, Ctrl-C or another signal is one line on standard error."""
     hold_streams()
     children.heed()
+    ending.heed()
     try:
         sys.exit(main())
     except BrokenPipeError:
@@ -75,7 +77,7 @@ def end_of(fault):
     if isinstance(fault, Stop):
         return fault.status, str(fault)
     if isinstance(fault, KeyboardInterrupt):
-        return INTERRUPTED, "interrupted"
+        return ending.interrupted(fault)
     if isinstance(fault, OSError) and not ending.is_memory(fault) and not ending.is_files(fault):
         where = "a device failed" if fault.filename is None else f"{shown(os.fsdecode(fault.filename))} can't be used"
         return NO_INPUT, f"{where}: {fault.strerror}"
@@ -143,7 +145,7 @@ class Parser(argparse.ArgumentParser):
         return super()._get_value(action, word)
 
     def error(self, message):
-        super().error(on_lines(message))
+        super().error(text.escaped(message))
 
     def print_help(self, file=None):
         write_output(self.format_help().encode())
@@ -252,10 +254,10 @@ def is_same(path, other):
         return False
 
 
-def refuse_to_replace(path):
-    """Ends the tool if there is a file that somebody may have filled in."""
+def refuse_to_replace(path, advice):
+    """Ends the tool if there is a file that nobody asked to replace."""
     if os.path.lexists(path):
-        raise Stop(f"{shown(path)} is there already, and may have been filled in: write to another file", COMMAND_LINE)
+        raise Stop(f"{shown(path)} is there already{advice}", COMMAND_LINE)
 
 
 def refuse_inputs(path, *inputs):
@@ -383,7 +385,7 @@ def elsewhere(*modules):
 def python_with(*modules):
     """Starts the tool again with Debian's Python, if that has the modules and this one lacks some."""
     if not all(map(has, modules)) and elsewhere(*modules):
-        os.execv(DEBIAN_PYTHON, [*ISOLATED, sys.modules["__main__"].__file__, *sys.argv[1:]])
+        os.execv(DEBIAN_PYTHON, [*ISOLATED, "-S", sys.modules["__main__"].__file__, *sys.argv[1:]])
 
 
 def has_zone(name):

@@ -109,8 +109,12 @@ def entered(held, commands):
     """A book with further commands, each with where it stands; the book itself stays as it is. A command that it refuses is a fault."""
     after = held.copy()
     for place, command in commands:
-        reason = after.apply(command)
-        if reason:
-            remedy = "; amend it, or use another name" if reason == "NameTaken" else ""
-            raise Fault(f"{place}: the book refuses {journal.command_line(command)}: {book.REASONS[reason].words} ({reason}){remedy}")
+        enter(after, place, command)
     return after
+
+
+def enter(held, place, command):
+    """Enters a command that stands at a place. If the book refuses it, that is a fault."""
+    if reason := held.apply(command):
+        remedy = "; amend it, or use another name" if reason == "NameTaken" else ""
+        raise Fault(f"{place}: the book refuses {journal.command_line(command)}: {book.REASONS[reason].words} ({reason}){remedy}")

@@ -15,6 +15,7 @@ from ..sheets.command_table import Columns
 from ..runs.engine import Fault
 
 SCENARIO = "scenario"
+MOST_ROWS = 50_000  # of a table, after the first one: a longer one can be parted, since no scenario depends on another
 # What is said of a block over all scenarios. For each part of its surpluses, in per cent, there is one more column.
 BLOCK = ["participant", "order", "price_eur_mwh", "scenarios", "accepted", "share", "mean_eur"]
 PARTS = [5, 25, 50, 75, 95]
@@ -27,18 +28,17 @@ class Scenario(NamedTuple):
 
 
 class Listed(NamedTuple):
-    """A scenario of a table. Of its book only the commands are kept, each with where it stands."""
+    """A scenario of a table."""
 
     name: str
-    held: object  # the book of the day
-    commands: list
+    book: object  # of the day, with the scenario's commands
 
     def rows(self):
-        return changes.entered(self.held, self.commands).rows
+        return self.book.rows
 
     @property
     def text(self):
-        return book_text(self.rows(), self.held.periods)
+        return book_text(self.book.rows, self.book.periods)
 
 
 class Sampler:
@@ -98,48 +98,91 @@ class Sampler:
             yield Scenario(str(number), self.text(number), functools.partial(self.rows, number))
 
 
-def read_table(name, data, held):
-    """The scenarios of a table: each is the book with the commands of its lines, which stand together. An error is a fault."""
-    try:
-        columns = Columns(order_table.cells_of(data, None), (SCENARIO,))
-    except order_table.Wrong as fault:
-        raise Fault(f"{name}: {changes.in_few_lines(fault)}") from None
-    lines = [(line, columns.cell(cells, SCENARIO), cells) for line, cells in columns.table.rows]
-    seen, found = {}, []
-    for scenario, rows in itertools.groupby(lines, lambda each: each[1]):
-        rows = list(rows)
-        first = rows[0][0]
+class Table:
+    """The scenarios of a table: each is the book with the commands of its lines, which stand together. None is kept: whoever goes through them
+    reads the table once more. An error of the table is a fault."""
+
+    def __init__(self, name, data, held):
+        self.name, self.held = name, held
         try:
-            for line, _, cells in rows:
-                order_table.refuse_unlike(columns.given(cells, SCENARIO), True)
+            self.columns = Columns(order_table.cells_of(data, MOST_ROWS, is_long=True), (SCENARIO,))
         except order_table.Wrong as fault:
-            raise Fault(f"{name}: line {line}, column {SCENARIO}: {fault}") from None
-        if not scenario:
-            raise Fault(f"{name}: line {first}, column {SCENARIO}: it should name the scenario")
-        if scenario in seen:
-            words = f"line {first}: there is a scenario {text.quoted(scenario)} in line {seen[scenario]}"
-            raise Fault(f"{name}: {words}: the lines of a scenario stand together, and no two have one name")
-        seen[scenario] = first
-        found.append(Listed(scenario, held, commands_of(name, columns, rows, held)))
-    if not found:
-        raise Fault(f"{name}: it has no scenarios")
-    return found, columns.table.notes
+            raise Fault(f"{name}: {changes.in_few_lines(fault)}") from None
+        self.count = self.checked()
 
+    def __len__(self):
+        return self.count
 
-def commands_of(name, columns, rows, held):
-    """The commands of the lines of a scenario, which the book takes."""
-    found = []
-    for line, _, cells in rows:
-        command, faults = columns.read(cells, held.periods)
+    def __iter__(self):
+        return (Listed(scenario, self.book_of(rows)) for scenario, rows in self.parts())
+
+    def parts(self):
+        """The name of each scenario, with its rows."""
+        lines = ((line, self.columns.cell(cells, SCENARIO), cells) for line, cells in self.columns.table.rows)
+        return itertools.groupby(lines, lambda each: each[1])
+
+    def checked(self):
+        """The number of the scenarios, which are right. They are tried out in one book, since a copy for each would take long."""
+        seen, trial = {}, self.held.copy()
+        for scenario, rows in self.parts():
+            first = next(rows)
+            if not scenario:
+                raise Fault(f"{self.name}: line {first[0]}, column {SCENARIO}: it should name the scenario")
+            if scenario in seen:
+                words = f"line {first[0]}: there is a scenario {text.quoted(scenario)} in line {seen[scenario]}"
+                raise Fault(f"{self.name}: {words}: the lines of a scenario stand together, and no two have one name")
+            seen[scenario] = first[0]
+            self.try_out(trial, itertools.chain([first], rows))
+        if not seen:
+            raise Fault(f"{self.name}: it has no scenarios")
+        return len(seen)
+
+    def book_of(self, rows):
+        """The book of the day with the commands of the lines of a scenario, which it takes."""
+        after = self.held
+        for line, command in self.commands_of(rows):
+            after = self.held.copy() if after is self.held else after
+            self.enter(after, line, command)
+        return after
+
+    def try_out(self, trial, rows):
+        """Enters the commands of the lines of a scenario, and takes them back."""
+        before = {}
+        for line, command in self.commands_of(rows):
+            before.setdefault((command.who, command.name), trial.order(command))
+            self.enter(trial, line, command)
+        for key, order in before.items():
+            trial.put_back(key, order)
+
+    def commands_of(self, rows):
+        """The commands of lines, each with its line."""
+        for line, _, cells in rows:
+            if (command := self.command_of(line, cells)) is not None:
+                yield line, command
+
+    def enter(self, held, line, command):
+        try:
+            changes.enter(held, f"line {line}", command)
+        except Fault as fault:
+            raise Fault(f"{self.name}: {fault}") from None
+
+    def command_of(self, line, cells):
+        """The command of a line; None if it has none."""
+        try:
+            order_table.refuse_unlike(self.columns.given(cells, SCENARIO), True)
+        except order_table.Wrong as fault:
+            raise Fault(f"{self.name}: line {line}, column {SCENARIO}: {fault}") from None
+        command, faults = self.columns.read(cells, self.held.periods)
         if faults:
             wrong = "\n".join(order_table.of_line(line, words) for words in faults)
-            raise Fault(f"{name}: {changes.in_few_lines(wrong)}")
-        found += [(f"line {line}", command)] if command else []
-    try:
-        changes.entered(held, found)
-    except Fault as fault:
-        raise Fault(f"{name}: {fault}") from None
-    return found
+            raise Fault(f"{self.name}: {changes.in_few_lines(wrong)}")
+        return command
+
+
+def read_table(name, data, held):
+    """The scenarios of a table, and notes on it."""
+    made = Table(name, data, held)
+    return made, made.columns.table.notes
 
 
 def welfare(scenario, before, after, _):

@@ -93,7 +93,8 @@ def main(description, epilog):
 
 
 def status_of(fault):
-    return command.FAILED if isinstance(fault, engine.Exhausted) or fault.is_failure() else command.NO_INPUT
+    is_failure = isinstance(fault, (engine.Unstarted, engine.TimedOut)) or fault.is_failure()
+    return command.FAILED if is_failure else command.NO_INPUT
 
 
 def check_program(args):
@@ -195,8 +196,9 @@ def sampled(args, held, key):
     if len(grid) > MOST_LIMITS:
         raise command.Stop(f"{len(grid):,} limits are too many: give a larger --step", command.COMMAND_LINE)
     texts = [search.text(cents) for cents in grid]
-    for cents, printed in zip(grid, engine.with_bar(engine.answers(texts, args.jobs, program=args.program), len(grid), "limit")):
-        search.keep(cents, printed)
+    with contextlib.closing(engine.answers(texts, args.jobs, program=args.program)) as answers:
+        for cents, printed in zip(grid, engine.with_bar(answers, len(grid), "limit")):
+            search.keep(cents, printed)
     rows = [["limit_eur_mwh", "executed_mw", "price_eur_mwh", "surplus_eur", "welfare_eur"]]
     for cents in grid:
         day = search.at(cents)
@@ -385,9 +387,10 @@ def scenario_rows(args, held, given, count, over):
 
     if over is None:
         yield ["scenario", *heads]
-    with executor_of(args) as (executor, call):
+    with contextlib.ExitStack() as ends:
+        executor, call = ends.enter_context(executor_of(args))
         program = args.program if args.cluster is None else None
-        answers = engine.answers(texts(), args.jobs, executor, program, call)
+        answers = ends.enter_context(contextlib.closing(engine.answers(texts(), args.jobs, executor, program, call)))
         before = day_of("the day as it was", held.rows, held.periods, next(answers))
         for printed in engine.with_bar(answers, count, "scenario", args.quiet):
             scenario = waiting.popleft()

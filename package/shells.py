@@ -1,0 +1,122 @@
+"""The completions of `dam` for bash, zsh and fish, made of its help. Those of `dam-desk` are files of `package/completions/`."""
+
+import re
+from typing import NamedTuple
+
+COMMANDS = re.compile(r"^Commands:\n((?: .*\n)+)", re.MULTILINE)
+COMMAND = re.compile(r"^  (\w+) +(.*)$", re.MULTILINE)
+OPTION = re.compile(r"^ +(?:-(\w), )?--(\w+)(?: <(\w+)>)? +(.*?)(?: \[default: .*\])?$", re.MULTILINE)
+# Where each shell finds the completions of a command.
+PLACES = {
+    "bash": "share/bash-completion/completions/{}",
+    "zsh": "share/zsh/vendor-completions/_{}",
+    "fish": "share/fish/vendor_completions.d/{}.fish",
+}
+
+BASH = """\
+# Completions for bash: the commands and options of dam.
+_dam() {{
+    local word=${{COMP_WORDS[COMP_CWORD]}} words=
+    COMPREPLY=()
+    if [ "$COMP_CWORD" -eq 1 ]; then
+        words='{words}'
+    else
+        case ${{COMP_WORDS[1]}} in
+{cases}
+        esac
+    fi
+    COMPREPLY=($(compgen -W "$words" -- "$word"))
+}}
+# after `<`, bash completes the name of a file by itself
+complete -F _dam -o bashdefault -o default dam
+"""
+ZSH = """\
+#compdef dam
+# Completions for zsh: the commands and options of dam.
+local -a commands=(
+{commands}
+)
+_arguments -C \\
+{options} \\
+    '1:command:{{_describe command commands}}' \\
+    '*::option:->options'
+if [[ $state = options ]]; then
+    case $words[1] in
+{cases}
+    esac
+fi
+"""
+
+
+class Option(NamedTuple):
+    short: str  # a letter, or nothing
+    name: str
+    number: str  # the letter of its number, or nothing
+    about: str
+
+
+def commands(text):
+    """The commands of the help of `dam`, each with what it does."""
+    return dict(COMMAND.findall(COMMANDS.search(text)[1]))
+
+
+def options(text):
+    """The options of a help."""
+    return [Option(*found) for found in OPTION.findall(text)]
+
+
+def quoted(text):
+    return "'" + text.replace("'", "'\\''") + "'"
+
+
+def words_of(found):
+    return " ".join(f"--{option.name}" for option in found)
+
+
+def bash(main, helps):
+    cases = "\n".join(f"            {name}) words='{words_of(options(text))}' ;;" for name, text in helps.items())
+    return BASH.format(words=f"{' '.join(helps)} {words_of(options(main))}", cases=cases)
+
+
+def zsh_option(option):
+    """An option in the form of `_arguments`."""
+    about = re.sub(r"([\[\]:])", r"\\\1", option.about)
+    if option.short:
+        return f"'(-{option.short} --{option.name})'{{-{option.short},--{option.name}}}" + quoted(f"[{about}]")
+    return quoted(f"--{option.name}[{about}]" + (f":{option.number}:" if option.number else ""))
+
+
+def zsh(main, helps):
+    of = lambda text, indent: " \\\n".join(f"{indent}{zsh_option(option)}" for option in options(text))
+    cases = "\n".join(f"        {name})\n            _arguments \\\n{of(text, ' ' * 16)} ;;" for name, text in helps.items())
+    about = commands(main)
+    rows = "\n".join("    " + quoted(f"{name}:{about[name]}") for name in helps)
+    return ZSH.format(commands=rows, options=of(main, " " * 4), cases=cases)
+
+
+def fish_option(condition, option):
+    words = ["complete -c dam", *(["-x"] if option.number else [])]
+    words += [f"-n {quoted(condition)}"] if condition else []
+    words += [f"-s {option.short}"] if option.short else []
+    return " ".join([*words, f"-l {option.name} -d {quoted(option.about)}"])
+
+
+def fish(main, helps):
+    about = commands(main)
+    lines = ["# Completions for fish: the commands and options of dam."]
+    lines += [fish_option("", option) for option in options(main)]
+    lines += [f"complete -c dam -f -n __fish_use_subcommand -a {name} -d {quoted(about[name])}" for name in helps]
+    of_all = options(main)
+    lines += [
+        fish_option(f"__fish_seen_subcommand_from {name}", option)
+        for name, text in helps.items()
+        for option in options(text)
+        if option not in of_all
+    ]
+    return "".join(f"{line}\n" for line in lines)
+
+
+def made(helps):
+    """The completions of `dam` by their place, from the helps of all commands by their words."""
+    main, of_words = helps["dam",], {words[1]: text for words, text in helps.items() if words[0] == "dam" and len(words) == 2}
+    return {PLACES[shell].format("dam"): of(main, of_words).encode() for shell, of in (("bash", bash), ("zsh", zsh), ("fish", fish))}

@@ -1,0 +1,31 @@
+"""The environment of a tool, in which no library finds a file of the working folder. OpenSSL, dask and fontconfig obey such files, and the
+settings of the first two can name code to run."""
+
+import os
+import pwd
+
+# Each of these names a file or a folder of a library.
+PATHS = (
+    "DASK_CONFIG", "DASK_ROOT_CONFIG", "FONTCONFIG_FILE", "FONTCONFIG_PATH", "FONTCONFIG_SYSROOT", "HOME", "OPENSSL_CONF", "OPENSSL_ENGINES",
+    "OPENSSL_MODULES", "PYTHONTZPATH", "XDG_CACHE_HOME", "XDG_CONFIG_HOME", "XDG_DATA_HOME",
+)  # fmt: skip
+LISTS = "FONTCONFIG_PATH", "PYTHONTZPATH"  # those of them that name several
+NO_HOME = "/nonexistent"  # as Debian has it for users without a home
+
+
+def keep_apart():
+    """Removes relative paths from the environment, and the search for translations, which would follow any path."""
+    for name in PATHS:
+        named = os.environ.get(name) or "/"
+        if not all(map(os.path.isabs, named.split(os.pathsep) if name in LISTS else [named])):
+            del os.environ[name]
+    os.environ["LANGUAGE"] = "C"  # before the locale, whose name gettext would take for a folder
+    os.environ.setdefault("HOME", home())
+
+
+def home():
+    """The user's home by the system's list of users, which may lack the user."""
+    try:
+        return pwd.getpwuid(os.getuid()).pw_dir
+    except KeyError:
+        return NO_HOME
