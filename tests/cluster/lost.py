@@ -73,10 +73,10 @@ def slow(folder, program):
 
 
 def whatif(folder, address, program):
-    """A run of many scenarios."""
+    """A run of many scenarios, which differ: a cluster clears equal ones once."""
     table = folder / "scenarios.csv"
     heads = "scenario,participant,order,kind,side,price_eur_mwh,periods,volume_mw\n"
-    table.write_text(heads + "".join(f"{number},,,,,,,\n" for number in range(SCENARIOS)))
+    table.write_text(heads + "".join(f"{number},GAS,MORE,hour,sell,{number}.00,1,0.1\n" for number in range(SCENARIOS)))
     words = [sys.executable, TOP / "tools" / "whatif", "scenarios", TOP / "examples" / "auction-day.csv", table, "--cluster", address]
     return process([*words, "--program", program], stdin=subprocess.DEVNULL, stdout=subprocess.PIPE, stderr=subprocess.PIPE)
 
@@ -92,6 +92,13 @@ def ended(counts, what, running, status, said, within):
     took = time.monotonic() - began
     found = f"{what}: {running.returncode} after {took:.0f} seconds: {err.decode(errors='replace')[:500]}"
     counts.check(found, (running.returncode, out) == (status, b"") and bool(re.fullmatch(said, err.decode(errors="replace"))))
+
+
+def stop_one(processes):
+    """Stops one of both workers, which threads of their process have started."""
+    started = [pid for task in Path(f"/proc/{processes.workers.pid}/task").glob("*/children") for pid in task.read_text().split()]
+    worker = next(pid for pid in started if b"spawn_main" in Path(f"/proc/{pid}/cmdline").read_bytes())
+    os.kill(int(worker), signal.SIGSTOP)
 
 
 def without_workers(counts, folder, program):
@@ -118,6 +125,8 @@ def runs(counts, program):
     lost, without = "whatif: the cluster {} doesn't answer any more\n", "whatif: the cluster {} has no workers\n"
     hung = "whatif: the workers of the cluster {} don't answer any more\n"
 
+    one = r"whatif: the worker tcp://127\.0\.0\.1:[0-9]+ of the cluster {} doesn't answer any more\n"
+
     def stopped_and_interrupted(processes):
         send(processes.scheduler, signal.SIGSTOP)
         time.sleep(2)
@@ -131,6 +140,7 @@ def runs(counts, program):
             ("a scheduler that hangs", lambda processes: send(processes.scheduler, signal.SIGSTOP), 3, lost, SECONDS),
             ("workers that end", lambda processes: send(processes.workers, signal.SIGKILL), 3, without, SECONDS),
             ("workers that hang", lambda processes: send(processes.workers, signal.SIGSTOP), 3, hung, SECONDS),
+            ("a worker that hangs", stop_one, 3, one, SECONDS),
             ("Ctrl-C", lambda processes: processes.tool.send_signal(signal.SIGINT), 130, "whatif: interrupted\n", SOON),
             ("Ctrl-C without a scheduler", stopped_and_interrupted, 130, "whatif: interrupted\n", SOON),
         ):

@@ -170,7 +170,7 @@ PAGES = {
                 dam-receipts keys operator.pem > key.txt
                 dam-receipts seal examples/guide/6-rescue.csv replies.txt --day 2026-11-28 --key operator.pem
                 cp sealed/receipts/GAS.jsonl sealed/head.json .
-                grep ,GAS, examples/guide/6-rescue.csv > FILE
+                grep ,GAS, examples/guide/6-rescue.csv > sent.csv
                 """,
         },
         then={"GAS.jsonl": 'grep "^right: .*; as sent: " "$SHOWN"'},
@@ -184,7 +184,7 @@ PAGES = {
             "tools/lint day.csv": DONE,
             "./dam replay < day.csv": DONE,
             "tools/table --participant GAS JOURNAL RESULTS": DONE,
-            "tools/audit JOURNAL RESULTS --sent FILE --participant GAS": DONE,
+            "tools/audit JOURNAL RESULTS --sent sent.csv --participant GAS": DONE,
         },
     ),
     "docs/TRUST.md": Scene(

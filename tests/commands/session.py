@@ -3,7 +3,6 @@
 import contextlib
 import os
 import signal
-import socket
 import subprocess
 import sys
 from pathlib import Path
@@ -13,6 +12,7 @@ from lib.base.place import CLONED
 from lib.base.rules import VERSION
 from lib.tool import command
 from scenes import CLONE, INSTALLED, PAGES
+from shared.ports import free_port
 from shared.shown import blocks, spans
 
 SECONDS = 200  # that the commands of a page may take
@@ -62,12 +62,6 @@ def environment(home, more, root=Path("/")):
 def inside(path, root):
     """A path as it is seen by one with this root folder."""
     return "/" / path.relative_to(root)
-
-
-def free_port():
-    with contextlib.closing(socket.socket()) as found:
-        found.bind(("127.0.0.1", 0))
-        return found.getsockname()[1]
 
 
 def missing(name, reader):

@@ -12,7 +12,7 @@ import images
 import journals
 import kills
 import streams
-from device import SECONDS, SYNC
+from device import OUTPUT, SECONDS, SYNC
 from images import HEAD, MOST, is_at_rest, marked_in
 from journals import CLOSE, rules
 from shared.printed import Printed
@@ -23,7 +23,9 @@ NO_FILE, FULL = b"file: it isn't a regular file with one name\n", b"file: the jo
 DATABASE, NOT_WRITTEN = b"file: a database's files have its name\n", b"file: its lines aren't as a desk writes them\n"
 NO_LINES = b"file: its lines aren't a journal: "
 NOBODY = 65_534
+NO_TEXT = os.fsdecode(b"\xff")  # a word that isn't UTF-8
 BATCH = 65_536  # bytes of a read
+LENGTHS = [round(1.5**power) for power in range(1, 29)]  # of lines, up to one that is too long
 MEMORY = 256 << 20  # bytes of addresses, for the longest inputs
 USAGE = b"command line\nUsage: dam-desk "
 
@@ -197,7 +199,8 @@ class Files:
 
     def words(self):
         """Command lines that aren't the desk's."""
-        lines = [[], ["a", "b"], ["--journal"], ["--journal", "a", "b"], ["--journal"] * 3, ["--other"], ["-h"], ["-"], ["--help", "a"]]
+        lines = [[], ["a", "b"], ["--journal"], ["--journal", "a", "b"], ["--journal"] * 3, ["--other"], ["-h"], ["-"], ["--help", "a"],
+                 [NO_TEXT], ["--journal", NO_TEXT]]  # fmt: skip
         for words in lines:
             folder = self.desk.folder()
             got = self.given(words, cwd=folder)
@@ -307,6 +310,9 @@ class Files:
             counted.append(sum(event.kind == SYNC for event in events))
         most = 2 * -(-len(text) // BATCH)
         self.counts.check(f"{counted[1] - counted[0]} syncs of {len(text)} bytes, at most {most}", 0 < counted[1] - counted[0] <= most)
+        again = self.desk.run(folder / "day.desk")
+        outputs = sum(event.kind == OUTPUT for event in again.events)
+        self.counts.check(f"{outputs} writes of {len(again.stdout)} bytes at an opening", outputs == 1 and len(again.stdout) > BATCH)
 
     def hostile_lines(self, whole):
         """16 MB of lines that aren't records, in little memory."""
@@ -316,6 +322,8 @@ class Files:
                 ("the longest lines", (b"," * 65_536 + b"\n") * (length // 65_537), lambda number: b"FieldCount"),
                 ("quotes", (b'"' * 65_536 + b"\n") * (length // 65_537), lambda number: b"FieldCount"),
                 ("zero bytes", (bytes(65_000) + b"\n") * (length // 65_001), lambda number: b"FieldCount"),
+                ("lines of many lengths", b"".join(b"A" * length + b"\n" for length in LENGTHS),
+                 lambda number: b"TooLong" if LENGTHS[number - 1] > 65_536 else b"FieldCount"),
                 ("bytes over 127", (b"cancel,A,\xff\n" * 65_536)[: 11 << 16], lambda number: b"NotAscii,9"),
                 ("empty lines", b"\n" * (length if whole else 1 << 20), lambda number: b"NotOneRecord")]  # fmt: skip
         for about, text, word in rows:

@@ -33,6 +33,7 @@ from lib.journal import book, journal
 from lib.results import results, selection
 from lib.sheets import kinds
 from lib.tool import command
+from shared.arguments import of_cases
 from shared.counts import Counts
 
 MOST_BLOCKS = 6
@@ -42,12 +43,7 @@ RIGHT, WRONG, UNREAD, ENCODING = command.DONE, command.DIFFERS, command.NO_INPUT
 
 
 def arguments():
-    form = argparse.RawDescriptionHelpFormatter
-    parser = argparse.ArgumentParser(prog="tests/fuzz/doctored.py", description=__doc__, formatter_class=form)
-    parser.add_argument("program", metavar="PROGRAM", help="the built program, crates/dam_cli/out/dam_cli")
-    parser.add_argument("--seed", default="1", help="the seed of the random cases (1)")
-    parser.add_argument("--first", type=int, default=1, help="the number of the first case (1)")
-    parser.add_argument("--count", type=int, default=5_000, help="how many cases (5000)")
+    parser = of_cases("tests/fuzz/doctored.py", __doc__, "cases", 5_000)
     parser.add_argument("--keep", metavar="FOLDER", help="keeps each pair on which the audit is wrong here")
     return parser.parse_args()
 

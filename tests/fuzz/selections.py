@@ -9,8 +9,6 @@ bench/make_blocks.py, with 24 blocks as users have them and 3,800 hourly orders,
 random days with such blocks. Without numpy, random days have at most 12 blocks, and the others can't be tried. The last line printed is
 'N passed, M failed'."""
 
-import argparse
-import itertools
 import random
 import subprocess
 import sys
@@ -21,6 +19,7 @@ sys.path.insert(0, str(Path(__file__).resolve().parent))  # an isolated Python l
 
 import compare
 import days
+from shared.arguments import of_cases
 from shared.counts import Counts
 from lib.audit import better
 from lib.journal import book, journal
@@ -31,17 +30,10 @@ from lib.base.progress import Progress
 BENCH = Path(__file__).resolve().parents[2] / "bench"
 LEAST_BLOCKS, MOST_BLOCKS = 5, 24
 FEW_BLOCKS = 12  # of a day, without numpy
-FAMILIES = ["market", "paradox", "spread", "nearties", "links", "groups", "ties"]
 
 
 def arguments():
-    parser = argparse.ArgumentParser(
-        prog="tests/fuzz/selections.py", description=__doc__, formatter_class=argparse.RawDescriptionHelpFormatter, allow_abbrev=False
-    )
-    parser.add_argument("program", metavar="PROGRAM", help="the built program, crates/dam_cli/out/dam_cli")
-    parser.add_argument("--seed", default="1", help="of the random cases (1)")
-    parser.add_argument("--first", type=int, default=1, help="the number of the first case (1)")
-    parser.add_argument("--count", type=int, default=200, help="how many cases (200)")
+    parser = of_cases("tests/fuzz/selections.py", __doc__, "cases", 200)
     parser.add_argument("--blocks", type=int, help="how many blocks are submitted (any number up to 24)")
     parser.add_argument("--wait", type=float, default=compare.SECONDS, help="how many seconds the program may take to answer (60)")
     kinds = parser.add_mutually_exclusive_group()
@@ -56,15 +48,14 @@ def arguments():
 def inputs(args):
     """The days, each with a name."""
     wanted = slice(args.first - 1, args.first - 1 + args.count)
-    if args.families:
-        for words in list(itertools.product(FAMILIES, ["500", "4000"], ["24"], ["1", "4"]))[wanted]:
-            yield f"family {' '.join(words)}", made("make_family.py", words)
-    elif args.books or args.thin:
+    if args.families or args.books or args.thin:
         sys.path.insert(0, str(BENCH))
         import make_blocks
+        import make_family
 
-        for drawn in (make_blocks.MORE if args.thin else make_blocks.BOOKS)[wanted]:
-            yield f"book {drawn}", made("make_blocks.py", drawn.words)
+        books = make_family.BOOKS if args.families else make_blocks.MORE if args.thin else make_blocks.BOOKS
+        for drawn in books[wanted]:
+            yield f"book {drawn.name}", made(drawn.script, drawn.words)
     else:
         for number in range(args.first, args.first + args.count):
             yield f"case {number} of seed {args.seed}", draw(random.Random(f"selections {args.seed} {number}"), args)

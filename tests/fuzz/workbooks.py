@@ -7,7 +7,6 @@ of a processor, and take at most 42 MiB more memory than the tools themselves, w
 
 Each case depends only on the seed and its number. The last line is 'N passed, M failed'."""
 
-import argparse
 import io
 import os
 import random
@@ -23,6 +22,7 @@ sys.dont_write_bytecode = True
 sys.path[:0] = [str(Path(__file__).resolve().parents[2] / folder) for folder in ("tools", "tests")]
 
 from lib.sheets import order_table, sheets, workbooks
+from shared.arguments import of_cases
 from shared.counts import Counts
 
 MOST_SECONDS, MOST_MEMORY, MOST_BYTES = 10, 42 * 2**20, 5 * 10**6
@@ -598,11 +598,7 @@ def told(data, words):
 
 
 def main():
-    form = argparse.RawDescriptionHelpFormatter
-    parser = argparse.ArgumentParser(prog="tests/fuzz/workbooks.py", description=__doc__, formatter_class=form)
-    parser.add_argument("--seed", default="1", help="the seed of the random cases (1)")
-    parser.add_argument("--first", type=int, default=1, help="the number of the first case (1)")
-    parser.add_argument("--count", type=int, default=2_000, help="how many cases (2000)")
+    parser = of_cases("tests/fuzz/workbooks.py", __doc__, "cases", 2_000, has_program=False)
     parser.add_argument("--large", action="store_true", help="also all workbooks that take memory or time")
     args = parser.parse_args()
     counts = Counts()

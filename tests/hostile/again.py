@@ -5,6 +5,7 @@ from pathlib import Path
 from typing import NamedTuple
 
 import judge
+from lib.runs.engine import MOST_NODES
 from preload import EVERY, Program, Refusal
 from shared.printed import Printed
 
@@ -114,12 +115,12 @@ def searches(two_equal, group):
 
 LINE = b"\n"
 LINES = [
-    ("day --cut 0 --workers 8", "workers 8 cut 0 nodes 67108864"),
-    ("clear", "workers 2 cut 3 nodes 67108864"),
+    ("day --cut 0 --workers 8", f"workers 8 cut 0 nodes {MOST_NODES}"),
+    ("clear", f"workers 2 cut 3 nodes {MOST_NODES}"),
     ("replay", "replay"),
     ("clear --workers 9", "refused"),
     ("clear --nodes 0", "refused"),
-    ("clear --nodes 67108865", "refused"),
+    (f"clear --nodes {MOST_NODES + 1}", "refused"),
     ("clear --cut 9", "refused"),
     ("clear --workers", "refused"),
     ("replay --cut 1", "refused"),

@@ -38,6 +38,9 @@ def faulty():
     yield "quotes alone", filled(b"", b'"'), b"input: NotDay\n"
     yield "a long name", filled(DAY_RECORD + b'cancel,A,"', b"A" * 1_000 + b'""', b'",,,,,,\n'), b"input: BadField in record 2 field 3\n"
     yield "many records", filled(DAY_RECORD, CLOSE), b"input: TooManyRecords\n"
+    last = DAY_RECORD + CLOSE * (rules.MOST_RECORDS - 2) + CLOSE.replace(b"\n", b"x\n")
+    yield "a bad field in the last record", filled(last, b"\n"), b"input: BadField in record %d field 9\n" % rules.MOST_RECORDS
+    yield "a last byte that isn't ASCII", filled(DAY_RECORD, b"\n", b"\xff"), b"input: NotAscii at %d\n" % (LONGEST - 1)
     yield "empty lines", filled(b"", b"\r\n"), b"input: NotDay\n"
     yield "a byte too many", filled(b"", b"A") + b"A", b"input: TooLong\n"
 

@@ -28,6 +28,7 @@ SHOWN = 10  # differences of a row
 FEW, MANY = 40, 200  # how many calls of a row are refused if not each is
 SMALL = 1_100  # each call for memory of a worked case is refused if it makes no more than this
 ANY = 10_000  # more calls than any row makes of which each has to be refused
+UNFINISHED = 3  # the status of a search that came to its limit on nodes
 
 
 class Row(NamedTuple):
@@ -329,6 +330,29 @@ def texts(runs):
             runs.check(f"{word} starts {started} threads with a block of {least} bytes or more", (started > 0) == is_held)
 
 
+def reads(runs):
+    """A long text is read in pieces of 65,536 bytes. A program that reads it byte by byte would be seen: it has as many reads as bytes."""
+    for word, data in [("replay", AUCTION), ("clear", AUCTION), ("day", OPEN_AUCTION)]:
+        text = data + b"\n" * (1 << 18)
+        for most, least, greatest in [(0, 1, len(text) // 65_536 + 2), (1, len(text), len(text) + 1)]:
+            _, made = runs.program.run([word], text, Refusal("read", most=most))
+            at_once = "one byte" if most else "as much as it asks for"
+            runs.check(f"{word} reads {len(text)} bytes by {made} calls that give {at_once}", least <= made <= greatest)
+
+
+def stacks(runs):
+    """512 KiB of stack are enough for a search, also of these books, whose search has prices of its own for the decisions on most of the 24
+    blocks, one after the other."""
+    small = ["sh", "-c", 'ulimit -s 512; exec "$@"', "sh"]
+    for family in (["paradox", "500"], ["paradox", "4000", "24", "4"], ["nearties", "4000"]):
+        data = subprocess.run([sys.executable, TOP / "bench" / "make_family.py", *family], stdout=subprocess.PIPE, check=True).stdout
+        for limit, status in ([], 0), (["--nodes", "100"], UNFINISHED):
+            words = ["clear", "--workers", "1", "--cut", "0", *limit]
+            got, _ = runs.program.run(words, data, judge.NOTHING_REFUSED, under=small)
+            about = f"{' '.join(words)} of {' '.join(family)} with 512 KiB of stack"
+            runs.check(f"{about}: status {got.status}, {got.stderr[:80]!r}", got.status == status)
+
+
 def copies(runs):
     """A day asks for memory as often for each command, however many orders the book holds: no command copies the book."""
     records = {"submits": b"submit,A,N-%d,hour,buy,0,1:1,,\n", "amends": b"amend,A,N-%d,,,1,1:1,,\n", "cancels": b"cancel,A,N-%d,,,,,,\n"}
@@ -358,6 +382,8 @@ def main():
     threads(runs)
     strays(runs)
     texts(runs)
+    reads(runs)
+    stacks(runs)
     copies(runs)
     peaks.peaks(runs)
     if shutil.which("valgrind"):

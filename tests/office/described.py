@@ -5,13 +5,13 @@ import json
 import random
 import re
 import time
-
-from served import TOP
+from unittest import mock
 
 from lib.base import rules
+from lib.office import web
 from lib.seal import heads
 
-API = json.loads((TOP / "tools" / "lib" / "office" / "openapi.json").read_text())
+API, DEMO = (json.loads(web.description(is_demo)) for is_demo in (False, True))
 RANDOM = 60  # requests of a day
 WAIT_SECONDS = 20  # for the office to take requests again
 TYPES = {"string": str, "integer": int, "number": (int, float), "boolean": bool, "array": list, "object": dict}
@@ -61,17 +61,28 @@ def asked(office, counts, method, template, values, headers=None, body=None, que
     return status, data
 
 
+def check_of_demo(counts, method, template, answer):
+    """The answer to a request that only a demo answers is as described."""
+    described = DEMO["paths"][template][method]["responses"]["200"]["content"]["application/json"]["schema"]
+    fault = wrong(json.loads(answer), described)
+    counts.check(f"{method} {template} in a demo: {fault}", fault is None)
+
+
 def check_all_are_described(counts):
-    """The routes of the application and of the file are the same."""
-    from unittest import mock
-
-    from lib.office.web import Web
-
-    office = mock.Mock(public_key="")
-    served = {(route.method, route.resource.canonical) for route in Web(office).application().router.routes() if route.method != "HEAD"}
+    """The routes of the application and of the file are the same, in an office and in a demo."""
     plain = lambda path: re.sub(r"\{(\w+):[^/]*\}(?=/|$)", r"{\1}", path)
-    described = {(method.upper(), path) for path, methods in API["paths"].items() for method in methods}
-    counts.check(f"described and served: {served ^ described}", {(method, plain(path)) for method, path in served} == described)
+    for demo in (None, {"GAS": "GAS.token"}):
+        made = web.Web(mock.Mock(public_key=""), demo=demo)
+        routes = [route for route in made.application().router.routes() if route.method != "HEAD"]
+        served = {(route.method, plain(route.resource.canonical)) for route in routes}
+        api = json.loads(made.files["/openapi.json"][0])
+        described = {(method.upper(), path) for path, methods in api["paths"].items() for method in methods if method != "x-demo"}
+        counts.check(f"described and served: {served ^ described}", served == described)
+        counts.check("only a demo has requests of its own", (api == DEMO, api == API) == (bool(demo), not demo))
+    too_fast = str(web.STATUSES["TooFast"])
+    every = [(f"{method} {path}", one) for path, methods in DEMO["paths"].items() for method, one in methods.items() if method != "x-demo"]
+    unsaid = [name for name, one in every if too_fast not in one["responses"]]
+    counts.check(f"requests that may come too often, and don't say so: {unsaid}", len(every) > 20 and not unsaid)
 
 
 def random_command(rng, periods):

@@ -38,6 +38,14 @@ def request(method, path, headers=(), body=b""):
     return "".join(f"{line}\r\n" for line in lines).encode("latin-1") + b"\r\n" + body
 
 
+def wide_headers(size):
+    """Headers with which a request for the days has a head of so many bytes."""
+    headers = []
+    while (left := size - len(request("GET", "/days", headers)) - len("X: \r\n")) > 3_000:
+        headers.append(f"X: {'a' * 2_900}")
+    return [*headers, f"X: {'a' * left}"]
+
+
 def status(answer):
     return int(answer[9:12]) if answer.startswith((b"HTTP/1.1 ", b"HTTP/1.0 ")) else None
 
@@ -123,6 +131,8 @@ def check_messages(office, counts):
         ("no version", b"GET /days\r\n\r\n"),
         ("a header without a colon", b"GET /days HTTP/1.1\r\nevil<script>\r\n\r\n"),
         ("a header of 100 kB", request("GET", "/days", [f"X: {'a' * 100_000}"])),
+        ("a head of 32 KiB and a byte", request("GET", "/days", wide_headers(32_769))),
+        ("a head of 47 KiB", request("GET", "/days", wide_headers(47 << 10))),
         ("10,000 headers", request("GET", "/days", [f"X-{number}: {'a' * 100}" for number in range(10_000)])),
         ("a length that is none", request("PUT", path, [token, "Content-Length: -1"])),
         ("a length and chunks", request("PUT", path, both, body)),
@@ -130,6 +140,7 @@ def check_messages(office, counts):
     ):
         answer = said(office, data, wait=False)
         counts.check(f"{words} is refused", status(answer) in (400, 404, 413, 431, None) and b"<script>" not in answer)
+    counts.check("a head of 32 KiB is taken", status(said(office, request("GET", "/days", wide_headers(32_768)))) == 200)
     for odd in (": x", ": -9"):  # it comes before the length
         answer = said(office, request("PUT", path, [token, "Content-Type: text/csv", odd], body))
         counts.check(f"a length behind {odd} is refused: {status(answer)}", status(answer) == 400)

@@ -8,8 +8,9 @@ import subprocess
 import tempfile
 from pathlib import Path
 
-from served import TOOL, day_of, free_port, served
+from served import TOOL, day_of, served
 from shared import browser
+from shared.ports import free_port
 
 from lib.base import clock, rules
 

@@ -15,8 +15,9 @@ from pathlib import Path
 
 import hostile
 import loads
-from served import TOOL, TOP, OfficeFault, day_of, free_port, served
+from served import TOOL, TOP, OfficeFault, day_of, served
 from shared import browser
+from shared.ports import free_port
 
 from dam_tools.office import Asked, Office
 from lib.base import rules
@@ -325,7 +326,8 @@ def week(args, counts):
         counts.check(
             "one day is closed, and the other open", [day["state"] for day in state["days"]] == ["results", "open"] and state["served"]
         )
-        office.stop()
+        office.process.send_signal(signal.SIGINT)
+        counts.check("an office ends at Ctrl-C", office.process.wait(SECONDS) == 0)
         office.start()
         receipts = office.client(who).receipts(first)
         counts.check("a closed day is served after a start", heads.parsed(receipts, heads.receipt_read)[0].head.size == 2)
@@ -334,17 +336,21 @@ def week(args, counts):
 
 def demo(args, counts):
     """The demo, without a browser: its page, its tokens, a close at once, results."""
+    import described
+
     port = free_port()
     words = [*TOOL, "demo", "--no-browser", "--port", str(port), "--dam", args.dam, "--desk", args.desk]
     with subprocess.Popen(words, stdout=subprocess.PIPE, stderr=subprocess.DEVNULL, text=True) as process:
         try:
             counts.check("a demo names its page", f"http://127.0.0.1:{port}/" in process.stdout.readline())
             url = f"http://127.0.0.1:{port}"
-            token = Office(url, "").get("/demo")["participants"]["GAS"]
-            gas = Office(url, token)
+            names = Office(url, "").ask(Asked("GET", "/demo"))
+            described.check_of_demo(counts, "get", "/demo", names)
+            gas = Office(url, json.loads(names)["participants"]["GAS"])
             (day,) = (one["day"] for one in gas.days())
             gas.enter(day, "submit,GAS,UNIT-8,hour,sell,6000,8:500,,")
-            gas.ask(Asked("POST", f"/days/{day}/close"))
+            described.check_of_demo(counts, "post", "/days/{day}/close", gas.ask(Asked("POST", f"/days/{day}/close")))
+            counts.check("a demo describes its requests", gas.get("/openapi.json") == described.DEMO)
             until = time.monotonic() + 20
             while not gas.days()[0]["has_statement"] and time.monotonic() < until:
                 time.sleep(0.05)

@@ -17,17 +17,12 @@ TOP = Path(__file__).resolve().parents[2]
 sys.path[:0] = [str(TOP / "tools"), str(TOP / "tests")]
 
 from dam_tools.office import AsyncOffice, Office, OfficeFault
+from shared.ports import free_port
 
 DAY, CLOSE = "2099-11-29", "2099-11-28T12:00"
 CLOCKS_CHANGE = {23: "2099-03-29", 92: "2099-03-29", 25: "2099-10-25", 100: "2099-10-25"}
 START_SECONDS, STEP = 60, 0.02
 TOOL = [sys.executable, "-I", "-B", str(TOP / "tools" / "office")]
-
-
-def free_port():
-    with contextlib.closing(socket.socket()) as found:
-        found.bind(("127.0.0.1", 0))
-        return found.getsockname()[1]
 
 
 def day_of(periods):
@@ -164,8 +159,8 @@ class Served:
 
 
 @contextlib.contextmanager
-def served(*words, **how):
-    office = Served(*words, **how)
+def served(*words, kind=Served, **how):
+    office = kind(*words, **how)
     try:
         yield office
     finally:

@@ -1,0 +1,15 @@
+"""The command line of a run of random cases."""
+
+import argparse
+
+
+def of_cases(prog, about, cases, count, has_program=True):
+    """The parser of a run that draws `count` cases if nothing else is said; each depends only on the seed and its number."""
+    form = argparse.RawDescriptionHelpFormatter
+    parser = argparse.ArgumentParser(prog=prog, description=about, formatter_class=form, allow_abbrev=False)
+    if has_program:
+        parser.add_argument("program", metavar="PROGRAM", help="the built program, crates/dam_cli/out/dam_cli")
+    parser.add_argument("--seed", default="1", help=f"the seed of the random {cases} (1)")
+    parser.add_argument("--first", type=int, default=1, help=f"the number of the first of the {cases} (1)")
+    parser.add_argument("--count", type=int, default=count, help=f"how many {cases} ({count:,})")
+    return parser

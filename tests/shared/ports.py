@@ -1,0 +1,10 @@
+"""A port of this machine for a test's server."""
+
+import contextlib
+import socket
+
+
+def free_port():
+    with contextlib.closing(socket.socket()) as found:
+        found.bind(("127.0.0.1", 0))
+        return found.getsockname()[1]
