@@ -14,6 +14,7 @@ TOP = Path(__file__).resolve().parent.parent
 sys.dont_write_bytecode = True
 sys.path.insert(0, str(TOP / "tools"))
 
+from lib.base import rules
 from lib.journal import book, journal
 from lib.results import period, selection
 
@@ -93,7 +94,7 @@ def is_forbidden(day, place, accept, taken, later):
     parent = day.parents[place]
     if parent is not None and parent not in taken and parent not in later:
         return True
-    return any(place in members and taken & set(members) for members in day.groups().values())
+    return any(place in members and len(taken & set(members)) >= rules.MOST_OF_GROUP for members in day.groups().values())
 
 
 def result(day, bound, order):
