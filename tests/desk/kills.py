@@ -16,7 +16,7 @@ import journals
 from images import marked_in
 
 EARLY = Path(__file__).resolve().parent / "early.py"
-RECORDS, ENOUGH = 9_990, 9_000  # of a journal, and those after which a new file is begun
+RECORDS, ENOUGH = 9_990, 0.9  # of a journal, and the share of them after which a new file is begun
 LONGEST = 0.05  # seconds until the kill
 PAUSES = [0, 0, 0, 0.0001, 0.001]  # seconds between batches
 SLOW = ["0", "0", "300", "2000"]  # microseconds that a sync takes longer
@@ -95,7 +95,7 @@ class Kills:
         ran = subprocess.run([*self.desk.words, "--journal", str(self.file)], stdout=subprocess.PIPE, stderr=subprocess.PIPE)
         if (ran.returncode, ran.stdout, ran.stderr) != (0, self.journal.text(count), b""):
             self.wrong.append(f"--journal after a kill with {count} records: status {ran.returncode}, {ran.stderr[:80]!r}")
-        if count > ENOUGH:
+        if count > ENOUGH * len(self.journal):
             self.file = None
 
     def last(self):

@@ -13,7 +13,7 @@ import refused
 from device import SYNC, Desk, Refusal
 
 OPENED = 300  # files of crashes that are opened
-KILLS = 10
+KILLS, MOST_KILLS = 10, 200  # of a desk without a fault, and of one with a fault if none finds it
 IN_USE = b"file: another process has it\n"
 
 
@@ -39,9 +39,12 @@ def by_repair(desk, given):
 
 
 def by_kills(desk, given):
+    """Kills at random moments. Whether one finds a fault depends on the load of the machine, so it may take several."""
     row = kills.Kills(desk, desk.words, given.journal, "stand-ins")
-    for _ in range(KILLS):
+    for _ in range(MOST_KILLS if desk.surroundings["STAND_IN"] else KILLS):
         row.round(may_be_at_once=False)
+        if row.wrong:
+            break
     return row.wrong
 
 
