@@ -21,6 +21,23 @@ from lib.tool import command
 PACKAGES = ("jinja2", "matplotlib", "numpy", "openpyxl", "pandas", "scipy", "tqdm")
 # What a stranger may have put into the folder in which a tool is started.
 STRANGER = 'import os\nos.write(1, b"a stranger\'s module runs\\n")\nopen("ran", "a").write(__name__)\n'
+# It starts again with Debian's Python, as one that lacks a package, and then says whether that one's packages are found.
+AGAIN = """
+import os
+import sys
+
+sys.path.insert(0, {tools!r})
+{first}
+from lib.tool import command
+
+if "AGAIN" in os.environ:
+    print(any(path.endswith("dist-packages") for path in sys.path))
+else:
+    os.environ["AGAIN"] = "yes"
+    command.has = lambda module: False
+    command.elsewhere = lambda *modules: True
+    command.python_with("numpy")
+"""
 STRANGE = {"PYTHONSAFEPATH": "1", "PYTHONOPTIMIZE": "2", "MPLBACKEND": "nosuch", "MATPLOTLIBRC": ".", "MPLCONFIGDIR": "."}
 
 
@@ -170,7 +187,17 @@ class Isolation(unittest.TestCase):
             mock.patch.object(sys, "argv", ["/bin/dam-audit", "--best"]),
         ):
             command.python_with("numpy")
-        execv.assert_called_once_with(command.DEBIAN_PYTHON, [command.DEBIAN_PYTHON, "-I", "-S", str(TOOLS / "audit"), "--best"])
+        late = ["-S"] if sys.flags.no_site else []
+        execv.assert_called_once_with(command.DEBIAN_PYTHON, [command.DEBIAN_PYTHON, "-I", *late, str(TOOLS / "audit"), "--best"])
+
+    @unittest.skipUnless(os.path.exists(command.DEBIAN_PYTHON), "Debian's Python is missing")
+    def test_a_program_that_starts_again_finds_the_packages(self):
+        """A tool finds them late; a program of the tests, which starts without -S, from its beginning."""
+        program = self.folder / "program"
+        for flags, first in ((["-S"], "from lib.base import ending; ending.watch('program')"), ([], "")):
+            program.write_text(AGAIN.format(tools=str(TOOLS), first=first))
+            ran = subprocess.run([sys.executable, "-I", *flags, program], capture_output=True, text=True)
+            self.assertEqual((ran.stdout, ran.stderr), ("True\n", ""), flags)
 
 
 if __name__ == "__main__":

@@ -385,7 +385,9 @@ def elsewhere(*modules):
 def python_with(*modules):
     """Starts the tool again with Debian's Python, if that has the modules and this one lacks some."""
     if not all(map(has, modules)) and elsewhere(*modules):
-        os.execv(DEBIAN_PYTHON, [*ISOLATED, "-S", sys.modules["__main__"].__file__, *sys.argv[1:]])
+        # without -S, nothing would find Debian's packages for a program that ending.watch doesn't guard
+        late = ["-S"] if sys.flags.no_site else []
+        os.execv(DEBIAN_PYTHON, [*ISOLATED, *late, sys.modules["__main__"].__file__, *sys.argv[1:]])
 
 
 def has_zone(name):
