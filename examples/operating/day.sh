@@ -4,7 +4,10 @@ cd "$1" && command exec 9> lock || exit 10
 flock -n 9 || { echo "$1: another run has the lock" >&2; exit 75; }
 rm -rf new.* results.txt replies.txt
 new=$(mktemp -d new.XXXXXX) || exit 10
-[ ! -e day.desk ] || dam-desk --journal day.desk > day.csv || { echo "desk: $?"; exit 10; }
+if [ -e day.desk ]; then
+    dam-desk --journal day.desk > "$new/day.csv" && [ -s "$new/day.csv" ] || { echo "desk: $?"; exit 10; }
+    mv "$new/day.csv" .
+fi
 dam-lint day.csv  # status 1: refused commands; 7: faults
 dam replay < day.csv > "$new/replies.txt" || { echo "replay: $?"; exit 10; }
 ( ulimit -v 262144; exec timeout 600 dam clear < day.csv > "$new/results.txt" ) || { echo "clear: $?"; exit 10; }

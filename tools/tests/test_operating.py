@@ -83,9 +83,11 @@ class Day(unittest.TestCase):
         status, out, _ = self.run_once()
         self.assertEqual((status, self.names()), (0, ["day.csv", "day.desk", "replies.txt", "results.txt"]), out)
         self.assertEqual(Path(self.day, "day.csv").read_bytes(), AUCTION.read_bytes())
-        self.script("dam-desk", "exit 4")
-        self.assertEqual(self.run_once()[:2], (10, ["desk: 4"]))
-        self.assertNotIn("results.txt", self.names())
+        for line, status in (("exit 4", 4), ("echo day,24; exit 4", 4), ("exit 0", 1)):
+            self.script("dam-desk", line)
+            self.assertEqual(self.run_once()[:2], (10, [f"desk: {status}"]))
+            self.assertNotIn("results.txt", self.names())
+            self.assertEqual(Path(self.day, "day.csv").read_bytes(), AUCTION.read_bytes(), "the last journal that was read stays")
 
     def test_two_runs_at_once(self):
         """The second one ends, says why, and spoils nothing of the first."""
