@@ -216,6 +216,10 @@ class Hand(unittest.TestCase):
         self.assertEqual(found["FLEX-1"], ("at-the-price", "in part", said))
         self.assertEqual(found["FLEX-2"], ("out-of-the-money", "not", "its limit is worse than the price, 47.00 EUR/MWh"))
         self.assertEqual(found["LOAD-1"], ("in-the-money", "in full", "its limit is better than the price, 92.00 EUR/MWh"))
+        data = journal_of("submit,A,SELL,hour,sell,1000,1:50,,", "submit,B,BUY,hour,buy,2000,1:100,,")
+        why = {name: row.why for (_, name), row in tables.results_by_row(day_of(data, results_of(data, frozenset()))).items()}
+        self.assertEqual(why["BUY"], "its limit is the price, 20.00 EUR/MWh; less is offered than is wanted at it")
+        self.assertEqual(why["SELL"], "its limit is better than the price, 20.00 EUR/MWh")
         data = journal_of("submit,A,B,hour,buy,6000,8:10,,")
         day = day_of(data, results_of(data, frozenset()))
         self.assertEqual(tables.results_by_row(day)["A", "B"].why, "nothing is traded in period 8")

@@ -254,5 +254,7 @@ def hourly(day, row, executed):
         return IN_THE_MONEY, f"its limit is better than {shown}"
     if gain < 0:
         return OUT_OF_THE_MONEY, f"its limit is worse than {shown}"
-    shared = "" if executed == row.order.volumes[0][1] else "; not all that is offered at it is needed"
-    return AT_THE_PRICE, f"its limit is {shown}{shared}"
+    if executed == row.order.volumes[0][1]:
+        return AT_THE_PRICE, f"its limit is {shown}"
+    short = "less is offered than is wanted at it" if row.order.side == "buy" else "not all that is offered at it is needed"
+    return AT_THE_PRICE, f"its limit is {shown}; {short}"

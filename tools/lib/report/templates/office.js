@@ -341,7 +341,7 @@ function showOrders() {
 
 // --- entering
 
-// The answer of a request, which is sent again if none comes, or if the office can't answer it yet. The words are said while it is waited for.
+// The answer of a request, which is sent again if none comes, or if the office can't answer it yet. The words are shown meanwhile.
 async function answered(path, how, words) {
   const { visit } = state;
   for (let time = 1; ; time += 1) {
