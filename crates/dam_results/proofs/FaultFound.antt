@@ -76,21 +76,6 @@ first_record rows rest kept (Ok periods) h said =
 first_record rows rest kept (Err fault) h faulty =
     in_first rows rest h.row fault h.rows (fault_of_row 1 h.row kept fault h.first faulty)
 
--- a later record of nine fields, one of which breaks its rule
-pub bad_later : (number : ℕ) (row : Fields) (own : NineFields) (field : ℕ) → 1 < number → number ≤ most_records → row ≡ fields_in own
-    → IsLeastBroken (command_rules (fields_in own)) (fields_in own) field
-    → IsRecordFault number row (BadField number field)
-bad_later number row own field later few same broken =
-    let other : (number == 1) ≡ false = grind (arith, nat_tests, later) in
-    let rules : IsLeastBroken (if number == 1 then day_rules else command_rules (fields_in own)) (fields_in own) field =
-    rw other broken in (
-      (few, λ first. absurd (omega (arith, later, first))),
-      refl,
-      ap length same,
-      subst
-          (λ (r : Fields). IsLeastBroken (if number == 1 then day_rules else command_rules r) r field) (sym same) rules,
-    )
-
 -- the commands read so far of the records after the day, and the records left
 pub record Reads (rows : List Fields) (commands : List Command) (rest : List Fields) : Type 0 where
   pub parts : rows ≡ map row_of commands ++ rest

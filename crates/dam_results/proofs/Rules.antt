@@ -52,10 +52,10 @@ pub nine_alike : (a b c d e f g h i a' b' c' d' e' f' g' h' i' : List ℕ) → a
 nine_alike a b c d e f g h i a' b' c' d' e' f' g' h' i' pa pb pc pd pe pf pg ph pi = cc
 
 -- the field at which a reader stops, which should be empty
-pub stops : (rules : List FieldRule) (row : NineFields) (r : Result Command ℕ) (n e : ℕ) → IsErrAnd r (λ f. f ≡ e) → e ≡ n
-    → IsLeastBroken rules (fields_in row) n → ReadsCommand rules row r
-stops rules row (Ok x) n e h k broken = absurd h
-stops rules row (Err f) n e h k broken = rw (h ∙ k) broken
+pub stops : (rules : List FieldRule) (row : NineFields) (command : Command) (r : Result Unit ℕ) (n e : ℕ) → IsErrAnd r (λ f. f ≡ e)
+    → e ≡ n → IsLeastBroken rules (fields_in row) n → ReadsCommand rules row command r
+stops rules row command (Ok x) n e h k broken = absurd h
+stops rules row command (Err f) n e h k broken = rw (h ∙ k) broken
 
 -- the same in a day
 pub day_stops : (row : NineFields) (r : Result ℕ ℕ) (n e : ℕ) → IsErrAnd r (λ f. f ≡ e) → e ≡ n → IsLeastBroken day_rules (fields_in row) n

@@ -172,10 +172,10 @@ fn take_record<T: FromJournal>(
 {
     let record_number = number as usize + 1;
     let row = later_row(record_number, fields)?;
-    // Lent, not moved: a command has room for the volumes of a block.
-    match &read_command(&row) {
-        Ok(command) => made.take(number, command)?,
-        Err(field) => return Err(JournalFault::BadField(record_number, *field)),
+    let mut command = Command::Close;
+    match read_command(&row, &mut command) {
+        Ok(()) => made.take(number, &command)?,
+        Err(field) => return Err(JournalFault::BadField(record_number, field)),
     }
     Ok(())
 }

@@ -1,6 +1,7 @@
 ghost use Rattle.std.specs.Prelude.{◌≡◌, ◌≢◌, ◌<◌, [], ◌∷◌, true, false, codes, decimal, drop, IfSome, MatchOption, MatchResult};
 ghost use Rattle.dam_book.specs.Period.{IsPeriod};
 ghost use Rattle.dam_book.specs.Quantity.{IsQuantity};
+ghost use Rattle.std.specs.Result.{IsErrAnd};
 ghost use Rattle.std.specs.Str.{bytes_eq};
 ghost use Rattle.dam_book.specs.Name.{IsName};
 ghost use Rattle.dam_book.specs.Fields.{volumes_text};
@@ -15,7 +16,9 @@ use dam_book::{
     read_day_length, read_pair, read_price, read_volumes,
 };
 
-// Each reader of a record returns the record's content, or the number of the least field that breaks its rule.
+// Each reader returns the number of the least field that breaks its rule, if there is one. The reader of a command puts
+// it in `command` instead of returning it: a command has room for the volumes of a block, and to return it from function
+// to function would make each record slower.
 
 fn check_empty(field: &[u8], number: usize) -> Result<(), usize>
     ensures { MatchResult result (λ _. field.now ≡ [])
@@ -107,10 +110,10 @@ pub(crate) fn read_day(row: &NineFields) -> Result<DayLength, usize>
     Ok(periods)
 }
 
-fn read_hour(row: &NineFields) -> Result<Command, usize>
+fn read_hour(row: &NineFields, command: &mut Command) -> Result<(), usize>
     requires kind { row.now.kind.now ≡ codes "submit" }
     requires form { row.now.form.now ≡ codes "hour" }
-    ensures { ReadsCommand (submit_of hour_rules) row.now result }
+    ensures { ReadsCommand (submit_of hour_rules) row.now command.new result }
 {
     let who = Participant::new(row.who).ok_or(2usize)?;
     let name = Name::new(row.name).ok_or(3usize)?;
@@ -118,17 +121,18 @@ fn read_hour(row: &NineFields) -> Result<Command, usize>
     let price = read_price(row.price).ok_or(6usize)?;
     let (period, qty) = read_one_volume(row.volumes).ok_or(7usize)?;
     check_no_family(row)?;
-    Ok(Command::Submit {
+    *command = Command::Submit {
         who,
         name,
         order: Order::Hour(HourOrder::new(side, price, period, qty)),
-    })
+    };
+    Ok(())
 }
 
-fn read_block(row: &NineFields) -> Result<Command, usize>
+fn read_block(row: &NineFields, command: &mut Command) -> Result<(), usize>
     requires kind { row.now.kind.now ≡ codes "submit" }
     requires form { row.now.form.now ≡ codes "block" }
-    ensures { ReadsCommand (submit_of block_rules) row.now result }
+    ensures { ReadsCommand (submit_of block_rules) row.now command.new result }
 {
     let who = Participant::new(row.who).ok_or(2usize)?;
     let name = Name::new(row.name).ok_or(3usize)?;
@@ -140,37 +144,37 @@ fn read_block(row: &NineFields) -> Result<Command, usize>
     let block = BlockOrder::new(side, price, volumes, parent, group);
     let _valid = block.price(); // for the proof: a block order is within its limits
     let order = Order::Block(block);
-    Ok(Command::Submit { who, name, order })
+    *command = Command::Submit { who, name, order };
+    Ok(())
 }
 
 /// A submit of something that is no form of an order.
-fn read_no_form(row: &NineFields) -> Result<Command, usize>
+fn read_no_form(row: &NineFields) -> Result<(), usize>
     requires kind { row.now.kind.now ≡ codes "submit" }
     requires hour { bytes_eq row.now.form.now (codes "hour") ≡ false }
     requires block { bytes_eq row.now.form.now (codes "block") ≡ false }
-    ensures { ReadsCommand (submit_rules (fields_in row.now)) row.now result }
+    ensures { IsErrAnd result
+        (IsLeastBroken (submit_rules (fields_in row.now)) (fields_in row.now)) }
 {
     let _who = Participant::new(row.who).ok_or(2usize)?;
     let _name = Name::new(row.name).ok_or(3usize)?;
     Err(4)
 }
 
-/// Each form's reader makes the whole command, which has room for the volumes of a block, so that it is
-/// moved as little as may be.
-fn read_submit(row: &NineFields) -> Result<Command, usize>
+fn read_submit(row: &NineFields, command: &mut Command) -> Result<(), usize>
     requires { row.now.kind.now ≡ codes "submit" }
-    ensures { ReadsCommand (submit_rules (fields_in row.now)) row.now result }
+    ensures { ReadsCommand (submit_rules (fields_in row.now)) row.now command.new result }
 {
     match row.form {
-        b"hour" => read_hour(row),
-        b"block" => read_block(row),
+        b"hour" => read_hour(row, command),
+        b"block" => read_block(row, command),
         _ => read_no_form(row),
     }
 }
 
-fn read_amend(row: &NineFields) -> Result<Command, usize>
+fn read_amend(row: &NineFields, command: &mut Command) -> Result<(), usize>
     requires { row.now.kind.now ≡ codes "amend" }
-    ensures { ReadsCommand amend_rules row.now result }
+    ensures { ReadsCommand amend_rules row.now command.new result }
 {
     let who = Participant::new(row.who).ok_or(2usize)?;
     let name = Name::new(row.name).ok_or(3usize)?;
@@ -179,43 +183,46 @@ fn read_amend(row: &NineFields) -> Result<Command, usize>
     let price = read_price(row.price).ok_or(6usize)?;
     let volumes = read_volumes(row.volumes).ok_or(7usize)?;
     check_no_family(row)?;
-    Ok(Command::Amend {
+    *command = Command::Amend {
         who,
         name,
         price,
         volumes,
-    })
+    };
+    Ok(())
 }
 
-fn read_cancel(row: &NineFields) -> Result<Command, usize>
+fn read_cancel(row: &NineFields, command: &mut Command) -> Result<(), usize>
     requires { row.now.kind.now ≡ codes "cancel" }
-    ensures { ReadsCommand cancel_rules row.now result }
+    ensures { ReadsCommand cancel_rules row.now command.new result }
 {
     let who = Participant::new(row.who).ok_or(2usize)?;
     let name = Name::new(row.name).ok_or(3usize)?;
     check_no_order(row)?;
-    Ok(Command::Cancel { who, name })
+    *command = Command::Cancel { who, name };
+    Ok(())
 }
 
-fn read_close(row: &NineFields) -> Result<Command, usize>
+fn read_close(row: &NineFields, command: &mut Command) -> Result<(), usize>
     requires { row.now.kind.now ≡ codes "close" }
-    ensures { ReadsCommand close_rules row.now result }
+    ensures { ReadsCommand close_rules row.now command.new result }
 {
     check_empty(row.who, 2)?;
     check_empty(row.name, 3)?;
     check_no_order(row)?;
-    Ok(Command::Close)
+    *command = Command::Close;
+    Ok(())
 }
 
-/// The command of a later record.
-pub(crate) fn read_command(row: &NineFields) -> Result<Command, usize>
-    ensures { ReadsCommand (command_rules (fields_in row.now)) row.now result }
+/// Reads the command of a later record.
+pub(crate) fn read_command(row: &NineFields, command: &mut Command) -> Result<(), usize>
+    ensures { ReadsCommand (command_rules (fields_in row.now)) row.now command.new result }
 {
     match row.kind {
-        b"submit" => read_submit(row),
-        b"amend" => read_amend(row),
-        b"cancel" => read_cancel(row),
-        b"close" => read_close(row),
+        b"submit" => read_submit(row, command),
+        b"amend" => read_amend(row, command),
+        b"cancel" => read_cancel(row, command),
+        b"close" => read_close(row, command),
         _ => Err(1),
     }
 }

@@ -19,10 +19,10 @@ fields_in r =
     r.kind.now ∷ r.who.now ∷ r.name.now ∷ r.form.now ∷ r.side.now ∷ r.price.now ∷ r.volumes.now
     ∷ r.parent.now ∷ r.group.now ∷ []
 
--- the record of a command within its limits, or the least field that breaks its rule
-abbrev pub ReadsCommand : List FieldRule → NineFields → Result Command ℕ → Type 0
-ReadsCommand rules row read = MatchResult read
-    (λ command. IsCommand command × (fields_in row ≡ row_of command))
+-- the record of this command, which is within its limits, or the least field that breaks its rule
+abbrev pub ReadsCommand : List FieldRule → NineFields → Command → Result Unit ℕ → Type 0
+ReadsCommand rules row command read = MatchResult read
+    (λ _. IsCommand command × (fields_in row ≡ row_of command))
     (IsLeastBroken rules (fields_in row))
 
 abbrev pub AreEmpty : Fields → Type 0
