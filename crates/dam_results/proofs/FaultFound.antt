@@ -1,9 +1,8 @@
 -- The first fault of records.
-use Rattle.std.proofs.Common.{◌≡◌, ◌⊎◌, ℕ, ◌+◌, ◌≤◌, ◌<◌, ◌==◌, inl, inr, true, false, if◌then◌else◌, sym, min, List, [], ◌∷◌, ◌++◌, length, map, take}
+use Rattle.std.proofs.Common.{◌≡◌, ◌⊎◌, ℕ, ◌+◌, ◌≤◌, ◌<◌, inl, inr, true, sym, min, List, [], ◌∷◌, ◌++◌, length, map, take}
 use Rattle.std.proofs.Common.{Result, Ok, Err, refl, ap, subst, ◌∙◌, arith, append_assoc, append-nil, MatchResult}
 use Rattle.std.specs.List.{AllByRecursion}
 use Rattle.std.proofs.lemmas.List.{map-append, length-map, length-append, length-take, take_all}
-use Rattle.std.proofs.lemmas.Bool.Decides.{nat_tests}
 use Rattle.dam_book.specs.Book.{is_day}
 use Rattle.dam_book.specs.declared.command.Command.{Command}
 use Rattle.dam_results.specs.Limits.{most_records}
@@ -11,9 +10,6 @@ use Rattle.dam_results.specs.declared.journal.JournalFault.{JournalFault}
 use Rattle.dam_results.specs.declared.journal.JournalFault.TheVariants.{TooLong, NotAscii, TooManyRecords, NotDay, FieldCount, BadField}
 use Rattle.dam_results.specs.declared.journal.JournalFault.TheVariants.{Memory}
 use Rattle.dam_results.specs.Records.{Fields, day_row, row_of, kind_field}
-use Rattle.dam_results.specs.Rules.{day_rules, command_rules, IsLeastBroken}
-use Rattle.dam_results.specs.inside.NineFields.{fields_in}
-use Rattle.dam_results.specs.declared.nine_fields.NineFields.{NineFields}
 use Rattle.dam_results.specs.Journal.{AreRecords, IsCommand}
 use Rattle.dam_results.specs.inside.Reader.{most_kept, TakesFirst}
 use Rattle.dam_results.specs.Faults.{IsInPlace, IsRecordFault, HasFault, IsFaultOfRecords}
