@@ -22,7 +22,7 @@ use Rattle.dam_book.specs.Command.{giver}
 use Rattle.dam_gate.specs.Day.{commands_by, is_one_of, AreTaken, IsDayFault, givers_from, givers_of, with_any, with_giver, IsDayRun}
 use Rattle.dam_gate.specs.inside.Tally.{AreReceipts}
 use Rattle.dam_gate.specs.inside.Entering.{AreApart, AreGivers, AreServed, AreShares, Enters, HasAll, HasEntered, IsRefusalAt}
-use Rattle.dam_gate.specs.inside.Entering.{at_places, share_at}
+use Rattle.dam_gate.specs.inside.Entering.{commands_at, share_at}
 use Rattle.dam_gate.specs.declared.day.DayFault.{DayFault}
 use Rattle.dam_gate.specs.declared.day.DayFault.TheVariants.{TooManyCommands, CloseGiven, TooManyParticipants, NotSettled, Memory}
 use Rattle.dam_book.specs.Limits.{most_entries}
@@ -474,20 +474,20 @@ split-head : (o : Option Command) (all front back : List Command) → all ≡ fr
 split-head None all front back is = is
 split-head (Some c) all front back is = ap (λ (ds : List Command). c ∷ ds) is
 
-at_places-split : (cs : List Command) (ps qs : List ℕ) → at_places cs (ps ++ qs) ≡ at_places cs ps ++ at_places cs qs
-at_places-split cs [] qs = refl
-at_places-split cs (p ∷ ps) qs =
-    split-head (slice_get cs p) (at_places cs (ps ++ qs)) (at_places cs ps) (at_places cs qs) (at_places-split cs ps qs)
+commands_at-split : (cs : List Command) (ps qs : List ℕ) → commands_at cs (ps ++ qs) ≡ commands_at cs ps ++ commands_at cs qs
+commands_at-split cs [] qs = refl
+commands_at-split cs (p ∷ ps) qs =
+    split-head (slice_get cs p) (commands_at cs (ps ++ qs)) (commands_at cs ps) (commands_at cs qs) (commands_at-split cs ps qs)
 
 pub own-split : (cs : List Command) (places : List ℕ) (i : ℕ)
-    → at_places cs places ≡ at_places cs (take i places) ++ at_places cs (drop i places)
-own-split cs places i = ap (at_places cs) (sym (take-append-drop i places)) ∙ at_places-split cs (take i places) (drop i places)
+    → commands_at cs places ≡ commands_at cs (take i places) ++ commands_at cs (drop i places)
+own-split cs places i = ap (commands_at cs) (sym (take-append-drop i places)) ∙ commands_at-split cs (take i places) (drop i places)
 
 -- the commands at one place more
 pub one-place : (cs : List Command) (ps : List ℕ) (p : ℕ) (o : Option Command) → slice_get cs p ≡ o
-    → at_places cs (ps ++ p ∷ []) ≡ at_places cs ps ++ cons_option o []
+    → commands_at cs (ps ++ p ∷ []) ≡ commands_at cs ps ++ cons_option o []
 one-place cs ps p o is =
-    at_places-split cs ps (p ∷ []) ∙ ap (λ (x : Option Command). at_places cs ps ++ cons_option x []) is
+    commands_at-split cs ps (p ∷ []) ∙ ap (λ (x : Option Command). commands_at cs ps ++ cons_option x []) is
 
 -- a place beyond the last has none
 pub none_past : (cs : List Command) (p : ℕ) → length cs ≤ p → slice_get cs p ≡ None
@@ -497,8 +497,8 @@ none_past (c ∷ cs) (suc p) past = none_past cs p (omega (arith, past))
 
 -- the commands at the places so far and at the next one
 pub next-place : (cs : List Command) (ps : List ℕ) (i : ℕ) (o : Option Command) → i < length ps → slice_get cs (get_or ps i 0) ≡ o
-    → at_places cs (take (i + 1) ps) ≡ at_places cs (take i ps) ++ cons_option o []
-next-place cs ps i o within is = ap (at_places cs) (take_more ps i 0 within) ∙ one-place cs (take i ps) (get_or ps i 0) o is
+    → commands_at cs (take (i + 1) ps) ≡ commands_at cs (take i ps) ++ cons_option o []
+next-place cs ps i o within is = ap (commands_at cs) (take_more ps i 0 within) ∙ one-place cs (take i ps) (get_or ps i 0) o is
 
 -- a receipt more
 pub one-receipt : (given : List Command) (before so_far : List Command) (es : List Entry) (e : Entry) → commands_of es ≡ before ++ so_far
@@ -511,17 +511,17 @@ fewer-head : (o : Option Command) (ds : List Command) (n : ℕ) → length ds �
 fewer-head None ds n few = omega (arith, few)
 fewer-head (Some c) ds n few = omega (arith, few)
 
-fewer : (cs : List Command) (places : List ℕ) → length (at_places cs places) ≤ length places
+fewer : (cs : List Command) (places : List ℕ) → length (commands_at cs places) ≤ length places
 fewer cs [] = omega arith
-fewer cs (p ∷ ps) = fewer-head (slice_get cs p) (at_places cs ps) (length ps) (fewer cs ps)
+fewer cs (p ∷ ps) = fewer-head (slice_get cs p) (commands_at cs ps) (length ps) (fewer cs ps)
 
 -- as many receipts as places in the share are of all its commands
 none-left : (xs ys : List Command) (n : ℕ) → length xs ≡ n → length (xs ++ ys) ≤ n → ys ≡ []
 none-left xs [] n same few = refl
 none-left xs (y ∷ ys) n same few = absurd (omega (arith, same, few, length-append xs (y ∷ ys)))
 
-all-entered : (cs : List Command) (share : List ℕ) (p : PassState) → HasEntered [] (at_places cs share) p → length p.receipts ≡ length share
-    → commands_of p.receipts ≡ at_places cs share
+all-entered : (cs : List Command) (share : List ℕ) (p : PassState) → HasEntered [] (commands_at cs share) p → length p.receipts ≡ length share
+    → commands_of p.receipts ≡ commands_at cs share
 all-entered cs share p has as_long =
     let count : length has.entered ≡ length share =
     ap (λ (ds : List Command). length ds) (sym has.receipts) ∙ length-map p.receipts (λ (e : Entry). e.command) ∙ as_long in
@@ -536,15 +536,15 @@ abbrev pub IsServed : List Command → List ℕ → PassState → Type 0
 IsServed given who p = (commands_of p.receipts ≡ commands_by who given) × IsPass p
 
 served : (given : List Command) (who : List ℕ) (share : List ℕ) (before p : PassState) → before ≡ new_pass (Some who)
-    → at_places given share ≡ commands_by who given → Enters (at_places given share) before p → HasAll share p → IsServed given who p
+    → commands_at given share ≡ commands_by who given → Enters (commands_at given share) before p → HasAll share p → IsServed given who p
 served given who share before p new mine enters all =
-    let entered : HasEntered [] (at_places given share) p =
-    subst (λ (q : PassState). HasEntered (commands_of q.receipts) (at_places given share) p) new enters.entered in
+    let entered : HasEntered [] (commands_at given share) p =
+    subst (λ (q : PassState). HasEntered (commands_of q.receipts) (commands_at given share) p) new enters.entered in
     (all-entered given share p entered all.as_many ∙ mine, all.pass)
 
 share-of : (all front : List Command) (participants : List (List ℕ)) (shares : List (List ℕ)) (i : ℕ) (w : List ℕ)
     → AreShares all front participants shares → i < length participants
-    → at_places all (share_at shares i) ≡ commands_by (get_or participants i w) front
+    → commands_at all (share_at shares i) ≡ commands_by (get_or participants i w) front
 share-of all front [] shares i w are within = absurd (omega (arith, within))
 share-of all front (who ∷ participants) [] i w are within = absurd are
 share-of all front (who ∷ participants) (share ∷ shares) zero w are within = are.0
@@ -570,7 +570,7 @@ new_at (who ∷ participants) (suc i) d w within = new_at participants i d w (om
 pub served-all : (given : List Command) (participants : List (List ℕ)) (shares : List (List ℕ)) (olds news : List PassState)
     → AreShares given given participants shares
     → olds ≡ map (λ (who : List ℕ). new_pass (Some who)) participants → length news ≡ length olds
-    → ((i : ℕ) (d : PassState) → i < length olds → Enters (at_places given (share_at shares i)) (get_or olds i d) (get_or news i d))
+    → ((i : ℕ) (d : PassState) → i < length olds → Enters (commands_at given (share_at shares i)) (get_or olds i d) (get_or news i d))
     → ((i : ℕ) (d : PassState) → i < length news → HasAll (share_at shares i) (get_or news i d))
     → AreServed given participants news
 served-all given participants shares olds news are new_ones as_long enters all =

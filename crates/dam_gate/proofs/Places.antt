@@ -8,7 +8,7 @@ use Rattle.dam_book.specs.Command.{giver}
 use Rattle.dam_book.specs.declared.command.Command.{Command}
 use Rattle.dam_gate.specs.Pass.{same_giver, is_from}
 use Rattle.dam_gate.specs.Day.{commands_by, is_one_of}
-use Rattle.dam_gate.specs.inside.Entering.{AreApart, AreShares, at_places}
+use Rattle.dam_gate.specs.inside.Entering.{AreApart, AreShares, commands_at}
 use Rattle.dam_gate.proofs.Days.{one-place, text-apart, text-Decides}
 
 -- before the first command no share has a place
@@ -16,8 +16,8 @@ pub no_shares : (all : List Command) (ws : List (List ℕ)) → AreShares all []
 no_shares all [] = tt
 no_shares all (w ∷ ws) = (refl, no_shares all ws)
 
-kept : (all front : List Command) (c : Command) (w share : List ℕ) → is_from w c ≡ false → at_places all share ≡ commands_by w front
-    → at_places all share ≡ commands_by w (front ++ c ∷ [])
+kept : (all front : List Command) (c : Command) (w share : List ℕ) → is_from w c ≡ false → commands_at all share ≡ commands_by w front
+    → commands_at all share ≡ commands_by w (front ++ c ∷ [])
 kept all front c w share other is =
     is ∙ sym (filter-append (is_from w) front (c ∷ [])
     ∙ ap (λ (b : Bool). commands_by w front ++ cond b (c ∷ []) []) other
@@ -53,7 +53,7 @@ apart_from (v ∷ ws) w who (suc at) apart is =
     apart_from ws w who at (or_parts (same_text w v) (is_one_of ws w) apart).1 is
 
 added : (all front : List Command) (c : Command) (place : ℕ) (w share : List ℕ) → is_from w c ≡ true → slice_get all place ≡ Some c
-    → at_places all share ≡ commands_by w front → at_places all (share ++ place ∷ []) ≡ commands_by w (front ++ c ∷ [])
+    → commands_at all share ≡ commands_by w front → commands_at all (share ++ place ∷ []) ≡ commands_by w (front ++ c ∷ [])
 added all front c place w share own is same =
     one-place all share place (Some c) is ∙ ap (λ (cs : List Command). cs ++ c ∷ []) same
     ∙ sym (filter-append (is_from w) front (c ∷ []) ∙ ap (λ (b : Bool). commands_by w front ++ cond b (c ∷ []) []) own)
@@ -68,7 +68,7 @@ shares-added all front c place who (w ∷ ws) (s ∷ shares) zero share gives is
     let same : w ≡ who = some_same w who stands in
     let one : s ≡ share = some_same s share old in
     let own : is_from w c ≡ true = ap (same_giver (Some w)) gives ∙ (text-Decides w who).1 same in (
-      added all front c place w share own is (subst (λ (x : List ℕ). at_places all x ≡ commands_by w front) one are.0),
+      added all front c place w share own is (subst (λ (x : List ℕ). commands_at all x ≡ commands_by w front) one are.0),
       shares-other all front c who ws shares gives (subst (λ (x : List ℕ). is_one_of ws x ≡ false) same apart.0) are.1,
     )
 shares-added all front c place who (w ∷ ws) (s ∷ shares) (suc at) share gives is apart stands old are =

@@ -16,7 +16,7 @@ use Rattle.dam_gate.specs.Pass.{Knowledge, PassState, AreInOrder, AreOwn, IsKnow
 use Rattle.dam_gate.specs.Pass.{is_close, knowing_nothing, new_pass, with_receipt}
 use Rattle.dam_gate.specs.Settled.{numbered, receipts_of, IsSettled}
 use Rattle.dam_gate.specs.inside.Tally.{AreReceipts}
-use Rattle.dam_gate.specs.inside.Entering.{AreApart, AreServed, IsClosed}
+use Rattle.dam_gate.specs.inside.Entering.{AreApart, AreServed, IsClosedByOperator}
 use Rattle.dam_gate.proofs.Accounts.{AreEntries, each_once}
 use Rattle.dam_gate.proofs.Counts.{first-entry, all-entries}
 use Rattle.dam_gate.proofs.Beginnings.{prefix_trans}
@@ -196,7 +196,7 @@ pub record IsCounted (passes : List PassState) (op : PassState) (j : JournalStat
 
 -- if the parts of all passes count as many receipts as there are entries
 pub counted : (given : List Command) (participants : List (List ℕ)) (ks : List Knowledge) (before : Knowledge) (op : PassState)
-    (j : JournalState) (passes : List PassState) (parts most amount : ℕ) → IsClosed before op j
+    (j : JournalState) (passes : List PassState) (parts most amount : ℕ) → IsClosedByOperator before op j
     → before ≡ after_learning (knowing_nothing None) before.learnt → IsJournal j → AreApart participants
     → AreServed given participants (accounts ks) → holders (accounts ks) ≡ map (λ (who : List ℕ). Some who) participants
     → All IsKnowledge ks → ((i : ℕ) (d : Knowledge) → i < length ks → IsPrefix (get_or ks i d).history before.learnt)

@@ -29,7 +29,7 @@ impl Model for Account {
 }
 
 /// Whether the holder may give a command of this giver: a participant its own command, and the operator a close.
-pub(crate) fn owns(holder: &Option<Participant>, giver: Option<&Participant>) -> bool
+pub(crate) fn acts_for(holder: &Option<Participant>, giver: Option<&Participant>) -> bool
     ensures { result ≡ same_giver holder.now (option_copied giver.entry) }
 {
     match (holder, giver) {

@@ -68,7 +68,10 @@ impl<A: Allocator + Copy> Books<A> {
     }
 
     /// An equal book that isn't shared: the one before it, if nobody shares that any more, or else a copy.
-    pub(crate) fn another(&mut self, entries: &[PackedEntry<A>]) -> Result<Book<A>, AllocError>
+    pub(crate) fn unshared_book(
+        &mut self,
+        entries: &[PackedEntry<A>],
+    ) -> Result<Book<A>, AllocError>
         requires { AreSteps entries.now self.old }
         ensures book { IfOk result (λ book. book ≡ self.old.book) }
         ensures same { self.new.book ≡ self.old.book }

@@ -7,7 +7,7 @@ ghost use Rattle.dam_gate.specs.Pass.{Knowledge, IsKnowledge, after_learning, ho
 ghost use Rattle.dam_gate.specs.Settled.{IsSettled, receipts_of};
 ghost use Rattle.dam_gate.specs.Headline.{IsWholeAccount};
 ghost use Rattle.dam_gate.specs.Day.{AreTaken, IsDayFault, IsSettledDay, givers_of, is_one_of};
-ghost use Rattle.dam_gate.specs.inside.Entering.{AreApart, AreGivers, AreServed, Enters, HasAll, IsRefusalAt, IsUnsettled, Takes, at_places, share_at};
+ghost use Rattle.dam_gate.specs.inside.Entering.{AreApart, AreGivers, AreServed, Enters, HasAll, IsRefusalAt, IsUnsettled, Takes, commands_at, share_at};
 
 use crate::account::Account;
 use crate::gate::{Gate, GateFault, PassFault};
@@ -24,7 +24,7 @@ use left_right::Absorb;
 use std::alloc::{AllocError, AllocFailed, Global};
 use std::marker::Brand;
 use std::sync::Wait;
-use std::sync::ledger::Share as Part;
+use std::sync::ledger::Share as LedgerPart;
 use std::thread;
 use std::thread::Threads;
 use thiserror::Error;
@@ -110,7 +110,7 @@ fn enter<J: GateName, H: Wait + Drop>(
     commands: &[PackedCommand],
     places: &[usize],
 )
-    ensures { Enters (at_places commands.now places.now) pass.old.account pass.new.account }
+    ensures { Enters (commands_at commands.now places.now) pass.old.account pass.new.account }
 {
     for place in places {
         let Some(given) = commands.get(*place) else {
@@ -123,7 +123,7 @@ fn enter<J: GateName, H: Wait + Drop>(
 }
 
 /// Enters the commands of one participant, between the calls of the turnstile.
-fn attend<J: GateName, H: Wait + Drop, T: Turnstile>(
+fn enter_through_turnstile<J: GateName, H: Wait + Drop, T: Turnstile>(
     rt: &impl Wait,
     gate: &Gate<J, H>,
     turnstile: &T,
@@ -132,7 +132,7 @@ fn attend<J: GateName, H: Wait + Drop, T: Turnstile>(
     commands: &[PackedCommand],
     places: &[usize],
 )
-    ensures { Enters (at_places commands.now places.now) pass.old.account pass.new.account }
+    ensures { Enters (commands_at commands.now places.now) pass.old.account pass.new.account }
 {
     turnstile.before(participant);
     enter(rt, gate, pass, commands, places);
@@ -150,7 +150,7 @@ fn enter_all<J: GateName + Send + Sync, R: Threads + Wait + Sync, T: Turnstile +
 )
     requires { length passes.old ≤ most_participants }
     ensures { (i : ℕ) (d : Knowledge) → i < length passes.old
-        → Enters (at_places commands.now (share_at shares.now i))
+        → Enters (commands_at commands.now (share_at shares.now i))
         (slice_index_or passes.old i d).account (slice_index_or passes.new i d).account }
 {
     thread::for_each_mut(
@@ -159,7 +159,7 @@ fn enter_all<J: GateName + Send + Sync, R: Threads + Wait + Sync, T: Turnstile +
         MOST_PARTICIPANTS,
         &|place, pass| {
             let places = share_of(shares, place);
-            attend(rt, gate, turnstile, place as u32, pass, commands, places)
+            enter_through_turnstile(rt, gate, turnstile, place as u32, pass, commands, places)
         },
     );
 }
@@ -277,7 +277,7 @@ fn accounts_of<J: GateName>(
     alloc: Global,
     passes: Vec<Pass<J>>,
     operator: Pass<J>,
-) -> Result<(Vec<Account>, Part<Answered<J>>), DayFault>
+) -> Result<(Vec<Account>, LedgerPart<Answered<J>>), DayFault>
     ensures accounts { IfOk result (λ r. r.0.items
         ≡ map (λ pass. pass.account) passes.items ++ operator.account ∷ []) }
     ensures parts { IfOk result (λ r. r.1.parts ≡ length passes.items + 1) }

@@ -3,7 +3,7 @@ ghost use Rattle.dam_book.specs.Book.{is_day};
 ghost use Rattle.dam_gate.specs.Journal.{IsJournal};
 ghost use Rattle.dam_gate.specs.Pass.{is_own, knowing_nothing};
 ghost use Rattle.dam_gate.specs.Gate.{IsBeginFault, IsCalled, IsGateFault};
-ghost use Rattle.dam_gate.specs.inside.Entering.{IsClosed};
+ghost use Rattle.dam_gate.specs.inside.Entering.{IsClosedByOperator};
 ghost use Rattle.dam_gate.specs.inside.Locked.{entry_of};
 
 use crate::history::{GateName, Opening};
@@ -177,7 +177,7 @@ impl<J: GateName, R: Wait + Drop> Gate<J, R> {
         ensures err { OnErr result (pass.new ≡ pass.old) }
         ensures fault { IfErr result (IsGateFault pass.old.account command) }
     {
-        if !pass.owns(command.participant()) {
+        if !pass.acts_for(command.participant()) {
             return Err(GateFault::NotYours);
         }
         let mut locked = self.locked.lock(rt);
@@ -203,7 +203,7 @@ impl<J: GateName, R: Wait + Drop> Gate<J, R> {
         ensures err { OnErr result (pass.new ≡ pass.old) }
         ensures fault { IfErr result (IsGateFault pass.old.account command.now) }
     {
-        if !pass.owns(command.participant()) {
+        if !pass.acts_for(command.participant()) {
             return Err(GateFault::NotYours);
         }
         pass.step(&mut self.locked.lock(rt), command)
@@ -218,7 +218,7 @@ impl<J: GateName, R: Wait + Drop> Gate<J, R> {
     pub(crate) fn close(self, operator: &mut Pass<J>) -> Result<Locked<J, R>, GateFault>
         requires { operator.old.account.holder ≡ None }
         ensures { IfOk result (λ locked.
-            IsClosed operator.old operator.new.account locked.journal) }
+            IsClosedByOperator operator.old operator.new.account locked.journal) }
     {
         let mut locked = self.locked.into_inner();
         let _held = locked.len(); // for the proof: the invariant of a journal

@@ -7,7 +7,7 @@ use crate::limits::MOST_PASSES;
 use dam_book::PackedEntry;
 use logbook::{Gain, Offer, Plain, Play, Rule, Seen, Start, Word};
 use std::marker::{Brand, Model, PhantomData};
-use std::sync::ledger::{Blank, Book, Ledger, Share as Part};
+use std::sync::ledger::{Blank as BlankLedger, Book as LedgerTotal, Ledger, Share as LedgerPart};
 
 /// The rule of the word that counts a gate's entries.
 pub(crate) struct CountRule;
@@ -92,7 +92,7 @@ pub struct Opening {
     passes: u8,
     word: Word<PackedEntry, u64, CountRule>,
     seen: Seen<PackedEntry, u64, CountRule>,
-    blank: Blank,
+    blank: BlankLedger,
     ghost empty: { seen.log ≡ [] },
     ghost count_is: { word ≡ count_of seen.book },
     ghost a_part_each: { blank.parts ≡ passes },
@@ -131,7 +131,7 @@ impl Opening {
             passes,
             word: Word::tracked(0, &mut first),
             seen,
-            blank: Blank::new(passes as u64),
+            blank: BlankLedger::new(passes as u64),
         }
     }
 
@@ -186,8 +186,8 @@ impl Opening {
 pub(crate) struct Named<J: GateName> {
     pub(crate) count: EntryCount<J>,
     pub(crate) start: History<J>,
-    pub(crate) answered: Book<Answered<J>>,
-    pub(crate) rest: Part<Answered<J>>,
+    pub(crate) answered: LedgerTotal<Answered<J>>,
+    pub(crate) rest: LedgerPart<Answered<J>>,
 }
 
 /// The word that counts the entries.
@@ -226,7 +226,7 @@ impl<J: GateName> History<J> {
     }
 
     /// A copy.
-    pub(crate) fn again(&self) -> History<J>
+    pub(crate) fn copy(&self) -> History<J>
         ensures { result ≡ self.now }
     {
         History {
@@ -257,9 +257,9 @@ impl<J: GateName> History<J> {
         let mut both = self.seen.again();
         both.learn(&other.seen);
         if self.held < other.held {
-            other.again()
+            other.copy()
         } else {
-            self.again()
+            self.copy()
         }
     }
 }

@@ -232,7 +232,7 @@ impl<A: Allocator + Copy> Keeper<A> {
         if let Some(_) = outcome.refusal() {
             return self.books.share_book();
         }
-        let mut book = self.books.another(&self.entries)?;
+        let mut book = self.books.unshared_book(&self.entries)?;
         let _done = book.carry_out(command, outcome)?;
         match Arc::new(*self.entries.allocator(), book) {
             Ok(book) => Ok(book),

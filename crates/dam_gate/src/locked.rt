@@ -19,7 +19,7 @@ use left_right::{Absorb, WriteHandle};
 use once_cell::race::{Note as CellNote, OnceBox};
 use std::alloc::{AllocError, Global};
 use std::marker::Model;
-use std::sync::ledger::{Book as Ledger, Share as Part};
+use std::sync::ledger::{Book as LedgerTotal, Share as LedgerPart};
 use std::sync::{Arc, Wait};
 
 /// The state under the lock: the keeper, and the parts that publish its versions.
@@ -47,8 +47,8 @@ where
     passes: u8,
     most: u8,
     // as many as the entries, and the parts of the passes that weren't given
-    answered: Ledger<Answered<J>>,
-    rest: Part<Answered<J>>,
+    answered: LedgerTotal<Answered<J>>,
+    rest: LedgerPart<Answered<J>>,
     ghost starts: { start ≡ [] },
 }
 
@@ -85,7 +85,7 @@ fn version_of<J: GateName>(
     requires day { keeper.now.journal.book.periods ≡ J.opening.periods }
     ensures { IfOk result (λ version. version.value ≡ keeper.now.journal) }
 {
-    let version = Version::new(keeper.share_book()?, history.again());
+    let version = Version::new(keeper.share_book()?, history.copy());
     Ok(Box::new(alloc, version)?)
 }
 
@@ -137,7 +137,9 @@ fn next_slot<J: GateName, R: Wait + Drop>(
 
 /// Makes the copy that no look reads any more equal to the one that is shown, so that nothing keeps the version before
 /// it. It waits for the looks at that version.
-fn let_go<J: GateName, R: Wait + Drop>(writer: &mut WriteHandle<Shown<J>, NextShown<J>, R>)
+fn release_earlier_version<J: GateName, R: Wait + Drop>(
+    writer: &mut WriteHandle<Shown<J>, NextShown<J>, R>,
+)
     requires { pending writer.old ≡ [] }
     ensures shown { slot_name (published writer.new).slot
         ≡ slot_name (published writer.old).slot }
@@ -151,7 +153,7 @@ fn let_go<J: GateName, R: Wait + Drop>(writer: &mut WriteHandle<Shown<J>, NextSh
 ///
 /// The next version takes the place of the present one in its box, because no memory may be refused once the history
 /// has gone on.
-fn go_on<J: GateName>(
+fn extend_history<J: GateName>(
     count: &EntryCount<J>,
     history: &History<J>,
     seen: &History<J>,
@@ -175,7 +177,7 @@ fn go_on<J: GateName>(
     let Some(after) = count.add(history, seen, learnt, ready.entry()) else {
         return Err(GateFault::NoVersion);
     };
-    *version = Version::new(book, after.again());
+    *version = Version::new(book, after.copy());
     let mut note = slot.note();
     if slot.set_as(version, &mut note).is_err() {
         return Err(GateFault::NoVersion);
@@ -211,7 +213,7 @@ impl<J: GateName, R: Wait + Drop> Locked<J, R> {
             alloc,
             keeper,
             count,
-            start: start.again(),
+            start: start.copy(),
             history: start,
             writer,
             shown,
@@ -261,7 +263,7 @@ impl<J: GateName, R: Wait + Drop> Locked<J, R> {
     }
 
     /// The journal of `into_journal`, of which the parts of all passes show how many entries it has.
-    pub(crate) fn into_counted_journal(self, parts: &mut Part<Answered<J>>) -> Journal
+    pub(crate) fn into_counted_journal(self, parts: &mut LedgerPart<Answered<J>>) -> Journal
         ensures value { result ≡ self.journal }
         ensures valid { IsJournal result }
         ensures day { result.book.periods ≡ J.opening.periods }
@@ -295,7 +297,7 @@ impl<J: GateName, R: Wait + Drop> Locked<J, R> {
         let receipts = Vec::with_capacity(self.alloc, FIRST_RECEIPTS)?;
         let part = self.rest.split_off(1, 0);
         self.passes += 1;
-        Ok(Pass::new(holder, receipts, self.start.again(), reader, part))
+        Ok(Pass::new(holder, receipts, self.start.copy(), reader, part))
     }
 
     /// Journals the command, and shows the version after it. It returns the entry's number and reply, and the history
@@ -307,7 +309,7 @@ impl<J: GateName, R: Wait + Drop> Locked<J, R> {
         &mut self,
         seen: &History<J>,
         learnt: &History<J>,
-        part: &mut Part<Answered<J>>,
+        part: &mut LedgerPart<Answered<J>>,
         command: &PackedCommand,
     ) -> Result<((u32, Reply), History<J>), GateFault>
         requires room { is_full (length self.old.journal.entries) command.now ≡ false }
@@ -332,7 +334,7 @@ impl<J: GateName, R: Wait + Drop> Locked<J, R> {
         let ready = self.keeper.ready_packed(command)?;
         let version = version_of(self.alloc, &self.keeper, &self.history)?;
         let slot = next_slot(self.alloc, &mut self.writer, &mut self.next)?;
-        let (after, shown) = go_on(
+        let (after, shown) = extend_history(
             &self.count,
             &self.history,
             seen,
@@ -344,14 +346,14 @@ impl<J: GateName, R: Wait + Drop> Locked<J, R> {
         if self.writer.publish().is_err() {
             return Err(GateFault::NoVersion);
         }
-        let_go(&mut self.writer);
+        release_earlier_version(&mut self.writer);
         self.next = None;
         self.shown = shown;
         let entry = ready.entry();
         let answer = (entry.number(), entry.reply());
         self.keeper.append_step(ready);
         self.answered.add(part, 1);
-        self.history = after.again();
+        self.history = after.copy();
         Ok((answer, after))
     }
 }

@@ -7,7 +7,7 @@ ghost use Rattle.dam_gate.specs.Pass.{IsKnowledge, after_learning, after_look, i
 ghost use Rattle.dam_gate.specs.Gate.{BeginsWithAll, IsCalled, IsLook};
 ghost use Rattle.dam_gate.specs.inside.Locked.{IsFaultAt, entry_of};
 
-use crate::account::{Account, copy_of, owns};
+use crate::account::{Account, acts_for, copy_of};
 use crate::gate::GateFault;
 use crate::history::{Answered, GateName, History};
 use crate::keeper::is_full;
@@ -18,7 +18,7 @@ use left_right::{Absorb, ReadHandle};
 use std::alloc::AllocError;
 use std::marker::Model;
 use std::sync::Wait;
-use std::sync::ledger::Share as Part;
+use std::sync::ledger::Share as LedgerPart;
 
 /// A note of a call: the gate's history up to the call's entry. Another pass of the gate can learn it.
 #[derive(Drop)]
@@ -59,7 +59,7 @@ pub struct Pass<J: GateName> {
     note: Option<Note<J>>,
     reader: ReadHandle<Shown<J>>,
     // its part of the gate's count of entries
-    part: Part<Answered<J>>,
+    part: LedgerPart<Answered<J>>,
     ghost one_part: { part.parts ≡ 1 },
     ghost as_many: { part.amount ≡ length receipts.items },
 }
@@ -103,7 +103,7 @@ impl<J: GateName> Pass<J> {
         receipts: Vec<PackedEntry>,
         start: History<J>,
         reader: ReadHandle<Shown<J>>,
-        part: Part<Answered<J>>,
+        part: LedgerPart<Answered<J>>,
     ) -> Pass<J>
         requires none { receipts.items ≡ [] }
         requires start { start ≡ [] }
@@ -114,7 +114,7 @@ impl<J: GateName> Pass<J> {
         Pass {
             holder,
             receipts,
-            learnt: start.again(),
+            learnt: start.copy(),
             history: start,
             note: None,
             reader,
@@ -147,10 +147,10 @@ impl<J: GateName> Pass<J> {
 
     /// Whether a command of this giver is for the holder to give: a participant's own commands, or the operator's
     /// close.
-    pub(crate) fn owns(&self, giver: Option<&Participant>) -> bool
+    pub(crate) fn acts_for(&self, giver: Option<&Participant>) -> bool
         ensures { result ≡ same_giver self.now.account.holder (option_copied giver.entry) }
     {
-        owns(&self.holder, giver)
+        acts_for(&self.holder, giver)
     }
 
     /// The participant's order of that name, and whether the book is closed, in the version that is shown. It takes no
@@ -175,7 +175,7 @@ impl<J: GateName> Pass<J> {
             closed: version.book().is_closed(),
             order: version.book().find(who, name).map(|order| order.copy()),
         };
-        self.history = shown.again();
+        self.history = shown.copy();
         Some(look)
     }
 
@@ -245,7 +245,7 @@ impl<J: GateName> Pass<J> {
         self.receipts
             .push_reserved(PackedEntry::new(answer.0, packed, answer.1));
         self.note = Some(Note {
-            history: after.again(),
+            history: after.copy(),
         });
         self.history = after;
         Ok(answer)
@@ -260,7 +260,7 @@ impl<J: GateName> Pass<J> {
     }
 
     /// Its account, and its part of the gate's count of entries.
-    pub(crate) fn into_account_and_part(self) -> (Account, Part<Answered<J>>)
+    pub(crate) fn into_account_and_part(self) -> (Account, LedgerPart<Answered<J>>)
         ensures account { result.0 ≡ self.account }
         ensures one_part { result.1.parts ≡ 1 }
         ensures as_many { result.1.amount ≡ length self.account.receipts }

@@ -40,14 +40,14 @@ IsRefusalAt place participants c TooManyCommands = ⊥
 IsRefusalAt place participants c (NotSettled why) = ⊥
 
 -- the commands at these places, in their order
-abbrev pub at_places : List Command → List ℕ → List Command
-at_places cs places = filter_map (λ (place : ℕ). slice_get cs place) places
+abbrev pub commands_at : List Command → List ℕ → List Command
+commands_at cs places = filter_map (λ (place : ℕ). slice_get cs place) places
 
 -- each participant's share, which is a list of places, has those of its commands among the first of all, `front`
 abbrev pub AreShares : List Command → List Command → List (List ℕ) → List (List ℕ) → Type 0
 AreShares all front [] [] = Unit {0}
 AreShares all front (who ∷ participants) (share ∷ shares) =
-    (at_places all share ≡ commands_by who front) × AreShares all front participants shares
+    (commands_at all share ≡ commands_by who front) × AreShares all front participants shares
 AreShares all front [] (share ∷ shares) = ⊥
 AreShares all front (who ∷ participants) [] = ⊥
 
@@ -90,7 +90,7 @@ IsUnsettled j passes Memory = Unit {0}
 
 -- the operator, whose pass knew this before, closed: the journal went on, by the close, from one that begins with all that
 -- the pass had learnt of, and the close's entry is the receipt
-pub record IsClosed (before : Knowledge) (after : PassState) (j : JournalState) : Type 0 where
+pub record IsClosedByOperator (before : Knowledge) (after : PassState) (j : JournalState) : Type 0 where
   pub earlier : JournalState
   pub journal : IsJournal earlier
   pub learnt : IsPrefix before.learnt earlier.entries

@@ -5,7 +5,7 @@ use Rattle.std.proofs.lemmas.Option.{slice_get-get_or}
 use Rattle.dam_book.specs.declared.command.Command.{Command}
 use Rattle.dam_book.specs.Book.{commands_of}
 use Rattle.dam_gate.specs.Pass.{Knowledge}
-use Rattle.dam_gate.specs.inside.Entering.{at_places}
+use Rattle.dam_gate.specs.inside.Entering.{commands_at}
 use Rattle.dam_gate.specs.inside.Locked.{entry_of}
 use Rattle.dam_gate.proofs.Days.{own-split, none_past, next-place, one-receipt}
 use Rattle.dam_gate.proofs.day.enter.Goals as goal
@@ -16,8 +16,8 @@ loop-place-preserved-in_default g c =
     let ps = c.args.places.now in
     let i = c.loop-place.place-index in
     let none : slice_get cs (get_or ps i 0) ≡ None = none_past cs (get_or ps i 0) c.in_default.ensures.lookup.3 in
-    let more : at_places cs (take (i + 1) ps) ≡ at_places cs (take i ps) = next-place cs ps i None c.loop-place-test.true none
-    ∙ append-nil (at_places cs (take i ps)) in
+    let more : commands_at cs (take (i + 1) ps) ≡ commands_at cs (take i ps) = next-place cs ps i None c.loop-place-test.true none
+    ∙ append-nil (commands_at cs (take i ps)) in
     record {
       holder = c.loop-place.invariant.holder;
       entered = c.loop-place.invariant.entered
@@ -35,12 +35,12 @@ loop-place-preserved g c =
     let stands : slice_get cs place ≡ Some given = slice_get-get_or cs place given within
     ∙ ap (λ (d : Command). Some d) (sym c.in-Some.ensures.lookup.1) in
     let e = entry_of given c.in-Ok._answer in
-    let more : at_places cs (take (i + 1) ps) ≡ at_places cs (take i ps) ++ e.command ∷ [] =
+    let more : commands_at cs (take (i + 1) ps) ≡ commands_at cs (take i ps) ++ e.command ∷ [] =
     next-place cs ps i (Some given) c.loop-place-test.true stands in
     record {
       holder = ap (λ (k : Knowledge). k.account.holder) c.in-Ok.ensures.answered.receipt ∙ c.loop-place.invariant.holder;
       entered = ap (λ (k : Knowledge). commands_of k.account.receipts) c.in-Ok.ensures.answered.receipt
-          ∙ one-receipt (at_places cs (take (i + 1) ps)) (commands_of c.args.pass.now.account.receipts) (at_places cs (take i ps))
+          ∙ one-receipt (commands_at cs (take (i + 1) ps)) (commands_of c.args.pass.now.account.receipts) (commands_at cs (take i ps))
           c.loop-place.pass.account.receipts e c.loop-place.invariant.entered more;
     }
 
@@ -49,8 +49,8 @@ returns-in_default-enter g c =
     record {
       holder = ap (λ (k : Knowledge). k.account.holder) c.in_default-enter.ensures.err ∙ c.loop-place.invariant.holder;
       entered = record {
-        entered = at_places c.args.commands.now (take c.loop-place.place-index c.args.places.now);
-        left = at_places c.args.commands.now (drop c.loop-place.place-index c.args.places.now);
+        entered = commands_at c.args.commands.now (take c.loop-place.place-index c.args.places.now);
+        left = commands_at c.args.commands.now (drop c.loop-place.place-index c.args.places.now);
         own_is = own-split c.args.commands.now c.args.places.now c.loop-place.place-index;
         receipts = ap (λ (k : Knowledge). commands_of k.account.receipts) c.in_default-enter.ensures.err ∙ c.loop-place.invariant.entered;
       };

@@ -3,7 +3,7 @@ use Rattle.std.proofs.Common.{◌≡◌, ◌<◌, ◌++◌, ℕ, get_or, List, S
 use Rattle.std.proofs.Math.Seq.{take-append_seam}
 use Rattle.std.proofs.lemmas.List.{length-map}
 use Rattle.dam_gate.specs.Pass.{Knowledge, IsKnowledge, holders}
-use Rattle.dam_gate.specs.inside.Entering.{AreServed, AreShares, HasAll, at_places, share_at}
+use Rattle.dam_gate.specs.inside.Entering.{AreServed, AreShares, HasAll, commands_at, share_at}
 use Rattle.dam_gate.proofs.Days.{accounts, accounts-all, accounts-enter, held-all, new-accounts, served-all}
 use Rattle.dam_gate.proofs.day.enter_day.Goals as goal
 
@@ -19,7 +19,7 @@ returns-clause-ok g c =
     let seam : take c.in_ok-passes.passes.len (news ++ rest) ≡ news = ap (λ (n : _). take n (news ++ rest)) many
     ∙ take-append_seam news rest in
     let shares = c.as_slice-shares.result.now in
-    let own = λ (i : ℕ). at_places given (share_at shares i) in
+    let own = λ (i : ℕ). commands_at given (share_at shares i) in
     let are = subst (λ (ss : List (List ℕ)). AreShares given given participants ss) (sym c.as_slice-shares.ensures.value)
     c.in_ok-shares.ensures in
     let all =
@@ -42,7 +42,7 @@ returns-clause-holders g c =
     let many : c.in_ok-passes.passes.len ≡ length news = omega (arith, same, c.deref_mut.ensures.len) in
     let seam : take c.in_ok-passes.passes.len (news ++ rest) ≡ news = ap (λ (n : _). take n (news ++ rest)) many
     ∙ take-append_seam news rest in
-    let own = λ (i : ℕ). at_places given (share_at c.as_slice-shares.result.now i) in
+    let own = λ (i : ℕ). commands_at given (share_at c.as_slice-shares.result.now i) in
     subst (λ (ks : List Knowledge). holders (accounts ks) ≡ map (λ (who : List ℕ). Some who) participants) (sym seam)
     (held-all own participants (accounts olds) (accounts news)
     (ap accounts (c.deref_mut.ensures.value ∙ c.in_ok-passes.ensures.ok) ∙ new-accounts participants)

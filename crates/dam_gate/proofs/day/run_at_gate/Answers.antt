@@ -7,7 +7,7 @@ use Rattle.dam_gate.specs.Opening.{OpeningState}
 use Rattle.dam_gate.specs.Pass.{Knowledge, PassState, after_learning, holders, knowing_nothing}
 use Rattle.dam_gate.specs.Headline.{IsWholeAccount}
 use Rattle.dam_gate.specs.Settled.{IsSettled, receipts_of}
-use Rattle.dam_gate.specs.inside.Entering.{IsClosed}
+use Rattle.dam_gate.specs.inside.Entering.{IsClosedByOperator}
 use Rattle.dam_gate.specs.inside.Tally.{AreReceipts}
 use Rattle.dam_gate.specs.declared.day.DayFault.{DayFault}
 use Rattle.dam_gate.specs.declared.day.DayFault.TheVariants.{Memory}
@@ -24,7 +24,7 @@ returns-clause-day g c =
     let op : PassState = c.close.new.operator.account in
     let j = c.into_counted_journal-journal.result in
     let passes = c.in_ok-passes-2.passes.items in
-    let closed : IsClosed before op j = subst (IsClosed before op) (sym c.into_counted_journal-journal.ensures.value) c.in_ok-closed.ensures in
+    let closed : IsClosedByOperator before op j = subst (IsClosedByOperator before op) (sym c.into_counted_journal-journal.ensures.value) c.in_ok-closed.ensures in
     let is : before ≡ after_learning (knowing_nothing None) before.learnt =
     c.learn_from_all.ensures.pass ∙ ap (λ (k : Knowledge). after_learning k before.learnt) c.in_ok-operator.ensures in
     let begin = subst (λ (xs : List Knowledge). (i : ℕ) (d : Knowledge) → i < length xs → IsPrefix (get_or xs i d).history before.learnt)
@@ -64,7 +64,7 @@ returns-in_err-settled-clause-err g c =
     let op : PassState = c.close.new.operator.account in
     let j = c.into_counted_journal-journal.result in
     let passes = c.in_ok-passes-2.passes.items in
-    let closed : IsClosed before op j = subst (IsClosed before op) (sym c.into_counted_journal-journal.ensures.value) c.in_ok-closed.ensures in
+    let closed : IsClosedByOperator before op j = subst (IsClosedByOperator before op) (sym c.into_counted_journal-journal.ensures.value) c.in_ok-closed.ensures in
     let is : before ≡ after_learning (knowing_nothing None) before.learnt =
     c.learn_from_all.ensures.pass ∙ ap (λ (k : Knowledge). after_learning k before.learnt) c.in_ok-operator.ensures in
     let begin = subst (λ (xs : List Knowledge). (i : ℕ) (d : Knowledge) → i < length xs → IsPrefix (get_or xs i d).history before.learnt)

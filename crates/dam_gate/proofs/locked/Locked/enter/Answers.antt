@@ -8,8 +8,8 @@ use Rattle.dam_gate.specs.inside.Locked.{LockedState, entry_of}
 use Rattle.dam_gate.proofs.Histories.{book_after-periods, journal_after_is}
 use Rattle.dam_gate.proofs.locked.Locked.enter.Goals as goal
 
-pub go_on-requires-clause-journal : goal.go_on-requires-clause-journal
-go_on-requires-clause-journal g c =
+pub extend_history-requires-clause-journal : goal.extend_history-requires-clause-journal
+extend_history-requires-clause-journal g c =
     let j : JournalState = c.self.inside.keeper.journal in
     let command = c.args.command.now in
     let ready = c.in_ok-ready.ensures.ready in
@@ -21,8 +21,8 @@ go_on-requires-clause-journal g c =
     ∙ ready.left in
     rw (c.self.invariant.0, entry, book) (journal_after_is j command c.len-held.ensures.valid left)
 
-pub go_on-requires-clause-day : goal.go_on-requires-clause-day
-go_on-requires-clause-day g c =
+pub extend_history-requires-clause-day : goal.extend_history-requires-clause-day
+extend_history-requires-clause-day g c =
     let j : JournalState = c.self.inside.keeper.journal in
     let command = c.args.command.now in
     let book : c.in_ok-ready.ready.book ≡ book_after j.book command =

@@ -14,19 +14,19 @@ invariant_of-self-2 g c =
     record {
       account = record {
         in_order = AreInOrder-seen 0 (length c.self.inside.history)
-            (length c.again.result) c.self.inside.receipts.items c.self.invariant.account.in_order
-            (omega (arith, longer, ap length c.again.ensures));
+            (length c.copy.result) c.self.inside.receipts.items c.self.invariant.account.in_order
+            (omega (arith, longer, ap length c.copy.ensures));
         own = c.self.invariant.account.own;
       };
       seen = refl;
-      stand = subst (λ (es : List Entry). StandIn es c.self.inside.receipts.items) (sym c.again.ensures)
+      stand = subst (λ (es : List Entry). StandIn es c.self.inside.receipts.items) (sym c.copy.ensures)
           (stand-longer c.self.inside.history shown c.self.inside.receipts.items
           (c.begins_with.ensures c.if-not-begins_with.false) c.self.invariant.stand);
     }
 
 pub returns-clause-begins : goal.returns-clause-begins
 returns-clause-begins g c =
-    rw (← c.self.view_is, c.again.ensures) (record {
+    rw (← c.self.view_is, c.copy.ensures) (record {
       seen = c.begins_with.ensures c.if-not-begins_with.false;
       learnt = c.begins_with-else-not-begins_with.ensures c.if-not-begins_with-2.false;
     })

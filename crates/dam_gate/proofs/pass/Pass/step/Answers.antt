@@ -75,7 +75,7 @@ returns-clause-answered g c =
         c.reserve.ensures.items,
         c.new.ensures,
         copied,
-        c.again.ensures,
+        c.copy.ensures,
         whole,
       );
       history = record {
