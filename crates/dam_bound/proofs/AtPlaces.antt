@@ -16,7 +16,7 @@ use Rattle.dam_blocks.specs.Magnitude.{IsWithin}
 use Rattle.dam_blocks.specs.Selection.{volume_in, net_volume_of, value_of}
 use Rattle.dam_blocks.proofs.Magnitudes.{value_within}
 use Rattle.dam_bound.specs.Sums.{over_periods, at_places}
-use Rattle.dam_bound.specs.inside.Numbers.{AreWithin, AreRaised}
+use Rattle.dam_bound.specs.inside.Numbers.{AreNumbersWithin, AreRaised}
 use Rattle.dam_bound.proofs.ClassPlaces.{periods_within}
 
 -- ---- reading
@@ -41,9 +41,9 @@ at_within (suc n) f (b ∷ bs) most zero d each l = each 0 b refl
 at_within (suc n) f (b ∷ bs) most (suc i) d each l = at_within n f bs most i d (λ k x at. each (suc k) x at) (omega (arith, l))
 
 pub all_within : (f : BlockTerms → ℤ) (bs : List Block) (most : ℕ) (xs : List ℤ) → xs ≡ at_places most_blocks f bs
-    → ((k : ℕ) (b : Block) → slice_get bs k ≡ Some b → IsWithin most (f b.order)) → AreWithin most xs
+    → ((k : ℕ) (b : Block) → slice_get bs k ≡ Some b → IsWithin most (f b.order)) → AreNumbersWithin most xs
 all_within f bs most xs same each =
-    subst (AreWithin most) (sym same) (record {
+    subst (AreNumbersWithin most) (sym same) (record {
       long = at_long most_blocks f bs;
       each = λ i d l. at_within most_blocks f bs most i d each l;
     })

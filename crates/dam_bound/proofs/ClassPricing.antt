@@ -18,7 +18,7 @@ use Rattle.dam_bound.specs.ClassPrices.{IsClassPrice, AreClassPrices}
 use Rattle.dam_bound.specs.Prices.{greatest_priced_gain}
 use Rattle.dam_bound.specs.Sums.{class_places, over_places, at_places}
 use Rattle.dam_bound.specs.declared.class_curves.Class.{Class}
-use Rattle.dam_bound.specs.inside.Numbers.{AreWithin}
+use Rattle.dam_bound.specs.inside.Numbers.{AreNumbersWithin}
 use Rattle.dam_bound.specs.inside.Counted.{counted_if}
 use Rattle.dam_bound.proofs.Accepted.{if_accepted}
 use Rattle.dam_bound.proofs.AtPlaces.{at_block}
@@ -92,7 +92,7 @@ first_gain problem prices values i gain few are e within =
 
 pub gain_next : (problem : ProblemState) (prices : List ℤ) (j : ℕ) (class : Class) (i : ℕ) (gain after price : ℤ)
     → length problem.blocks ≤ most_blocks → IsAtPlace problem j class.at
-    → class.nets ≡ at_places most_blocks (net_volume_of (class.at + 1)) problem.blocks → AreWithin greatest_volume class.nets → i < most_blocks
+    → class.nets ≡ at_places most_blocks (net_volume_of (class.at + 1)) problem.blocks → AreNumbersWithin greatest_volume class.nets → i < most_blocks
     → IsWithin (last_period * greatest_price) price → price ≡ get_or prices class.at (pos 0)
     → after ≡ gain +ℤ price *ℤ get_or class.nets i (pos 0)
     → IsGainSoFar problem prices j i gain → IsGainSoFar problem prices (j + 1) i after

@@ -19,7 +19,7 @@ use Rattle.dam_bound.specs.Prices.{over_gains}
 use Rattle.dam_bound.specs.Sums.{at_places}
 use Rattle.dam_bound.specs.declared.class_curves.Class.{Class}
 use Rattle.dam_bound.specs.declared.limits.Limit.{Limit}
-use Rattle.dam_bound.specs.inside.Numbers.{AreWithin, negative_sum}
+use Rattle.dam_bound.specs.inside.Numbers.{AreNumbersWithin, negative_sum}
 use Rattle.dam_bound.proofs.Accepted.{if_accepted}
 use Rattle.dam_bound.proofs.ByClass.{has_whole}
 use Rattle.dam_bound.proofs.Lining.{gains_are, net_inside}
@@ -112,7 +112,7 @@ taken_all nets sel long =
     let low = ap negative_sum (drop_all most_blocks nets (omega (arith, long))) in
     omega (arith, ints, all, gains, low)
 
-pub limit_is : (problem : ProblemState) (limit : Limit) (most total low : ℤ) → AreWithin greatest_volume limit.nets → total ≡ negative_sum limit.nets
+pub limit_is : (problem : ProblemState) (limit : Limit) (most total low : ℤ) → AreNumbersWithin greatest_volume limit.nets → total ≡ negative_sum limit.nets
     → low ≡ int_max (most -ℤ total) (neg_ℤ (pos 1)) → limit.room ≡ int_min low (pos greatest_room)
     → ((sel : List Bool) (w : ℤ) → IsEligible problem sel w → over_gains limit.nets sel ≤ℤ most) → IsLimit problem limit
 limit_is problem limit most total low small total_is low_is room_is keeps =

@@ -24,7 +24,7 @@ use Rattle.dam_bound.specs.Prices.{line_in, IsClassLine, IsByLines, IsPriceBound
 use Rattle.dam_bound.specs.Sums.{class_places, over_places, at_places}
 use Rattle.dam_bound.specs.declared.class_curves.Class.{Class}
 use Rattle.dam_bound.specs.declared.price_bound.PriceBound.{PriceBound}
-use Rattle.dam_bound.specs.inside.Numbers.{AreWithin, AreRaised}
+use Rattle.dam_bound.specs.inside.Numbers.{AreNumbersWithin, AreRaised}
 use Rattle.dam_bound.proofs.AtPlaces.{at_same, all_within, raised_is, order_at, net_small, value_small}
 use Rattle.dam_bound.proofs.ClassPlaces.{over_same, over_within, over_next, take_get, is_place, listed, few_places, rising, few_taken, no_class, one_more}
 use Rattle.dam_bound.proofs.Lining.{bounds_welfare}
@@ -164,7 +164,7 @@ added_within m n k x y u v l =
 
 pub gains_within : (problem : ProblemState) (j : ℕ) (base : ℤ) (gains : List ℤ) (lines : List Line) → length problem.hours ≤ last_period
     → AreBlocks (length problem.hours) problem.blocks → IsLinedSoFar problem j base gains lines
-    → AreWithin ((j + 1) * (last_period * greatest_value)) gains
+    → AreNumbersWithin ((j + 1) * (last_period * greatest_value)) gains
 gains_within problem j base gains lines few blocks so_far =
     let places = take j (class_places problem) in
     all_within (gain_over problem lines places) problem.blocks _ gains so_far.gains_are (λ k b at.
@@ -226,7 +226,7 @@ all_lines problem curves classes j bound few few_blocks blocks are past within s
 pub record IsOwn (problem : ProblemState) (curves : CurvesState) (j : ℕ) (class : Class) : Type 0 where
   pub is : IsClassIn problem curves class
   pub place : IsAtPlace problem j class.at
-  pub small : AreWithin greatest_volume class.nets
+  pub small : AreNumbersWithin greatest_volume class.nets
 
 read_at : {X : Type 0} (items xs : List X) (j : ℕ) (d : X) → items ≡ xs → j < length items → slice_get xs j ≡ Some (get_or items j d)
 read_at items xs j d same l = subst (λ (ys : List _). slice_get ys j ≡ Some (get_or items j d)) same (slice_get-get_or items j d l)

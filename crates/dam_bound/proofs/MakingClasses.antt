@@ -22,7 +22,7 @@ use Rattle.dam_bound.specs.Classes.{first_of, members}
 use Rattle.dam_bound.specs.ClassCurves.{class_orders, least_net_in, most_net_in, IsClassIn, AreClasses}
 use Rattle.dam_bound.specs.Sums.{firsts_from, at_places, over_periods}
 use Rattle.dam_bound.specs.declared.class_curves.Class.{Class}
-use Rattle.dam_bound.specs.inside.Numbers.{AreWithin, negative_sum, positive_sum}
+use Rattle.dam_bound.specs.inside.Numbers.{AreNumbersWithin, negative_sum, positive_sum}
 use Rattle.dam_bound.proofs.AtPlaces.{at_next, all_within, net_small, order_at}
 use Rattle.dam_bound.proofs.ClassPlaces.{place_more, place_none}
 use Rattle.dam_bound.proofs.Levelling.{drop_at}
@@ -245,7 +245,7 @@ number_more f bs i b xs x at few e so_far =
     ∙ ap (λ (n : ℕ). at_places most_blocks f (take n bs)) number
 
 pub nets_within : (periods t : ℕ) (bs : List Block) (i : ℕ) (nets : List ℤ) → AreBlocks periods bs → length bs ≤ i
-    → nets ≡ at_places most_blocks (net_volume_of t) (take i bs) → AreWithin greatest_volume nets
+    → nets ≡ at_places most_blocks (net_volume_of t) (take i bs) → AreNumbersWithin greatest_volume nets
 nets_within periods t bs i nets are past is =
     all_within (net_volume_of t) bs greatest_volume nets (is ∙ ap (at_places most_blocks (net_volume_of t)) (take_all i bs past))
     (λ k b at. net_small t b.order (order_at periods bs k b are at))

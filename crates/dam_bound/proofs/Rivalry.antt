@@ -29,7 +29,7 @@ use Rattle.dam_bound.specs.Sums.{class_places, over_places, at_places}
 use Rattle.dam_bound.specs.declared.class_curves.Class.{Class}
 use Rattle.dam_bound.specs.declared.rivals.Weights.{Weights}
 use Rattle.dam_bound.specs.inside.Families.{IsFamily}
-use Rattle.dam_bound.specs.inside.Numbers.{AreWithin}
+use Rattle.dam_bound.specs.inside.Numbers.{AreNumbersWithin}
 use Rattle.dam_bound.specs.inside.Rivals.{AreVolumes, weigh, IsMost}
 use Rattle.dam_bound.proofs.AtPlaces.{at_block, all_within, order_at, value_small}
 use Rattle.dam_bound.proofs.ClassPlaces.{times_plus, over_same, over_plus, over_times, over_next}
@@ -242,7 +242,7 @@ value_held problem curves classes values families i are inside =
     let l = own.at_least in let h = own.at_most in
     held (last_period * greatest_value) (get_or values i (pos 0)) (omega (arith, ints, l, h)) own
 
-pub net_held : (nets : List ℤ) (i : ℕ) (x : ℤ) → AreWithin greatest_volume nets → i < most_blocks
+pub net_held : (nets : List ℤ) (i : ℕ) (x : ℤ) → AreNumbersWithin greatest_volume nets → i < most_blocks
     → x ≡ to_z w32 (of_z w32 (get_or nets i (pos 0)))
     → IsWithin greatest_volume (to_z w64 (of_z w64 x)) × IsWithin (last_period * greatest_value) (to_z w64 (of_z w64 x))
     × (to_z w64 (of_z w64 x) ≡ get_or nets i (pos 0))

@@ -54,13 +54,13 @@ pub record AreLimits (problem : ProblemState) (limits : List Limit) : Type 0 whe
   pub each : (k : ℕ) → k < most_limits → IsLimit problem (limit_in limits k)
 
 -- a number for each limit, of this size at most
-pub record AreSmall (greatest : ℕ) (rooms : List ℤ) : Type 0 where
+pub record AreRoomsWithin (greatest : ℕ) (rooms : List ℤ) : Type 0 where
   pub many : length rooms ≡ most_limits
   pub small : (k : ℕ) (d : ℤ) → k < most_limits → IsWithin greatest (slice_index_or rooms k d)
 
 -- the rooms under limits
 abbrev pub AreRooms : List ℤ → Type 0
-AreRooms rooms = AreSmall greatest_room rooms
+AreRooms rooms = AreRoomsWithin greatest_room rooms
 
 -- what the decisions of the selection take on the places that are open is no more than the room under each limit
 abbrev pub HasRoom : List Limit → List Bool → (ℕ → Bool) → List ℤ → Type 0

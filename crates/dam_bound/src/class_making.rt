@@ -9,7 +9,7 @@ ghost use Rattle.dam_bound.specs.ClassCurves.{class_orders, AreClasses};
 ghost use Rattle.dam_bound.specs.Classes.{AreFirsts};
 ghost use Rattle.dam_bound.specs.Relaxed.{without_rows};
 ghost use Rattle.dam_bound.specs.Sums.{at_places, over_periods};
-ghost use Rattle.dam_bound.specs.inside.Numbers.{AreWithin, negative_sum, positive_sum};
+ghost use Rattle.dam_bound.specs.inside.Numbers.{AreNumbersWithin, negative_sum, positive_sum};
 
 use crate::class_curves::Class;
 use crate::classes::firsts_of;
@@ -24,7 +24,7 @@ fn nets_in(blocks: &[Block], at: usize) -> [i32; MOST_BLOCKS]
     requires few { length blocks.now ≤ most_blocks }
     requires place { at < last_period }
     ensures value { result ≡ at_places most_blocks (net_volume_of (at + 1)) blocks.now }
-    ensures size { AreWithin greatest_volume result }
+    ensures size { AreNumbersWithin greatest_volume result }
 {
     let period = Period::at(at);
     let mut nets = [0; MOST_BLOCKS];
@@ -63,7 +63,7 @@ pub(crate) fn values_of(blocks: &[Block], count: usize) -> [i64; MOST_BLOCKS]
 /// Begins the sum of a class at the net volumes that selections of blocks with these net volumes make. The error is out of
 /// memory.
 fn clear_for<A: Allocator>(sum: &mut Sum<A>, nets: &[i32; MOST_BLOCKS]) -> Result<(), AllocError>
-    requires { AreWithin greatest_volume nets.now }
+    requires { AreNumbersWithin greatest_volume nets.now }
     ensures { OnOk result (IsCurve [] (negative_sum nets.now) (positive_sum nets.now) sum.new) }
 {
     let mut least = 0;
@@ -85,7 +85,7 @@ fn curve_of<A: Allocator, B: Allocator + Copy>(
     curves: &mut Curves<B>,
 ) -> Result<Curve, AllocError>
     requires firsts { AreFirsts problem.now firsts.now }
-    requires nets { AreWithin greatest_volume nets.now }
+    requires nets { AreNumbersWithin greatest_volume nets.now }
     ensures curve { IfOk result (λ curve.
         IsCurveAt curves.new curve (class_orders problem.now class)
         (negative_sum nets.now) (positive_sum nets.now)) }

@@ -6,7 +6,7 @@ ghost use Rattle.dam_blocks.specs.Eligible.{IsEligible};
 ghost use Rattle.dam_blocks.specs.Magnitude.{IsWithin};
 ghost use Rattle.dam_blocks.specs.Problem.{ProblemState};
 ghost use Rattle.dam_blocks.specs.Selection.{accepts};
-ghost use Rattle.dam_bound.specs.Limits.{most_limits, limit_in, room_taken, greatest_room, AreLimits, AreRooms, AreSmall, HasRoom, every_place};
+ghost use Rattle.dam_bound.specs.Limits.{most_limits, limit_in, room_taken, greatest_room, AreLimits, AreRooms, AreRoomsWithin, HasRoom, every_place};
 
 use dam_book::MOST_BLOCKS;
 
@@ -54,7 +54,7 @@ impl Room {
     /// The least room under a limit.
     #[inline(always)]
     fn least(&self) -> i32
-        requires { AreSmall (2 * greatest_room) self.now.rooms }
+        requires { AreRoomsWithin (2 * greatest_room) self.now.rooms }
         ensures under { (k : ℕ) → k < most_limits
             → result ≤ℤ slice_index_or self.now.rooms k (pos 0) }
         ensures reached { (k : ℕ) × (k < most_limits)
@@ -90,7 +90,7 @@ impl Limits {
         requires place { place < most_blocks }
         requires limits { (problem : ProblemState) × AreLimits problem self.now.limits }
         requires rooms { AreRooms room.now.rooms }
-        ensures small { AreSmall (2 * greatest_room) result.rooms }
+        ensures small { AreRoomsWithin (2 * greatest_room) result.rooms }
         ensures lowered { (k : ℕ) (d : ℤ) → k < most_limits → slice_index_or result.rooms k d
             ≡ slice_index_or room.now.rooms k d -ℤ room_taken accept
             (slice_index_or (limit_in self.now.limits k).nets place (pos 0)) }

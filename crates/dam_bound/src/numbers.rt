@@ -6,7 +6,7 @@ ghost use Rattle.dam_book.specs.Limits.{most_blocks, last_period, greatest_volum
 ghost use Rattle.dam_hour.specs.Limits.{greatest_net, greatest_price, greatest_value};
 ghost use Rattle.dam_curve.specs.Line.{line_at, IsSmallLine};
 ghost use Rattle.dam_blocks.specs.Magnitude.{IsWithin};
-ghost use Rattle.dam_bound.specs.inside.Numbers.{AreWithin, AreWeights, AreCounts, weighted, AreRaised, greatest_line_value};
+ghost use Rattle.dam_bound.specs.inside.Numbers.{AreNumbersWithin, AreWeights, AreCounts, weighted, AreRaised, greatest_line_value};
 
 use dam_blocks::Selection;
 use dam_book::MOST_BLOCKS;
@@ -43,7 +43,7 @@ pub(crate) fn weights_of(taken: Selection, left: &[u8]) -> [i32; MOST_BLOCKS]
 #[inline(always)]
 pub(crate) fn weighted(weights: &[i32; MOST_BLOCKS], nets: &[i32; MOST_BLOCKS]) -> i32
     requires weights { AreWeights weights.now }
-    requires nets { AreWithin greatest_volume nets.now }
+    requires nets { AreNumbersWithin greatest_volume nets.now }
     ensures value { result ≡ weighted weights.now nets.now }
     ensures size { IsWithin (2 * greatest_net) result }
 {
@@ -58,8 +58,8 @@ pub(crate) fn weighted(weights: &[i32; MOST_BLOCKS], nets: &[i32; MOST_BLOCKS]) 
 #[inline(always)]
 pub(crate) fn add_priced(gains: &mut [i64; MOST_BLOCKS], nets: &[i32; MOST_BLOCKS], price: i32)
     requires gains { (n : ℕ) × (n ≤ last_period)
-        × AreWithin (n * (last_period * greatest_value)) gains.old }
-    requires nets { AreWithin greatest_volume nets.now }
+        × AreNumbersWithin (n * (last_period * greatest_value)) gains.old }
+    requires nets { AreNumbersWithin greatest_volume nets.now }
     requires price { IsWithin (last_period * greatest_price) price }
     ensures { AreRaised price nets.now gains.old gains.new }
 {

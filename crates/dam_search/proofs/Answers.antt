@@ -14,7 +14,7 @@ use Rattle.dam_blocks.specs.Problem.{ProblemState, IsProblem}
 use Rattle.dam_search.specs.declared.answer.PieceAnswer.{PieceAnswer}
 use Rattle.dam_search.specs.Piece.{Rises}
 use Rattle.dam_search.specs.Answer.{AreAnswered, AreConclusive}
-use Rattle.dam_search.specs.inside.Collect.{IsWorked, answers_about, AreOneEach, AreCounts, IsLong}
+use Rattle.dam_search.specs.inside.Collect.{IsWorked, answers_about, AreOneEach, AreAnswerCounts, IsLong}
 use Rattle.dam_search.specs.inside.Collect.{IsHighestFound}
 use Rattle.dam_search.specs.Words.{most_pieces}
 use Rattle.dam_search.proofs.Ranks.{IsTransitive, rises_twice}
@@ -115,7 +115,7 @@ all_in_cutting problem depth nodes pieces answers e few worked k d l =
     let in_cutting = (worked k d l).in_cutting in
     omega (arith, e, few, in_cutting)
 
-pub none_counted : (answers : List PieceAnswer) → AreCounts (take 0 answers) (replicate most_pieces 0)
+pub none_counted : (answers : List PieceAnswer) → AreAnswerCounts (take 0 answers) (replicate most_pieces 0)
 none_counted answers = record {
   long = length-replicate {A = ℕ} most_pieces 0;
   each = λ piece d h. get_or-replicate {A = ℕ} most_pieces piece 0 d h;
@@ -127,8 +127,8 @@ is_other m n e f = grind (arith, nat_tests, e, f)
 -- the answer at the place is counted, and no other
 pub counts_step : (answers : List PieceAnswer) (i : ℕ) (counts : List ℕ) (a : PieceAnswer) → i < length answers
     → a ≡ slice_index_or answers i a
-    → a.piece < most_pieces → AreCounts (take i answers) counts
-    → AreCounts (take (i + 1) answers) (slice_set counts a.piece (slice_index_or counts a.piece 0 + 1))
+    → a.piece < most_pieces → AreAnswerCounts (take i answers) counts
+    → AreAnswerCounts (take (i + 1) answers) (slice_set counts a.piece (slice_index_or counts a.piece 0 + 1))
 counts_step answers i counts a inside is few are = record {
   long = length-set counts a.piece (slice_index_or counts a.piece 0 + 1) ∙ are.long;
   each = λ piece d h. each piece d h (a.piece == piece) refl;

@@ -12,7 +12,7 @@ use Rattle.dam_blocks.specs.Selection.{accepts, padded, choice, IsAdmissible}
 use Rattle.dam_bound.specs.Open.{is_among, IsOpen, AreFree}
 use Rattle.dam_bound.specs.Prefix.{IsCompletion}
 use Rattle.dam_search.specs.Piece.{IsFind, IsSound}
-use Rattle.dam_search.specs.inside.PriceWalk.{AreDistinct, IsOrder, IsNode, IsOpenFind, FindsOpen, CoversOpen}
+use Rattle.dam_search.specs.inside.PriceWalk.{AreDistinct, IsDecisionOrder, IsNode, IsOpenFind, FindsOpen, CoversOpen}
 use Rattle.dam_search.proofs.Prefixes.{length-choice}
 
 -- ---- the decisions of the piece
@@ -62,14 +62,14 @@ free_from taken (place ∷ order) distinct h =
 
 -- ---- the node
 
-pub not_among_before : (depth count : ℕ) (order : List ℕ) (place : ℕ) → IsOrder depth count order → place < depth → is_among place order ≡ false
+pub not_among_before : (depth count : ℕ) (order : List ℕ) (place : ℕ) → IsDecisionOrder depth count order → place < depth → is_among place order ≡ false
 not_among_before depth count order place is less = elim (is_among place order) as (λ b. is_among place order ≡ b → b ≡ false) [
   | true ↦ λ e. (let within = is.within place e in let from = within.0 in absurd (omega (arith, from, less)))
   | false ↦ λ e. refl
 ] refl
 
 pub first_node : (prefix rejected : List Bool) (count : ℕ) (order : List ℕ) → length prefix ≤ count → count ≤ most_blocks
-    → IsOrder (length prefix) count order
+    → IsDecisionOrder (length prefix) count order
     → ((place : ℕ) → accepts rejected place ≡ true → (place < length prefix) × (accepts (padded prefix) place ≡ false))
     → IsNode (padded prefix) rejected order
 first_node prefix rejected count order deep few is apart = record {
@@ -82,13 +82,13 @@ first_node prefix rejected count order deep few is apart = record {
 }
 
 pub piece_node : (depth piece count : ℕ) (taken rejected : List Bool) (order : List ℕ) → taken ≡ padded (choice depth piece) → depth ≤ count
-    → count ≤ most_blocks → IsOrder depth count order
+    → count ≤ most_blocks → IsDecisionOrder depth count order
     → ((place : ℕ) → accepts rejected place ≡ true → (place < depth) × (accepts taken place ≡ false)) → IsNode taken rejected order
 piece_node depth piece count taken rejected order is deep few ordered apart =
     let long = length-choice depth piece in
     subst (λ (xs : List Bool). IsNode xs rejected order) (sym is)
     (first_node (choice depth piece) rejected count order (omega (arith, long, deep)) few
-    (subst (λ (n : ℕ). IsOrder n count order) (sym long) ordered)
+    (subst (λ (n : ℕ). IsDecisionOrder n count order) (sym long) ordered)
     (λ place e. (let own = apart place e in let less = own.0 in
     (omega (arith, less, long), subst (λ (xs : List Bool). accepts xs place ≡ false) is own.1))))
 
@@ -102,7 +102,7 @@ begins_with (x ∷ prefix) (y ∷ selection) long h =
     ∙ ap (λ (ys : List Bool). x ∷ ys) (begins_with prefix selection (omega (arith, long)) (λ i l. h (suc i) (omega (arith, l))))
 
 open_completion : (prefix selection : List Bool) (count : ℕ) (order : List ℕ) → length prefix ≤ most_blocks
-    → IsOrder (length prefix) count order → IsOpen (padded prefix) order selection → IsCompletion prefix selection
+    → IsDecisionOrder (length prefix) count order → IsOpen (padded prefix) order selection → IsCompletion prefix selection
 open_completion prefix selection count order few is opened = record {
   as_long = opened.as_long;
   rest = drop (length prefix) selection;
@@ -115,7 +115,7 @@ open_completion prefix selection count order few is opened = record {
 
 -- an admissible completion accepts no place past the last block
 completion_open : (problem : ProblemState) (prefix selection : List Bool) (order : List ℕ)
-    → IsOrder (length prefix) (length problem.blocks) order → IsAdmissible problem.blocks selection → IsCompletion prefix selection
+    → IsDecisionOrder (length prefix) (length problem.blocks) order → IsAdmissible problem.blocks selection → IsCompletion prefix selection
     → IsOpen (padded prefix) order selection
 completion_open problem prefix selection order is admissible whole = record {
   as_long = whole.as_long;
@@ -139,13 +139,13 @@ completion_open problem prefix selection order is admissible whole = record {
 -- ---- the answer
 
 find_completion : (problem : ProblemState) (prefix : List Bool) (order : List ℕ) (best : Option Best) → length prefix ≤ most_blocks
-    → IsOrder (length prefix) (length problem.blocks) order → IsOpenFind problem (padded prefix) order best → IsFind problem prefix best
+    → IsDecisionOrder (length prefix) (length problem.blocks) order → IsOpenFind problem (padded prefix) order best → IsFind problem prefix best
 find_completion problem prefix order None few is h = tt
 find_completion problem prefix order (Some b) few is h =
     (open_completion prefix b.selection (length problem.blocks) order few is h.0, h.1)
 
 pub sound_from : (problem : ProblemState) (prefix : List Bool) (order : List ℕ) (best : Option Best) (read : ℕ) → length prefix ≤ most_blocks
-    → IsOrder (length prefix) (length problem.blocks) order → FindsOpen problem (padded prefix) order None best
+    → IsDecisionOrder (length prefix) (length problem.blocks) order → FindsOpen problem (padded prefix) order None best
     → CoversOpen problem (padded prefix) order best read → IsSound problem prefix best read true
 sound_from problem prefix order best read few is finds covers = record {
   found = elim finds.found [
@@ -156,11 +156,11 @@ sound_from problem prefix order best read few is finds covers = record {
 }
 
 pub piece_sound : (problem : ProblemState) (depth piece : ℕ) (taken : List Bool) (order : List ℕ) (best : Option Best) (read : ℕ)
-    → taken ≡ padded (choice depth piece) → depth ≤ most_blocks → IsOrder depth (length problem.blocks) order
+    → taken ≡ padded (choice depth piece) → depth ≤ most_blocks → IsDecisionOrder depth (length problem.blocks) order
     → FindsOpen problem taken order None best → CoversOpen problem taken order best read → IsSound problem (choice depth piece) best read true
 piece_sound problem depth piece taken order best read is few ordered finds covers =
     let long = length-choice depth piece in
     sound_from problem (choice depth piece) order best read (omega (arith, long, few))
-    (subst (λ (n : ℕ). IsOrder n (length problem.blocks) order) (sym long) ordered)
+    (subst (λ (n : ℕ). IsDecisionOrder n (length problem.blocks) order) (sym long) ordered)
     (subst (λ (xs : List Bool). FindsOpen problem xs order None best) is finds)
     (subst (λ (xs : List Bool). CoversOpen problem xs order best read) is covers)

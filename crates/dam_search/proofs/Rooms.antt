@@ -15,7 +15,7 @@ use Rattle.dam_bound.specs.Limits.{room_taken, if_open, taken_under, most_limits
 use Rattle.dam_bound.specs.Open.{is_among, IsOpen}
 use Rattle.dam_bound.specs.Relaxed.{without_rows}
 use Rattle.dam_search.specs.Piece.{IsSound}
-use Rattle.dam_search.specs.inside.PriceWalk.{AgreesUnder, IsNode, IsOrder, IsRoom, with_if}
+use Rattle.dam_search.specs.inside.PriceWalk.{AgreesUnder, IsNode, IsDecisionOrder, IsRoom, with_if}
 use Rattle.dam_search.proofs.FirstNode.{among_first, not_among_before, piece_sound}
 use Rattle.dam_search.proofs.Opens.{finds_none, open_any, open_here}
 
@@ -109,7 +109,7 @@ no_room problem limits accept taken rejected place left room sel w node is none 
     (open_here accept taken rejected place left sel node opened)
 
 -- ---- the room of a piece
-agrees_open : (depth count : ℕ) (taken sel : List Bool) (order : List ℕ) → IsOrder depth count order → IsOpen taken order sel
+agrees_open : (depth count : ℕ) (taken sel : List Bool) (order : List ℕ) → IsDecisionOrder depth count order → IsOpen taken order sel
     → AgreesUnder depth taken sel
 agrees_open depth count taken sel order is opened place l = opened.agrees place (not_among_before depth count order place is l)
 
@@ -117,7 +117,7 @@ past_depth : (depth p : ℕ) → depth ≤ p → not (nat_lt p depth) ≡ true
 past_depth depth p l = grind (arith, nat_tests, l)
 
 pub piece_room : (problem : ProblemState) (limits : List Limit) (depth count : ℕ) (taken : List Bool) (order : List ℕ) (room : Room)
-    → IsOrder depth count order → AreLimits problem limits → AreRooms room.rooms
+    → IsDecisionOrder depth count order → AreLimits problem limits → AreRooms room.rooms
     → ((problem : ProblemState) (sel : List Bool) (w : ℤ) → AreLimits problem limits → IsEligible problem sel w → AgreesUnder depth taken sel
     → HasRoom limits sel (λ p. not (nat_lt p depth)) room.rooms)
     → IsRoom problem limits taken order room
@@ -130,7 +130,7 @@ piece_room problem limits depth count taken order room is are rooms has = record
 }
 
 pub nothing_sound : (problem : ProblemState) (limits : List Limit) (depth piece : ℕ) (taken : List Bool) (order : List ℕ)
-    → taken ≡ padded (choice depth piece) → depth ≤ most_blocks → IsOrder depth (length problem.blocks) order → AreLimits problem limits
+    → taken ≡ padded (choice depth piece) → depth ≤ most_blocks → IsDecisionOrder depth (length problem.blocks) order → AreLimits problem limits
     → ((problem : ProblemState) (sel : List Bool) (w : ℤ) → AreLimits problem limits → IsEligible problem sel w → AgreesUnder depth taken sel → ⊥)
     → IsSound problem (choice depth piece) None 0 true
 nothing_sound problem limits depth piece taken order is few ordered are none =

@@ -10,7 +10,7 @@ use Rattle.atomic_table.specs.Table.{State, Me, keeps, step, opening, Allows, Sp
 use Rattle.atomic_table.proofs.Lists.{at_set, at_snoc, set_else}
 use Rattle.dam_search.specs.declared.view.View.{View}
 use Rattle.dam_search.specs.Words.{sum_of, greatest, times, once_below, most_pieces, most_seats, first_view, spent_view}
-use Rattle.dam_search.specs.Words.{drawn_after, cut_left, cut_right, joined, IsFit, AreWordsOf, AreWords, IsDrawn, IsRead, IsOffered, IsClosed}
+use Rattle.dam_search.specs.Words.{drawn_after, cut_left, cut_right, joined_view, IsFit, AreWordsOf, AreWords, IsDrawn, IsIncumbentRead, IsOffered, AreClosedWords}
 use Rattle.dam_search.proofs.Sums.{total_set, total_snoc, part_of_total, greatest_set, greatest_snoc, total_less, part_of_greatest}
 use Rattle.dam_search.proofs.Sums.{total_none, greatest_none, placed, times_append}
 
@@ -172,7 +172,7 @@ draws n slots id me more s h homes at small =
 
 -- ---- a read and an offer
 
-pub reads : (n slots id : ℕ) (me : Me (Unit {0}) View) → 0 < me.0.seats → Allows (AreWords n) slots id me 1 (λ k. k) (IsRead me)
+pub reads : (n slots id : ℕ) (me : Me (Unit {0}) View) → 0 < me.0.seats → Allows (AreWords n) slots id me 1 (λ k. k) (IsIncumbentRead me)
 reads n slots id me alive s h homes at small =
     let found = slice_index s.words 1 in let is : found ≡ h.incumbent = ap (λ (ws : List ℕ). slice_index ws 1) h.words in
     let kept = h.kept in let fits = kept.fit id me.0 at in let read = kept.none_above id me.0 at in
@@ -301,9 +301,9 @@ splits n id v alive more s h at =
       };
     }
 
-pub joins : (n id other : ℕ) (v w : View) → 0 < v.seats → Joins (AreWords n) id v other w (joined v w) spent_view
+pub joins : (n id other : ℕ) (v w : View) → 0 < v.seats → Joins (AreWords n) id v other w (joined_view v w) spent_view
 joins n id other v w alive s h at apart there =
-    let kept = h.kept in let fits = kept.fit id v at in let both = joined v w in
+    let kept = h.kept in let fits = kept.fit id v at in let both = joined_view v w in
     let found : get_elem? s.views other ≡ some w = sym (set_else s.views id other both apart) ∙ there in
     let fits_w = kept.fit other w found in
     let sums : (f : View → ℕ) → sum_of f (set (set s.views id both) other spent_view) + f v + f w ≡ sum_of f
@@ -364,7 +364,7 @@ joins n id other v w alive s h at apart there =
 
 -- if the seats of one view are all there are, every other view is spent
 pub closes : (n : ℕ) (s : State (Unit {0}) View) (i : ℕ) (v : View) → AreWords n s → get_elem? s.views i ≡ some v
-    → v.seats + v.seats_left ≡ most_seats → IsClosed n s.words v
+    → v.seats + v.seats_left ≡ most_seats → AreClosedWords n s.words v
 closes n s i v h at all =
     let kept = h.kept in
     let claim_is : slice_index s.words 0 ≡ h.claim = ap (λ (ws : List ℕ). slice_index ws 0) h.words in
@@ -395,8 +395,8 @@ closes n s i v h at all =
     }
 
 -- the same for the words as they are read one by one
-pub closed_words : (n claim incumbent : ℕ) (words : List ℕ) (v : View) → IsClosed n words v → get_elem? words 0 ≡ some claim
-    → get_elem? words 1 ≡ some incumbent → IsClosed n (claim ∷ incumbent ∷ []) v
+pub closed_words : (n claim incumbent : ℕ) (words : List ℕ) (v : View) → AreClosedWords n words v → get_elem? words 0 ≡ some claim
+    → get_elem? words 1 ≡ some incumbent → AreClosedWords n (claim ∷ incumbent ∷ []) v
 closed_words n claim incumbent [] v h first second = absurd (some-ne-none claim (sym first))
 closed_words n claim incumbent (x ∷ []) v h first second = absurd (some-ne-none incumbent (sym second))
 closed_words n claim incumbent (x ∷ y ∷ rest) v h first second = record {

@@ -20,7 +20,7 @@ use Rattle.dam_search.specs.declared.fault.SearchFault.{SearchFault}
 use Rattle.dam_search.specs.declared.fault.SearchFault.TheVariants.{Collected}
 use Rattle.dam_blocks.specs.declared.selection.Best.{Best}
 use Rattle.dam_blocks.specs.Eligible.{IsEligible}
-use Rattle.dam_search.specs.Words.{times, once_below, first_view, joined, standing, IsClosed}
+use Rattle.dam_search.specs.Words.{times, once_below, first_view, joined_view, standing, AreClosedWords}
 use Rattle.dam_search.specs.Work.{IsExplored, AreAnswersOf}
 use Rattle.dam_search.specs.inside.Seats.{AreJoined, AreWhole}
 use Rattle.dam_search.proofs.Collecting.{spent_less, reached_less, reached_greater, reached_greatest}
@@ -50,7 +50,7 @@ one_more problem depth nodes besides v w answers a h drawn told top explored = r
 
 pub both_answers : (problem : ProblemState) (depth nodes besides : ℕ) (v w : View) (xs ys : List PieceAnswer)
     → AreAnswersOf problem depth nodes besides v xs → AreAnswersOf problem depth nodes 0 w ys
-    → AreAnswersOf problem depth nodes besides (joined v w) (xs ++ ys)
+    → AreAnswersOf problem depth nodes besides (joined_view v w) (xs ++ ys)
 both_answers problem depth nodes besides v w xs ys g h = record {
   pieces = map-append (λ (a : PieceAnswer). a.piece) xs ys ∙ ap₂ (λ (m n : List ℕ). m ++ n) g.pieces h.pieces;
   explored = All-append (λ (a : PieceAnswer). IsExplored problem depth nodes a) xs ys g.explored h.explored;
@@ -149,7 +149,7 @@ none_joined problem depth nodes v undrawn = record {
 
 pub one_joined : (problem : ProblemState) (depth nodes : ℕ) (v : View) (workers : ℕ) (w u x : View) (xs ys : List PieceAnswer)
     → AreJoined problem depth nodes v workers w xs → u.seats ≡ 1 → u.seats_left ≡ 0 → u.draws_past_the_end ≡ 1
-    → AreAnswersOf problem depth nodes 0 u ys → x ≡ joined w u → AreJoined problem depth nodes v (workers + 1) x (xs ++ ys)
+    → AreAnswersOf problem depth nodes 0 u ys → x ≡ joined_view w u → AreJoined problem depth nodes v (workers + 1) x (xs ++ ys)
 one_joined problem depth nodes v workers w u x xs ys h one none past are e =
     let seats = h.seats in let left = h.seats_left in let pasts = h.draws_past_the_end in
     subst (λ (y : View). AreJoined problem depth nodes v (workers + 1) y (xs ++ ys)) (sym e)
@@ -181,7 +181,7 @@ begun pieces v w e f = record {
 pub whole : (problem : ProblemState) (depth nodes first workers pieces : ℕ) (words : List ℕ) (v w : View) (answers : List PieceAnswer)
     → AreJoined problem depth nodes v workers w answers → v.draws_past_the_end ≡ 0 → v.greatest_offer ≡ first → 1 ≤ workers
     → pieces ≡ 2 ^ depth
-    → IsClosed pieces words w → AreWhole problem depth nodes first answers
+    → AreClosedWords pieces words w → AreWhole problem depth nodes first answers
 whole problem depth nodes first workers pieces words v w answers h going top some e closed =
     let past = h.draws_past_the_end in let told = closed.greatest_read in let offered = h.are_answers.offered in
     record {

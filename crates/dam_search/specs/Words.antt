@@ -85,8 +85,8 @@ abbrev pub cut_right : View → View
 cut_right v = new_view v.pieces 0
 
 -- a seat with another joined into it
-abbrev pub joined : View → View → View
-joined v w = record {
+abbrev pub joined_view : View → View → View
+joined_view v w = record {
   pieces = v.pieces;
   drawn = v.drawn ++ w.drawn;
   draws_past_the_end = v.draws_past_the_end + w.draws_past_the_end;
@@ -143,8 +143,8 @@ IsDrawn before found after =
     × (length after.0.drawn ≤ after.0.pieces)
 
 -- the value found is the greatest read so far
-abbrev pub IsRead : Me (Unit {0}) View → ℕ → Me (Unit {0}) View → Type 0
-IsRead before found after =
+abbrev pub IsIncumbentRead : Me (Unit {0}) View → ℕ → Me (Unit {0}) View → Type 0
+IsIncumbentRead before found after =
     (before.0.greatest_read ≤ found) × (after.0 ≡ record before.0 { greatest_read = found })
     × (after.1 ≡ before.1)
 
@@ -159,7 +159,7 @@ IsOffered step before found after =
 -- the words at the close, if all seats were joined into the one of this view: the claim word counts
 -- its draws, which were each piece once if one was past the end; the incumbent word is its greatest
 -- offer, and it never read more than that
-pub record IsClosed (pieces : ℕ) (words : List ℕ) (v : View) : Type 0 where
+pub record AreClosedWords (pieces : ℕ) (words : List ℕ) (v : View) : Type 0 where
   pub claim : slice_index words 0 ≡ length v.drawn + v.draws_past_the_end
   pub each : 0 < v.draws_past_the_end → (x : ℕ) → times x v.drawn ≡ once_below x pieces
   pub incumbent : slice_index words 1 ≡ v.greatest_offer

@@ -8,11 +8,11 @@ ghost use Rattle.dam_search.specs.Search.{IsUnfinished, LimitHasNeeded};
 
 use crate::collect::collected;
 use crate::conflicts::Conflicts;
-use crate::explorer::{ByPrices, Explorer, can_bind};
+use crate::explorer::{ByPrices, Explorer, limit_can_bind};
 use crate::fault::SearchFault;
 use crate::first::first_selection;
 use crate::incumbent::{Incumbent, Private};
-use crate::order::order_of;
+use crate::order::decision_order;
 use crate::prices::Prices;
 use crate::space::SearchSpace;
 use dam_blocks::{Best, Problem};
@@ -21,7 +21,7 @@ use dam_plan::Nodes;
 use std::alloc::Global;
 
 /// The result of the explorer's problem, if this welfare is offered first.
-fn searched_alone<E: Explorer>(
+fn search_alone_with_explorer<E: Explorer>(
     problem: &Problem,
     explorer: &E,
     first: u64,
@@ -44,7 +44,7 @@ fn searched_alone<E: Explorer>(
 }
 
 /// The result of the problem, by the explorer that suits the limit.
-fn search_alone_with<P: Prices>(
+fn search_alone_with_prices<P: Prices>(
     alloc: Global,
     problem: &Problem,
     prices: &P,
@@ -59,13 +59,13 @@ fn search_alone_with<P: Prices>(
     ensures whole { (piece : ℕ) → ¬ (IsErrOf result (SearchFault.Collected piece)) }
 {
     let first = first_selection(problem, prices).welfare;
-    if can_bind(problem, 0, nodes) {
+    if limit_can_bind(problem, 0, nodes) {
         let relaxed = &Relaxed::build(alloc, problem)?;
         let space = &SearchSpace { problem, relaxed };
-        return searched_alone(problem, space, first, nodes);
+        return search_alone_with_explorer(problem, space, first, nodes);
     }
     let conflicts = &Conflicts::of(problem, prices);
-    let order = &order_of(alloc, problem, 0)?;
+    let order = &decision_order(alloc, problem, 0)?;
     let by_prices = &ByPrices {
         problem,
         prices,
@@ -73,7 +73,7 @@ fn search_alone_with<P: Prices>(
         depth: 0,
         order,
     };
-    searched_alone(problem, by_prices, first, nodes)
+    search_alone_with_explorer(problem, by_prices, first, nodes)
 }
 
 /// The result of a problem, found on the calling thread alone, without other threads, locks or shared
@@ -90,5 +90,5 @@ pub fn search_alone(alloc: Global, problem: &Problem, nodes: Nodes) -> Result<Be
     ensures whole { (piece : ℕ) → ¬ (IsErrOf result (SearchFault.Collected piece)) }
 {
     let curves = ClassCurves::of(alloc, problem)?;
-    search_alone_with(alloc, problem, &curves, nodes)
+    search_alone_with_prices(alloc, problem, &curves, nodes)
 }

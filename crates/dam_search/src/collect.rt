@@ -4,7 +4,7 @@ ghost use Rattle.dam_blocks.specs.Result.{IsResult};
 ghost use Rattle.dam_plan.specs.Limits.{most_cut};
 ghost use Rattle.dam_search.specs.Piece.{Rises};
 ghost use Rattle.dam_search.specs.Search.{IsUnfinished, LimitHasNeeded};
-ghost use Rattle.dam_search.specs.inside.Collect.{IsWorked, AreOneEach, IsFirstFaulty, AreCounts};
+ghost use Rattle.dam_search.specs.inside.Collect.{IsWorked, AreOneEach, IsFirstFaulty, AreAnswerCounts};
 ghost use Rattle.dam_search.specs.inside.Collect.{is_lesser, IsLeastUnfinished};
 ghost use Rattle.dam_search.specs.inside.Collect.{IsLong, IsHighestFound, IsCollected};
 ghost use Rattle.dam_search.specs.Words.{most_pieces};
@@ -33,7 +33,7 @@ pub(crate) fn pieces(depth: usize) -> u32
 /// The number of answers about each piece, of which there are at most 256.
 fn counts_of(answers: &[PieceAnswer]) -> [usize; MOST_PIECES]
     requires { All (λ a. a.piece < most_pieces) answers.now }
-    ensures { AreCounts answers.now result }
+    ensures { AreAnswerCounts answers.now result }
 {
     let mut counts = [0; MOST_PIECES];
     for answer in answers {

@@ -8,7 +8,7 @@ ghost use Rattle.dam_bound.specs.Relaxed.{without_rows};
 ghost use Rattle.dam_search.specs.Piece.{all_nodes, welfare_found};
 ghost use Rattle.dam_search.specs.Work.{IsExplored};
 ghost use Rattle.dam_search.specs.inside.Conflicts.{AreConflicts};
-ghost use Rattle.dam_search.specs.inside.PriceWalk.{AreDistinct-prop, IsOrder};
+ghost use Rattle.dam_search.specs.inside.PriceWalk.{AreDistinct-prop, IsDecisionOrder};
 
 use crate::answer::PieceAnswer;
 use crate::conflicts::Conflicts;
@@ -78,7 +78,7 @@ fn all_nodes(undecided: usize) -> Nodes
 }
 
 /// Whether the limit on nodes can bind: a piece of a cutting of this depth can have more nodes.
-pub(crate) fn can_bind<A: Allocator>(problem: &Problem<A>, depth: usize, nodes: Nodes) -> bool
+pub(crate) fn limit_can_bind<A: Allocator>(problem: &Problem<A>, depth: usize, nodes: Nodes) -> bool
     requires { depth ≤ length problem.now.blocks }
     ensures { result ≡ nat_lt nodes (all_nodes (length problem.now.blocks - depth)) }
 {
@@ -97,7 +97,7 @@ pub(crate) struct ByPrices<'a, A: Allocator, P: Prices> {
     pub(crate) order: &'a [u8],
     ghost same: { P.problem prices.now ≡ without_rows problem.now },
     ghost are_conflicts: { AreConflicts problem.now conflicts.now },
-    ghost is_order: { IsOrder depth (length problem.now.blocks) order.now } by { Prim.hlevel (props, AreDistinct-prop) },
+    ghost is_order: { IsDecisionOrder depth (length problem.now.blocks) order.now } by { Prim.hlevel (props, AreDistinct-prop) },
 }
 
 /// Explores by bounds at prices, to the end of each piece. It doesn't count nodes as the limit does, so it suits only a

@@ -6,7 +6,7 @@ ghost use mathlib.Core.Option.{some};
 ghost use lib.ListN.{get_elem?};
 ghost use Rattle.atomic_table.specs.Table.{State};
 ghost use Rattle.dam_search.specs.declared.view.View.{View};
-ghost use Rattle.dam_search.specs.Words.{most_seats, AreWords, IsClosed};
+ghost use Rattle.dam_search.specs.Words.{most_seats, AreWords, AreClosedWords};
 ghost use Rattle.std.specs.Prelude.{◌≡◌, ◌+◌, ◌≤◌, max, ℕ, pos, None, List, length, All};
 ghost use Rattle.dam_blocks.specs.declared.selection.Best.{Best};
 ghost use Rattle.dam_blocks.specs.Problem.{ProblemState, IsProblem};
@@ -62,5 +62,5 @@ pub fn collecting()
 pub fn closing()
     ensures { (pieces seat : ℕ) (state : State (Unit {0}) View) (v : View)
         → AreWords pieces state → get_elem? state.views seat ≡ some v
-        → v.seats + v.seats_left ≡ most_seats → IsClosed pieces state.words v }
+        → v.seats + v.seats_left ≡ most_seats → AreClosedWords pieces state.words v }
 {}

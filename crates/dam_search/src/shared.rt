@@ -1,7 +1,7 @@
 ghost use Rattle.std.specs.Prelude.{◌≡◌, ◌<◌, ◌≤◌, length, [], ◌∷◌, ◌++◌, None, IfSome};
 ghost use Rattle.atomic_table.specs.Seated.{TableId};
 ghost use Rattle.dam_search.specs.declared.view.View.{View};
-ghost use Rattle.dam_search.specs.Words.{view_of, first_view, cut_left, cut_right, joined, standing};
+ghost use Rattle.dam_search.specs.Words.{view_of, first_view, cut_left, cut_right, joined_view, standing};
 
 use crate::incumbent::Incumbent;
 use crate::words::{CLAIM, Draw, INCUMBENT, JoinIn, Offer, Read, Seat, SplitOff, Words};
@@ -68,7 +68,7 @@ impl<'a> Shared<'a> {
         requires { other.seat.table_id ≡ self.old.seat.table_id }
         ensures table { self.new.seat.table_id ≡ self.old.seat.table_id }
         ensures view { view_of self.new.seat
-            ≡ joined (view_of self.old.seat) (view_of other.entry.seat) }
+            ≡ joined_view (view_of self.old.seat) (view_of other.entry.seat) }
     {
         let seat = other.into_seat();
         self.words.shared.join_seat::<JoinIn>(&mut self.seat, seat);

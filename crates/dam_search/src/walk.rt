@@ -9,7 +9,7 @@ ghost use Rattle.dam_bound.specs.Relaxed.{without_rows};
 ghost use Rattle.dam_bound.specs.Open.{IsOpen};
 ghost use Rattle.dam_search.specs.Piece.{IsMatched, Rises, welfare_found, IsSound};
 ghost use Rattle.dam_search.specs.inside.Conflicts.{AcceptsAll, AcceptsNone, AreConflicts};
-ghost use Rattle.dam_search.specs.inside.PriceWalk.{IsNode, IsBounded, IsReady, IsRoom, IsWalkedOpen, IsOrder, with_if};
+ghost use Rattle.dam_search.specs.inside.PriceWalk.{IsNode, IsBounded, IsReady, IsRoom, IsWalkedOpen, IsDecisionOrder, with_if};
 
 use crate::answer::PieceAnswer;
 use crate::conflicts::Conflicts;
@@ -346,7 +346,7 @@ pub(crate) fn explore_by_prices<A: Allocator, P: Prices, I: Incumbent>(
 ) -> PieceAnswer
     requires same { P.problem prices.now ≡ without_rows problem.now }
     requires conflicts { AreConflicts problem.now conflicts.now }
-    requires order { IsOrder depth (length problem.now.blocks) order.now }
+    requires order { IsDecisionOrder depth (length problem.now.blocks) order.now }
     requires depth { depth ≤ length problem.now.blocks }
     requires piece { piece < 2 ^ depth }
     ensures piece { result.piece ≡ piece }

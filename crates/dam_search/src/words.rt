@@ -3,8 +3,8 @@
 //! The claim word counts the draws, of pieces and past the last one; the incumbent word is the greatest
 //! welfare that was offered. `NOTES.md` has the rule in words and a drawing.
 ghost use Rattle.std.specs.Prelude.{◌≡◌, ◌+◌, ◌≤◌, [], ◌∷◌, IfOk};
-ghost use Rattle.dam_search.specs.Words.{most_pieces, most_seats, AreWords, IsDrawn, IsRead, IsOffered};
-ghost use Rattle.dam_search.specs.Words.{view_of, first_view, spent_view, cut_left, cut_right, joined, IsClosed};
+ghost use Rattle.dam_search.specs.Words.{most_pieces, most_seats, AreWords, IsDrawn, IsIncumbentRead, IsOffered};
+ghost use Rattle.dam_search.specs.Words.{view_of, first_view, spent_view, cut_left, cut_right, joined_view, AreClosedWords};
 
 use crate::view::View;
 use atomic_table::{Join, Play, Split, Table, TableRule};
@@ -42,7 +42,7 @@ impl Play<(), View> for Draw {
 pub(crate) struct Read;
 
 impl Play<(), View> for Read {
-    ghost then = { λ _. IsRead };
+    ghost then = { λ _. IsIncumbentRead };
 }
 
 /// The incumbent word becomes the greater of itself and the offer.
@@ -65,7 +65,7 @@ impl Split<View> for SplitOff {
 pub(crate) struct JoinIn;
 
 impl Join<View> for JoinIn {
-    ghost both = { joined };
+    ghost both = { joined_view };
 
     ghost spent = { spent_view };
 }
@@ -95,7 +95,7 @@ pub(crate) fn close(words: Words, seat: Seat) -> ClosedWords
     requires seat { seat.table_id ≡ words.shared.table_id }
     requires words { (words.shared.table_id.words ≡ 2) × (words.shared.table_id.slots ≡ 0) }
     requires all { (view_of seat).seats + (view_of seat).seats_left ≡ most_seats }
-    ensures { IsClosed words.shared.key (result.draws ∷ result.offered ∷ []) (view_of seat) }
+    ensures { AreClosedWords words.shared.key (result.draws ∷ result.offered ∷ []) (view_of seat) }
 {
     let closed = words.close_with(seat);
     let draws = closed.word(CLAIM);

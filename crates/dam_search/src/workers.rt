@@ -12,11 +12,11 @@ ghost use Rattle.dam_search.specs.inside.Seats.{IsNewSeat, IsWorkedSeat, AreJoin
 use crate::answer::PieceAnswer;
 use crate::collect::{collected, pieces};
 use crate::conflicts::Conflicts;
-use crate::explorer::{ByPrices, Explorer, can_bind};
+use crate::explorer::{ByPrices, Explorer, limit_can_bind};
 use crate::fault::SearchFault;
 use crate::first::first_selection;
 use crate::incumbent::Incumbent;
-use crate::order::order_of;
+use crate::order::decision_order;
 use crate::prices::Prices;
 use crate::shared::Shared;
 use crate::space::SearchSpace;
@@ -151,7 +151,7 @@ fn gathered<'a, E: Explorer>(
 
 /// Has the workers share out the pieces among them, at seats that are split off the first one and
 /// joined into it again.
-fn shared_out<'a, R: Threads + Sync, E: Explorer + Sync, T: Turnstile + Sync>(
+fn explore_with_workers<'a, R: Threads + Sync, E: Explorer + Sync, T: Turnstile + Sync>(
     rt: &R,
     task: &Task<E>,
     turnstile: &T,
@@ -197,14 +197,14 @@ pub(crate) fn explore_all<R: Threads + Sync, E: Explorer + Sync, T: Turnstile + 
     let (words, seat) = new_words(task.alloc, count)?;
     let mut first = Shared::first(&words, seat, count);
     first.offer(task.first);
-    let answers = shared_out(rt, task, turnstile, &mut first)?;
+    let answers = explore_with_workers(rt, task, turnstile, &mut first)?;
     let seat = first.into_seat();
     let totals = close(words, seat);
     Ok(Explored { answers, totals })
 }
 
 /// The result of the explorer's problem, if this welfare is offered before any worker starts.
-fn searched<R: Threads + Sync, E: Explorer + Sync, T: Turnstile + Sync>(
+fn search_with_explorer<R: Threads + Sync, E: Explorer + Sync, T: Turnstile + Sync>(
     rt: &R,
     alloc: Global,
     problem: &Problem,
@@ -240,7 +240,7 @@ fn searched<R: Threads + Sync, E: Explorer + Sync, T: Turnstile + Sync>(
 }
 
 /// The result of the problem, by the explorer that suits the plan.
-fn search_with<R: Threads + Sync, P: Prices + Sync, T: Turnstile + Sync>(
+fn search_with_prices<R: Threads + Sync, P: Prices + Sync, T: Turnstile + Sync>(
     rt: &R,
     alloc: Global,
     problem: &Problem,
@@ -260,13 +260,13 @@ fn search_with<R: Threads + Sync, P: Prices + Sync, T: Turnstile + Sync>(
 {
     let first = first_selection(problem, prices).welfare;
     let depth = plan.depth(problem.block_count());
-    if can_bind(problem, depth, plan.nodes()) {
+    if limit_can_bind(problem, depth, plan.nodes()) {
         let relaxed = &Relaxed::build(alloc, problem)?;
         let space = &SearchSpace { problem, relaxed };
-        return searched(rt, alloc, problem, space, plan, first, turnstile);
+        return search_with_explorer(rt, alloc, problem, space, plan, first, turnstile);
     }
     let conflicts = &Conflicts::of(problem, prices);
-    let order = &order_of(alloc, problem, depth)?;
+    let order = &decision_order(alloc, problem, depth)?;
     let by_prices = &ByPrices {
         problem,
         prices,
@@ -274,7 +274,7 @@ fn search_with<R: Threads + Sync, P: Prices + Sync, T: Turnstile + Sync>(
         depth,
         order,
     };
-    searched(rt, alloc, problem, by_prices, plan, first, turnstile)
+    search_with_explorer(rt, alloc, problem, by_prices, plan, first, turnstile)
 }
 
 /// The result of a problem (`IsResult`): the eligible selection that no eligible one ranks above. Ties go to the one
@@ -307,5 +307,5 @@ pub fn search<R: Threads + Sync, T: Turnstile + Sync>(
     ensures whole { (piece : ℕ) → ¬ (IsErrOf result (SearchFault.Collected piece)) }
 {
     let curves = ClassCurves::of(alloc, problem)?;
-    search_with(rt, alloc, problem, &curves, plan, turnstile)
+    search_with_prices(rt, alloc, problem, &curves, plan, turnstile)
 }

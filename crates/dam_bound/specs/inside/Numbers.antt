@@ -8,7 +8,7 @@ use Rattle.dam_blocks.specs.Magnitude.{IsWithin}
 use Rattle.dam_blocks.specs.Selection.{accepts}
 
 -- a number for each place, of this size at most
-pub record AreWithin (greatest : ℕ) (xs : List ℤ) : Type 0 where
+pub record AreNumbersWithin (greatest : ℕ) (xs : List ℤ) : Type 0 where
   pub long : length xs ≡ most_blocks
   pub each : (i : ℕ) (d : ℤ) → i < most_blocks → IsWithin greatest (slice_index_or xs i d)
 

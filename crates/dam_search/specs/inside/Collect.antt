@@ -38,7 +38,7 @@ pub record IsFirstFaulty (answers : List PieceAnswer) (piece : ℕ) : Type 0 whe
   pub before : AreOneEach answers piece
 
 -- how many answers there are about each piece
-pub record AreCounts (answers : List PieceAnswer) (counts : List ℕ) : Type 0 where
+pub record AreAnswerCounts (answers : List PieceAnswer) (counts : List ℕ) : Type 0 where
   pub long : length counts ≡ most_pieces
   pub each : (piece d : ℕ) → piece < most_pieces
       → slice_index_or counts piece d ≡ answers_about answers piece

@@ -111,7 +111,7 @@ AreDistinct-prop [] = Unit-prop
 AreDistinct-prop (place ∷ places) = ×_prop (Bool-set _ _) (AreDistinct-prop places)
 
 -- the places from `depth` on of this number of blocks, each once
-pub record IsOrder (depth count : ℕ) (order : List ℕ) : Type 0 where
+pub record IsDecisionOrder (depth count : ℕ) (order : List ℕ) : Type 0 where
   pub few : length order ≤ most_blocks
   pub distinct : AreDistinct order
   pub within : (place : ℕ) → is_among place order ≡ true → (depth ≤ place) × (place < count)

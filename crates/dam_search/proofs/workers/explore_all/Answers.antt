@@ -4,27 +4,27 @@ use Rattle.atomic_table.specs.Table.{Me}
 use Rattle.atomic_table.specs.Seated.{TableId}
 use Rattle.atomic_table.specs.declared.shared.Seat.{Seat}
 use Rattle.dam_search.specs.declared.view.View.{View}
-use Rattle.dam_search.specs.Words.{IsClosed}
+use Rattle.dam_search.specs.Words.{AreClosedWords}
 use Rattle.dam_search.proofs.Seats.{begun, whole}
 use Rattle.dam_search.proofs.workers.explore_all.Goals as goal
 
-pub shared_out-requires-clause-pieces : goal.shared_out-requires-clause-pieces
-shared_out-requires-clause-pieces g c κs within =
+pub explore_with_workers-requires-clause-pieces : goal.explore_with_workers-requires-clause-pieces
+explore_with_workers-requires-clause-pieces g c κs within =
     let is = ap (λ (x : View × TableId). x.0) c.offer.ensures.kept in
     let first = ap (λ (s : Seat (Unit {0}) View). s.me.0) c.first-first.ensures
     ∙ ap (λ (m : Me (Unit {0}) View). m.0) c.in_ok-words.ensures.seat.1 in
     (begun c.pieces-count.result c.first-first.result.seat.me.0 c.offer.new.self.seat.me.0 first is).pieces_are
     ∙ c.pieces-count.ensures.value
 
-pub shared_out-requires-clause-undrawn : goal.shared_out-requires-clause-undrawn
-shared_out-requires-clause-undrawn g c κs within =
+pub explore_with_workers-requires-clause-undrawn : goal.explore_with_workers-requires-clause-undrawn
+explore_with_workers-requires-clause-undrawn g c κs within =
     let is = ap (λ (x : View × TableId). x.0) c.offer.ensures.kept in
     let first = ap (λ (s : Seat (Unit {0}) View). s.me.0) c.first-first.ensures
     ∙ ap (λ (m : Me (Unit {0}) View). m.0) c.in_ok-words.ensures.seat.1 in
     (begun c.pieces-count.result c.first-first.result.seat.me.0 c.offer.new.self.seat.me.0 first is).undrawn
 
-pub shared_out-requires-clause-left : goal.shared_out-requires-clause-left
-shared_out-requires-clause-left g c κs within =
+pub explore_with_workers-requires-clause-left : goal.explore_with_workers-requires-clause-left
+explore_with_workers-requires-clause-left g c κs within =
     let is = ap (λ (x : View × TableId). x.0) c.offer.ensures.kept in
     let first = ap (λ (s : Seat (Unit {0}) View). s.me.0) c.first-first.ensures
     ∙ ap (λ (m : Me (Unit {0}) View). m.0) c.in_ok-words.ensures.seat.1 in
@@ -55,7 +55,7 @@ returns g c =
     let key = c.in_ok-words.ensures.words.2 in let count = c.pieces-count.ensures.value in
     let top = c.offer.ensures.greatest_offer in let none = ap (λ (x : View). x.greatest_offer) first in
     let totals = c.close-totals.result.draws ∷ c.close-totals.result.offered ∷ [] in
-    let closed = subst (λ (x : View). IsClosed c.in_ok-words.words.shared.key totals x) last c.close-totals.ensures in
+    let closed = subst (λ (x : View). AreClosedWords c.in_ok-words.words.shared.key totals x) last c.close-totals.ensures in
     whole task.problem.now task.depth task.nodes task.first task.workers c.in_ok-words.words.shared.key totals
-    (record v { seats_left = v.seats_left - task.workers }) c.shared_out.new.first.seat.me.0 c.in_ok-answers.answers.items
+    (record v { seats_left = v.seats_left - task.workers }) c.explore_with_workers.new.first.seat.me.0 c.in_ok-answers.answers.items
     c.in_ok-answers.ensures.joined b.going (omega (arith, top, none)) c.requires.some_worker (key ∙ count) closed

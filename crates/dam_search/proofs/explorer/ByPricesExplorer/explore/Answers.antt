@@ -2,7 +2,7 @@
 use Rattle.std.proofs.Common.{◌≡◌, ℕ, ◌-◌, ◌≤◌, ◌==◌, ◌&&◌, true, nat_le, length, subst, arith}
 use Rattle.std.proofs.lemmas.Bool.Decides.{nat_tests}
 use Rattle.dam_search.specs.Piece.{all_nodes}
-use Rattle.dam_search.specs.inside.PriceWalk.{IsOrder}
+use Rattle.dam_search.specs.inside.PriceWalk.{IsDecisionOrder}
 use Rattle.dam_search.proofs.Seats.{explored_whole}
 use Rattle.dam_search.proofs.explorer.ByPricesExplorer.explore.Goals as goal
 
@@ -13,7 +13,7 @@ pub explore_by_prices-requires-clause-order : goal.explore_by_prices-requires-cl
 explore_by_prices-requires-clause-order g c =
     let by = c.args.self.now in
     let suits = both_hold by.depth c.args.depth (all_nodes (length by.problem.now.blocks - c.args.depth)) _ c.requires.suits in
-    subst (λ (n : ℕ). IsOrder n (length by.problem.now.blocks) by.order.now) suits.0 by.is_order
+    subst (λ (n : ℕ). IsDecisionOrder n (length by.problem.now.blocks) by.order.now) suits.0 by.is_order
 
 pub returns-clause-explored : goal.returns-clause-explored
 returns-clause-explored g c =

@@ -5,7 +5,7 @@ use Rattle.atomic_table.specs.Seated.{TableId}
 use Rattle.dam_search.specs.declared.shared.Shared.{Shared}
 use Rattle.dam_search.specs.declared.workers.WorkedSeat.{WorkedSeat}
 use Rattle.dam_search.specs.inside.Seats.{IsNewSeat, IsWorkedSeat}
-use Rattle.dam_search.proofs.workers.shared_out.Goals as goal
+use Rattle.dam_search.proofs.workers.explore_with_workers.Goals as goal
 
 pub gathered-requires-clause-worked : goal.gathered-requires-clause-worked
 gathered-requires-clause-worked g c =

@@ -1,7 +1,7 @@
 -- The best so far is eligible, and has no less welfare than the one before.
 use Rattle.std.proofs.Common.{pos, ◌≤◌}
 use Rattle.dam_blocks.specs.Eligible.{IsEligible}
-use Rattle.dam_search.proofs.first.Climb.best_pair.Given as goal
+use Rattle.dam_search.proofs.first.Climb.best_with_one_reversed.Given as goal
 
 abbrev pub invariant-loop-place : goal.invariant-loop-place
 invariant-loop-place g l = record {

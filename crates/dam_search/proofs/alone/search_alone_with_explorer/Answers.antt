@@ -5,7 +5,7 @@ use Rattle.dam_search.specs.Piece.{welfare_found}
 use Rattle.dam_search.specs.inside.Collect.{IsWorked}
 use Rattle.dam_search.proofs.OneAnswer.{all_one, one_alone, worked_is}
 use Rattle.dam_search.proofs.Seats.{none_faulty}
-use Rattle.dam_search.proofs.alone.searched_alone.Goals as goal
+use Rattle.dam_search.proofs.alone.search_alone_with_explorer.Goals as goal
 
 pub collected-requires-clause-worked : goal.collected-requires-clause-worked
 collected-requires-clause-worked g c =
