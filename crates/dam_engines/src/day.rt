@@ -33,8 +33,8 @@ use std::thread::Threads;
 /// always belong to the journal that is written. The plan doesn't change the results, but by its limit on nodes the
 /// search may end `Unfinished`. The gate's book hashes names by the seed.
 ///
-/// `turnstile` is the turnstile of the search, and `entrance` the turnstile of the participants' threads, whose jobs
-/// are the participants, numbered from 0 by first occurrence.
+/// `watch` watches the search. `entrance` is the turnstile of the participants' threads, whose jobs are the participants,
+/// numbered from 0 by first occurrence.
 ///
 /// The whole text is made before its first byte is written. The rules of `run_clear` for readers, writers and inputs
 /// that are too long hold here too.
@@ -45,7 +45,7 @@ pub fn run_day<H: Threads + Wait + Sync, R: Read, W: Write, T: Watch + Sync, U: 
     reader: &mut Source<R>,
     writer: &mut Sink<W>,
     plan: Plan,
-    turnstile: &T,
+    watch: &T,
     entrance: &U,
 ) -> Result<(), RunFault>
     requires reads { reader.old.failed ≡ false }
@@ -57,7 +57,7 @@ pub fn run_day<H: Threads + Wait + Sync, R: Read, W: Write, T: Watch + Sync, U: 
     ensures asked { reader.new.asked ≤ reader.old.asked + most_asked reader.old.unread }
 {
     let text = read_input(alloc, reader)?;
-    let day = day_text(rt, alloc, seed, text, plan, turnstile, entrance)?;
+    let day = day_text(rt, alloc, seed, text, plan, watch, entrance)?;
     write_text(writer, day.as_slice())
 }
 
@@ -68,7 +68,7 @@ fn day_text<H: Threads + Wait + Sync, T: Watch + Sync, U: Turnstile + Sync>(
     seed: Seed,
     text: Vec<u8>,
     plan: Plan,
-    turnstile: &T,
+    watch: &T,
     entrance: &U,
 ) -> Result<Vec<u8>, RunFault>
     ensures done { IfOk result (λ day. IsMadeFrom (IsDayText plan) text.items day.items) }
@@ -84,7 +84,7 @@ fn day_text<H: Threads + Wait + Sync, T: Watch + Sync, U: Turnstile + Sync>(
         journal.periods,
         commands,
         plan,
-        turnstile,
+        watch,
         entrance,
     )
 }
@@ -97,14 +97,14 @@ fn day_of_commands<H: Threads + Wait + Sync, T: Watch + Sync, U: Turnstile + Syn
     periods: DayLength,
     commands: &[PackedCommand],
     plan: Plan,
-    turnstile: &T,
+    watch: &T,
     entrance: &U,
 ) -> Result<Vec<u8>, RunFault>
     ensures done { IfOk result (λ day. IsDayText plan periods commands.now day.items) }
     ensures fault { IfErr result (IsCommandsFault plan periods commands.now) }
 {
     let settled = settled_day(rt, alloc, seed, periods, commands, entrance)?;
-    print_day(rt, alloc, settled.journal(), plan, turnstile)
+    print_day(rt, alloc, settled.journal(), plan, watch)
 }
 
 /// The settled journal of a day of the commands. A command's place is counted from 0, a record's number
@@ -140,14 +140,14 @@ fn print_day<H: Threads + Sync, T: Watch + Sync>(
     alloc: Global,
     journal: &Journal,
     plan: Plan,
-    turnstile: &T,
+    watch: &T,
 ) -> Result<Vec<u8>, RunFault>
     ensures done { IfOk result (λ text. (results : List ℕ)
         × IsClearedWithin plan journal.now.book results
         × (text.items ≡ with_results journal.now.book.periods journal.now.entries results)) }
     ensures fault { IfErr result (IsBookFault plan journal.now.book) }
 {
-    let results = clear_book(rt, alloc, journal.book(), plan, turnstile)?;
+    let results = clear_book(rt, alloc, journal.book(), plan, watch)?;
     let mut text = packed_journal_text(alloc, journal.periods(), journal.entries())?;
     text.extend_from_slice(b"results\n")?;
     text.extend_from_slice(results.as_slice())?;
