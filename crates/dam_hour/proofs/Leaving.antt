@@ -18,69 +18,69 @@ use Rattle.dam_hour.specs.declared.ladder.Rung.{Rung}
 use Rattle.dam_book.specs.Limits.{greatest_volume}
 use Rattle.dam_hour.specs.Limits.{most_steps, greatest_value}
 use Rattle.dam_hour.specs.Execution.{AreInRange, volume_on}
-use Rattle.dam_hour.specs.inside.Ladder.{rank_of, order_of, place_of, moved_up, without_place, total, total_value, rungs_from, placed_of}
+use Rattle.dam_hour.specs.inside.Ladder.{rank_of, sort_key_of, place_of, moved_up, without_step, total, total_value, rungs_from, placed_of}
 use Rattle.dam_hour.specs.inside.Ladder.{IsLadder, side_total, AreOfSide, AreKept}
 use Rattle.dam_hour.proofs.Ladders.{drop_open, row_pushed, ladder_done, placed_done}
 
 -- ---- places
-abbrev order_up : ℕ → ℕ → ℕ
-order_up gone order = cond (nat_lt gone (place_of order)) (order - 1) order
+abbrev key_up : ℕ → ℕ → ℕ
+key_up gone sort_key = cond (nat_lt gone (place_of sort_key)) (sort_key - 1) sort_key
 
 place_is : (r n : ℕ) → n < most_steps → place_of (r * most_steps + n) ≡ n
 place_is r n l = mod-mul-add r most_steps n l
 
-order_after : (gone order : ℕ) → gone < place_of order → order_up gone order ≡ order - 1
-order_after gone order l = ap (λ (b : Bool). cond b (order - 1) order) (lt-ltb gone (place_of order) l)
+key_after : (gone sort_key : ℕ) → gone < place_of sort_key → key_up gone sort_key ≡ sort_key - 1
+key_after gone sort_key l = ap (λ (b : Bool). cond b (sort_key - 1) sort_key) (lt-ltb gone (place_of sort_key) l)
 
-order_front : (gone order : ℕ) → place_of order ≤ gone → order_up gone order ≡ order
-order_front gone order l = ap (λ (b : Bool). cond b (order - 1) order) (le-ltb gone (place_of order) l)
+key_front : (gone sort_key : ℕ) → place_of sort_key ≤ gone → key_up gone sort_key ≡ sort_key
+key_front gone sort_key l = ap (λ (b : Bool). cond b (sort_key - 1) sort_key) (le-ltb gone (place_of sort_key) l)
 
 -- none moves by more than one, so the order stays
-up_near : (gone order : ℕ) → (order_up gone order ≤ order) × (order ≤ order_up gone order + 1)
-up_near gone order = elim (cases_lt gone (place_of order)) [
-  | inl less ↦ (let e = order_after gone order less in (omega (arith, e), omega (arith, e)))
-  | inr more ↦ (let e = order_front gone order more in (omega (arith, e), omega (arith, e)))
+up_near : (gone sort_key : ℕ) → (key_up gone sort_key ≤ sort_key) × (sort_key ≤ key_up gone sort_key + 1)
+up_near gone sort_key = elim (cases_lt gone (place_of sort_key)) [
+  | inl less ↦ (let e = key_after gone sort_key less in (omega (arith, e), omega (arith, e)))
+  | inr more ↦ (let e = key_front gone sort_key more in (omega (arith, e), omega (arith, e)))
 ]
 
-up_rises : (gone a b : ℕ) → a ≤ b → order_up gone a ≤ order_up gone b
+up_rises : (gone a b : ℕ) → a ≤ b → key_up gone a ≤ key_up gone b
 up_rises gone a b l = elim (cases_lt a b) [
   | inl less ↦ (let m = up_near gone a in let n = up_near gone b in omega (arith, less, m.0, n.1))
-  | inr more ↦ (let same : a ≡ b = omega (arith, l, more) in let e = ap (order_up gone) same in omega (arith, e))
+  | inr more ↦ (let same : a ≡ b = omega (arith, l, more) in let e = ap (key_up gone) same in omega (arith, e))
 ]
 
 -- ---- the ladder stays sorted
 abbrev stays : ℕ → Placed → Bool
-stays gone p = not (place_of p.order == gone)
+stays gone p = not (place_of p.sort_key == gone)
 
-without_is : (gone : ℕ) (ps : List Placed) → without_place gone ps ≡ map (moved_up gone) (filter (stays gone) ps)
+without_is : (gone : ℕ) (ps : List Placed) → without_step gone ps ≡ map (moved_up gone) (filter (stays gone) ps)
 without_is gone [] = refl
 without_is gone (p ∷ ps) =
-    elim (place_of p.order == gone) as (λ b. cond b (without_place gone ps) (moved_up gone p ∷ without_place gone ps) ≡ map (moved_up gone)
+    elim (place_of p.sort_key == gone) as (λ b. cond b (without_step gone ps) (moved_up gone p ∷ without_step gone ps) ≡ map (moved_up gone)
     (cond (not b) (p ∷ filter (stays gone) ps) (filter (stays gone) ps))) [
       | true ↦ without_is gone ps
       | false ↦ ap (λ (qs : List Placed). moved_up gone p ∷ qs) (without_is gone ps)
     ]
 
-sorted_up : (gone : ℕ) (ps : List Placed) → IsNonDecreasingBy (λ (p : Placed). p.order) ps
-    → IsNonDecreasingBy (λ (p : Placed). p.order) (map (moved_up gone) ps)
+sorted_up : (gone : ℕ) (ps : List Placed) → IsNonDecreasingBy (λ (p : Placed). p.sort_key) ps
+    → IsNonDecreasingBy (λ (p : Placed). p.sort_key) (map (moved_up gone) ps)
 sorted_up gone ps h i j d l m =
     let long = length-map ps (moved_up gone) in
-    let a = ap (λ (p : Placed). p.order) (get_or-map (moved_up gone) ps i d d (omega (arith, l, m, long))) in
-    let b = ap (λ (p : Placed). p.order) (get_or-map (moved_up gone) ps j d d (omega (arith, m, long))) in
-    let rises = up_rises gone (get_or ps i d).order (get_or ps j d).order (h i j d l (omega (arith, m, long))) in
+    let a = ap (λ (p : Placed). p.sort_key) (get_or-map (moved_up gone) ps i d d (omega (arith, l, m, long))) in
+    let b = ap (λ (p : Placed). p.sort_key) (get_or-map (moved_up gone) ps j d d (omega (arith, m, long))) in
+    let rises = up_rises gone (get_or ps i d).sort_key (get_or ps j d).sort_key (h i j d l (omega (arith, m, long))) in
     omega (arith, a, b, rises)
 
-pub sorted_without : (gone : ℕ) (ps : List Placed) → IsNonDecreasingBy (λ (p : Placed). p.order) ps
-    → IsNonDecreasingBy (λ (p : Placed). p.order) (without_place gone ps)
+pub sorted_without : (gone : ℕ) (ps : List Placed) → IsNonDecreasingBy (λ (p : Placed). p.sort_key) ps
+    → IsNonDecreasingBy (λ (p : Placed). p.sort_key) (without_step gone ps)
 sorted_without gone ps h =
-    subst (λ (qs : List Placed). IsNonDecreasingBy (λ (p : Placed). p.order) qs) (sym (without_is gone ps))
-    (sorted_up gone (filter (stays gone) ps) (IsNonDecreasingBy-filter (λ (p : Placed). p.order) (stays gone) ps h))
+    subst (λ (qs : List Placed). IsNonDecreasingBy (λ (p : Placed). p.sort_key) qs) (sym (without_is gone ps))
+    (sorted_up gone (filter (stays gone) ps) (IsNonDecreasingBy-filter (λ (p : Placed). p.sort_key) (stays gone) ps h))
 
-pub few_without : (gone : ℕ) (ps : List Placed) → length (without_place gone ps) ≤ length ps
+pub few_without : (gone : ℕ) (ps : List Placed) → length (without_step gone ps) ≤ length ps
 few_without gone [] = omega arith
 few_without gone (p ∷ ps) =
     let rest = few_without gone ps in
-    elim (place_of p.order == gone) as (λ b. length (cond b (without_place gone ps) (moved_up gone p ∷ without_place gone ps)) ≤ suc
+    elim (place_of p.sort_key == gone) as (λ b. length (cond b (without_step gone ps) (moved_up gone p ∷ without_step gone ps)) ≤ suc
     (length ps)) [
       | true ↦ omega (arith, rest)
       | false ↦ omega (arith, rest)
@@ -88,39 +88,39 @@ few_without gone (p ∷ ps) =
 
 -- ---- the steps that stay, for every number that is added up
 abbrev part : ℕ → (ℕ → Step → ℕ) → ℕ → Step → ℕ
-part gone f order s = cond (place_of order == gone) 0 (f (order_up gone order) s)
+part gone f sort_key s = cond (place_of sort_key == gone) 0 (f (key_up gone sort_key) s)
 
 total_without : (gone : ℕ) (f : ℕ → Step → ℕ) (ps : List Placed)
-    → total (λ p. f p.order p.step) (without_place gone ps) ≡ total (λ p. part gone f p.order p.step) ps
+    → total (λ p. f p.sort_key p.step) (without_step gone ps) ≡ total (λ p. part gone f p.sort_key p.step) ps
 total_without gone f [] = refl
 total_without gone f (p ∷ ps) =
     let rest = total_without gone f ps in
-    elim (place_of p.order == gone) as (λ b. total (λ q. f q.order q.step)
-    (cond b (without_place gone ps) (moved_up gone p ∷ without_place gone ps)) ≡ cond b 0
-    (f (order_up gone p.order) p.step) + total (λ q. part gone f q.order q.step) ps) [
+    elim (place_of p.sort_key == gone) as (λ b. total (λ q. f q.sort_key q.step)
+    (cond b (without_step gone ps) (moved_up gone p ∷ without_step gone ps)) ≡ cond b 0
+    (f (key_up gone p.sort_key) p.step) + total (λ q. part gone f q.sort_key q.step) ps) [
       | true ↦ omega (arith, rest)
       | false ↦ omega (arith, rest)
     ]
 
 part_at : (gone r : ℕ) (f : ℕ → Step → ℕ) (s : Step) → gone < most_steps → part gone f (r * most_steps + gone) s ≡ 0
-part_at gone r f s l = ap (λ (b : Bool). cond b 0 (f (order_up gone (r * most_steps + gone)) s))
+part_at gone r f s l = ap (λ (b : Bool). cond b 0 (f (key_up gone (r * most_steps + gone)) s))
     (eq-eqb (place_of (r * most_steps + gone)) gone (place_is r gone l))
 
 part_front : (gone r n : ℕ) (f : ℕ → Step → ℕ) (s : Step) → n < gone → n < most_steps
     → part gone f (r * most_steps + n) s ≡ f (r * most_steps + n) s
 part_front gone r n f s l few =
     let place = place_is r n few in
-    ap (λ (b : Bool). cond b 0 (f (order_up gone (r * most_steps + n)) s))
+    ap (λ (b : Bool). cond b 0 (f (key_up gone (r * most_steps + n)) s))
     (ne_eqb (place_of (r * most_steps + n)) gone (λ e. let same = sym place ∙ e in absurd (omega (arith, same, l))))
-    ∙ ap (λ (order : ℕ). f order s) (order_front gone (r * most_steps + n) (subst (λ (k : ℕ). k ≤ gone) (sym place) (omega (arith, l))))
+    ∙ ap (λ (sort_key : ℕ). f sort_key s) (key_front gone (r * most_steps + n) (subst (λ (k : ℕ). k ≤ gone) (sym place) (omega (arith, l))))
 
 part_after : (gone r n : ℕ) (f : ℕ → Step → ℕ) (s : Step) → gone ≤ n → suc n < most_steps
     → part gone f (r * most_steps + suc n) s ≡ f (r * most_steps + n) s
 part_after gone r n f s l few =
     let place = place_is r (suc n) few in
-    ap (λ (b : Bool). cond b 0 (f (order_up gone (r * most_steps + suc n)) s))
+    ap (λ (b : Bool). cond b 0 (f (key_up gone (r * most_steps + suc n)) s))
     (ne_eqb (place_of (r * most_steps + suc n)) gone (λ e. let same = sym place ∙ e in absurd (omega (arith, same, l))))
-    ∙ ap (λ (order : ℕ). f order s) (order_after gone (r * most_steps + suc n) (subst (λ (k : ℕ). gone < k) (sym place) (omega (arith, l)))
+    ∙ ap (λ (sort_key : ℕ). f sort_key s) (key_after gone (r * most_steps + suc n) (subst (λ (k : ℕ). gone < k) (sym place) (omega (arith, l)))
     ∙ (let one : (r * most_steps + suc n) - 1 ≡ r * most_steps + n = omega arith in one))
 
 side_after : (side : Side) (f : ℕ → Step → ℕ) (gone n : ℕ) (ss : List Step) → gone ≤ n → suc n + length ss ≤ most_steps
@@ -130,7 +130,7 @@ side_after side f gone n (s ∷ ss) l few =
     let here = part_after gone (rank_of side s.price) n f s l (omega (arith, few)) in
     let rest = side_after side f gone (suc n) ss (omega (arith, l)) (omega (arith, few)) in
     ap (λ (x : ℕ). volume_on side s.side x + side_total side (part gone f) (suc (suc n)) ss) here
-    ∙ ap (λ (x : ℕ). volume_on side s.side (f (order_of side s.price n) s) + x) rest
+    ∙ ap (λ (x : ℕ). volume_on side s.side (f (sort_key_of side s.price n) s) + x) rest
 
 none_on : (side own : Side) → volume_on side own 0 ≡ 0
 none_on Buy Buy = refl
@@ -152,10 +152,10 @@ side_without side f gone n (suc k) (s ∷ ss) e l few =
     let here = part_front gone (rank_of side s.price) n f s (omega (arith, e)) (omega (arith, few)) in
     let rest = side_without side f gone (suc n) k ss (omega (arith, e)) (omega (arith, l)) (omega (arith, few)) in
     ap (λ (x : ℕ). volume_on side s.side x + side_total side (part gone f) (suc n) ss) here
-    ∙ ap (λ (x : ℕ). volume_on side s.side (f (order_of side s.price n) s) + x) rest
+    ∙ ap (λ (x : ℕ). volume_on side s.side (f (sort_key_of side s.price n) s) + x) rest
 
 of_side_without : (side : Side) (ps : List Placed) (ss : List Step) (gone : ℕ) → AreOfSide side ps ss → length ss ≤ most_steps
-    → gone < length ss → AreOfSide side (without_place gone ps) (remove ss gone)
+    → gone < length ss → AreOfSide side (without_step gone ps) (remove ss gone)
 of_side_without side ps ss gone same few l = record {
   sums = λ f. total_without gone f ps ∙ same.sums (part gone f) ∙ side_without side f gone 0 gone ss (omega arith) l (omega (arith, few));
 }
@@ -166,7 +166,7 @@ in_range_without (s ∷ ss) zero r l = r.2
 in_range_without (s ∷ ss) (suc k) r l = (r.0, r.1, in_range_without ss k r.2 (omega (arith, l)))
 
 pub kept_without : (ss kept : List Step) (buys sells buys' sells' : List Placed) (gone : ℕ) → AreKept ss buys sells → gone < length ss
-    → kept ≡ remove ss gone → buys' ≡ without_place gone buys → sells' ≡ without_place gone sells → AreKept kept buys' sells'
+    → kept ≡ remove ss gone → buys' ≡ without_step gone buys → sells' ≡ without_step gone sells → AreKept kept buys' sells'
 kept_without ss kept buys sells buys' sells' gone a l same same_buys same_sells =
     let hour = a.hour in
     let few = hour.few in
@@ -187,27 +187,27 @@ kept_without ss kept buys sells buys' sells' gone a l same same_buys same_sells 
 
 -- ---- the rows, one after another
 abbrev pub still : ℕ → ℕ → List Rung → List Placed
-still gone i rows = without_place gone (placed_of (drop i rows))
+still gone i rows = without_step gone (placed_of (drop i rows))
 
-still_more : (gone i : ℕ) (rows : List Rung) (row : Rung) → i < length rows → row ≡ get_or rows i row → ¬ (place_of row.placed.order ≡ gone)
+still_more : (gone i : ℕ) (rows : List Rung) (row : Rung) → i < length rows → row ≡ get_or rows i row → ¬ (place_of row.placed.sort_key ≡ gone)
     → still gone i rows ≡ moved_up gone row.placed ∷ still gone (i + 1) rows
 still_more gone i rows row within is other =
-    ap (λ (rs : List Rung). without_place gone (placed_of rs)) (drop_open rows i row within is)
+    ap (λ (rs : List Rung). without_step gone (placed_of rs)) (drop_open rows i row within is)
     ∙ ap (λ (b : Bool). cond b (still gone (i + 1) rows) (moved_up gone row.placed ∷ still gone (i + 1) rows))
-    (ne_eqb (place_of row.placed.order) gone other)
+    (ne_eqb (place_of row.placed.sort_key) gone other)
 
-still_gone : (gone i : ℕ) (rows : List Rung) (row : Rung) → i < length rows → row ≡ get_or rows i row → place_of row.placed.order ≡ gone
+still_gone : (gone i : ℕ) (rows : List Rung) (row : Rung) → i < length rows → row ≡ get_or rows i row → place_of row.placed.sort_key ≡ gone
     → still gone i rows ≡ still gone (i + 1) rows
 still_gone gone i rows row within is same =
-    ap (λ (rs : List Rung). without_place gone (placed_of rs)) (drop_open rows i row within is)
+    ap (λ (rs : List Rung). without_step gone (placed_of rs)) (drop_open rows i row within is)
     ∙ ap (λ (b : Bool). cond b (still gone (i + 1) rows) (moved_up gone row.placed ∷ still gone (i + 1) rows))
-    (eq-eqb (place_of row.placed.order) gone same)
+    (eq-eqb (place_of row.placed.sort_key) gone same)
 
 -- the first rows, as many as that, as they are made
 pub record AreUpTo (gone i : ℕ) (old rows : List Rung) (v : ℕ) (w : ℤ) : Type 0 where
-  pub rows_are : rows ++ rungs_from v w (still gone i old) ≡ rungs_from 0 (pos 0) (without_place gone (placed_of old))
-  pub volume_is : v + total (λ p. p.step.qty) (still gone i old) ≡ total (λ p. p.step.qty) (without_place gone (placed_of old))
-  pub value_is : w +ℤ total_value (still gone i old) ≡ total_value (without_place gone (placed_of old))
+  pub rows_are : rows ++ rungs_from v w (still gone i old) ≡ rungs_from 0 (pos 0) (without_step gone (placed_of old))
+  pub volume_is : v + total (λ p. p.step.qty) (still gone i old) ≡ total (λ p. p.step.qty) (without_step gone (placed_of old))
+  pub value_is : w +ℤ total_value (still gone i old) ≡ total_value (without_step gone (placed_of old))
   pub volume_small : v ≤ i * greatest_volume
   pub value_at_least : neg_ℤ (pos (i * greatest_value)) ≤ℤ w
   pub value_at_most : w ≤ℤ pos (i * greatest_value)
@@ -215,9 +215,9 @@ pub record AreUpTo (gone i : ℕ) (old rows : List Rung) (v : ℕ) (w : ℤ) : T
 pub up_to_none : (gone : ℕ) (old rows : List Rung) → rows ≡ [] → AreUpTo gone 0 old rows 0 (pos 0)
 up_to_none gone old rows none = record {
   rows_are = ap (λ (rs : List Rung). rs ++ rungs_from 0 (pos 0) (still gone 0 old)) none
-      ∙ ap (λ (rs : List Rung). rungs_from 0 (pos 0) (without_place gone (placed_of rs))) (drop_none old);
-  volume_is = ap (λ (rs : List Rung). 0 + total (λ p. p.step.qty) (without_place gone (placed_of rs))) (drop_none old) ∙ (omega arith);
-  value_is = let e = ap (λ (rs : List Rung). total_value (without_place gone (placed_of rs))) (drop_none old) in omega (arith, ints, e);
+      ∙ ap (λ (rs : List Rung). rungs_from 0 (pos 0) (without_step gone (placed_of rs))) (drop_none old);
+  volume_is = ap (λ (rs : List Rung). 0 + total (λ p. p.step.qty) (without_step gone (placed_of rs))) (drop_none old) ∙ (omega arith);
+  value_is = let e = ap (λ (rs : List Rung). total_value (without_step gone (placed_of rs))) (drop_none old) in omega (arith, ints, e);
   volume_small = omega arith;
   value_at_least = omega (arith, ints);
   value_at_most = omega (arith, ints);
@@ -230,7 +230,7 @@ up_to_none gone old rows none = record {
 pub up_to_kept : (gone i : ℕ) (old rows pushed : List Rung) (row : Rung) (p : Placed) (v v' q : ℕ) (w w' z : ℤ)
     → AreUpTo gone i old rows v w
     → i < length old → row ≡ get_or old i row
-    → ¬ (place_of row.placed.order ≡ gone) → p ≡ moved_up gone row.placed
+    → ¬ (place_of row.placed.sort_key ≡ gone) → p ≡ moved_up gone row.placed
     → pushed ≡ rows ++ record { placed = p; before = record { volume = v; value = w } } ∷ []
     → q ≡ row.placed.step.qty → q ≤ greatest_volume → v' ≡ v + q
     → z ≡ row.placed.step.price *ℤ pos row.placed.step.qty → neg_ℤ (pos greatest_value) ≤ℤ z → z ≤ℤ pos greatest_value → w' ≡ w +ℤ z
@@ -246,7 +246,7 @@ up_to_kept gone i old rows pushed row p v v' q w w' z a within is other made pus
     let small_was = a.volume_small in let least_was = a.value_at_least in let most_was = a.value_at_most in
     record {
       rows_are = row_pushed (moved_up gone row.placed) (still gone i old) (still gone (i + 1) old) rows pushed
-          (rungs_from 0 (pos 0) (without_place gone (placed_of old))) v v' w w' stays push' volume value a.rows_are;
+          (rungs_from 0 (pos 0) (without_step gone (placed_of old))) v v' w w' stays push' volume value a.rows_are;
       volume_is = omega (arith, volume, total_at, total_was);
       value_is = omega (arith, ints, value, value_at, value_was);
       volume_small = omega (arith, sum, small, small_was);
@@ -256,7 +256,7 @@ up_to_kept gone i old rows pushed row p v v' q w w' z a within is other made pus
 
 pub up_to_gone : (gone i : ℕ) (old rows : List Rung) (row : Rung) (v : ℕ) (w : ℤ) → AreUpTo gone i old rows v w → i < length old
     → row ≡ get_or old i row
-    → place_of row.placed.order ≡ gone → AreUpTo gone (i + 1) old rows v w
+    → place_of row.placed.sort_key ≡ gone → AreUpTo gone (i + 1) old rows v w
 up_to_gone gone i old rows row v w a within is same =
     let leaves = still_gone gone i old row within is same in
     let total_at = ap (λ (ps : List Placed). total (λ p. p.step.qty) ps) leaves in
@@ -274,11 +274,11 @@ up_to_gone gone i old rows row v w a within is same =
 
 -- when all rows were gone through
 pub up_to_all : (gone i : ℕ) (old rows : List Rung) (v : ℕ) (w : ℤ) → AreUpTo gone i old rows v w → length old ≤ i
-    → IsNonDecreasingBy (λ (p : Placed). p.order) (placed_of old) → length old ≤ most_steps
-    → IsLadder rows (record { volume = v; value = w }) × (placed_of rows ≡ without_place gone (placed_of old))
+    → IsNonDecreasingBy (λ (p : Placed). p.sort_key) (placed_of old) → length old ≤ most_steps
+    → IsLadder rows (record { volume = v; value = w }) × (placed_of rows ≡ without_step gone (placed_of old))
 up_to_all gone i old rows v w a done sorted few =
-    let ps = without_place gone (placed_of old) in
-    let none : still gone i old ≡ [] = ap (λ (rs : List Rung). without_place gone (placed_of rs)) (drop_all i old done) in
+    let ps = without_step gone (placed_of old) in
+    let none : still gone i old ≡ [] = ap (λ (rs : List Rung). without_step gone (placed_of rs)) (drop_all i old done) in
     let was = length-map old (λ (r : Rung). r.placed) in
     let fewer = few_without gone (placed_of old) in (
       ladder_done ps (still gone i old) rows v w none a.rows_are a.volume_is a.value_is (sorted_without gone (placed_of old) sorted)

@@ -12,7 +12,7 @@ use Rattle.dam_hour.specs.declared.step.Step.{Step}
 use Rattle.dam_hour.specs.Limits.{price_span}
 use Rattle.dam_hour.specs.Execution.{AreInRange, volume_on, offered_volume}
 use Rattle.dam_hour.specs.inside.Volumes.{margin_of, above_zero, if_better, if_at, better_volume, at_volume, share, total_on, AreTotals}
-use Rattle.dam_hour.specs.inside.Ladder.{gain_of}
+use Rattle.dam_hour.specs.inside.Ladder.{better_surplus}
 use Rattle.dam_hour.proofs.FilledExecution.{volume_on_sum}
 
 -- ---- sizes
@@ -60,7 +60,7 @@ margin_small Buy l p r h = let a = r.at_most in let b = h.at_least in omega (ari
 margin_small Sell l p r h = let a = r.at_least in let b = h.at_most in omega (arith, ints, a, b)
 
 pub gain_small : (side : Side) (p : ℤ) (ss : List Step) → IsPrice p → AreInRange ss
-    → gain_of side p ss ≤ length ss * (price_span * greatest_volume)
+    → better_surplus side p ss ≤ length ss * (price_span * greatest_volume)
 gain_small side p [] h r = omega arith
 gain_small side p (s ∷ ss) h r =
     let margin = above_small (margin_of side s.price p) price_span (margin_small side s.price p r.0 h) in

@@ -17,7 +17,7 @@ use Rattle.dam_hour.specs.declared.ladder.Placed.{Placed}
 use Rattle.dam_hour.specs.Limits.{most_steps}
 use Rattle.dam_hour.specs.Execution.{AreInRange, IsHour, volume_on, offered_volume}
 use Rattle.dam_hour.specs.inside.Volumes.{if_better, better_volume, at_volume}
-use Rattle.dam_hour.specs.inside.Ladder.{rank_of, order_of, total, rungs_from, placed_of, side_total, AreOfSide, IsRung}
+use Rattle.dam_hour.specs.inside.Ladder.{rank_of, sort_key_of, total, rungs_from, placed_of, side_total, AreOfSide, IsRung}
 use Rattle.dam_hour.specs.inside.Edge.{not_worse_volume, IsServed, IsEdge, IsLimitOfSell}
 use Rattle.dam_hour.specs.declared.ladder.Rung.{Rung}
 use Rattle.dam_hour.proofs.Ladders.{counted, counted_before, counted_after, front_of_place, none_in_front, offered_total}
@@ -35,16 +35,16 @@ nothing_on Sell Sell x e = e
 nothing_on Buy Sell x e = refl
 nothing_on Sell Buy x e = refl
 
--- how far an order is from those that the step's limit allows, and how far the volume is from one at least
+-- how far a sort key is from those that the step's limit allows, and how far the volume is from one at least
 abbrev astray : Side → ℕ → Step → ℕ
-astray side order s = (rank_of side s.price * most_steps - order) + (suc order - (rank_of side s.price * most_steps + most_steps))
+astray side sort_key s = (rank_of side s.price * most_steps - sort_key) + (suc sort_key - (rank_of side s.price * most_steps + most_steps))
     + (1 - s.qty)
 
 none_astray : (side : Side) (n : ℕ) (ss : List Step) → AreInRange ss → n + length ss ≤ most_steps → side_total side (astray side) n ss ≡ 0
 none_astray side n [] r few = refl
 none_astray side n (s ∷ ss) r few =
     let least = r.1.at_least in
-    let here = nothing_on side s.side (astray side (order_of side s.price n) s) (omega (arith, few, least)) in
+    let here = nothing_on side s.side (astray side (sort_key_of side s.price n) s) (omega (arith, few, least)) in
     let rest = none_astray side (suc n) ss r.2 (omega (arith, few)) in
     omega (arith, here, rest)
 
@@ -55,16 +55,16 @@ each_zero f (q ∷ qs) (suc k) p z e = each_zero f qs k p (omega (arith, z)) e
 
 pub not_astray : (side : Side) (ps : List Placed) (ss : List Step) (k : ℕ) (p : Placed) → AreOfSide side ps ss → IsHour ss
     → slice_get ps k ≡ Some p
-    → (order_of side p.step.price 0 ≤ p.order) × (p.order < order_of side p.step.price most_steps) × (1 ≤ p.step.qty)
+    → (sort_key_of side p.step.price 0 ≤ p.sort_key) × (p.sort_key < sort_key_of side p.step.price most_steps) × (1 ≤ p.step.qty)
 not_astray side ps ss k p same hour e =
     let few = hour.few in
-    let none = each_zero (λ q. astray side q.order q.step) ps k p (same.sums (astray side)
+    let none = each_zero (λ q. astray side q.sort_key q.step) ps k p (same.sums (astray side)
     ∙ none_astray side 0 ss hour.in_range (omega (arith, few))) e in
     (omega (arith, none), omega (arith, none), omega (arith, none))
 
--- ---- a cut at an order, from both sides
-counted_at_most : (limit order q : ℕ) → counted limit order q ≤ q
-counted_at_most limit order q = at_most (pos limit -ℤ pos order)
+-- ---- a cut at a sort key, from both sides
+counted_at_most : (limit sort_key q : ℕ) → counted limit sort_key q ≤ q
+counted_at_most limit sort_key q = at_most (pos limit -ℤ pos sort_key)
   where
     at_most : (z : ℤ) → if_better z q ≤ q
     at_most (pos zero) = omega arith
@@ -72,58 +72,58 @@ counted_at_most limit order q = at_most (pos limit -ℤ pos order)
     at_most (negsuc n) = omega arith
 
 -- the steps before the limit are no more than the first k, if no later one is
-counted_under : (limit k : ℕ) (ps : List Placed) → ((i : ℕ) (d : Placed) → k ≤ i → i < length ps → limit ≤ (get_or ps i d).order)
-    → total (λ q. counted limit q.order q.step.qty) ps ≤ volume_to k ps
+counted_under : (limit k : ℕ) (ps : List Placed) → ((i : ℕ) (d : Placed) → k ≤ i → i < length ps → limit ≤ (get_or ps i d).sort_key)
+    → total (λ q. counted limit q.sort_key q.step.qty) ps ≤ volume_to k ps
 counted_under limit zero [] h = omega arith
 counted_under limit (suc k) [] h = omega arith
 counted_under limit zero (p ∷ ps) h =
-    let here = counted_after limit p.order p.step.qty (h 0 p (omega arith) (omega arith)) in
+    let here = counted_after limit p.sort_key p.step.qty (h 0 p (omega arith) (omega arith)) in
     let rest = counted_under limit zero ps (λ i d l m. h (suc i) d (omega arith) (omega (arith, m))) in
     omega (arith, here, rest)
 counted_under limit (suc k) (p ∷ ps) h =
-    let here = counted_at_most limit p.order p.step.qty in
+    let here = counted_at_most limit p.sort_key p.step.qty in
     let rest = counted_under limit k ps (λ i d l m. h (suc i) d (omega (arith, l)) (omega (arith, m))) in
     omega (arith, here, rest)
 
 -- and no less, if each of them does
-counted_over : (limit k : ℕ) (ps : List Placed) → ((i : ℕ) (d : Placed) → i < k → i < length ps → (get_or ps i d).order < limit)
-    → volume_to k ps ≤ total (λ q. counted limit q.order q.step.qty) ps
+counted_over : (limit k : ℕ) (ps : List Placed) → ((i : ℕ) (d : Placed) → i < k → i < length ps → (get_or ps i d).sort_key < limit)
+    → volume_to k ps ≤ total (λ q. counted limit q.sort_key q.step.qty) ps
 counted_over limit zero [] h = omega arith
 counted_over limit (suc k) [] h = omega arith
 counted_over limit zero (p ∷ ps) h = omega arith
 counted_over limit (suc k) (p ∷ ps) h =
-    let here = counted_before limit p.order p.step.qty (h 0 p (omega arith) (omega arith)) in
+    let here = counted_before limit p.sort_key p.step.qty (h 0 p (omega arith) (omega arith)) in
     let rest = counted_over limit k ps (λ i d l m. h (suc i) d (omega (arith, l)) (omega (arith, m))) in
     omega (arith, here, rest)
 
 -- ---- at a step's own limit
 pub better_before : (side : Side) (ps : List Placed) (ss : List Step) (k : ℕ) (p : Placed) → AreOfSide side ps ss → IsHour ss
-    → IsNonDecreasingBy (λ q. q.order) ps
+    → IsNonDecreasingBy (λ q. q.sort_key) ps
     → slice_get ps k ≡ Some p → IsPrice p.step.price → better_volume side p.step.price ss ≤ volume_to k ps
 better_before side ps ss k p same hour sorted e in_range =
     let few = hour.few in
     let own = (not_astray side ps ss k p same hour e).0 in
-    let all = same.sums (λ order s. counted (order_of side p.step.price 0) order s.qty)
+    let all = same.sums (λ sort_key s. counted (sort_key_of side p.step.price 0) sort_key s.qty)
     ∙ front_of_place side p.step.price 0 0 0 ss in_range hour.in_range refl (omega arith) (omega (arith, few))
     ∙ none_in_front side p.step.price ss in
-    let under = counted_under (order_of side p.step.price 0) k ps
-    (λ i d l m. (let at = ap (λ (q : Placed). q.order) (get_or_from_slice_get ps k p d e) in let order = sorted k i d l m in
-    omega (arith, own, at, order))) in
+    let under = counted_under (sort_key_of side p.step.price 0) k ps
+    (λ i d l m. (let at = ap (λ (q : Placed). q.sort_key) (get_or_from_slice_get ps k p d e) in let sort_key = sorted k i d l m in
+    omega (arith, own, at, sort_key))) in
     omega (arith, all, under)
 
 pub not_worse_with : (side : Side) (ps : List Placed) (ss : List Step) (k : ℕ) (p : Placed) → AreOfSide side ps ss → IsHour ss
-    → IsNonDecreasingBy (λ q. q.order) ps
+    → IsNonDecreasingBy (λ q. q.sort_key) ps
     → slice_get ps k ≡ Some p → IsPrice p.step.price → volume_to (suc k) ps ≤ not_worse_volume side p.step.price ss
 not_worse_with side ps ss k p same hour sorted e in_range =
     let few = hour.few in
     let own = (not_astray side ps ss k p same hour e).1 in
     let whole = ap (λ (ts : List Step). better_volume side p.step.price ss + at_volume side p.step.price ts) (take_all most_steps ss few) in
-    let all = same.sums (λ order s. counted (order_of side p.step.price most_steps) order s.qty)
+    let all = same.sums (λ sort_key s. counted (sort_key_of side p.step.price most_steps) sort_key s.qty)
     ∙ front_of_place side p.step.price most_steps 0 most_steps ss in_range hour.in_range refl (omega arith) (omega (arith, few)) ∙ whole in
     let within = slice_get_within ps k p e in
-    let over = counted_over (order_of side p.step.price most_steps) (suc k) ps
-    (λ i d l m. (let at = ap (λ (q : Placed). q.order) (get_or_from_slice_get ps k p d e) in
-    let order = sorted i k d (omega (arith, l)) within in omega (arith, own, at, order))) in
+    let over = counted_over (sort_key_of side p.step.price most_steps) (suc k) ps
+    (λ i d l m. (let at = ap (λ (q : Placed). q.sort_key) (get_or_from_slice_get ps k p d e) in
+    let sort_key = sorted i k d (omega (arith, l)) within in omega (arith, own, at, sort_key))) in
     omega (arith, all, over)
 
 -- one step more
@@ -146,7 +146,7 @@ volume_rises (p ∷ ps) (suc j) (suc k) l = let rest = volume_rises ps j k (omeg
 pub volume_whole : (side : Side) (ps : List Placed) (ss : List Step) → AreOfSide side ps ss
     → volume_to (length ps) ps ≡ offered_volume side ss
 volume_whole side ps ss same =
-    ap (λ (qs : List Placed). total (λ p. p.step.qty) qs) (take_all (length ps) ps (omega arith)) ∙ same.sums (λ order s. s.qty)
+    ap (λ (qs : List Placed). total (λ p. p.step.qty) qs) (take_all (length ps) ps (omega arith)) ∙ same.sums (λ sort_key s. s.qty)
     ∙ offered_total side 0 ss
 
 -- ---- the rungs of a ladder

@@ -9,12 +9,12 @@ ghost use Rattle.dam_hour.specs.Price.{AreEnds, price_between};
 ghost use Rattle.dam_hour.specs.Best.{signed, IsBest, AreBestTotals, AreSmall, greatest_welfare};
 ghost use Rattle.dam_hour.specs.Clearing.{IsClearedAt};
 ghost use Rattle.dam_hour.specs.inside.Volumes.{better_volume, at_volume, full_surplus, total_on, AreTotals};
-ghost use Rattle.dam_hour.specs.inside.Ladder.{AreOfSide, gain_of};
+ghost use Rattle.dam_hour.specs.inside.Ladder.{AreOfSide, better_surplus};
 ghost use Rattle.dam_hour.specs.inside.Edge.{IsEdge};
 
 use crate::ends::{Edge, is_within_offers, price_between};
 use crate::execution::{Left, fill};
-use crate::ladder::{Ladder, Sums, order_of};
+use crate::ladder::{Ladder, Sums, sort_key_of};
 use crate::step::Step;
 use crate::volumes::{VolumeRange, surplus};
 use dam_book::{GREATEST_VOLUME, MOST_BLOCKS, MOST_HOURLY, Price, Side};
@@ -214,7 +214,7 @@ impl<A: Allocator> Hour<A> {
         ensures small { result ≤ most_steps * greatest_volume }
     {
         let ladder = self.side(side);
-        let count = ladder.place(order_of(side, limit, place));
+        let count = ladder.place(sort_key_of(side, limit, place));
         ladder.sums(count).volume
     }
 
@@ -232,12 +232,12 @@ impl<A: Allocator> Hour<A> {
         ensures volume { result.volume ≡ better_volume side price self.now }
         ensures small { result.volume ≤ most_steps * greatest_volume }
         ensures gain { signed side (result.value -ℤ price *ℤ pos result.volume)
-            ≡ pos (gain_of side price self.now) }
-        ensures gain_small { gain_of side price self.now
+            ≡ pos (better_surplus side price self.now) }
+        ensures gain_small { better_surplus side price self.now
             ≤ most_steps * (price_span * greatest_volume) }
     {
         let ladder = self.side(side);
-        let count = ladder.place(order_of(side, price, 0));
+        let count = ladder.place(sort_key_of(side, price, 0));
         ladder.sums(count)
     }
 

@@ -10,7 +10,7 @@ pub returns-then-unit-all : goal.returns-then-unit-all
 returns-then-unit-all g c =
     let more = c.if-unit-all.true in
     limit_past_all c.args.hour.now c.args.unit c.highest.result c.all.result.volume c.highest.ensures
-    (c.all.ensures ∙ c.side-sells.ensures.side.sums (λ order s. s.qty) ∙ offered_total Sell 0 c.args.hour.now) (omega (arith, ints))
+    (c.all.ensures ∙ c.side-sells.ensures.side.sums (λ sort_key s. s.qty) ∙ offered_total Sell 0 c.args.hour.now) (omega (arith, ints))
 
 pub returns : goal.returns
 returns g c =

@@ -8,10 +8,10 @@ use Rattle.dam_hour.proofs.hour.Hour.better.Goals as goal
 
 pub returns-clause-volume : goal.returns-clause-volume
 returns-clause-volume g c =
-    let cut = subst (λ (n : ℕ). IsCut n c.place-count.result c.side-ladder.result.now) c.order_of.ensures.order c.place-count.ensures.cut in
+    let cut = subst (λ (n : ℕ). IsCut n c.place-count.result c.side-ladder.result.now) c.sort_key_of.ensures.sort_key c.place-count.ensures.cut in
     c.sums.ensures.volume
     ∙ volume_before c.args.side c.args.price 0 c.place-count.result c.side-ladder.result.now c.args.self.now c.side-ladder.ensures.side
-    c.side-ladder.ensures.steps c.order_of.ensures.limit (omega arith) cut
+    c.side-ladder.ensures.steps c.sort_key_of.ensures.limit (omega arith) cut
     ∙ none_in_front c.args.side c.args.price c.args.self.now
 
 pub returns-clause-small : goal.returns-clause-small
@@ -24,14 +24,14 @@ returns-clause-small g c =
 
 pub returns-clause-gain : goal.returns-clause-gain
 returns-clause-gain g c =
-    let cut = subst (λ (n : ℕ). IsCut n c.place-count.result c.side-ladder.result.now) c.order_of.ensures.order c.place-count.ensures.cut in
+    let cut = subst (λ (n : ℕ). IsCut n c.place-count.result c.side-ladder.result.now) c.sort_key_of.ensures.sort_key c.place-count.ensures.cut in
     ap₂ (λ (v : ℤ) (n : ℕ). signed c.args.side (v -ℤ c.args.price *ℤ pos n)) c.sums.ensures.value c.sums.ensures.volume
     ∙ gain_before c.args.side c.args.price c.place-count.result c.side-ladder.result.now c.args.self.now c.side-ladder.ensures.side
-    c.side-ladder.ensures.steps c.order_of.ensures.limit cut
+    c.side-ladder.ensures.steps c.sort_key_of.ensures.limit cut
 
 pub returns-clause-gain_small : goal.returns-clause-gain_small
 returns-clause-gain_small g c =
     let hour = c.side-ladder.ensures.steps in
     let few = hour.few in
-    let small = gain_small c.args.side c.args.price c.args.self.now c.order_of.ensures.limit hour.in_range in
+    let small = gain_small c.args.side c.args.price c.args.self.now c.sort_key_of.ensures.limit hour.in_range in
     omega (arith, few, small)
