@@ -7,7 +7,7 @@ ghost use Rattle.dam_gate.specs.Pass.{Knowledge, IsKnowledge, after_learning, ho
 ghost use Rattle.dam_gate.specs.Settled.{IsSettled, receipts_of};
 ghost use Rattle.dam_gate.specs.Headline.{IsWholeAccount};
 ghost use Rattle.dam_gate.specs.Day.{AreTaken, IsDayFault, IsSettledDay, givers_of, is_one_of};
-ghost use Rattle.dam_gate.specs.inside.Entering.{AreApart, AreGivers, AreServed, Enters, HasAll, IsRefusalAt, IsUnsettled, Takes, commands_at, share_at};
+ghost use Rattle.dam_gate.specs.inside.Entering.{AreApart, AreGivers, AreServed, Enters, HasAll, IsRefusalAt, IsUnsettled, TakesGiver, commands_at, share_at};
 
 use crate::account::Account;
 use crate::gate::{Gate, GateFault, PassFault};
@@ -192,7 +192,8 @@ fn take_giver(
 ) -> Result<(), DayFault>
     requires { length participants.old.items ≤ most_participants }
     ensures few { OnOk result (length participants.new.items ≤ most_participants) }
-    ensures giver { OnOk result (Takes command.now participants.old.items participants.new.items) }
+    ensures giver { OnOk result
+        (TakesGiver command.now participants.old.items participants.new.items) }
     ensures refused { IfErr result (IsRefusalAt place participants.old.items command.now) }
 {
     let Some(who) = command.participant() else {

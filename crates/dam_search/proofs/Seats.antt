@@ -22,7 +22,7 @@ use Rattle.dam_blocks.specs.declared.selection.Best.{Best}
 use Rattle.dam_blocks.specs.Eligible.{IsEligible}
 use Rattle.dam_search.specs.Words.{times, once_below, first_view, joined_view, standing, AreClosedWords}
 use Rattle.dam_search.specs.Work.{IsExplored, AreAnswersOf}
-use Rattle.dam_search.specs.inside.Seats.{AreJoined, AreWhole}
+use Rattle.dam_search.specs.inside.Seats.{AreJoined, AreAllAnswers}
 use Rattle.dam_search.proofs.Collecting.{spent_less, reached_less, reached_greater, reached_greatest}
 
 pub greatest_append : (xs ys : List PieceAnswer) → greatest_found (xs ++ ys) ≡ max (greatest_found xs) (greatest_found ys)
@@ -181,7 +181,7 @@ begun pieces v w e f = record {
 pub whole : (problem : ProblemState) (depth nodes first workers pieces : ℕ) (words : List ℕ) (v w : View) (answers : List PieceAnswer)
     → AreJoined problem depth nodes v workers w answers → v.draws_past_the_end ≡ 0 → v.greatest_offer ≡ first → 1 ≤ workers
     → pieces ≡ 2 ^ depth
-    → AreClosedWords pieces words w → AreWhole problem depth nodes first answers
+    → AreClosedWords pieces words w → AreAllAnswers problem depth nodes first answers
 whole problem depth nodes first workers pieces words v w answers h going top some e closed =
     let past = h.draws_past_the_end in let told = closed.greatest_read in let offered = h.are_answers.offered in
     record {
@@ -194,7 +194,7 @@ whole problem depth nodes first workers pieces words v w answers h going top som
 
 -- the value read is at most the welfare of some eligible selection
 pub all_worked : (problem : ProblemState) (depth nodes first : ℕ) (answers : List PieceAnswer) → IsReached problem first
-    → AreWhole problem depth nodes first answers → All (λ (a : PieceAnswer). IsWorked problem depth nodes a) answers
+    → AreAllAnswers problem depth nodes first answers → All (λ (a : PieceAnswer). IsWorked problem depth nodes a) answers
 all_worked problem depth nodes first answers reached h =
     let greatest = reached_greatest problem depth answers (reached_less problem first 0 (omega arith) reached)
     (λ k d l. (h.explored k d l).sound) in
@@ -222,7 +222,7 @@ about_times (a ∷ answers) piece =
 below_once : (x bound : ℕ) → x < bound → once_below x bound ≡ 1
 below_once x bound less = grind (arith, nat_tests, less)
 
-pub one_each : (problem : ProblemState) (depth nodes first : ℕ) (answers : List PieceAnswer) → AreWhole problem depth nodes first answers
+pub one_each : (problem : ProblemState) (depth nodes first : ℕ) (answers : List PieceAnswer) → AreAllAnswers problem depth nodes first answers
     → AreOneEach answers (2 ^ depth)
 one_each problem depth nodes first answers h piece less = about_times answers piece ∙ h.each piece ∙ below_once piece (2 ^ depth) less
 

@@ -10,7 +10,7 @@ use Rattle.dam_book.specs.Limits.{most_blocks}
 use Rattle.dam_blocks.specs.Selection.{padded, IsAdmissible}
 use Rattle.dam_bound.specs.Relaxed.{relaxed_welfare, reaches, live_count}
 use Rattle.dam_search.specs.Piece.{all_nodes, needed_nodes, AdmitsOnly, HasNeeded, IsSpent}
-use Rattle.dam_search.specs.inside.Walk.{Spends, Reads}
+use Rattle.dam_search.specs.inside.Walk.{Spends, ReadsIncumbent}
 use Rattle.dam_search.proofs.LastBlock.{still_rejected}
 use Rattle.dam_search.proofs.Prefixes.{length_more}
 
@@ -92,7 +92,7 @@ spends_one problem prefix left told nodes before h =
 
 -- nothing was read
 pub reads_nothing : (left before after read told told' : ℕ) → read ≤ told → told' ≡ told → (after ≡ before) ⊎ (left ≡ 0)
-    → Reads left before after read read told told'
+    → ReadsIncumbent left before after read read told told'
 reads_nothing left before after read told told' h e none = record {
   grows = omega arith;
   greatest_read = omega (arith, h, e);
@@ -104,7 +104,7 @@ reads_nothing left before after read told told' h e none = record {
 -- the incumbent was read
 pub reads_asked : (left before after read_before read_after told_before told_after : ℕ) → 0 < left → before < after
     → read_before ≤ told_before → told_before ≤ read_after → told_after ≡ read_after
-    → Reads left before after read_before read_after told_before told_after
+    → ReadsIncumbent left before after read_before read_after told_before told_after
 reads_asked left before after read_before read_after told_before told_after some more h h' e = record {
   grows = omega (arith, h, h');
   greatest_read = omega (arith, h', e);

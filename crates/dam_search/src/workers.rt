@@ -7,7 +7,7 @@ ghost use Rattle.dam_plan.specs.Limits.{most_workers, most_cut};
 ghost use Rattle.dam_search.specs.Answer.{IsReached};
 ghost use Rattle.dam_search.specs.Search.{IsUnfinished, LimitHasNeeded};
 ghost use Rattle.dam_search.specs.Words.{view_of};
-ghost use Rattle.dam_search.specs.inside.Seats.{IsNewSeat, IsWorkedSeat, AreJoined, AreWhole};
+ghost use Rattle.dam_search.specs.inside.Seats.{IsNewSeat, IsWorkedSeat, AreJoined, AreAllAnswers};
 
 use crate::answer::PieceAnswer;
 use crate::collect::{collected, pieces};
@@ -190,7 +190,7 @@ pub(crate) fn explore_all<R: Threads + Sync, E: Explorer + Sync, T: Turnstile + 
     requires few { task.now.depth ≤ most_cut }
     requires some_worker { 1 ≤ task.now.workers }
     requires few_workers { task.now.workers ≤ most_workers }
-    ensures { IfOk result (λ explored. AreWhole task.now.problem.now task.now.depth
+    ensures { IfOk result (λ explored. AreAllAnswers task.now.problem.now task.now.depth
         task.now.nodes task.now.first explored.answers.items) }
 {
     let count = pieces(task.depth);

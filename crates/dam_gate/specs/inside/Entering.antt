@@ -25,7 +25,7 @@ pub record AreGivers (participants : List (List ℕ)) (cs : List Command) : Type
   pub all : (who : List ℕ) → is_one_of participants who ≡ false → commands_by who cs ≡ []
 
 -- the giver of the command is taken among the participants
-pub record Takes (c : Command) (before after : List (List ℕ)) : Type 0 where
+pub record TakesGiver (c : Command) (before after : List (List ℕ)) : Type 0 where
   pub who : List ℕ
   pub gives : giver c ≡ Some who
   pub after_is : after ≡ with_giver before who

@@ -62,10 +62,11 @@ fault_of n Same = None
 fault_of n Other = Some (Differs n)
 fault_of n Several = Some (Doubled n)
 
-abbrev pub first_of : Option Mismatch → Option Mismatch → Option Mismatch
-first_of None other = other
-first_of (Some fault) other = Some fault
+-- the fault, or if there is none, the other
+abbrev pub fault_or : Option Mismatch → Option Mismatch → Option Mismatch
+fault_or None other = other
+fault_or (Some fault) other = Some fault
 
 abbrev pub first_fault : ℕ → List Mark → Option Mismatch
 first_fault n [] = None
-first_fault n (f ∷ fs) = first_of (fault_of n f) (first_fault (suc n) fs)
+first_fault n (f ∷ fs) = fault_or (fault_of n f) (first_fault (suc n) fs)

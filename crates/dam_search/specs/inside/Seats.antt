@@ -38,7 +38,7 @@ pub record AreJoined (problem : ProblemState) (depth nodes : ℕ) (v : View) (wo
 
 -- the answers of a search whose words were closed: one about each piece and no others, each
 -- sound, and none read more than the welfare offered first or the greatest that they found
-pub record AreWhole (problem : ProblemState) (depth nodes first : ℕ) (answers : List PieceAnswer)
+pub record AreAllAnswers (problem : ProblemState) (depth nodes first : ℕ) (answers : List PieceAnswer)
     : Type 0 where
   pub each : (x : ℕ)
       → times x (map (λ (a : PieceAnswer). a.piece) answers) ≡ once_below x (2 ^ depth)

@@ -38,7 +38,7 @@ pub record Spends (problem : ProblemState) (prefix : List Bool)
 
 -- the greatest value read by the walk before and after, compared with the greatest value read of
 -- its incumbent
-pub record Reads (left visited_before visited_after read_before read_after greatest_read_before
+pub record ReadsIncumbent (left visited_before visited_after read_before read_after greatest_read_before
     greatest_read_after : ℕ) : Type 0 where
   pub grows : read_before ≤ read_after
   pub greatest_read : greatest_read_after ≡ max greatest_read_before read_after
@@ -66,6 +66,6 @@ pub record IsWalked (problem : ProblemState) (prefix : List Bool)
       nodes before.visited after.visited done
   pub needed : done ≡ true → HasNeeded problem prefix (length problem.blocks - length prefix)
       after.read (after.visited - before.visited)
-  pub reads : Reads (length problem.blocks - length prefix) before.visited after.visited
+  pub reads : ReadsIncumbent (length problem.blocks - length prefix) before.visited after.visited
       before.read after.read greatest_read_before greatest_read_after
   pub offered : greatest_offer_after ≡ max greatest_offer_before (welfare_found after.best)

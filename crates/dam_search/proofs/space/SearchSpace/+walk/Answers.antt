@@ -5,7 +5,7 @@ use Rattle.dam_book.specs.Limits.{most_blocks}
 use Rattle.dam_blocks.specs.Problem.{ProblemState}
 use Rattle.dam_bound.specs.Relaxed.{relaxed_welfare, reaches}
 use Rattle.dam_search.specs.declared.piece.WalkState.{WalkState}
-use Rattle.dam_search.specs.inside.Walk.{Spends, Reads, IsWalked}
+use Rattle.dam_search.specs.inside.Walk.{Spends, ReadsIncumbent, IsWalked}
 use Rattle.dam_search.proofs.Ranks.{finds_nothing, finds_shorter, finds_twice, covers_both, welfare_rises}
 use Rattle.dam_search.proofs.Walks.{spends_none, spends_nothing, spends_one, spends_first, spends_both, reads_nothing, reads_asked}
 use Rattle.dam_search.proofs.Walks.{unreached, less, needed_one, needed_both}
@@ -69,7 +69,7 @@ returns-then-depth-block_count-clause-walked g t c =
           (spends_one problem prefix left (told c.args.incumbent.now) c.args.nodes found.visited room);
       needed = λ done. needed_one problem prefix left after.read found.visited after.visited visited (inl full);
       reads =
-          subst (λ (n : ℕ). Reads left found.visited after.visited found.read n (told c.args.incumbent.now)
+          subst (λ (n : ℕ). ReadsIncumbent left found.visited after.visited found.read n (told c.args.incumbent.now)
           (told c.try_selection.new.incumbent))
           (sym c.try_selection.ensures.read)
           (reads_nothing left found.visited after.visited found.read (told c.args.incumbent.now)
