@@ -8,7 +8,7 @@ compare_exchange-found-requires g c =
     let h = c.args.self.now.count_is in
     let offer = c.plain-offer.ensures in
     let pen = c.no_pen-pen.ensures in
-    let book = c.learn-2.ensures.0 ∙ (c.learn.ensures.0 ∙ (ap (λ s. s.book) c.again.ensures ∙ c.history.invariant.1)) in (
+    let book = c.learn-2.ensures.0 ∙ (c.learn.ensures.0 ∙ (ap (λ s. s.book) c.again-all.ensures ∙ c.history.invariant.1)) in (
       ap (λ w. w.tracked) h,
       book ∙ sym (ap (λ w. w.book) h),
       pen.0 ∙ (book ∙ sym (ap (λ w. w.book) h)),
