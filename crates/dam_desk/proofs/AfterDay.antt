@@ -16,8 +16,8 @@ use Rattle.dam_results.specs.Written.{row_line}
 use Rattle.dam_results.proofs.FieldBytes.{day_fields}
 use Rattle.dam_results.proofs.WriterLines.{row_text-line}
 use Rattle.dam_desk.specs.Limits.{most_line}
-use Rattle.dam_desk.specs.Lines.{Says, record_of, text_after}
-use Rattle.dam_desk.specs.declared.day.Day.{Day}
+use Rattle.dam_desk.specs.InputLines.{Says, record_of, text_after}
+use Rattle.dam_desk.specs.declared.desk_day.Day.{Day}
 use Rattle.dam_desk.specs.declared.reading.Said.TheVariants.{Command as Commands}
 use Rattle.dam_desk.specs.inside.Intake.{periods_of}
 

@@ -1,6 +1,6 @@
 -- The lines that a file keeps through a crash.
 use Rattle.std.proofs.Common.{◌≡◌, inl, inr, List, ℕ, [], ◌++◌, sym, ap, ◌∙◌, subst, append_assoc, append-nil}
-use Rattle.dam_store.specs.Journal.{StandsFor, StandsForEither}
+use Rattle.dam_store.specs.FileLines.{StandsFor, StandsForEither}
 use Rattle.dam_desk.specs.Desk.{KeepsLines}
 
 pub stands_keeps : (lines : List (List ℕ)) (file : List ℕ) → StandsFor lines file → (more : List (List ℕ)) × StandsFor (lines ++ more) file

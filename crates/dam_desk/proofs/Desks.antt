@@ -3,13 +3,13 @@ use Rattle.std.proofs.Common.{◌≡◌, ◌⊎◌, inl, inr, List, ℕ, suc, �
 use Rattle.std.specs.Io.KnownBytes.{Appends, Consumes, IsAtEnd}
 use Rattle.std.proofs.KnownBytes.{Appends-nil, Appends-trans, Consumes-trans, Consumes-whole}
 use Rattle.sqlite_disk.specs.declared.Disk.{Ghosts}
-use Rattle.dam_store.specs.Journal.{StandsForEither, has_byte, text_of}
-use Rattle.dam_store.specs.Store.{IsSafe, disk_of, held}
+use Rattle.dam_store.specs.FileLines.{HaveNoNewline, StandsForEither, has_byte, text_of}
+use Rattle.dam_store.specs.Store.{IsSafe, disk_of, held_lines}
 use Rattle.dam_store.specs.declared.fault.StoreFault.{StoreFault}
 use Rattle.dam_store.specs.declared.fault.StoreFault.TheVariants as store
 use Rattle.dam_store.specs.declared.store.Store.{Store}
-use Rattle.dam_desk.specs.Journal.{Journal, State, AreLines, AreWhole, OpensTo, Reads, journal_text, next}
-use Rattle.dam_desk.specs.Desk.{Finishes, IsAnswered, IsDesk, IsEnding, MayLeave, OpensAfter, Served, Takes, end_answer}
+use Rattle.dam_desk.specs.DeskJournal.{Journal, State, AreLines, OpensTo, ReadsBack, desk_journal_text, next}
+use Rattle.dam_desk.specs.Desk.{DeskHasAnswered, Finishes, IsDesk, IsEnding, LinesAreAnswered, MayLeave, OpensAfter, Served, end_answer}
 use Rattle.dam_desk.specs.Faults.{IsWritingFault, SaysCount, fault_after, is_read, of_store}
 use Rattle.dam_desk.specs.declared.desk.Desk.{Desk}
 use Rattle.dam_desk.specs.declared.fault.DeskFault.{DeskFault}
@@ -106,7 +106,7 @@ served_written intake state given why old new outcomes count said read written o
   lines = record {
     rest = read.begun ++ [];
     split = read.split ∙ ap (λ (ls : List (List ℕ)). text_of ls ++ (read.begun ++ [])) (sym (append-nil read.lines));
-    whole = subst AreWhole (sym (append-nil read.lines)) read.whole;
+    whole = subst HaveNoNewline (sym (append-nil read.lines)) read.whole;
   };
   whole = inl refl;
   answers = intake.answers.items;
@@ -168,7 +168,7 @@ opens_batch intake state given file read (inr after) = inr (opens_after intake s
 
 -- all lines that came in are answered
 pub answered_so_far : {D : Type 0} {g : Ghosts D} (desk : Desk D g) (state : State) (given first : List ℕ) (old new : Option (List ℕ))
-    → Takes desk state given first old new → IsAnswered state given first old new (MayLeave desk)
+    → DeskHasAnswered desk state given first old new → LinesAreAnswered state given first old new (MayLeave desk)
 answered_so_far desk state given first old new taken = record {
   lines = taken.lines;
   begun = taken.begun;
@@ -183,7 +183,7 @@ answered_so_far desk state given first old new taken = record {
 -- before any line
 pub takes_start : {D : Type 0} {g : Ghosts D} (desk : Desk D g) (state : State) (begun first : List ℕ) (old new : Option (List ℕ))
     → IsDesk desk state begun → ((file : List ℕ) → MayLeave desk file → OpensTo state.journal file) → Appends old new first
-    → Takes desk state (begun ++ []) first old new
+    → DeskHasAnswered desk state (begun ++ []) first old new
 takes_start desk state begun first old new is opens written = record {
   lines = [];
   begun = begun;
@@ -198,8 +198,8 @@ takes_start desk state begun first old new is opens written = record {
 
 -- the next bytes
 pub takes_more : {D : Type 0} {g : Ghosts D} (desk later : Desk D g) (state : State) (given bytes first : List ℕ) (old mid new : Option (List ℕ))
-    → (taken : Takes desk state given first old mid) → Takes later taken.last (taken.begun ++ bytes) [] mid new
-    → Takes later state (given ++ bytes) first old new
+    → (taken : DeskHasAnswered desk state given first old mid) → DeskHasAnswered later taken.last (taken.begun ++ bytes) [] mid new
+    → DeskHasAnswered later state (given ++ bytes) first old new
 takes_more desk later state given bytes first old mid new taken then = record {
   lines = taken.lines ++ then.lines;
   begun = then.begun;
@@ -216,7 +216,7 @@ takes_more desk later state given bytes first old mid new taken then = record {
 -- the same, and this is how many bytes were written of the first text and the answers, if 64 bits hold that
 pub record TakesAll {D : Type 0} {g : Ghosts D} (desk : Desk D g) (state : State) (given first : List ℕ) (printed : ℕ)
     (old new : Option (List ℕ)) : Type 0 where
-  pub takes : Takes desk state given first old new
+  pub takes : DeskHasAnswered desk state given first old new
   pub count : length (first ++ takes.answers) < 2 ^ 64 → printed ≡ length (first ++ takes.answers)
 
 pub all_start : {D : Type 0} {g : Ghosts D} (desk : Desk D g) (state : State) (begun first : List ℕ) (printed : ℕ) (old new : Option (List ℕ))
@@ -230,7 +230,7 @@ all_start desk state begun first printed old new is opens written same = record 
 
 pub all_more : {D : Type 0} {g : Ghosts D} (desk later : Desk D g) (state : State) (given bytes first : List ℕ) (printed count next : ℕ)
     (old mid new : Option (List ℕ)) → (taken : TakesAll desk state given first printed old mid)
-    → (then : Takes later taken.takes.last (taken.takes.begun ++ bytes) [] mid new) → count ≡ length then.answers
+    → (then : DeskHasAnswered later taken.takes.last (taken.takes.begun ++ bytes) [] mid new) → count ≡ length then.answers
     → next ≡ min (printed + count) (2 ^ 64 - 1) → TakesAll later state (given ++ bytes) first next old new
 unfolding takes_more
 all_more desk later state given bytes first printed count next old mid new taken then same sum = record {
@@ -259,7 +259,7 @@ whole_more given bytes lines safe others begun rest first (inr all) =
 
 -- the next bytes, in which a fault ended the desk
 pub served_more : {D : Type 0} {g : Ghosts D} (desk : Desk D g) (state : State) (given bytes first : List ℕ) (old mid new : Option (List ℕ))
-    (outcomes : List ℕ → Type 0) (why : DeskFault) (printed : ℕ) → (taken : Takes desk state given first old mid)
+    (outcomes : List ℕ → Type 0) (why : DeskFault) (printed : ℕ) → (taken : DeskHasAnswered desk state given first old mid)
     → (length (first ++ taken.answers) < 2 ^ 64 → printed ≡ length (first ++ taken.answers))
     → Served taken.last (taken.begun ++ bytes) [] why mid new outcomes
     → Served state (given ++ bytes) first (fault_after printed why) old new outcomes
@@ -273,7 +273,7 @@ served_more desk state given bytes first old mid new outcomes why printed taken 
         rest = then.lines.rest;
         split = split_more given bytes taken.lines (then.safe ++ then.others) taken.begun then.lines.rest taken.split.split then.lines.split
             ∙ ap (λ (ls : List (List ℕ)). text_of ls ++ then.lines.rest) (sym (append_assoc taken.lines then.safe then.others));
-        whole = subst AreWhole (sym (append_assoc taken.lines then.safe then.others))
+        whole = subst HaveNoNewline (sym (append_assoc taken.lines then.safe then.others))
             (all_both (λ line. has_byte 10 line ≡ false) taken.lines (then.safe ++ then.others) taken.split.whole then.lines.whole);
       };
       whole = whole_more given bytes taken.lines then.safe then.others taken.begun then.lines.rest taken.split then.whole;
@@ -297,7 +297,7 @@ served_more desk state given bytes first old mid new outcomes why printed taken 
 
 -- a fault of the input, or of the line in which it ended
 pub served_so_far : {D : Type 0} {g : Ghosts D} (desk : Desk D g) (state : State) (given first : List ℕ) (old mid new : Option (List ℕ))
-    (why : DeskFault) (count : ℕ) → (taken : Takes desk state given first old mid) → SaysCount (length (first ++ taken.answers) + count) why
+    (why : DeskFault) (count : ℕ) → (taken : DeskHasAnswered desk state given first old mid) → SaysCount (length (first ++ taken.answers) + count) why
     → (ending : List ℕ) → IsEnding given taken.lines taken.last ending → Appends mid new (take count ending)
     → Served state given first why old new (MayLeave desk)
 served_so_far desk state given first old mid new why count taken said ending ends written =
@@ -308,7 +308,7 @@ served_so_far desk state given first old mid new why count taken said ending end
       lines = record {
         rest = taken.begun;
         split = taken.split.split ∙ ap (λ (ls : List (List ℕ)). text_of ls ++ taken.begun) (sym (append-nil taken.lines));
-        whole = subst AreWhole (sym (append-nil taken.lines)) taken.split.whole;
+        whole = subst HaveNoNewline (sym (append-nil taken.lines)) taken.split.whole;
       };
       whole = inl refl;
       answers = taken.answers;
@@ -352,7 +352,7 @@ served_first desk state begun first why old new count said opens written = recor
 
 -- the end of the input
 pub finishes : {D : Type 0} {g : Ghosts D} (desk : Desk D g) (state : State) (given first : List ℕ) (old mid new : Option (List ℕ))
-    → (taken : Takes desk state given first old mid) → Appends mid new (end_answer (next taken.last.answered) taken.begun)
+    → (taken : DeskHasAnswered desk state given first old mid) → Appends mid new (end_answer (next taken.last.answered) taken.begun)
     → Finishes state given first old new (MayLeave desk)
 finishes desk state given first old mid new taken written =
     let ending = end_answer (next taken.last.answered) taken.begun in
@@ -385,43 +385,43 @@ written_part old new text (Ok x) fault = tt
 written_part old new text (Err why) fault = written_fault old new text why fault
 
 -- every file that a crash leaves stands for the store's lines, which are the journal's text
-pub opens_store : {D : Type 0} {g : Ghosts D} (store : Store D g) (journal : Option Journal) → Reads journal
-    → (IsTrue (g.is_clean (disk_of store)) → text_of (held store) ≡ journal_text journal)
+pub opens_store : {D : Type 0} {g : Ghosts D} (store : Store D g) (journal : Option Journal) → ReadsBack journal
+    → (IsTrue (g.is_clean (disk_of store)) → text_of (held_lines store) ≡ desk_journal_text journal)
     → (IsTrue (g.is_clean (disk_of store)) → IsSafe store) → (file : List ℕ)
     → IsTrue (g.is_clean (disk_of store)) × g.may_leave (disk_of store) file → OpensTo journal file
-opens_store store journal reads text safe file may = (held store, (safe may.0).crash file may.1, text may.0, reads)
+opens_store store journal reads text safe file may = (held_lines store, (safe may.0).crash file may.1, text may.0, reads)
 
-opens_one : (lines batch : List (List ℕ)) (before after : Option Journal) (file : List ℕ) → Reads before → Reads after → text_of lines ≡ journal_text before
-    → text_of (lines ++ batch) ≡ journal_text after → StandsForEither lines batch file → OpensTo before file ⊎ OpensTo after file
+opens_one : (lines batch : List (List ℕ)) (before after : Option Journal) (file : List ℕ) → ReadsBack before → ReadsBack after → text_of lines ≡ desk_journal_text before
+    → text_of (lines ++ batch) ≡ desk_journal_text after → StandsForEither lines batch file → OpensTo before file ⊎ OpensTo after file
 opens_one lines batch before after file reads also old new (inl stands) = inl (lines, stands, old, reads)
 opens_one lines batch before after file reads also old new (inr stands) = inr (lines ++ batch, stands, new, also)
 
 -- the text of the lines with those of a batch
-pub with_batch : (lines batch : List (List ℕ)) (entered : List ℕ) (before after : Option Journal) → text_of lines ≡ journal_text before
-    → text_of batch ≡ entered → journal_text before ++ entered ≡ journal_text after → text_of (lines ++ batch) ≡ journal_text after
+pub with_batch : (lines batch : List (List ℕ)) (entered : List ℕ) (before after : Option Journal) → text_of lines ≡ desk_journal_text before
+    → text_of batch ≡ entered → desk_journal_text before ++ entered ≡ desk_journal_text after → text_of (lines ++ batch) ≡ desk_journal_text after
 with_batch lines batch entered before after old new is =
-    text_more lines batch ∙ ap (λ (t : List ℕ). t ++ text_of batch) old ∙ ap (λ (t : List ℕ). journal_text before ++ t) new ∙ is
+    text_more lines batch ∙ ap (λ (t : List ℕ). t ++ text_of batch) old ∙ ap (λ (t : List ℕ). desk_journal_text before ++ t) new ∙ is
 
 -- the store's lines are the old ones, and maybe those of the batch
 pub opens_either : {D : Type 0} {g : Ghosts D} (old new : Store D g) (batch : List (List ℕ)) (entered : List ℕ) (before after : Option Journal)
-    → Reads before → Reads after
-    → g.is_clean (disk_of new) ≡ g.is_clean (disk_of old) → (IsTrue (g.is_clean (disk_of old)) → text_of (held old) ≡ journal_text before)
-    → text_of batch ≡ entered → journal_text before ++ entered ≡ journal_text after
-    → (IsTrue (g.is_clean (disk_of new)) → (file : List ℕ) → g.may_leave (disk_of new) file → StandsForEither (held old) batch file)
+    → ReadsBack before → ReadsBack after
+    → g.is_clean (disk_of new) ≡ g.is_clean (disk_of old) → (IsTrue (g.is_clean (disk_of old)) → text_of (held_lines old) ≡ desk_journal_text before)
+    → text_of batch ≡ entered → desk_journal_text before ++ entered ≡ desk_journal_text after
+    → (IsTrue (g.is_clean (disk_of new)) → (file : List ℕ) → g.may_leave (disk_of new) file → StandsForEither (held_lines old) batch file)
     → (file : List ℕ) → IsTrue (g.is_clean (disk_of new)) × g.may_leave (disk_of new) file → OpensTo before file ⊎ OpensTo after file
 opens_either old new batch entered before after reads also same text is grown stands file may =
     let was = text (sym same ∙ may.0) in
-    opens_one (held old) batch before after file reads also was (with_batch (held old) batch entered before after was is grown)
+    opens_one (held_lines old) batch before after file reads also was (with_batch (held_lines old) batch entered before after was is grown)
     (stands may.0 file may.1)
 
 -- the store's lines have grown by the batch
 pub store_grown : {D : Type 0} {g : Ghosts D} (old new : Store D g) (batch : List (List ℕ)) (entered : List ℕ) (before after : Option Journal)
-    → g.is_clean (disk_of new) ≡ g.is_clean (disk_of old) → (IsTrue (g.is_clean (disk_of old)) → text_of (held old) ≡ journal_text before)
-    → text_of batch ≡ entered → journal_text before ++ entered ≡ journal_text after
-    → (IsTrue (g.is_clean (disk_of new)) → held new ≡ held old ++ batch)
-    → IsTrue (g.is_clean (disk_of new)) → text_of (held new) ≡ journal_text after
+    → g.is_clean (disk_of new) ≡ g.is_clean (disk_of old) → (IsTrue (g.is_clean (disk_of old)) → text_of (held_lines old) ≡ desk_journal_text before)
+    → text_of batch ≡ entered → desk_journal_text before ++ entered ≡ desk_journal_text after
+    → (IsTrue (g.is_clean (disk_of new)) → held_lines new ≡ held_lines old ++ batch)
+    → IsTrue (g.is_clean (disk_of new)) → text_of (held_lines new) ≡ desk_journal_text after
 store_grown old new batch entered before after same text is grown appended clean =
-    ap text_of (appended clean) ∙ with_batch (held old) batch entered before after (text (sym same ∙ clean)) is grown
+    ap text_of (appended clean) ∙ with_batch (held_lines old) batch entered before after (text (sym same ∙ clean)) is grown
 
 -- a read of no bytes at the end of the input
 pub nothing_more : (old mid new : Option (List ℕ)) (given buffer : List ℕ) (count : ℕ) → Consumes old mid given → Consumes mid new (take count buffer)

@@ -10,9 +10,9 @@ use Rattle.dam_book.specs.declared.command.Entry.{Entry}
 use Rattle.dam_results.specs.Journal.{IsCommand, ReadsAs}
 use Rattle.dam_results.specs.Replies.{day_line, entry_line}
 use Rattle.dam_results.specs.Written.{journal_text, written}
-use Rattle.dam_desk.specs.Journal.{Journal, State, AreAnswers, AreReplies, Reads, answer_to, day_of, enters, journal_after, next, replies_text, state_after}
-use Rattle.dam_desk.specs.Lines.{Says}
-use Rattle.dam_desk.specs.Room.{is_full}
+use Rattle.dam_desk.specs.DeskJournal.{Journal, State, AreAnswers, AreAnswersToEntered, ReadsBack, answer_to, day_of, enters, journal_after_line, next, desk_replies_text, state_after}
+use Rattle.dam_desk.specs.InputLines.{Says}
+use Rattle.dam_desk.specs.Room.{is_desk_full}
 use Rattle.dam_desk.specs.declared.reading.Said.{Said}
 use Rattle.dam_desk.specs.declared.reading.Said.TheVariants.{Day as Days, Command as Commands, Fault}
 use Rattle.dam_desk.proofs.Texts.{all_snoc}
@@ -29,28 +29,28 @@ lines_snoc [] e = append-nil (entry_line e)
 lines_snoc (x ∷ es) e = ap (λ (t : List ℕ). entry_line x ++ t) (lines_snoc es e)
     ∙ sym (append_assoc (entry_line x) (flat_map entry_line es) (entry_line e))
 
-command_grows : EntriesGrow → (number : ℕ) (j : Journal) (command : Command) → is_full (length j.commands) command ≡ false
-    → replies_text (journal_after (Some j) (Commands command)) ≡ replies_text (Some j) ++ answer_to number (Some j) (Commands command)
+command_grows : EntriesGrow → (number : ℕ) (j : Journal) (command : Command) → is_desk_full (length j.commands) command ≡ false
+    → desk_replies_text (journal_after_line (Some j) (Commands command)) ≡ desk_replies_text (Some j) ++ answer_to number (Some j) (Commands command)
 command_grows grow number j command room =
     let entry : Entry = record { number = length j.commands + 1; command = command; reply = reply_to (run j.periods j.commands) command } in
     let entries = entries_of j.periods j.commands in
-    ap (λ (o : Journal). replies_text (Some o)) (cond-false (is_full (length j.commands) command) j (with_one j command) room)
+    ap (λ (o : Journal). desk_replies_text (Some o)) (cond-false (is_desk_full (length j.commands) command) j (with_one j command) room)
     ∙ ap (λ (es : List Entry). day_line j.periods ++ flat_map entry_line es) (grow j.periods j.commands command)
     ∙ ap (λ (t : List ℕ). day_line j.periods ++ t) (lines_snoc entries entry)
     ∙ sym (append_assoc (day_line j.periods) (flat_map entry_line entries) (entry_line entry))
-    ∙ ap (λ (t : List ℕ). replies_text (Some j) ++ t) (sym (cond-false (is_full (length j.commands) command) _ (entry_line entry) room))
+    ∙ ap (λ (t : List ℕ). desk_replies_text (Some j) ++ t) (sym (cond-false (is_desk_full (length j.commands) command) _ (entry_line entry) room))
 
 command_step : EntriesGrow → (number : ℕ) (j : Journal) (command : Command)
-    → (journal_after (Some j) (Commands command) ≡ Some j)
-    ⊎ (replies_text (journal_after (Some j) (Commands command)) ≡ replies_text (Some j) ++ answer_to number (Some j) (Commands command))
-command_step grow number j command = elim (cases_Bool (is_full (length j.commands) command)) [
-  | inl full ↦ inl (ap Some (cond-true (is_full (length j.commands) command) j (with_one j command) full))
+    → (journal_after_line (Some j) (Commands command) ≡ Some j)
+    ⊎ (desk_replies_text (journal_after_line (Some j) (Commands command)) ≡ desk_replies_text (Some j) ++ answer_to number (Some j) (Commands command))
+command_step grow number j command = elim (cases_Bool (is_desk_full (length j.commands) command)) [
+  | inl full ↦ inl (ap Some (cond-true (is_desk_full (length j.commands) command) j (with_one j command) full))
   | inr room ↦ inr (command_grows grow number j command room)
 ]
 
 pub replies_step : EntriesGrow → (number : ℕ) (journal : Option Journal) (said : Said)
-    → (journal_after journal said ≡ journal)
-    ⊎ (replies_text (journal_after journal said) ≡ replies_text journal ++ answer_to number journal said)
+    → (journal_after_line journal said ≡ journal)
+    ⊎ (desk_replies_text (journal_after_line journal said) ≡ desk_replies_text journal ++ answer_to number journal said)
 replies_step grow number None (Days periods) = inr (append-nil (day_line periods))
 replies_step grow number None (Commands command) = inl refl
 replies_step grow number None (Fault fault) = inl refl
@@ -63,39 +63,39 @@ abbrev reply_of : ℕ → Option Journal → Said → List ℕ
 reply_of number journal said = if enters journal said then answer_to number journal said else []
 
 command_reply : EntriesGrow → (number : ℕ) (j : Journal) (command : Command)
-    → replies_text (journal_after (Some j) (Commands command)) ≡ replies_text (Some j) ++ reply_of number (Some j) (Commands command)
+    → desk_replies_text (journal_after_line (Some j) (Commands command)) ≡ desk_replies_text (Some j) ++ reply_of number (Some j) (Commands command)
 command_reply grow number j command =
-    let full = is_full (length j.commands) command in
+    let full = is_desk_full (length j.commands) command in
     let answer = answer_to number (Some j) (Commands command) in
     elim (cases_Bool full) [
-      | inl is ↦ ap (λ (o : Journal). replies_text (Some o)) (cond-true full j (with_one j command) is)
-          ∙ sym (append-nil (replies_text (Some j)))
-          ∙ ap (λ (t : List ℕ). replies_text (Some j) ++ t) (sym (cond-false (not full) answer [] (ap not is)))
+      | inl is ↦ ap (λ (o : Journal). desk_replies_text (Some o)) (cond-true full j (with_one j command) is)
+          ∙ sym (append-nil (desk_replies_text (Some j)))
+          ∙ ap (λ (t : List ℕ). desk_replies_text (Some j) ++ t) (sym (cond-false (not full) answer [] (ap not is)))
       | inr room ↦ command_grows grow number j command room
-          ∙ ap (λ (t : List ℕ). replies_text (Some j) ++ t) (sym (cond-true (not full) answer [] (ap not room)))
+          ∙ ap (λ (t : List ℕ). desk_replies_text (Some j) ++ t) (sym (cond-true (not full) answer [] (ap not room)))
     ]
 
 reply_step : EntriesGrow → (number : ℕ) (journal : Option Journal) (said : Said)
-    → replies_text (journal_after journal said) ≡ replies_text journal ++ reply_of number journal said
+    → desk_replies_text (journal_after_line journal said) ≡ desk_replies_text journal ++ reply_of number journal said
 reply_step grow number None (Days periods) = append-nil (day_line periods)
 reply_step grow number None (Commands command) = refl
 reply_step grow number None (Fault fault) = refl
-reply_step grow number (Some j) (Days periods) = sym (append-nil (replies_text (Some j)))
+reply_step grow number (Some j) (Days periods) = sym (append-nil (desk_replies_text (Some j)))
 reply_step grow number (Some j) (Commands command) = command_reply grow number j command
-reply_step grow number (Some j) (Fault fault) = sym (append-nil (replies_text (Some j)))
+reply_step grow number (Some j) (Fault fault) = sym (append-nil (desk_replies_text (Some j)))
 
 -- the replies among the answers make the journal's replies longer
 pub replies_run : EntriesGrow → (state : State) (lines : List (List ℕ)) (answers : List ℕ) (last : State) → AreAnswers state lines answers last
-    → (replies : List ℕ) × AreReplies state lines replies × (replies_text last.journal ≡ replies_text state.journal ++ replies)
+    → (replies : List ℕ) × AreAnswersToEntered state lines replies × (desk_replies_text last.journal ≡ desk_replies_text state.journal ++ replies)
 replies_run grow state [] answers last run =
-    ([], refl, ap (λ (s : State). replies_text s.journal) run.1 ∙ sym (append-nil (replies_text state.journal)))
+    ([], refl, ap (λ (s : State). desk_replies_text s.journal) run.1 ∙ sym (append-nil (desk_replies_text state.journal)))
 replies_run grow state (line ∷ lines) answers last run =
     let more = replies_run grow (state_after state run.0) lines run.2 last run.4 in
     let reply = reply_of (next state.answered) state.journal run.0 in (
       reply ++ more.0,
       (run.0, run.1, more.0, refl, more.1),
       more.2 ∙ ap (λ (t : List ℕ). t ++ more.0) (reply_step grow (next state.answered) state.journal run.0)
-          ∙ append_assoc (replies_text state.journal) reply more.0,
+          ∙ append_assoc (desk_replies_text state.journal) reply more.0,
     )
 
 abbrev EntriesAreOf : Type 0
@@ -122,26 +122,26 @@ reads_from of read periods cs day valid few =
 below : (held : ℕ) → held < most_entries - 1 → held + 1 ≤ most_entries
 below held less = omega (arith, less)
 
-room_for : (held : ℕ) (command : Command) → is_full held command ≡ false → held + 1 ≤ most_entries
+room_for : (held : ℕ) (command : Command) → is_desk_full held command ≡ false → held + 1 ≤ most_entries
 room_for held (Submit who name order) room = below held (leb-false (most_entries - 1) held room)
 room_for held (Amend who name price volumes) room = below held (leb-false (most_entries - 1) held room)
 room_for held (Cancel who name) room = below held (leb-false (most_entries - 1) held room)
 room_for held Close room = let less : held < most_entries = leb-false most_entries held room in omega (arith, less)
 
-reads_command : EntriesAreOf → WrittenRead → (j : Journal) (command : Command) → Reads (Some j) → IsCommand command
-    → Reads (journal_after (Some j) (Commands command))
-reads_command of read j command reads valid = elim (cases_Bool (is_full (length j.commands) command)) [
-  | inl full ↦ subst (λ (o : Journal). Reads (Some o)) (sym (cond-true (is_full (length j.commands) command) j (with_one j command) full)) reads
+reads_command : EntriesAreOf → WrittenRead → (j : Journal) (command : Command) → ReadsBack (Some j) → IsCommand command
+    → ReadsBack (journal_after_line (Some j) (Commands command))
+reads_command of read j command reads valid = elim (cases_Bool (is_desk_full (length j.commands) command)) [
+  | inl full ↦ subst (λ (o : Journal). ReadsBack (Some o)) (sym (cond-true (is_desk_full (length j.commands) command) j (with_one j command) full)) reads
   | inr room ↦
       let few : length (j.commands ++ command ∷ []) ≤ most_entries =
       subst (λ (n : ℕ). n ≤ most_entries) (sym (length-append j.commands (command ∷ []))) (room_for (length j.commands) command room) in
-      subst (λ (o : Journal). Reads (Some o)) (sym (cond-false (is_full (length j.commands) command) j (with_one j command) room))
+      subst (λ (o : Journal). ReadsBack (Some o)) (sym (cond-false (is_desk_full (length j.commands) command) j (with_one j command) room))
       (reads_from of read j.periods (j.commands ++ command ∷ []) reads.records.day
       (all_snoc IsCommand j.commands command reads.records.valid valid) few)
 ]
 
-reads_step : EntriesAreOf → WrittenRead → (journal : Option Journal) (line : List ℕ) (said : Said) → Reads journal
-    → Says (day_of journal) line said → Reads (journal_after journal said)
+reads_step : EntriesAreOf → WrittenRead → (journal : Option Journal) (line : List ℕ) (said : Said) → ReadsBack journal
+    → Says (day_of journal) line said → ReadsBack (journal_after_line journal said)
 reads_step of read None line (Days periods) reads says =
     let none : 0 ≤ most_entries = omega arith in
     reads_from of read periods [] says.1.records.day tt none
@@ -151,8 +151,8 @@ reads_step of read (Some j) line (Days periods) reads says = reads
 reads_step of read (Some j) line (Commands command) reads says = reads_command of read j command reads says.1.1.records.valid.0
 reads_step of read (Some j) line (Fault fault) reads says = reads
 
-pub reads_run : EntriesAreOf → WrittenRead → (state : State) (lines : List (List ℕ)) (answers : List ℕ) (last : State) → Reads state.journal
-    → AreAnswers state lines answers last → Reads last.journal
-reads_run of read state [] answers last reads run = subst (λ (s : State). Reads s.journal) (sym run.1) reads
+pub reads_run : EntriesAreOf → WrittenRead → (state : State) (lines : List (List ℕ)) (answers : List ℕ) (last : State) → ReadsBack state.journal
+    → AreAnswers state lines answers last → ReadsBack last.journal
+reads_run of read state [] answers last reads run = subst (λ (s : State). ReadsBack s.journal) (sym run.1) reads
 reads_run of read state (line ∷ lines) answers last reads run =
     reads_run of read (state_after state run.0) lines run.2 last (reads_step of read state.journal line run.0 reads run.1) run.4

@@ -3,7 +3,7 @@ use Rattle.std.proofs.Common.{◌≡◌, ℕ, zero, suc, ◌-◌, ◌≤◌, min
 use Rattle.dam_desk.specs.Answers.{fault_line}
 use Rattle.dam_desk.specs.Desk.{end_answer}
 use Rattle.dam_desk.specs.Limits.{most_line}
-use Rattle.dam_desk.specs.Lines.{kept_bytes}
+use Rattle.dam_desk.specs.InputLines.{kept_bytes}
 use Rattle.dam_desk.specs.declared.fault.LineFault.TheVariants.{CutShort}
 use Rattle.std.proofs.lemmas.List.{drop_at, take_min, take_rest}
 

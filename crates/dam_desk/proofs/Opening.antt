@@ -3,14 +3,14 @@ use Rattle.std.proofs.Common.{◌≡◌, ◌⊎◌, inl, inr, ℕ, List, [], Opt
 use Rattle.std.proofs.lemmas.Bool.{both_ways}
 use Rattle.sqlite_disk.specs.Disk.{MoreFaults}
 use Rattle.sqlite_disk.specs.declared.Disk.{Ghosts}
-use Rattle.dam_store.specs.Faults.{is_failed_read, is_failed_sync, is_failed_write as store_failed_write, is_failure, is_refusal, IsRefused}
-use Rattle.dam_store.specs.Journal.{StandsFor, stands_for, text_of}
-use Rattle.dam_store.specs.Store.{IsUntouched, disk_of, held}
+use Rattle.dam_store.specs.Faults.{is_failed_read, is_failed_sync, is_failed_write as store_failed_write, is_failure, is_refused_file, IsRefused}
+use Rattle.dam_store.specs.FileLines.{StandsFor, stands_for, text_of}
+use Rattle.dam_store.specs.Store.{IsUntouched, disk_of, held_lines}
 use Rattle.dam_store.specs.declared.fault.StoreFault.{StoreFault}
 use Rattle.dam_store.specs.declared.fault.StoreFault.TheVariants as store
 use Rattle.dam_desk.specs.Desk.{IsOpened, IsUnopened}
-use Rattle.dam_desk.specs.Faults.{IsFileFault, IsOpenFault, IsTextFault, is_failed_call, is_failed_sync as desk_failed_sync, is_failed_write, is_read, is_write, of_store}
-use Rattle.dam_desk.specs.declared.day.Day.{Day}
+use Rattle.dam_desk.specs.Faults.{IsFileFault, IsOpenFault, IsWrittenJournalFault, is_failed_call, is_failed_sync as desk_failed_sync, is_failed_write, is_read, is_write, of_store}
+use Rattle.dam_desk.specs.declared.desk_day.Day.{Day}
 use Rattle.dam_desk.specs.declared.desk.Desk.{Desk}
 use Rattle.dam_desk.specs.declared.fault.DeskFault.{DeskFault}
 use Rattle.dam_desk.specs.declared.fault.DeskFault.TheVariants.{File, Store, NotAJournal, Respelled, Read, Write, Memory}
@@ -24,7 +24,7 @@ module _ {D : Type 0} {g : Ghosts D} (desk : Desk D g) (disk found : D) (text re
       → (IsTrue (g.is_clean (disk_of desk.store)) → IsTrue (g.is_clean found))
       → (IsTrue (g.is_clean found) → (lines : List (List ℕ)) × StandsFor lines (g.seen disk) × (text ≡ text_of lines))
       → g.seen found ≡ g.seen disk
-      → (IsTrue (g.is_clean (disk_of desk.store)) → StandsFor (held desk.store) (g.seen found))
+      → (IsTrue (g.is_clean (disk_of desk.store)) → StandsFor (held_lines desk.store) (g.seen found))
       → IsOpened desk disk replies
   opened is same_day same_line none clean read seen stands = record {
     journal = is.journal;
@@ -39,7 +39,7 @@ module _ {D : Type 0} {g : Ghosts D} (desk : Desk D g) (disk found : D) (text re
       reads = is.reads;
       file = λ honest.
           let lines = read (clean honest) in
-          let same = same_lines (held desk.store) lines.0 (g.seen disk) (subst (StandsFor (held desk.store)) seen (stands honest)) lines.1 in
+          let same = same_lines (held_lines desk.store) lines.0 (g.seen disk) (subst (StandsFor (held_lines desk.store)) seen (stands honest)) lines.1 in
           ap text_of same ∙ sym lines.2 ∙ is.same_text;
     };
     same_replies = is.same_replies;
@@ -64,7 +64,7 @@ store_cause file (store.Read error) is = kind file (store.Read error) (λ same. 
 store_cause file (store.Write error) is = kind file (store.Write error) (λ same. cc) is
 store_cause file (store.Sync error) is = kind file (store.Sync error) (λ same. cc) is
 
-pub text_cause : (file : List ℕ) (lines : List (List ℕ)) → StandsFor lines file → (why : DeskFault) → IsTextFault (text_of lines) why
+pub text_cause : (file : List ℕ) (lines : List (List ℕ)) → StandsFor lines file → (why : DeskFault) → IsWrittenJournalFault (text_of lines) why
     → IsFileFault file why
 text_cause file lines stands Memory is = tt
 text_cause file lines stands (Store fault) is = absurd is
@@ -138,7 +138,7 @@ sync_of (store.Write error) = refl
 sync_of (store.Sync error) = refl
 
 -- a text's fault is no failed sync
-pub text_no_sync : (text : List ℕ) (why : DeskFault) → IsTextFault text why → desk_failed_sync why ≡ false
+pub text_no_sync : (text : List ℕ) (why : DeskFault) → IsWrittenJournalFault text why → desk_failed_sync why ≡ false
 text_no_sync text Memory is = refl
 text_no_sync text (Store fault) is = absurd is
 text_no_sync text (File why) is = absurd is
@@ -161,7 +161,7 @@ store_no_stream (store.Write error) = (refl, refl)
 store_no_stream (store.Sync error) = (refl, refl)
 
 -- a text's fault is no failed call, neither of the disk nor of a stream
-text_no_call : (text : List ℕ) (why : DeskFault) → IsTextFault text why → (is_failed_call why ≡ false) × IsNoStream why
+text_no_call : (text : List ℕ) (why : DeskFault) → IsWrittenJournalFault text why → (is_failed_call why ≡ false) × IsNoStream why
 text_no_call text Memory is = (refl, (refl, refl))
 text_no_call text (Store fault) is = absurd is
 text_no_call text (File why) is = absurd is
@@ -170,8 +170,8 @@ text_no_call text Respelled is = (refl, (refl, refl))
 text_no_call text Read is = absurd is
 text_no_call text (Write written) is = absurd is
 
-early_kind : (file : List ℕ) (why : StoreFault) → (is_refusal why ≡ true → IsRefused file why)
-    → (is_failed_read why ≡ true) ⊎ ((is_failed_sync why ≡ true) ⊎ ((is_refusal why ≡ true) ⊎ (why ≡ store.Memory))) → IsKind file why
+early_kind : (file : List ℕ) (why : StoreFault) → (is_refused_file why ≡ true → IsRefused file why)
+    → (is_failed_read why ≡ true) ⊎ ((is_failed_sync why ≡ true) ⊎ ((is_refused_file why ≡ true) ⊎ (why ≡ store.Memory))) → IsKind file why
 early_kind file why refusal (inl failed) = inl (read_failure why failed)
 early_kind file why refusal (inr (inl failed)) = inl (write_failure why (sync_failure why failed))
 early_kind file why refusal (inr (inr (inl refused))) = inr (inl (refusal refused))
@@ -180,8 +180,8 @@ early_kind file why refusal (inr (inr (inr memory))) = inr (inr memory)
 -- no store was found
 pub unopened_early : {D : Type 0} (g : Ghosts D) (old new : D) (why : StoreFault) → IsUntouched g old new
     → (is_failure why ≡ true → MoreFaults (g.faults old) (g.faults new)) → (is_failure why ≡ false → g.faults new ≡ g.faults old)
-    → (is_refusal why ≡ true → IsTrue (g.is_clean new) → IsRefused (g.seen old) why)
-    → (is_failed_read why ≡ true) ⊎ ((is_failed_sync why ≡ true) ⊎ ((is_refusal why ≡ true) ⊎ (why ≡ store.Memory))) → IsUnopened g old new (of_store why)
+    → (is_refused_file why ≡ true → IsTrue (g.is_clean new) → IsRefused (g.seen old) why)
+    → (is_failed_read why ≡ true) ⊎ ((is_failed_sync why ≡ true) ⊎ ((is_refused_file why ≡ true) ⊎ (why ≡ store.Memory))) → IsUnopened g old new (of_store why)
 unopened_early g old new why untouched more same refusal kinds = record {
   cause = λ honest. store_cause (g.seen old) why (early_kind (g.seen old) why (λ refused. refusal refused honest) kinds);
   failed = λ failed. more (sym (call_of why) ∙ failed);
@@ -195,13 +195,13 @@ unopened_early g old new why untouched more same refusal kinds = record {
 module _ {D : Type 0} (g : Ghosts D) (old mid : D) (text : List ℕ) (untouched : IsUntouched g old mid) (same : g.faults mid ≡ g.faults old)
     (read : IsTrue (g.is_clean mid) → (lines : List (List ℕ)) × StandsFor lines (g.seen old) × (text ≡ text_of lines)) where
   -- the lines that were found aren't a written journal
-  pub unopened_text : (why : DeskFault) → IsTextFault text why → IsUnopened g old mid why
+  pub unopened_text : (why : DeskFault) → IsWrittenJournalFault text why → IsUnopened g old mid why
   unopened_text why fault =
       let no_call = text_no_call text why fault in
       record {
         cause = λ honest.
             let lines = read honest in
-            inr (text_cause (g.seen old) lines.0 lines.1 why (subst (λ (t : List ℕ). IsTextFault t why) lines.2 fault));
+            inr (text_cause (g.seen old) lines.0 lines.1 why (subst (λ (t : List ℕ). IsWrittenJournalFault t why) lines.2 fault));
         failed = λ failed. absurd (both_ways (is_failed_call why) no_call.0 failed);
         none_failed = λ none. same;
         no_stream = no_call.1;

@@ -6,7 +6,7 @@ use Rattle.dam_book.specs.declared.command.Command.{Command}
 use Rattle.dam_results.specs.Journal.{ReadsAs}
 use Rattle.dam_results.specs.Records.{day_row}
 use Rattle.dam_results.specs.declared.journal.JournalFault.{JournalFault}
-use Rattle.dam_desk.specs.Lines.{AreOfOne, IsSameFault, record_of, text_after}
+use Rattle.dam_desk.specs.InputLines.{AreOfOne, IsSameFault, record_of, text_after}
 use Rattle.dam_desk.specs.declared.fault.LineFault.{LineFault}
 
 -- the line with its line feed, after the record of the day

@@ -9,9 +9,9 @@ use Rattle.dam_results.specs.Limits.{most_records}
 use Rattle.dam_results.specs.Records.{Fields, day_row, row_of}
 use Rattle.dam_results.specs.Written.{command_line, row_line}
 use Rattle.dam_results.proofs.FieldBytes.{AreFields, HasFieldBytes, command_fields, day_fields, limits}
-use Rattle.dam_store.specs.Journal.{head_line, marked, text_of, written as file_of}
-use Rattle.dam_store.specs.Limits.{most_bytes}
-use Rattle.dam_desk.specs.Journal.{Journal, Reads, journal_text}
+use Rattle.dam_store.specs.FileLines.{bytes_on_disk, head_line, marked, text_of}
+use Rattle.dam_store.specs.Limits.{most_file_bytes}
+use Rattle.dam_desk.specs.DeskJournal.{Journal, ReadsBack, desk_journal_text}
 
 -- a line's greatest length by those of its fields
 abbrev line_limit : List ℕ → ℕ
@@ -44,7 +44,7 @@ short_lines (c ∷ cs) h =
 most_text : ℕ
 most_text = 11000000
 
-short_journal : (journal : Option Journal) → Reads journal → length (journal_text journal) ≤ most_text
+short_journal : (journal : Option Journal) → ReadsBack journal → length (desk_journal_text journal) ≤ most_text
 unfolding limits most_text
 short_journal None reads = omega arith
 short_journal (Some journal) reads =
@@ -94,7 +94,7 @@ one_in_each (c ∷ cs) h =
     let more = one_in_each cs h.1 in
     newlines_both (command_line c) (flat_map command_line cs) ∙ omega arith
 
-few_in_journal : (journal : Option Journal) → Reads journal → newlines (journal_text journal) ≤ most_records
+few_in_journal : (journal : Option Journal) → ReadsBack journal → newlines (desk_journal_text journal) ≤ most_records
 few_in_journal None reads = omega arith
 few_in_journal (Some journal) reads =
     let records = reads.records in
@@ -120,8 +120,8 @@ marked_length (line ∷ lines) =
     let more = marked_length lines in
     omega (arith, length-append line (10 ∷ marked lines), length-append line (10 ∷ text_of lines))
 
-pub has_room : (lines : List (List ℕ)) (journal : Option Journal) → Reads journal → text_of lines ≡ journal_text journal
-    → most_bytes ≤ length (file_of lines) → ⊥
+pub has_room : (lines : List (List ℕ)) (journal : Option Journal) → ReadsBack journal → text_of lines ≡ desk_journal_text journal
+    → most_file_bytes ≤ length (bytes_on_disk lines) → ⊥
 unfolding most_text
 has_room lines journal reads text full =
     let short = short_journal journal reads in

@@ -1,7 +1,7 @@
 -- The answers to lines, in order.
 use Rattle.std.proofs.Common.{List, ℕ, [], ◌∷◌, ◌++◌, refl, sym, ap, ◌∙◌, subst, append_assoc, append-nil}
-use Rattle.dam_desk.specs.Lines.{Says}
-use Rattle.dam_desk.specs.Journal.{State, AreAnswers, answer_to, day_of, next, state_after}
+use Rattle.dam_desk.specs.InputLines.{Says}
+use Rattle.dam_desk.specs.DeskJournal.{State, AreAnswers, answer_to, day_of, next, state_after}
 use Rattle.dam_desk.specs.declared.reading.Said.{Said}
 
 abbrev answer_at : State → Said → List ℕ

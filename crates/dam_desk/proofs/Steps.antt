@@ -9,11 +9,11 @@ use Rattle.dam_results.specs.Records.{day_row}
 use Rattle.dam_results.specs.Replies.{day_line, reply_line}
 use Rattle.dam_results.specs.Written.{command_line, row_line, written}
 use Rattle.dam_desk.specs.Answers.{fault_line}
-use Rattle.dam_desk.specs.Journal.{Journal, answer_to, day_of, journal_after, journal_text}
-use Rattle.dam_desk.specs.Room.{is_full}
-use Rattle.dam_desk.specs.inside.Day.{IsDayWith}
+use Rattle.dam_desk.specs.DeskJournal.{Journal, answer_to, day_of, desk_journal_text, journal_after_line}
+use Rattle.dam_desk.specs.Room.{is_desk_full}
+use Rattle.dam_desk.specs.inside.DeskDay.{IsDayWith}
 use Rattle.dam_desk.specs.inside.Intake.{Answered, HasJournal, IsAt, entered_text, periods_of, records_text}
-use Rattle.dam_desk.specs.declared.day.Day.{Day}
+use Rattle.dam_desk.specs.declared.desk_day.Day.{Day}
 use Rattle.dam_desk.specs.declared.fault.LineFault.{LineFault}
 use Rattle.dam_desk.specs.declared.fault.LineFault.TheVariants.{OtherDay}
 use Rattle.dam_desk.specs.declared.reading.Said.{Said}
@@ -45,7 +45,7 @@ pub fault_answer : (number : ℕ) (journal : Option Journal) (fault : LineFault)
 fault_answer number None fault = refl
 fault_answer number (Some j) fault = refl
 
-pub fault_after : (journal : Option Journal) (fault : LineFault) → journal_after journal (Fault fault) ≡ journal
+pub fault_after : (journal : Option Journal) (fault : LineFault) → journal_after_line journal (Fault fault) ≡ journal
 fault_after None fault = refl
 fault_after (Some j) fault = refl
 
@@ -60,7 +60,7 @@ entered_same old new day begins entries =
 -- a line that enters nothing, and its answer
 pub nothing_entered : (old new : Intake) (before : List ℕ) (journal : Option Journal) (said : Said) (answer : List ℕ)
     → IsAt old before journal → new.day ≡ old.day → new.begins ≡ old.begins → new.entries.items ≡ old.entries.items
-    → new.answers.items ≡ old.answers.items ++ answer → answer_to old.answered journal said ≡ answer → journal_after journal said ≡ journal
+    → new.answers.items ≡ old.answers.items ++ answer → answer_to old.answered journal said ≡ answer → journal_after_line journal said ≡ journal
     → Answered old new before journal said
 nothing_entered old new before journal said answer at day begins entries text is after = record {
   answer = text ∙ ap (λ (t : List ℕ). old.answers.items ++ t) (sym is);
@@ -85,8 +85,8 @@ other_day_answer number journal day periods of other =
     ∙ cond-false (periods == of.of.periods) _ _
     (false_from_ne_true _ (λ same. other (of.has.same_day ∙ sym (eqb-true periods of.of.periods same))))
 
-pub day_after : (journal : Option Journal) (day : Day) (periods : ℕ) → IsOf day journal → journal_after journal (Days periods) ≡ journal
-day_after journal day periods of = ap (λ (j : Option Journal). journal_after j (Days periods)) of.is ∙ sym of.is
+pub day_after : (journal : Option Journal) (day : Day) (periods : ℕ) → IsOf day journal → journal_after_line journal (Days periods) ≡ journal
+day_after journal day periods of = ap (λ (j : Option Journal). journal_after_line j (Days periods)) of.is ∙ sym of.is
 
 no_entries : (es : List Entry) → length es ≤ 0 → commands_of es ≡ []
 no_entries [] few = refl
@@ -101,12 +101,12 @@ day_begun old new before journal day at none few book entered now begins entries
     let is : journal ≡ None = none_journal journal (subst (λ (d : Option Day). HasJournal d journal) none at.day) in
     let empty : before ≡ [] = sym (append-nil before)
     ∙ ap (λ (d : Option Day). before ++ records_text d old.begins (commands_of old.entries.items)) (sym none) ∙ at.text
-    ∙ ap journal_text is in
+    ∙ ap desk_journal_text is in
     let records : entered_text new ≡ written day.periods [] =
     ap (λ (d : Option Day). records_text d new.begins (commands_of new.entries.items)) now
     ∙ ap (λ (b : Bool). records_text (Some day) b (commands_of new.entries.items)) begins
     ∙ ap (written day.periods) (ap commands_of entries ∙ no_entries old.entries.items few) in
-    let after : journal_after journal (Days day.periods) ≡ Some (record { periods = day.periods; commands = [] }) = ap (λ (j : Option Journal). journal_after j (Days day.periods)) is in
+    let after : journal_after_line journal (Days day.periods) ≡ Some (record { periods = day.periods; commands = [] }) = ap (λ (j : Option Journal). journal_after_line j (Days day.periods)) is in
     record {
       answer = text
           ∙ ap (λ (j : Option Journal). old.answers.items ++ answer_to old.answered j (Days day.periods)) (sym is);
@@ -131,7 +131,7 @@ records_more old new false commands more same = commands_more commands more
 
 -- a command that is entered, and the day before and after it
 pub record Enters (old new : Day) (command : Command) : Type 0 where
-  pub room : is_full old.entered command ≡ false
+  pub room : is_desk_full old.entered command ≡ false
   pub periods : new.periods ≡ old.periods
   pub book : (cs : List Command) → old.book ≡ run old.periods cs → new.book ≡ run old.periods (cs ++ command ∷ [])
   pub entered : new.entered ≡ old.entered + 1
@@ -145,18 +145,18 @@ command_entered old new before journal day later command at was now enters begin
     let of = some_journal day journal (subst (λ (d : Option Day). HasJournal d journal) was at.day) in
     let j = of.of in
     let more : Journal = record { periods = j.periods; commands = j.commands ++ command ∷ [] } in
-    let room : is_full (length j.commands) command ≡ false = ap (λ (n : ℕ). is_full n command) (sym of.has.entered) ∙ enters.room in
-    let after : journal_after journal (Commands command) ≡ Some more =
-    ap (λ (o : Option Journal). journal_after o (Commands command)) of.is
-    ∙ ap Some (cond-false (is_full (length j.commands) command) j more room) in
+    let room : is_desk_full (length j.commands) command ≡ false = ap (λ (n : ℕ). is_desk_full n command) (sym of.has.entered) ∙ enters.room in
+    let after : journal_after_line journal (Commands command) ≡ Some more =
+    ap (λ (o : Option Journal). journal_after_line o (Commands command)) of.is
+    ∙ ap Some (cond-false (is_desk_full (length j.commands) command) j more room) in
     let answer : answer_to old.answered journal (Commands command) ≡ reply_line (day.entered + 1) (reply_to day.book command) =
     ap (λ (o : Option Journal). answer_to old.answered o (Commands command)) of.is
-    ∙ cond-false (is_full (length j.commands) command) _ _ room
+    ∙ cond-false (is_desk_full (length j.commands) command) _ _ room
     ∙ ap (λ (n : ℕ). reply_line (n + 1) (reply_to (run j.periods j.commands) command)) (sym of.has.entered)
     ∙ ap (λ b. reply_line (day.entered + 1) (reply_to b command)) (sym of.has.book) in
     let old_text : before ++ records_text (Some day) old.begins (commands_of old.entries.items) ≡ written j.periods j.commands =
     ap (λ (d : Option Day). before ++ records_text d old.begins (commands_of old.entries.items)) (sym was) ∙ at.text
-    ∙ ap journal_text of.is in
+    ∙ ap desk_journal_text of.is in
     let records : entered_text new ≡ records_text (Some day) old.begins (commands_of old.entries.items) ++ flat_map command_line (command ∷ []) =
     ap (λ (d : Option Day). records_text d new.begins (commands_of new.entries.items)) now
     ∙ ap (λ (b : Bool). records_text (Some later) b (commands_of new.entries.items)) begins

@@ -8,10 +8,10 @@ use Rattle.std.specs.List.{AllByRecursion, flat_map, join_with_byte}
 use Rattle.dam_book.specs.declared.command.Command.{Command}
 use Rattle.dam_results.specs.Records.{day_row, row_of}
 use Rattle.dam_results.specs.Written.{command_line, written}
-use Rattle.dam_store.specs.Journal.{has_byte, text_of}
+use Rattle.dam_store.specs.FileLines.{has_byte, text_of}
 use Rattle.dam_desk.specs.inside.Intake.{records_text}
-use Rattle.dam_desk.specs.inside.Lines.{BeginsWith, is_ended}
-use Rattle.dam_desk.specs.declared.day.Day.{Day}
+use Rattle.dam_desk.specs.inside.TextLines.{BeginsWith, is_ended}
+use Rattle.dam_desk.specs.declared.desk_day.Day.{Day}
 
 pub none_has : (bytes : List ℕ) → ((k : ℕ) → k < length bytes → (slice_index bytes k == 10) ≡ true → ⊥) → has_byte 10 bytes ≡ false
 none_has [] none = refl

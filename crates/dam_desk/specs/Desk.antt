@@ -1,17 +1,17 @@
 -- A desk, as its contracts see it: what it prints, and what its file keeps through a crash.
-use Rattle.std.specs.Prelude.{◌≡◌, ◌⊎◌, ℕ, List, [], ◌∷◌, ◌++◌, take, true, false, Option, None, Some, IsTrue}
+use Rattle.std.specs.Prelude.{◌≡◌, ◌⊎◌, ℕ, List, [], ◌∷◌, ◌++◌, take, true, false, Option, None, Some, IfSome, IsTrue}
 use Rattle.std.specs.Io.KnownBytes.{Appends}
 use Rattle.sqlite_disk.specs.declared.Disk.{Ghosts}
 use Rattle.dam_book.specs.Book.{commands_of, entries_of, run, IsLegalHistory}
 use Rattle.dam_book.specs.declared.command.Command.{Command}
 use Rattle.dam_results.specs.Journal.{ReadsAs}
 use Rattle.dam_results.specs.Replies.{replies_to}
-use Rattle.dam_store.specs.Journal.{StandsFor, stands_for, text_of}
-use Rattle.dam_store.specs.Store.{disk_of, held, IsUntouched}
+use Rattle.dam_store.specs.FileLines.{StandsFor, stands_for, text_of}
+use Rattle.dam_store.specs.Store.{disk_of, held_lines, IsUntouched}
 use Rattle.dam_desk.specs.Answers.{fault_line}
 use Rattle.sqlite_disk.specs.Disk.{MoreFaults}
 use Rattle.dam_desk.specs.Faults.{SaysCount, is_failed_call, is_failed_write, is_read, is_write, IsOpenFault}
-use Rattle.dam_desk.specs.Journal.{Journal, State, AreAnswers, AreLines, AreReplies, FirstLines, OpensTo, Reads, journal_text, next, replies_text}
+use Rattle.dam_desk.specs.DeskJournal.{Journal, State, AreAnswers, AreLines, AreAnswersToEntered, FirstLines, OpensTo, ReadsBack, desk_journal_text, next, desk_replies_text}
 use Rattle.dam_desk.specs.declared.desk.Desk.{Desk}
 use Rattle.dam_desk.specs.declared.fault.DeskFault.{DeskFault}
 use Rattle.dam_desk.specs.declared.fault.LineFault.TheVariants.{CutShort}
@@ -28,8 +28,8 @@ MayLeave {D} {g} desk file = IsTrue (g.is_clean (disk_of desk.store)) × g.may_l
 -- the desk has this state and this beginning of a line, and the file has the state's journal, which reads as it
 pub record IsDesk {D : Type 0} {g : Ghosts D} (desk : Desk D g) (state : State) (begun : List ℕ) : Type 0 where
   pub intake : IsIn desk.intake state begun
-  pub reads : Reads state.journal
-  pub file : IsTrue (g.is_clean (disk_of desk.store)) → text_of (held desk.store) ≡ journal_text state.journal
+  pub reads : ReadsBack state.journal
+  pub file : IsTrue (g.is_clean (disk_of desk.store)) → text_of (held_lines desk.store) ≡ desk_journal_text state.journal
 
 -- nothing was answered yet, and this is the journal
 abbrev pub at_first : Option Journal → State
@@ -41,7 +41,7 @@ pub record IsOpened {D : Type 0} {g : Ghosts D} (desk : Desk D g) (disk : D) (re
   pub journal : Option Journal
   pub opens : IsTrue (g.is_clean (disk_of desk.store)) → OpensTo journal (g.seen disk)
   pub fresh : IsDesk desk (at_first journal) []
-  pub same_replies : replies ≡ replies_text journal
+  pub same_replies : replies ≡ desk_replies_text journal
 
 -- A desk wasn't opened on a disk, for this cause. If that is a failed call of the disk, one has failed, and else none. The file is as it
 -- was, unless it opens to a journal and a write or a sync failed. Then it still stands for what it stood for, whatever a crash leaves.
@@ -57,7 +57,7 @@ pub record IsUnopened {D : Type 0} (g : Ghosts D) (old new : D) (why : DeskFault
 
 -- Of the bytes that were given, all lines were answered, and their answers were written after the first text. The desk has the state
 -- after them, and whatever a crash leaves opens to its journal.
-pub record Takes {D : Type 0} {g : Ghosts D} (desk : Desk D g) (state : State) (given first : List ℕ)
+pub record DeskHasAnswered {D : Type 0} {g : Ghosts D} (desk : Desk D g) (state : State) (given first : List ℕ)
     (old new : Option (List ℕ)) : Type 0 where
   pub lines : List (List ℕ)
   pub begun : List ℕ
@@ -112,7 +112,7 @@ pub record Served (state : State) (given first : List ℕ) (why : DeskFault) (ol
   pub crash : (file : List ℕ) → outcomes file → OpensTo middle.journal file ⊎ OpensTo last.journal file
 
 -- All lines of the bytes that were given were answered, and whatever a crash leaves opens to the journal after them.
-pub record IsAnswered (state : State) (given first : List ℕ) (old new : Option (List ℕ)) (outcomes : List ℕ → Type 0) : Type 0 where
+pub record LinesAreAnswered (state : State) (given first : List ℕ) (old new : Option (List ℕ)) (outcomes : List ℕ → Type 0) : Type 0 where
   pub lines : List (List ℕ)
   pub begun : List ℕ
   pub split : AreLines given lines begun
@@ -136,23 +136,19 @@ pub record Finishes (state : State) (given first : List ℕ) (old new : Option (
 
 -- The entries of the journal are a legal history. Whoever reads its text gets its commands, and so `dam replay` prints its replies, and
 -- `dam clear` clears its book.
-pub record IsSettled (journal : Journal) : Type 0 where
+pub record IsLegalAndUnambiguous (journal : Journal) : Type 0 where
   pub legal : IsLegalHistory journal.periods (entries_of journal.periods journal.commands)
   pub entries : commands_of (entries_of journal.periods journal.commands) ≡ journal.commands
-  pub one_reading : (periods : ℕ) (commands : List Command) → ReadsAs (journal_text (Some journal)) periods commands
-      → (replies_to periods commands ≡ replies_text (Some journal))
+  pub one_reading : (periods : ℕ) (commands : List Command) → ReadsAs (desk_journal_text (Some journal)) periods commands
+      → (replies_to periods commands ≡ desk_replies_text (Some journal))
       × (run periods commands ≡ run journal.periods journal.commands)
-
--- the same, if there is a day
-abbrev pub AreSettled : Option Journal → Type 0
-AreSettled None = Unit {0}
-AreSettled (Some journal) = IsSettled journal
 
 -- A file that opened to this journal was served to the end of the input. The replies among the answers, after the replies at the opening,
 -- are those of the journal that is left.
-pub record IsServed (journal : Option Journal) (given : List ℕ) (old new : Option (List ℕ)) (outcomes : List ℕ → Type 0) : Type 0 where
-  pub finishes : Finishes (at_first journal) given (replies_text journal) old new outcomes
+pub record IsServedToTheEnd (journal : Option Journal) (given : List ℕ) (old new : Option (List ℕ)) (outcomes : List ℕ → Type 0)
+    : Type 0 where
+  pub finishes : Finishes (at_first journal) given (desk_replies_text journal) old new outcomes
   pub replies : List ℕ
-  pub among : AreReplies (at_first journal) finishes.lines replies
-  pub replayed : replies_text finishes.last.journal ≡ replies_text journal ++ replies
-  pub settled : AreSettled finishes.last.journal
+  pub among : AreAnswersToEntered (at_first journal) finishes.lines replies
+  pub replayed : desk_replies_text finishes.last.journal ≡ desk_replies_text journal ++ replies
+  pub unambiguous : IfSome finishes.last.journal IsLegalAndUnambiguous

@@ -9,7 +9,7 @@ use Rattle.dam_results.specs.Written.{written}
 use Rattle.dam_results.specs.declared.journal.JournalFault.{JournalFault}
 use Rattle.dam_results.specs.declared.journal.JournalFault.TheVariants as journal
 use Rattle.dam_store.specs.Faults.{is_failed_sync as store_failed_sync, is_failed_write as store_failed_write, is_failure, IsRefused}
-use Rattle.dam_store.specs.Journal.{StandsFor, text_of}
+use Rattle.dam_store.specs.FileLines.{StandsFor, text_of}
 use Rattle.dam_store.specs.declared.fault.FileFault.{FileFault}
 use Rattle.dam_store.specs.declared.fault.FileFault.TheVariants as files
 use Rattle.dam_store.specs.declared.fault.StoreFault.{StoreFault}
@@ -52,19 +52,19 @@ abbrev pub is_read : DeskFault → Bool
 is_read Read = true
 is_read fault = false
 
--- the text, which has some bytes, isn't a written journal, for this cause
-abbrev pub IsTextFault : List ℕ → DeskFault → Type 0
-IsTextFault text (NotAJournal fault) = IsJournalFault text fault
-IsTextFault text Respelled =
+-- the text, which has some bytes, isn't a written journal, for this cause; or memory ran out
+abbrev pub IsWrittenJournalFault : List ℕ → DeskFault → Type 0
+IsWrittenJournalFault text (NotAJournal fault) = IsJournalFault text fault
+IsWrittenJournalFault text Respelled =
     (periods : ℕ) × (commands : List Command) × ReadsAs text periods commands × (text ≢ written periods commands)
-IsTextFault text Memory = Unit {0}
-IsTextFault text fault = ⊥
+IsWrittenJournalFault text Memory = Unit {0}
+IsWrittenJournalFault text fault = ⊥
 
 -- why a file's journal isn't read: the file is refused, its lines aren't a written journal, or memory ran out
 abbrev pub IsFileFault : List ℕ → DeskFault → Type 0
 IsFileFault file Memory = Unit {0}
 IsFileFault file (Store fault) = IsRefused file fault
-IsFileFault file fault = (lines : List (List ℕ)) × StandsFor lines file × IsTextFault (text_of lines) fault
+IsFileFault file fault = (lines : List (List ℕ)) × StandsFor lines file × IsWrittenJournalFault (text_of lines) fault
 
 -- why a desk isn't opened on a file: a call of the disk failed, or the journal isn't read
 abbrev pub IsOpenFault : List ℕ → DeskFault → Type 0

@@ -1,9 +1,9 @@
 pub mod Limits
 pub mod Room
-pub mod Lines
+pub mod InputLines
 pub mod Answers
-pub mod Journal
+pub mod DeskJournal
 pub mod Faults
 pub mod Desk
-pub mod Run
+pub mod DeskRun
 pub mod inside

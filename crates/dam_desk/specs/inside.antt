@@ -1,4 +1,4 @@
 -- Only contracts inside this crate cite these, and the invariants of its types.
-pub mod Lines
-pub mod Day
+pub mod TextLines
+pub mod DeskDay
 pub mod Intake

@@ -1,14 +1,14 @@
 //! A desk: a journal in a store, and the book that it makes.
 ghost use Rattle.std.specs.Prelude.{◌≡◌, ◌⊎◌, ◌++◌, [], ℕ, Bool, List, length, take, true, false, not, IsTrue, IfOk, IfErr, OnOk, MatchResult};
 ghost use Rattle.std.specs.Io.KnownBytes.{Appends};
-ghost use Rattle.dam_store.specs.Store.{disk_of, held, is_broken};
-ghost use Rattle.dam_desk.specs.Desk.{IsDesk, KeepsLines, MayLeave, OpensAfter, Served, Takes, end_answer};
-ghost use Rattle.dam_desk.specs.Journal.{State, OpensTo, next};
-ghost use Rattle.dam_desk.specs.Lines.{kept_bytes};
+ghost use Rattle.dam_store.specs.Store.{disk_of, held_lines, is_broken};
+ghost use Rattle.dam_desk.specs.Desk.{DeskHasAnswered, IsDesk, KeepsLines, MayLeave, OpensAfter, Served, end_answer};
+ghost use Rattle.dam_desk.specs.DeskJournal.{State, OpensTo, next};
+ghost use Rattle.dam_desk.specs.InputLines.{kept_bytes};
 ghost use Rattle.dam_desk.specs.Faults.{IsEndFault, SaysCount, is_failed_sync, is_read, is_write};
 
-use crate::answer::write_fault;
 use crate::fault::{DeskFault, LineFault};
+use crate::fault_line::write_fault;
 use crate::laws::journals_grow;
 use crate::output::write_text;
 use crate::state::Intake;
@@ -24,11 +24,11 @@ pub(crate) struct Desk<D: Disk> {
 }
 
 impl<D: Disk> Desk<D> {
-    /// Takes the next bytes of the input, and answers the lines that end in them, once their records are safe. Returns how
+    /// Enters the records of the lines that end in the bytes, and answers these lines once the records are safe. Returns how
     /// many bytes the answers have.
     ///
     /// Nothing is retried. After a fault the desk is at its end.
-    pub(crate) fn take<W: Write>(
+    pub(crate) fn serve_batch<W: Write>(
         &mut self,
         bytes: &[u8],
         writer: &mut W,
@@ -38,7 +38,8 @@ impl<D: Disk> Desk<D> {
             ≡ D.Disk.faults (disk_of self.old.store)) }
         ensures no_read { IfErr result (λ fault. is_read fault ≡ false) }
         ensures grown { OnOk result (IsTrue (D.Disk.is_clean (disk_of self.new.store))
-            → (batch : List (List ℕ)) × held self.new.store ≡ held self.old.store ++ batch) }
+            → (batch : List (List ℕ))
+            × held_lines self.new.store ≡ held_lines self.old.store ++ batch) }
         // Unless the writer failed, it wasn't called. If it did, all that the lines enter is safe.
         ensures unanswered { IfErr result (λ fault. is_write fault ≡ false
             → writer.new ≡ writer.old) }
@@ -47,7 +48,7 @@ impl<D: Disk> Desk<D> {
         // A crash at any moment leaves what was held, and maybe what the lines enter.
         ensures crash { is_broken self.old.store ≡ false
             → IsTrue (D.Disk.is_clean (disk_of self.new.store))
-            → KeepsLines (D.Disk.may_leave (disk_of self.new.store)) (held self.old.store) }
+            → KeepsLines (D.Disk.may_leave (disk_of self.new.store)) (held_lines self.old.store) }
         // All lines that end in the bytes are one batch: a crash leaves the journal before them, or
         // after all.
         ensures one_batch { (state : State) (begun : List ℕ) → IsDesk self.old state begun
@@ -63,9 +64,10 @@ impl<D: Disk> Desk<D> {
             (λ fault. D.Disk.is_usable (disk_of self.new.store) ≡ not (is_failed_sync fault)) }
         ensures clean { D.Disk.is_clean (disk_of self.new.store)
             ≡ D.Disk.is_clean (disk_of self.old.store) }
-        ensures taken { (state : State) (begun : List ℕ) → IsDesk self.old state begun
-            → IfOk result (λ printed. (takes : Takes self.new state (begun ++ bytes.now) []
-            (W.contents writer.old) (W.contents writer.new)) × (printed ≡ length takes.answers)) }
+        ensures served { (state : State) (begun : List ℕ) → IsDesk self.old state begun
+            → IfOk result (λ printed.
+            (done : DeskHasAnswered self.new state (begun ++ bytes.now) []
+            (W.contents writer.old) (W.contents writer.new)) × (printed ≡ length done.answers)) }
         ensures faulty { (state : State) (begun : List ℕ) → IsDesk self.old state begun
             → is_broken self.old.store ≡ false
             → IfErr result (λ fault. Served state (begun ++ bytes.now) [] fault
@@ -73,7 +75,7 @@ impl<D: Disk> Desk<D> {
     {
         journals_grow();
         let _safe = self.store.is_broken(); // for the proof: what an open store has is safe
-        self.intake.take(bytes)?;
+        self.intake.enter_batch(bytes)?;
         let batch = self.intake.batch()?;
         self.store.append(&batch)?;
         let answers = self.intake.answers.as_slice();
@@ -110,7 +112,7 @@ impl<D: Disk> Desk<D> {
     pub(crate) fn is_safe(&self) -> bool
         ensures keeps { is_broken self.now.store ≡ false
             → IsTrue (D.Disk.is_clean (disk_of self.now.store))
-            → KeepsLines (D.Disk.may_leave (disk_of self.now.store)) (held self.now.store) }
+            → KeepsLines (D.Disk.may_leave (disk_of self.now.store)) (held_lines self.now.store) }
         ensures usable { is_broken self.now.store ≡ false
             → IsTrue (D.Disk.is_usable (disk_of self.now.store)) }
         ensures opens { (state : State) (begun : List ℕ) → IsDesk self.now state begun

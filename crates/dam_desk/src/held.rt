@@ -1,12 +1,12 @@
 //! The journal in a file that no desk is asked for.
 ghost use Rattle.std.specs.Prelude.{◌≡◌, Option, IfOk, IfErr};
 ghost use Rattle.dam_desk.specs.Faults.{IsFileFault};
-ghost use Rattle.dam_desk.specs.Journal.{Journal, OpensTo, journal_text};
+ghost use Rattle.dam_desk.specs.DeskJournal.{Journal, OpensTo, desk_journal_text};
 
 use crate::fault::DeskFault;
 use crate::open::reopen;
 use dam_book::Seed;
-use dam_store::{FileFault, MOST_BYTES, StoreFault, read_text};
+use dam_store::{FileFault, MOST_FILE_BYTES, StoreFault, read_text};
 use std::alloc::Global;
 use std::fs;
 
@@ -16,7 +16,7 @@ pub(crate) fn file_bytes(rt: &HostRuntime, path: &str) -> Result<Vec<u8>, DeskFa
     if !metadata.is_file() {
         return Err(DeskFault::File(FileFault::NotAFile));
     }
-    if metadata.len() > MOST_BYTES as u64 {
+    if metadata.len() > MOST_FILE_BYTES as u64 {
         return Err(DeskFault::Store(StoreFault::TooLong));
     }
     Ok(fs::read(rt, path).map_err(FileFault::from)?)
@@ -25,7 +25,7 @@ pub(crate) fn file_bytes(rt: &HostRuntime, path: &str) -> Result<Vec<u8>, DeskFa
 /// The text of the journal to which a file's bytes open. A file on which no desk is opened has the same fault here.
 pub(crate) fn held_text(alloc: Global, seed: Seed, file: &[u8]) -> Result<Vec<u8>, DeskFault>
     ensures text { IfOk result (λ text. (journal : Option Journal)
-        × OpensTo journal file.now × (text.items ≡ journal_text journal)) }
+        × OpensTo journal file.now × (text.items ≡ desk_journal_text journal)) }
     ensures fault { IfErr result (IsFileFault file.now) }
 {
     let text = read_text(alloc, file)?;

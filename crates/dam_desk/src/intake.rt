@@ -2,28 +2,28 @@
 ghost use Rattle.std.specs.Prelude.{◌≡◌, ◌++◌, ◌∷◌, [], List, ℕ, Option, None, Some, true, false, IfOk, OnOk};
 ghost use Rattle.dam_book.specs.Book.{commands_of};
 ghost use Rattle.dam_results.specs.Written.{written};
-ghost use Rattle.dam_store.specs.Journal.{has_byte, text_of};
+ghost use Rattle.dam_store.specs.FileLines.{has_byte, text_of};
 ghost use Rattle.dam_desk.specs.Answers.{fault_line};
-ghost use Rattle.dam_desk.specs.Journal.{Journal, State, next};
-ghost use Rattle.dam_desk.specs.Lines.{Says, kept_bytes};
+ghost use Rattle.dam_desk.specs.DeskJournal.{Journal, State, next};
+ghost use Rattle.dam_desk.specs.InputLines.{Says, kept_bytes};
 ghost use Rattle.dam_desk.specs.declared.reading.Said.TheVariants.{Day as Days, Command as Commands, Fault};
 ghost use Rattle.dam_desk.specs.inside.Intake.{Answered, HasRead, IsAt, IsIn, TakesLine, entered_text, periods_of, records_text};
-ghost use Rattle.dam_desk.specs.inside.Lines.{is_ended};
+ghost use Rattle.dam_desk.specs.inside.TextLines.{is_ended};
 
-use crate::answer::write_fault;
-use crate::day::Day;
+use crate::desk_day::Day;
 use crate::fault::LineFault;
-use crate::lines::first_line;
+use crate::fault_line::write_fault;
 use crate::reading::{Said, read_line};
 use crate::state::Intake;
+use crate::text_lines::first_line;
 use dam_book::laws::runs_grow;
 use dam_book::{Command, DayLength};
 use dam_store::Batch;
 use std::alloc::AllocError;
 
 impl Intake {
-    /// Enters the records of the lines that end in the bytes, and makes the answers to these lines.
-    pub(crate) fn take(&mut self, bytes: &[u8]) -> Result<(), AllocError>
+    /// Begins a batch: enters the records of the lines that end in the bytes, and makes the answers to these lines.
+    pub(crate) fn enter_batch(&mut self, bytes: &[u8]) -> Result<(), AllocError>
         ensures { (state : State) (begun : List ℕ) → IsIn self.old state begun
             → OnOk result (HasRead self.new state (begun ++ bytes.now) []) }
     {

@@ -1,8 +1,8 @@
 //! Laws of a desk's journal, the contract of a function that does nothing but cite the laws that they rest on.
-ghost use Rattle.std.specs.Prelude.{◌≡◌, ◌⊎◌, ◌++◌, ℕ, List, Option};
-ghost use Rattle.dam_desk.specs.Desk.{AreSettled};
-ghost use Rattle.dam_desk.specs.Journal.{Journal, State, AreAnswers, AreReplies, Reads, answer_to, journal_after, replies_text};
-ghost use Rattle.dam_desk.specs.Lines.{Says};
+ghost use Rattle.std.specs.Prelude.{◌≡◌, ◌⊎◌, ◌++◌, ℕ, List, Option, IfSome};
+ghost use Rattle.dam_desk.specs.Desk.{IsLegalAndUnambiguous};
+ghost use Rattle.dam_desk.specs.DeskJournal.{Journal, State, AreAnswers, AreAnswersToEntered, ReadsBack, answer_to, journal_after_line, desk_replies_text};
+ghost use Rattle.dam_desk.specs.InputLines.{Says};
 ghost use Rattle.dam_desk.specs.declared.reading.Said.{Said};
 
 use dam_book::laws::{histories_are_runs, runs_grow};
@@ -13,11 +13,11 @@ use dam_results::spelling_laws::written_journals_read;
 /// to the text that `dam replay` prints; any other leaves the journal.
 pub(crate) fn journals_grow()
     ensures reads { (state last : State) (lines : List (List ℕ)) (answers : List ℕ)
-        → Reads state.journal → AreAnswers state lines answers last → Reads last.journal }
+        → ReadsBack state.journal → AreAnswers state lines answers last → ReadsBack last.journal }
     ensures replies { (number : ℕ) (journal : Option Journal) (said : Said)
-        → (journal_after journal said ≡ journal)
-        ⊎ (replies_text (journal_after journal said)
-        ≡ replies_text journal ++ answer_to number journal said) }
+        → (journal_after_line journal said ≡ journal)
+        ⊎ (desk_replies_text (journal_after_line journal said)
+        ≡ desk_replies_text journal ++ answer_to number journal said) }
 {
     histories_are_runs();
     runs_grow();
@@ -39,15 +39,16 @@ pub(crate) fn lines_say_one()
 pub(crate) fn replies_are_answers()
     ensures { (state last : State) (lines : List (List ℕ)) (answers : List ℕ)
         → AreAnswers state lines answers last
-        → (replies : List ℕ) × AreReplies state lines replies
-        × (replies_text last.journal ≡ replies_text state.journal ++ replies) }
+        → (replies : List ℕ) × AreAnswersToEntered state lines replies
+        × (desk_replies_text last.journal ≡ desk_replies_text state.journal ++ replies) }
 {
     runs_grow();
 }
 
 /// The entries of a journal are a legal history, and its text has no other commands.
-pub(crate) fn journals_settle()
-    ensures { (journal : Option Journal) → Reads journal → AreSettled journal }
+pub(crate) fn journals_are_unambiguous()
+    ensures { (journal : Option Journal) → ReadsBack journal
+        → IfSome journal IsLegalAndUnambiguous }
 {
     histories_are_runs();
     text_is_one_journal();

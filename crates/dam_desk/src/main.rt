@@ -5,16 +5,16 @@ ghost use Rattle.std.specs.Prelude.{◌≡◌};
 ghost use Rattle.std.specs.Process.{exit_status};
 ghost use Rattle.dam_desk.specs.Faults.{fault_status};
 
-mod answer;
-mod day;
+mod command_line;
 mod desk;
+mod desk_day;
 mod fault;
+mod fault_line;
 mod held;
+mod input_line;
 mod intake;
 mod laws;
 mod limits;
-mod line;
-mod lines;
 mod open;
 mod output;
 mod reading;
@@ -22,8 +22,9 @@ mod reopened;
 mod run;
 mod serve;
 mod state;
-mod words;
+mod text_lines;
 
+use command_line::{Job, USAGE, job_of, words};
 use dam_book::Seed;
 use fault::{DeskFault, status};
 use held::{file_bytes, held_text};
@@ -31,7 +32,6 @@ use output::write_text;
 use run::serve_file;
 use sqlite_std_file::Wary;
 use std::process::ExitCode;
-use words::{Job, USAGE, job_of, words};
 
 /// The status of a command line that is refused.
 const REFUSED_LINE: u8 = 2;

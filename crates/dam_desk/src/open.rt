@@ -3,14 +3,14 @@ ghost use Rattle.std.specs.Prelude.{◌≡◌, ◌≤◌, false, not, IsTrue, If
 ghost use Rattle.dam_book.specs.Limits.{most_entries};
 ghost use Rattle.dam_store.specs.Store.{disk_of, is_broken};
 ghost use Rattle.dam_desk.specs.Desk.{IsOpened, IsUnopened};
-ghost use Rattle.dam_desk.specs.Faults.{IsTextFault, is_failed_sync};
-ghost use Rattle.dam_desk.specs.inside.Day.{entered_of};
+ghost use Rattle.dam_desk.specs.Faults.{IsWrittenJournalFault, is_failed_sync};
+ghost use Rattle.dam_desk.specs.inside.DeskDay.{entered_of};
 ghost use Rattle.dam_desk.specs.inside.Intake.{IsReopened};
 
-use crate::day::Day;
 use crate::desk::Desk;
+use crate::desk_day::Day;
 use crate::fault::DeskFault;
-use crate::line::Line;
+use crate::input_line::Line;
 use crate::reopened::Reopened;
 use crate::state::Intake;
 use dam_book::Seed;
@@ -85,7 +85,7 @@ pub(crate) fn reopen(
     ensures few { IfOk result (λ reopened. entered_of reopened.0 ≤ most_entries) }
     ensures journal { IfOk result
         (λ reopened. IsReopened text.now reopened.0 reopened.1.items) }
-    ensures fault { IfErr result (IsTextFault text.now) }
+    ensures fault { IfErr result (IsWrittenJournalFault text.now) }
 {
     if text.is_empty() {
         return Ok((None, Vec::new(alloc)));

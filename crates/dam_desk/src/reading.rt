@@ -3,7 +3,7 @@ ghost use Rattle.std.specs.Prelude.{◌≡◌, ◌≤◌, ◌++◌, ◌∷◌, [
 ghost use Rattle.dam_book.specs.Book.{is_day};
 ghost use Rattle.dam_results.specs.Journal.{ReadsAs};
 ghost use Rattle.dam_desk.specs.Limits.{most_line};
-ghost use Rattle.dam_desk.specs.Lines.{IsSameFault, Says, record_of, text_after, kept_bytes};
+ghost use Rattle.dam_desk.specs.InputLines.{IsSameFault, Says, record_of, text_after, kept_bytes};
 
 use crate::fault::LineFault;
 use crate::limits::MOST_LINE;

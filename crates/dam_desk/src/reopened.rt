@@ -2,7 +2,7 @@
 ghost use Rattle.std.specs.Prelude.{◌≡◌, ℕ, List};
 ghost use Rattle.dam_book.specs.declared.command.Command.{Command};
 
-use crate::day::Day;
+use crate::desk_day::Day;
 use dam_book::laws::runs_grow;
 use dam_book::{Command, DayLength, Seed};
 use dam_results::{FromJournal, JournalWriter};
@@ -21,7 +21,7 @@ impl FromJournal for Reopened {
     ghost use Rattle.dam_results.specs.Replies.{AreReplies};
     ghost use Rattle.dam_results.specs.Writer.{HasWritten};
     ghost use Rattle.dam_results.specs.Written.{written};
-    ghost use Rattle.dam_desk.specs.inside.Day.{IsDayWith};
+    ghost use Rattle.dam_desk.specs.inside.DeskDay.{IsDayWith};
 
     type Seed = Seed;
 

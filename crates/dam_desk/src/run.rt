@@ -2,10 +2,10 @@
 ghost use Rattle.std.specs.Prelude.{◌≡◌, ◌⊎◌, true, not, IsTrue, IfOk, IfErr, OnOk, OnErr};
 ghost use Rattle.dam_desk.specs.Desk.{IsUnopened};
 ghost use Rattle.dam_desk.specs.Faults.{IsEndFault, is_failed_sync, is_read};
-ghost use Rattle.dam_desk.specs.Run.{EndsAnswered, EndsSafe, EndsServed, EndsUnopened};
+ghost use Rattle.dam_desk.specs.DeskRun.{EndsAnswered, EndsSafe, EndsServed, EndsUnopened};
 
 use crate::fault::DeskFault;
-use crate::laws::{journals_grow, journals_settle, replies_are_answers};
+use crate::laws::{journals_are_unambiguous, journals_grow, replies_are_answers};
 use crate::open::open;
 use crate::serve::serve;
 use dam_book::Seed;
@@ -54,7 +54,7 @@ pub(crate) fn run<D: Disk + Drop, R: Read, W: Write>(
 {
     journals_grow();
     replies_are_answers();
-    journals_settle();
+    journals_are_unambiguous();
     match open(alloc, seed, disk) {
         Ok((mut desk, replies)) => {
             let done = serve(&mut desk, replies.as_slice(), reader, writer);

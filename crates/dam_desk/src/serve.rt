@@ -1,9 +1,9 @@
 ghost use Rattle.std.specs.Prelude.{◌≡◌, ◌++◌, ℕ, List, true, false, not, IsTrue, IfSome, IfErr, OnOk};
 ghost use Rattle.std.specs.Io.KnownBytes.{Consumes};
-ghost use Rattle.dam_store.specs.Store.{disk_of, held, is_broken};
-ghost use Rattle.dam_desk.specs.Desk.{Finishes, IsDesk, KeepsLines, MayLeave, Served, Takes};
+ghost use Rattle.dam_store.specs.Store.{disk_of, held_lines, is_broken};
+ghost use Rattle.dam_desk.specs.Desk.{DeskHasAnswered, Finishes, IsDesk, KeepsLines, MayLeave, Served};
 ghost use Rattle.dam_desk.specs.Faults.{IsEndFault, is_failed_sync, is_read};
-ghost use Rattle.dam_desk.specs.Journal.{State};
+ghost use Rattle.dam_desk.specs.DeskJournal.{State};
 
 use crate::desk::Desk;
 use crate::fault::DeskFault;
@@ -29,7 +29,7 @@ pub(crate) fn serve<D: Disk, R: Read, W: Write>(
         ≡ D.Disk.is_clean (disk_of desk.old.store) }
     // A crash at any moment leaves what the desk held, and maybe what was entered since.
     ensures crash { IsTrue (D.Disk.is_clean (disk_of desk.new.store))
-        → KeepsLines (D.Disk.may_leave (disk_of desk.new.store)) (held desk.old.store) }
+        → KeepsLines (D.Disk.may_leave (disk_of desk.new.store)) (held_lines desk.old.store) }
     // At the end of the input, each line has its answer.
     ensures done { (state : State) (begun : List ℕ) → IsDesk desk.old state begun
         → OnOk result ((given : List ℕ) × IfSome (R.remaining reader.old) (λ bytes. bytes ≡ given)
@@ -39,7 +39,7 @@ pub(crate) fn serve<D: Disk, R: Read, W: Write>(
     ensures answered { (state : State) (begun : List ℕ) → IsDesk desk.old state begun
         → IfErr result (λ fault. is_read fault ≡ true
         → (given : List ℕ) × Consumes (R.remaining reader.old) (R.remaining reader.new) given
-        × Takes desk.new state (begun ++ given) replies.now
+        × DeskHasAnswered desk.new state (begun ++ given) replies.now
         (W.contents writer.old) (W.contents writer.new)) }
     ensures cause { (state : State) (begun : List ℕ) → IsDesk desk.old state begun
         → IfErr result (IsEndFault (D.Disk.is_clean (disk_of desk.new.store))
@@ -69,7 +69,7 @@ pub(crate) fn serve<D: Disk, R: Read, W: Write>(
                 Err(fault) => Err(fault.after(printed)),
             };
         }
-        match desk.take(&chunk[..count], writer) {
+        match desk.serve_batch(&chunk[..count], writer) {
             Ok(count) => printed = printed.saturating_add(count),
             Err(fault) => return Err(fault.after(printed)),
         }

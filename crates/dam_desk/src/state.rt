@@ -1,10 +1,10 @@
 //! The state of a desk between two lines.
 ghost use Rattle.std.specs.Prelude.{◌≡◌, ◌≤◌, [], length};
 ghost use Rattle.dam_book.specs.Limits.{most_entries};
-ghost use Rattle.dam_desk.specs.inside.Day.{entered_of};
+ghost use Rattle.dam_desk.specs.inside.DeskDay.{entered_of};
 
-use crate::day::Day;
-use crate::line::Line;
+use crate::desk_day::Day;
+use crate::input_line::Line;
 use dam_book::{PackedEntry, Seed};
 use std::alloc::Global;
 

@@ -1,7 +1,7 @@
 -- No history loses a line that is sure.
 use Rattle.std.proofs.Common.{◌≡◌, inl, inr, List, ℕ, [], ◌∷◌, ◌++◌, refl, sym, ap, ◌∙◌, append_assoc}
 use Rattle.std.proofs.lemmas.List.{append-nil}
-use Rattle.dam_store.specs.History.{Known, Event, Opened, Unopened, Appended, Unfinished, IsStoreHistory, IsPossible, AreGiven}
+use Rattle.dam_store.specs.StoreHistory.{Known, Event, Opened, Unopened, Appended, Unfinished, IsStoreHistory, IsPossible, AreGiven}
 
 -- the lines that are sure in the end: those that were possible at first, and then lines that were given
 pub record IsKept (known : Known) (events : List Event) (lines : List (List ℕ)) : Type 0 where

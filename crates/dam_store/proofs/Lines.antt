@@ -2,8 +2,8 @@
 use Rattle.std.proofs.Common.{◌≡◌, inl, inr, ℕ, zero, suc, ◌+◌, ◌-◌, ◌<◌, ◌==◌, true, false, List, [], ◌∷◌, ◌++◌, Option, Some, None, length, take, drop, set, slice_index, refl, sym, ap, ◌∙◌, subst, arith, append_assoc, length-append, append-nil}
 use Rattle.std.proofs.lemmas.Bool.{or_parts, or_from, cases_Bool, cond-true, cond-false, eqb-true, false_from_ne_true}
 use Rattle.std.proofs.lemmas.List.{drop_at, take_at, set_at}
-use Rattle.dam_store.specs.Journal.{text_of, marked, lines_from, marked_lines}
-use Rattle.dam_store.specs.inside.Shape.{has_newline, AreWhole, BeginsWithLine, IsShut, AreRead, EndsAt, IsBatch}
+use Rattle.dam_store.specs.FileLines.{HaveNoNewline, text_of, marked, lines_from, marked_lines}
+use Rattle.dam_store.specs.inside.Shape.{has_newline, BeginsWithLine, IsShut, AreRead, EndsAt, IsBatch}
 
 -- the rest of a marked line
 rest_of_line : (line rest before : List ℕ) → has_newline line ≡ false
@@ -22,7 +22,7 @@ pub marked_split : (line : List ℕ) (lines : List (List ℕ)) (rest : List ℕ)
 marked_split line lines rest = ap (λ (l : List ℕ). 43 ∷ l) (append_assoc line (10 ∷ marked lines) rest)
 
 -- whole marked lines, and then whatever the rest stands for
-pub lines_marked : (lines : List (List ℕ)) (rest : List ℕ) → AreWhole lines
+pub lines_marked : (lines : List (List ℕ)) (rest : List ℕ) → HaveNoNewline lines
     → marked_lines (marked lines ++ rest) ≡ lines ++ marked_lines rest
 lines_marked [] rest whole = refl
 lines_marked (line ∷ lines) rest whole =
@@ -35,7 +35,7 @@ marked-append (line ∷ lines) more rest =
     marked_split line (lines ++ more) rest ∙ ap (λ (l : List ℕ). 43 ∷ line ++ 10 ∷ l) (marked-append lines more rest)
     ∙ sym (marked_split line lines (marked more ++ rest))
 
-pub whole-append : (lines more : List (List ℕ)) → AreWhole lines → AreWhole more → AreWhole (lines ++ more)
+pub whole-append : (lines more : List (List ℕ)) → HaveNoNewline lines → HaveNoNewline more → HaveNoNewline (lines ++ more)
 whole-append [] more whole also = also
 whole-append (line ∷ lines) more whole also = (whole.0, whole-append lines more whole.1 also)
 
@@ -60,7 +60,7 @@ pub shut_lines : (bytes : List ℕ) → IsShut bytes → marked_lines bytes ≡ 
 shut_lines bytes (inl not_mark) = no_mark bytes not_mark
 shut_lines bytes (inr none) = none_within bytes None none
 
-pub lines_then_shut : (lines : List (List ℕ)) (rest : List ℕ) → AreWhole lines → IsShut rest → marked_lines (marked lines ++ rest) ≡ lines
+pub lines_then_shut : (lines : List (List ℕ)) (rest : List ℕ) → HaveNoNewline lines → IsShut rest → marked_lines (marked lines ++ rest) ≡ lines
 lines_then_shut lines rest whole shut = lines_marked lines rest whole ∙ ap (λ (ls : List (List ℕ)). lines ++ ls) (shut_lines rest shut)
     ∙ append-nil lines
 
@@ -154,25 +154,25 @@ all_read bytes rest text end read shut =
     )
 
 -- the bytes of a batch with one line more
-batch_grown : (bytes line : List ℕ) (gate : ℕ) → IsBatch bytes → gate + 1 ≡ length bytes
-    → set (bytes ++ (line ++ 10 ∷ 45 ∷ [])) gate 43 ≡ marked (marked_lines bytes ++ line ∷ []) ++ 45 ∷ []
-batch_grown bytes line gate batch gate_is =
+batch_grown : (bytes line : List ℕ) (mark : ℕ) → IsBatch bytes → mark + 1 ≡ length bytes
+    → set (bytes ++ (line ++ 10 ∷ 45 ∷ [])) mark 43 ≡ marked (marked_lines bytes ++ line ∷ []) ++ 45 ∷ []
+batch_grown bytes line mark batch mark_is =
     let lines = marked_lines bytes in
     let more = line ++ 10 ∷ 45 ∷ [] in
-    ap (λ (l : List ℕ). set (l ++ more) gate 43) batch.split
-    ∙ ap (λ (l : List ℕ). set l gate 43) (append_assoc (marked lines) (45 ∷ []) more)
-    ∙ set_at (marked lines) 45 more 43 gate (omega (arith, ap length batch.split, length-append (marked lines) (45 ∷ [])))
+    ap (λ (l : List ℕ). set (l ++ more) mark 43) batch.split
+    ∙ ap (λ (l : List ℕ). set l mark 43) (append_assoc (marked lines) (45 ∷ []) more)
+    ∙ set_at (marked lines) 45 more 43 mark (omega (arith, ap length batch.split, length-append (marked lines) (45 ∷ [])))
     ∙ ap (λ (l : List ℕ). marked lines ++ l) (sym (marked_split line [] (45 ∷ []))) ∙ sym (marked-append lines (line ∷ []) (45 ∷ []))
 
 -- a batch with one line more
-pub batch_more : (bytes line grown : List ℕ) (gate : ℕ) → IsBatch bytes → has_newline line ≡ false → gate + 1 ≡ length bytes
-    → grown ≡ set (bytes ++ (line ++ 10 ∷ 45 ∷ [])) gate 43 → IsBatch grown × (marked_lines grown ≡ marked_lines bytes ++ line ∷ [])
-batch_more bytes line grown gate batch whole gate_is grown_is =
+pub batch_more : (bytes line grown : List ℕ) (mark : ℕ) → IsBatch bytes → has_newline line ≡ false → mark + 1 ≡ length bytes
+    → grown ≡ set (bytes ++ (line ++ 10 ∷ 45 ∷ [])) mark 43 → IsBatch grown × (marked_lines grown ≡ marked_lines bytes ++ line ∷ [])
+batch_more bytes line grown mark batch whole mark_is grown_is =
     let lines = marked_lines bytes ++ line ∷ [] in
     let all_whole = whole-append (marked_lines bytes) (line ∷ []) batch.whole (whole, tt) in
-    let same : grown ≡ marked lines ++ 45 ∷ [] = grown_is ∙ batch_grown bytes line gate batch gate_is in
+    let same : grown ≡ marked lines ++ 45 ∷ [] = grown_is ∙ batch_grown bytes line mark batch mark_is in
     let is : marked_lines grown ≡ lines = ap marked_lines same ∙ lines_then_shut lines (45 ∷ []) all_whole (inl refl) in
-    (record { split = same ∙ ap (λ (ls : List (List ℕ)). marked ls ++ 45 ∷ []) (sym is); whole = subst AreWhole (sym is) all_whole }, is)
+    (record { split = same ∙ ap (λ (ls : List (List ℕ)). marked ls ++ 45 ∷ []) (sym is); whole = subst HaveNoNewline (sym is) all_whole }, is)
 
 none_more : (line : List ℕ) (b : ℕ) → has_newline line ≡ false → (b == 10) ≡ false → has_newline (line ++ b ∷ []) ≡ false
 none_more [] b none other = or_from (b == 10) false other refl
@@ -182,21 +182,21 @@ abbrev IsWholeSoFar : Option (List ℕ) → Type 0
 IsWholeSoFar None = Unit {0}
 IsWholeSoFar (Some line) = has_newline line ≡ false
 
-whole_from : (bytes : List ℕ) (place : Option (List ℕ)) → IsWholeSoFar place → AreWhole (lines_from place bytes)
+whole_from : (bytes : List ℕ) (place : Option (List ℕ)) → IsWholeSoFar place → HaveNoNewline (lines_from place bytes)
 whole_from [] place whole = tt
 whole_from (b ∷ bytes) None whole = elim (cases_Bool (b == 43)) [
-  | inl mark ↦ subst AreWhole (sym (cond-true (b == 43) (lines_from (Some []) bytes) [] mark)) (whole_from bytes (Some []) refl)
-  | inr other ↦ subst AreWhole (sym (cond-false (b == 43) (lines_from (Some []) bytes) [] other)) tt
+  | inl mark ↦ subst HaveNoNewline (sym (cond-true (b == 43) (lines_from (Some []) bytes) [] mark)) (whole_from bytes (Some []) refl)
+  | inr other ↦ subst HaveNoNewline (sym (cond-false (b == 43) (lines_from (Some []) bytes) [] other)) tt
 ]
 whole_from (b ∷ bytes) (Some line) whole = elim (cases_Bool (b == 10)) [
-  | inl newline ↦ subst AreWhole
+  | inl newline ↦ subst HaveNoNewline
       (sym (cond-true (b == 10) (line ∷ lines_from None bytes) (lines_from (Some (line ++ b ∷ [])) bytes) newline)) (
         whole,
         whole_from bytes None tt,
       )
-  | inr other ↦ subst AreWhole (sym (cond-false (b == 10) (line ∷ lines_from None bytes) (lines_from (Some (line ++ b ∷ [])) bytes) other)) (whole_from bytes (Some (line ++ b ∷ [])) (none_more line b whole other))
+  | inr other ↦ subst HaveNoNewline (sym (cond-false (b == 10) (line ∷ lines_from None bytes) (lines_from (Some (line ++ b ∷ [])) bytes) other)) (whole_from bytes (Some (line ++ b ∷ [])) (none_more line b whole other))
 ]
 
 -- the lines that are read have no newline
-pub whole_lines : (bytes : List ℕ) → AreWhole (marked_lines bytes)
+pub whole_lines : (bytes : List ℕ) → HaveNoNewline (marked_lines bytes)
 whole_lines bytes = whole_from bytes None tt

@@ -2,9 +2,9 @@
 use Rattle.std.proofs.Common.{◌≡◌, ℕ, List, ◌∙◌, sym, subst}
 use Rattle.sqlite_disk.specs.Disk.{Torn, Follows, Only}
 use Rattle.sqlite_disk.specs.declared.Disk.{Ghosts}
-use Rattle.dam_store.specs.Journal.{lines_in, StandsFor}
+use Rattle.dam_store.specs.FileLines.{lines_in, StandsFor}
 use Rattle.dam_store.specs.inside.Shape.{IsAtRest}
-use Rattle.dam_store.specs.inside.Synced.{IsOpened}
+use Rattle.dam_store.specs.inside.Synced.{IsRepaired}
 use Rattle.dam_store.proofs.Rest.{rest_lines, closed_from}
 
 module _ {D : Type 0} (g : Ghosts D) (old new : D) (bytes : List ℕ) (same : g.seen old ≡ bytes) (at n : ℕ) where
@@ -18,7 +18,7 @@ module _ {D : Type 0} (g : Ghosts D) (old new : D) (bytes : List ℕ) (same : g.
   seen_step torn = subst (λ (f : List ℕ). Torn at n f (g.seen new)) same torn
 
 pub opened_from : {D : Type 0} (g : Ghosts D) (disk : D) (bytes : List ℕ) (end : ℕ) (lines : List (List ℕ))
-    → IsAtRest (g.seen disk) end lines → StandsFor lines bytes → IsOpened g disk bytes end
+    → IsAtRest (g.seen disk) end lines → StandsFor lines bytes → IsRepaired g disk bytes end
 opened_from g disk bytes end lines rest stands =
     let same : lines ≡ lines_in (g.seen disk) = sym (rest_lines (g.seen disk) end lines rest) in
     record {

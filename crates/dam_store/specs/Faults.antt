@@ -6,8 +6,8 @@ use Rattle.std.specs.declared.io.ErrorKind.{ErrorKind}
 use Rattle.std.specs.declared.io.ErrorKind.TheVariants.{OutOfMemory, Unsupported}
 use Rattle.sqlite_std_file.specs.declared.pair.OpenError.{OpenError}
 use Rattle.sqlite_std_file.specs.declared.pair.OpenError.TheVariants as opening
-use Rattle.dam_store.specs.Limits.{most_bytes}
-use Rattle.dam_store.specs.Journal.{head_line, is_unmade, lines_in, stands_for, written}
+use Rattle.dam_store.specs.Limits.{most_file_bytes}
+use Rattle.dam_store.specs.FileLines.{bytes_on_disk, head_line, is_unmade, lines_in, stands_for}
 use Rattle.dam_store.specs.declared.fault.FileFault.{FileFault}
 use Rattle.dam_store.specs.declared.fault.FileFault.TheVariants as files
 use Rattle.dam_store.specs.declared.fault.StoreFault.{StoreFault}
@@ -62,20 +62,20 @@ is_failed_read (Read error) = true
 is_failed_read fault = false
 
 -- the bytes of the file are refused
-abbrev pub is_refusal : StoreFault → Bool
-is_refusal NotAJournal = true
-is_refusal TooLong = true
-is_refusal Full = true
-is_refusal fault = false
+abbrev pub is_refused_file : StoreFault → Bool
+is_refused_file NotAJournal = true
+is_refused_file TooLong = true
+is_refused_file Full = true
+is_refused_file fault = false
 
 -- The cause of a refusal, of which a file has at most one. `Full`: no byte more has room after its lines.
 abbrev pub IsCause : List ℕ → StoreFault → Type 0
-IsCause file TooLong = most_bytes < length file
+IsCause file TooLong = most_file_bytes < length file
 IsCause file NotAJournal =
-    (length file ≤ most_bytes) × (bytes_eq (take (length head_line) file) head_line ≡ false) × (is_unmade file ≡ false)
+    (length file ≤ most_file_bytes) × (bytes_eq (take (length head_line) file) head_line ≡ false) × (is_unmade file ≡ false)
 IsCause file Full =
-    (length file ≤ most_bytes) × (bytes_eq (take (length head_line) file) head_line ≡ true)
-    × (most_bytes ≤ length (written (lines_in file)))
+    (length file ≤ most_file_bytes) × (bytes_eq (take (length head_line) file) head_line ≡ true)
+    × (most_file_bytes ≤ length (bytes_on_disk (lines_in file)))
 IsCause file fault = ⊥
 
 -- the file stands for no lines, for this cause

@@ -1,6 +1,6 @@
 pub mod Limits
-pub mod Journal
+pub mod FileLines
 pub mod Faults
-pub mod History
+pub mod StoreHistory
 pub mod Store
 pub mod inside

@@ -2,5 +2,5 @@
 use Rattle.std.specs.Prelude.{ℕ}
 
 -- bytes of a file, with the marks of its lines
-abbrev pub most_bytes : ℕ
-most_bytes = 16777216
+abbrev pub most_file_bytes : ℕ
+most_file_bytes = 16777216

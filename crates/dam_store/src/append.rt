@@ -1,29 +1,30 @@
 ghost use Rattle.std.specs.Prelude.{◌≡◌, ◌⊎◌, ◌+◌, ◌≤◌, ◌++◌, ◌∷◌, ◌==◌, [], List, ℕ, true, false, not, length, drop, IsTrue, IfErr, OnOk, MatchResult};
 ghost use Rattle.sqlite_disk.specs.Disk.{CountsFault, MoreFaults};
-ghost use Rattle.dam_store.specs.Limits.{most_bytes};
-ghost use Rattle.dam_store.specs.Journal.{marked, written, lines_in, StandsForEither};
-ghost use Rattle.dam_store.specs.Store.{disk_of, is_broken, held, IsSafe, IsTidy};
+ghost use Rattle.dam_store.specs.Limits.{most_file_bytes};
+ghost use Rattle.dam_store.specs.FileLines.{marked, bytes_on_disk, lines_in, StandsForEither};
+ghost use Rattle.dam_store.specs.Store.{disk_of, is_broken, held_lines, IsSafe, IsTidy};
 ghost use Rattle.dam_store.specs.Faults.{is_failed_sync, is_failed_write, is_failure};
-ghost use Rattle.dam_store.specs.inside.Shape.{IsClosed};
+ghost use Rattle.dam_store.specs.inside.Shape.{IsFileAtRest};
 ghost use Rattle.dam_store.specs.inside.Synced.{IsSynced, CrashLeaves};
 ghost use Rattle.dam_store.specs.declared.fault.StoreFault.TheVariants.{Full, Broken};
 
 use crate::batch::Batch;
-use crate::device::put;
+use crate::disk::write_and_sync;
 use crate::fault::StoreFault;
-use crate::limits::MOST_BYTES;
+use crate::limits::MOST_FILE_BYTES;
 use crate::store::Store;
 use sqlite_disk::Disk;
 
 /// Writes a batch after the mark at `end` and syncs it, and only then opens the mark and syncs that.
 fn write_lines<D: Disk>(disk: &mut D, end: usize, batch: &Batch) -> Result<(), StoreFault>
     requires synced { IsSynced D.Disk disk.old }
-    requires closed { IsTrue (D.Disk.is_clean disk.old) → IsClosed (D.Disk.seen disk.old) end }
+    requires closed { IsTrue (D.Disk.is_clean disk.old) → IsFileAtRest (D.Disk.seen disk.old) end }
     requires some { (length batch.now == 0) ≡ false }
-    requires room { end + 1 + length (drop 1 (marked batch.now ++ 45 ∷ [])) ≤ most_bytes }
+    requires room { end + 1 + length (drop 1 (marked batch.now ++ 45 ∷ [])) ≤ most_file_bytes }
     ensures synced { OnOk result (IsSynced D.Disk disk.new) }
     ensures closed { OnOk result (IsTrue (D.Disk.is_clean disk.new)
-        → IsClosed (D.Disk.seen disk.new) (end + length (drop 1 (marked batch.now ++ 45 ∷ [])))) }
+        → IsFileAtRest (D.Disk.seen disk.new)
+        (end + length (drop 1 (marked batch.now ++ 45 ∷ [])))) }
     ensures lines { OnOk result (IsTrue (D.Disk.is_clean disk.new)
         → lines_in (D.Disk.seen disk.new) ≡ lines_in (D.Disk.seen disk.old) ++ batch.now) }
     ensures crash { CrashLeaves D.Disk disk.new
@@ -35,9 +36,9 @@ fn write_lines<D: Disk>(disk: &mut D, end: usize, batch: &Batch) -> Result<(), S
     ensures usable { IfErr result
         (λ fault. D.Disk.is_usable disk.new ≡ not (is_failed_sync fault)) }
 {
-    let bytes = batch.after_gate();
-    put(disk, end + 1, bytes)?;
-    put(disk, end, b"+")?;
+    let bytes = batch.bytes_after_mark();
+    write_and_sync(disk, end + 1, bytes)?;
+    write_and_sync(disk, end, b"+")?;
     Ok(())
 }
 
@@ -48,7 +49,7 @@ impl<D: Disk> Store<D> {
         ensures no_fault { OnOk result (D.Disk.faults (disk_of self.new)
             ≡ D.Disk.faults (disk_of self.old)) }
         ensures acknowledged { OnOk result (IsTrue (D.Disk.is_clean (disk_of self.new))
-            → held self.new ≡ held self.old ++ batch.now) }
+            → held_lines self.new ≡ held_lines self.old ++ batch.now) }
         ensures safe { OnOk result (IsTrue (D.Disk.is_clean (disk_of self.new))
             → IsSafe self.new) }
         ensures tidy { OnOk result (IsTrue (D.Disk.is_clean (disk_of self.new))
@@ -56,12 +57,12 @@ impl<D: Disk> Store<D> {
         ensures crash { is_broken self.old ≡ false
             → IsTrue (D.Disk.is_clean (disk_of self.new)) → (file : List ℕ)
             → D.Disk.may_leave (disk_of self.new) file
-            → StandsForEither (held self.old) batch.now file }
+            → StandsForEither (held_lines self.old) batch.now file }
         ensures broken { is_broken self.old ≡ true → disk_of self.new ≡ disk_of self.old }
         ensures full { IfErr result (λ fault. fault ≡ Full
             → (disk_of self.new ≡ disk_of self.old) × (is_broken self.new ≡ false)
             × (IsTrue (D.Disk.is_clean (disk_of self.old))
-            → most_bytes ≤ length (written (held self.old ++ batch.now)))) }
+            → most_file_bytes ≤ length (bytes_on_disk (held_lines self.old ++ batch.now)))) }
         ensures failure { IfErr result (λ fault. is_failure fault ≡ true
             → (is_broken self.new ≡ true)
             × MoreFaults (D.Disk.faults (disk_of self.old)) (D.Disk.faults (disk_of self.new))) }
@@ -81,8 +82,8 @@ impl<D: Disk> Store<D> {
         if batch.is_empty() {
             return Ok(());
         }
-        let len = batch.after_gate().len();
-        if len > MOST_BYTES - 1 - self.end {
+        let len = batch.bytes_after_mark().len();
+        if len > MOST_FILE_BYTES - 1 - self.end {
             return Err(StoreFault::Full);
         }
         self.is_broken = true;

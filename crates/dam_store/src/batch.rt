@@ -1,6 +1,6 @@
 ghost use Rattle.std.specs.Prelude.{◌≡◌, ◌++◌, [], ◌∷◌, ◌==◌, false, length, take, drop, IfOk, IfErr, OnOk, OnErr};
-ghost use Rattle.dam_store.specs.Journal.{IsLine, has_byte, marked, marked_lines};
-ghost use Rattle.dam_store.specs.inside.Shape.{AreWhole, IsBatch};
+ghost use Rattle.dam_store.specs.FileLines.{HaveNoNewline, IsLine, has_byte, marked, marked_lines};
+ghost use Rattle.dam_store.specs.inside.Shape.{IsBatch};
 ghost use Rattle.dam_store.specs.declared.fault.LineFault.TheVariants.{NotALine};
 
 use crate::fault::LineFault;
@@ -16,7 +16,7 @@ pub struct Batch {
 
 impl Model for Batch {
     ghost use Rattle.std.specs.Prelude.{List, ℕ};
-    ghost use Rattle.dam_store.specs.Journal.{marked_lines};
+    ghost use Rattle.dam_store.specs.FileLines.{marked_lines};
     ghost use Rattle.dam_store.specs.inside.Shape.{IsBatch};
 
     ghost Value = { List (List ℕ) };
@@ -68,9 +68,9 @@ impl Batch {
     }
 
     /// The bytes that follow the mark of a line that doesn't count yet, once these lines are written there.
-    pub(crate) fn after_gate(&self) -> &[u8]
+    pub(crate) fn bytes_after_mark(&self) -> &[u8]
         ensures value { result.now ≡ drop 1 (marked self.now ++ 45 ∷ []) }
-        ensures whole { AreWhole self.now }
+        ensures whole { HaveNoNewline self.now }
     {
         &self.bytes[1..]
     }
@@ -84,14 +84,14 @@ fn add_line(bytes: &mut Vec<u8>, line: &[u8]) -> Result<(), AllocError>
         ≡ marked_lines bytes.old.items ++ line.now ∷ []) }
     ensures err { OnErr result (marked_lines bytes.new.items ≡ marked_lines bytes.old.items) }
 {
-    let gate = bytes.len() - 1;
+    let mark = bytes.len() - 1;
     match extend(bytes, line) {
         Ok(()) => {
-            bytes[gate] = b'+';
+            bytes[mark] = b'+';
             Ok(())
         }
         Err(error) => {
-            bytes.truncate(gate + 1);
+            bytes.truncate(mark + 1);
             Err(error)
         }
     }

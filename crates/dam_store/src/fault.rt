@@ -47,7 +47,7 @@ pub enum StoreFault {
     #[error("the file isn't a desk's journal")]
     NotAJournal,
     /// The file is longer than a journal may be.
-    #[error("the file has more than {MOST_BYTES} bytes")]
+    #[error("the file has more than {MOST_FILE_BYTES} bytes")]
     TooLong,
     /// The journal has no room for the lines. Nothing was written, and fewer lines may still fit.
     #[error("the journal is full")]
@@ -69,7 +69,7 @@ pub enum StoreFault {
     Broken,
 }
 
-use crate::limits::MOST_BYTES;
+use crate::limits::MOST_FILE_BYTES;
 
 impl From<AllocError> for StoreFault {
     ghost use Rattle.std.specs.Prelude.{◌≡◌};

@@ -1,14 +1,14 @@
 //! Laws of the definitions, each the contract of a function that does nothing.
 ghost use Rattle.std.specs.Prelude.{◌≡◌, ◌++◌, [], List, ℕ};
-ghost use Rattle.dam_store.specs.Limits.{most_bytes};
-ghost use Rattle.dam_store.specs.Journal.{text_of};
-ghost use Rattle.dam_store.specs.History.{Known, Event, IsStoreHistory, AreGiven};
+ghost use Rattle.dam_store.specs.Limits.{most_file_bytes};
+ghost use Rattle.dam_store.specs.FileLines.{text_of};
+ghost use Rattle.dam_store.specs.StoreHistory.{Known, Event, IsStoreHistory, AreGiven};
 
-use crate::limits::MOST_BYTES;
+use crate::limits::MOST_FILE_BYTES;
 
 /// The exported constant is the number of its limit.
 pub fn limits()
-    ensures { MOST_BYTES ≡ most_bytes }
+    ensures { MOST_FILE_BYTES ≡ most_file_bytes }
 {}
 
 /// Through any openings, appends, faults and crashes, the file keeps every line that it was sure to hold, and after

@@ -5,20 +5,20 @@
 
 mod append;
 mod batch;
-mod device;
+mod disk;
 mod fault;
 mod file;
+mod file_lines;
 pub mod laws;
 mod limits;
 mod open;
 mod recovery;
 mod scan;
 mod store;
-mod text;
 
 pub use batch::Batch;
 pub use fault::{FileFault, LineFault, StoreFault};
 pub use file::open_file;
-pub use limits::MOST_BYTES;
+pub use file_lines::read_text;
+pub use limits::MOST_FILE_BYTES;
 pub use store::{Found, Store, Unopened};
-pub use text::read_text;

@@ -1,18 +1,18 @@
 ghost use Rattle.std.specs.Prelude.{◌≡◌, ◌⊎◌, ◌≤◌, List, ℕ, length, drop, true, false, not, IsTrue, IfOk, IfErr, OnOk};
-ghost use Rattle.dam_store.specs.Journal.{stands_for, text_of, StandsFor};
-ghost use Rattle.dam_store.specs.Store.{disk_of, found_on, is_broken, held, IsSafe, IsTidy, IsUntouched};
-ghost use Rattle.dam_store.specs.Faults.{is_failed_read, is_failed_sync, is_failed_write, is_failure, is_refusal, IsRefused};
-ghost use Rattle.dam_store.specs.History.{Known, IsKnown, IsPossible};
+ghost use Rattle.dam_store.specs.FileLines.{stands_for, text_of, StandsFor};
+ghost use Rattle.dam_store.specs.Store.{disk_of, found_on, is_broken, held_lines, IsSafe, IsTidy, IsUntouched};
+ghost use Rattle.dam_store.specs.Faults.{is_failed_read, is_failed_sync, is_failed_write, is_failure, is_refused_file, IsRefused};
+ghost use Rattle.dam_store.specs.StoreHistory.{Known, IsKnown, IsPossible};
 ghost use Rattle.dam_store.specs.inside.Shape.{IsEnd, rest_of};
 ghost use Rattle.dam_store.specs.inside.Synced.{IsRest, IsSynced};
 ghost use Rattle.dam_store.specs.declared.fault.StoreFault.TheVariants.{Memory};
 ghost use Rattle.sqlite_disk.specs.Disk.{MoreFaults, Only};
 
-use crate::device::read_file;
+use crate::disk::read_file;
 use crate::fault::StoreFault;
+use crate::file_lines::{FileLines, file_lines};
 use crate::recovery::repair;
 use crate::store::{Found, Store, Unopened};
-use crate::text::{FileLines, file_lines};
 use sqlite_disk::Disk;
 use std::alloc::Global;
 
@@ -52,11 +52,11 @@ fn read_synced<D: Disk>(alloc: Global, disk: &mut D) -> Result<(Vec<u8>, FileLin
         → MoreFaults (D.Disk.faults disk.old) (D.Disk.faults disk.new)) }
     ensures no_failure { IfErr result (λ fault. is_failure fault ≡ false
         → D.Disk.faults disk.new ≡ D.Disk.faults disk.old) }
-    ensures refusal { IfErr result (λ fault. is_refusal fault ≡ true
+    ensures refusal { IfErr result (λ fault. is_refused_file fault ≡ true
         → IsTrue (D.Disk.is_clean disk.new)
         → IsRefused (D.Disk.seen disk.old) fault) }
     ensures no_other { IfErr result (λ fault. (is_failed_read fault ≡ true)
-        ⊎ (is_failed_sync fault ≡ true) ⊎ (is_refusal fault ≡ true) ⊎ (fault ≡ Memory)) }
+        ⊎ (is_failed_sync fault ≡ true) ⊎ (is_refused_file fault ≡ true) ⊎ (fault ≡ Memory)) }
     ensures usable { IfErr result
         (λ fault. D.Disk.is_usable disk.new ≡ not (is_failed_sync fault)) }
 {
@@ -86,12 +86,12 @@ impl<D: Disk> Found<D> {
             → MoreFaults (D.Disk.faults disk) (D.Disk.faults unopened.disk)) }
         ensures no_failure { IfErr result (λ unopened. is_failure unopened.why ≡ false
             → D.Disk.faults unopened.disk ≡ D.Disk.faults disk) }
-        ensures refusal { IfErr result (λ unopened. is_refusal unopened.why ≡ true
+        ensures refusal { IfErr result (λ unopened. is_refused_file unopened.why ≡ true
             → IsTrue (D.Disk.is_clean unopened.disk)
             → IsRefused (D.Disk.seen disk) unopened.why) }
         ensures no_other { IfErr result (λ unopened. (is_failed_read unopened.why ≡ true)
             ⊎ (is_failed_sync unopened.why ≡ true)
-            ⊎ (is_refusal unopened.why ≡ true) ⊎ (unopened.why ≡ Memory)) }
+            ⊎ (is_refused_file unopened.why ≡ true) ⊎ (unopened.why ≡ Memory)) }
         // A sync failed exactly if the disk can't be used any more.
         ensures usable { IfErr result (λ unopened.
             D.Disk.is_usable unopened.disk ≡ not (is_failed_sync unopened.why)) }
@@ -114,7 +114,7 @@ impl<D: Disk> Found<D> {
     pub fn open(self) -> Result<Store<D>, Unopened<D>>
         ensures ready { IfOk result (λ store. is_broken store ≡ false) }
         ensures found { IfOk result (λ store. IsTrue (D.Disk.is_clean (disk_of store))
-            → StandsFor (held store) (D.Disk.seen (found_on self))) }
+            → StandsFor (held_lines store) (D.Disk.seen (found_on self))) }
         ensures safe { IfOk result
             (λ store. IsTrue (D.Disk.is_clean (disk_of store)) → IsSafe store) }
         ensures tidy { IfOk result
@@ -129,7 +129,8 @@ impl<D: Disk> Found<D> {
             → stands_for file ≡ stands_for (D.Disk.seen (found_on self))) }
         ensures known { IfOk result
             (λ store. IsTrue (D.Disk.is_clean (disk_of store)) → (known : Known)
-            → IsKnown (D.Disk.may_leave (found_on self)) known → IsPossible known (held store)) }
+            → IsKnown (D.Disk.may_leave (found_on self)) known
+            → IsPossible known (held_lines store)) }
         ensures still_known { IfErr result
             (λ unopened. IsTrue (D.Disk.is_clean unopened.disk) → (known : Known)
             → IsKnown (D.Disk.may_leave (found_on self)) known

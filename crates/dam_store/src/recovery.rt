@@ -1,13 +1,13 @@
 ghost use Rattle.std.specs.Prelude.{◌≡◌, ◌⊎◌, ◌+◌, ◌∷◌, ◌<◌, ◌≤◌, [], List, ℕ, false, true, not, None, ◌==◌, ◌-◌, ◌++◌, slice_index, length, take, drop, replicate, IsTrue, IfOk, IfErr, OnOk};
-ghost use Rattle.dam_store.specs.Limits.{most_bytes};
-ghost use Rattle.dam_store.specs.Journal.{is_unmade, head_line, lines_in, stands_for, StandsFor};
+ghost use Rattle.dam_store.specs.Limits.{most_file_bytes};
+ghost use Rattle.dam_store.specs.FileLines.{is_unmade, head_line, lines_in, stands_for, StandsFor};
 ghost use Rattle.dam_store.specs.inside.Shape.{has_newline, IsAtRest};
-ghost use Rattle.dam_store.specs.inside.Synced.{IsSynced, IsRead, IsReadFrom, IsRest, IsOpened, CrashLeaves};
+ghost use Rattle.dam_store.specs.inside.Synced.{IsSynced, IsReadWhole, IsReadFrom, IsRest, IsRepaired, CrashLeaves};
 ghost use Rattle.dam_store.specs.Faults.{is_failed_sync, is_failed_write, is_failure};
 ghost use Rattle.dam_store.specs.declared.fault.StoreFault.TheVariants.{Memory};
 ghost use Rattle.sqlite_disk.specs.Disk.{MoreFaults};
 
-use crate::device::put;
+use crate::disk::write_and_sync;
 use crate::fault::StoreFault;
 use sqlite_disk::Disk;
 use std::alloc::AllocError;
@@ -28,7 +28,7 @@ pub(crate) fn is_unmade(bytes: &[u8]) -> bool
 }
 
 /// Whether the bytes begin with the mark of a line that doesn't count yet.
-fn has_gate(bytes: &[u8]) -> bool
+fn begins_uncounted_line(bytes: &[u8]) -> bool
     ensures { result ≡ (slice_index bytes.now 0 == 45) }
 {
     matches!(bytes, [b'-', ..])
@@ -42,7 +42,7 @@ fn has_newline_after(bytes: &[u8], at: usize) -> bool
 
 /// Makes the first byte of a file that was never made whole the mark of a line that doesn't count yet.
 fn begin<D: Disk>(disk: &mut D, bytes: &[u8]) -> Result<(), StoreFault>
-    requires read { IsRead D.Disk disk.old bytes.now }
+    requires read { IsReadWhole D.Disk disk.old bytes.now }
     requires unmade { is_unmade bytes.now ≡ true }
     ensures synced { OnOk result (IsSynced D.Disk disk.new) }
     ensures begun { OnOk result (IsTrue (D.Disk.is_clean disk.new)
@@ -56,16 +56,16 @@ fn begin<D: Disk>(disk: &mut D, bytes: &[u8]) -> Result<(), StoreFault>
     ensures usable { IfErr result
         (λ fault. D.Disk.is_usable disk.new ≡ not (is_failed_sync fault)) }
 {
-    if has_gate(bytes) {
+    if begins_uncounted_line(bytes) {
         return Ok(());
     }
-    put(disk, 0, b"-")?;
+    write_and_sync(disk, 0, b"-")?;
     Ok(())
 }
 
 /// Makes a file whole that never was.
 fn create<D: Disk>(disk: &mut D, bytes: &[u8]) -> Result<(), StoreFault>
-    requires read { IsRead D.Disk disk.old bytes.now }
+    requires read { IsReadWhole D.Disk disk.old bytes.now }
     requires unmade { is_unmade bytes.now ≡ true }
     ensures synced { OnOk result (IsSynced D.Disk disk.new) }
     ensures at_rest { OnOk result (IsTrue (D.Disk.is_clean disk.new)
@@ -80,8 +80,8 @@ fn create<D: Disk>(disk: &mut D, bytes: &[u8]) -> Result<(), StoreFault>
         (λ fault. D.Disk.is_usable disk.new ≡ not (is_failed_sync fault)) }
 {
     begin(disk, bytes)?;
-    put(disk, 1, &AFTER_FIRST)?;
-    put(disk, 0, b"+")?;
+    write_and_sync(disk, 1, &AFTER_FIRST)?;
+    write_and_sync(disk, 0, b"+")?;
     Ok(())
 }
 
@@ -118,7 +118,7 @@ fn blank<D: Disk>(disk: &mut D, end: usize, rest: &mut Vec<u8>) -> Result<(), St
         return Ok(());
     }
     clear_after(rest, 1)?;
-    put(disk, end + 1, &rest[1..])?;
+    write_and_sync(disk, end + 1, &rest[1..])?;
     Ok(())
 }
 
@@ -138,10 +138,10 @@ fn close<D: Disk>(disk: &mut D, end: usize, rest: &[u8]) -> Result<(), StoreFaul
     ensures usable { IfErr result
         (λ fault. D.Disk.is_usable disk.new ≡ not (is_failed_sync fault)) }
 {
-    if has_gate(rest) {
+    if begins_uncounted_line(rest) {
         return Ok(());
     }
-    put(disk, end, b"-")?;
+    write_and_sync(disk, end, b"-")?;
     Ok(())
 }
 
@@ -150,7 +150,7 @@ fn close_end<D: Disk>(disk: &mut D, end: usize, mut rest: Vec<u8>) -> Result<(),
     requires { IsReadFrom D.Disk disk.old end rest.items }
     ensures synced { OnOk result (IsSynced D.Disk disk.new) }
     ensures opened { OnOk result (IsTrue (D.Disk.is_clean disk.new)
-        → IsOpened D.Disk disk.new (D.Disk.seen disk.old) end) }
+        → IsRepaired D.Disk disk.new (D.Disk.seen disk.old) end) }
     ensures crash { CrashLeaves D.Disk disk.new (λ file. stands_for file
         ≡ stands_for (D.Disk.seen disk.old)) }
     ensures clean { D.Disk.is_clean disk.new ≡ D.Disk.is_clean disk.old }
@@ -176,8 +176,8 @@ pub(crate) fn repair<D: Disk>(
     requires { IsRest D.Disk disk.old end rest.items }
     ensures synced { OnOk result (IsSynced D.Disk disk.new) }
     ensures opened { IfOk result (λ end. IsTrue (D.Disk.is_clean disk.new)
-        → IsOpened D.Disk disk.new (D.Disk.seen disk.old) end) }
-    ensures room { IfOk result (λ end. end < most_bytes) }
+        → IsRepaired D.Disk disk.new (D.Disk.seen disk.old) end) }
+    ensures room { IfOk result (λ end. end < most_file_bytes) }
     ensures crash { CrashLeaves D.Disk disk.new (λ file. stands_for file
         ≡ stands_for (D.Disk.seen disk.old)) }
     ensures clean { D.Disk.is_clean disk.new ≡ D.Disk.is_clean disk.old }

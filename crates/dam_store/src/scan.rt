@@ -1,5 +1,5 @@
 ghost use Rattle.std.specs.Prelude.{◌≡◌, List, ℕ, MatchOption, IfOk};
-ghost use Rattle.dam_store.specs.Journal.{text_of, marked_lines};
+ghost use Rattle.dam_store.specs.FileLines.{text_of, marked_lines};
 ghost use Rattle.dam_store.specs.inside.Shape.{BeginsWithLine, IsShut, EndsAt};
 
 use memchr::memchr;

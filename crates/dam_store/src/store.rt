@@ -1,7 +1,7 @@
 ghost use Rattle.std.specs.Prelude.{◌≡◌, ◌<◌, false, IsTrue};
 ghost use Rattle.std.proofs.Props.{props};
-ghost use Rattle.dam_store.specs.Limits.{most_bytes};
-ghost use Rattle.dam_store.specs.inside.Shape.{IsClosed};
+ghost use Rattle.dam_store.specs.Limits.{most_file_bytes};
+ghost use Rattle.dam_store.specs.inside.Shape.{IsFileAtRest};
 ghost use Rattle.dam_store.specs.inside.Synced.{IsRest, IsSynced};
 
 use crate::fault::StoreFault;
@@ -13,10 +13,10 @@ pub struct Store<D: Disk> {
     pub(crate) disk: D,
     pub(crate) end: usize,
     pub(crate) is_broken: bool,
-    ghost room: { end < most_bytes },
+    ghost room: { end < most_file_bytes },
     ghost synced: { is_broken ≡ false → IsSynced D.Disk disk },
     ghost closed: { is_broken ≡ false → IsTrue (D.Disk.is_clean disk)
-        → IsClosed (D.Disk.seen disk) end },
+        → IsFileAtRest (D.Disk.seen disk) end },
 }
 
 /// A store that was found on a disk, before the end of its file is repaired. Nothing was written yet.

@@ -4,11 +4,11 @@ use Rattle.std.specs.List.{flat_map}
 use Rattle.dam_book.specs.Book.{commands_of}
 use Rattle.dam_book.specs.declared.command.Command.{Command}
 use Rattle.dam_results.specs.Written.{command_line, written}
-use Rattle.dam_store.specs.Journal.{has_byte, text_of}
-use Rattle.dam_desk.specs.Lines.{Says, kept_bytes}
-use Rattle.dam_desk.specs.Journal.{Journal, State, AreAnswers, AreWhole, Reads, answer_to, day_of, journal_after, journal_text, next, replies_text}
-use Rattle.dam_desk.specs.inside.Day.{IsDayWith}
-use Rattle.dam_desk.specs.declared.day.Day.{Day}
+use Rattle.dam_store.specs.FileLines.{HaveNoNewline, has_byte, text_of}
+use Rattle.dam_desk.specs.InputLines.{Says, kept_bytes}
+use Rattle.dam_desk.specs.DeskJournal.{Journal, State, AreAnswers, ReadsBack, answer_to, day_of, journal_after_line, desk_journal_text, next, desk_replies_text}
+use Rattle.dam_desk.specs.inside.DeskDay.{IsDayWith}
+use Rattle.dam_desk.specs.declared.desk_day.Day.{Day}
 use Rattle.dam_desk.specs.declared.reading.Said.{Said}
 use Rattle.dam_desk.specs.declared.state.Intake.{Intake}
 
@@ -26,10 +26,10 @@ HasJournal day journal = ⊥
 -- the day and the replies are those of the journal with this text
 pub record IsReopened (text : List ℕ) (day : Option Day) (replies : List ℕ) : Type 0 where
   pub journal : Option Journal
-  pub reads : Reads journal
-  pub same_text : text ≡ journal_text journal
+  pub reads : ReadsBack journal
+  pub same_text : text ≡ desk_journal_text journal
   pub has : HasJournal day journal
-  pub same_replies : replies ≡ replies_text journal
+  pub same_replies : replies ≡ desk_replies_text journal
 
 -- the records of these commands, after the record of the day if that begins with them
 abbrev pub records_text : Option Day → Bool → List Command → List ℕ
@@ -44,12 +44,12 @@ entered_text intake = records_text intake.day intake.begins (commands_of intake.
 -- the intake has this journal, whose text is this one before the batch, and then the records of the batch
 pub record IsAt (intake : Intake) (before : List ℕ) (journal : Option Journal) : Type 0 where
   pub day : HasJournal intake.day journal
-  pub text : before ++ entered_text intake ≡ journal_text journal
+  pub text : before ++ entered_text intake ≡ desk_journal_text journal
 
 -- the line of this number, which says this, was answered
 pub record Answered (old new : Intake) (before : List ℕ) (journal : Option Journal) (said : Said) : Type 0 where
   pub answer : new.answers.items ≡ old.answers.items ++ answer_to old.answered journal said
-  pub at : IsAt new before (journal_after journal said)
+  pub at : IsAt new before (journal_after_line journal said)
 
 -- the intake has this state, between two batches or at the end of one, and this beginning of a line
 pub record IsIn (intake : Intake) (state : State) (begun : List ℕ) : Type 0 where
@@ -64,14 +64,14 @@ pub record HasRead (intake : Intake) (state : State) (given left : List ℕ) : T
   pub begun : List ℕ
   pub last : State
   pub split : given ≡ text_of lines ++ (begun ++ left)
-  pub whole : AreWhole lines
+  pub whole : HaveNoNewline lines
   pub answers : AreAnswers state lines intake.answers.items last
   pub now : IsIn intake last begun
-  pub text : journal_text state.journal ++ entered_text intake ≡ journal_text last.journal
+  pub text : desk_journal_text state.journal ++ entered_text intake ≡ desk_journal_text last.journal
 
 -- what the line that has come says was answered, as the next line
 pub record TakesLine (old new : Intake) (before : List ℕ) (journal : Option Journal) (text : List ℕ) : Type 0 where
   pub said : Said
   pub says : Says (day_of journal) text said
   pub answer : new.answers.items ≡ old.answers.items ++ answer_to (next old.answered) journal said
-  pub at : IsAt new before (journal_after journal said)
+  pub at : IsAt new before (journal_after_line journal said)

@@ -1,7 +1,7 @@
 -- One line more; and a text that ends with a line feed leaves no rest.
 use Rattle.std.proofs.Common.{◌++◌, ◌∷◌, [], List, ℕ, sym, ap, ◌∙◌, append_assoc, append-nil}
-use Rattle.dam_store.specs.Journal.{text_of}
-use Rattle.dam_desk.specs.inside.Lines.{is_ended}
+use Rattle.dam_store.specs.FileLines.{text_of}
+use Rattle.dam_desk.specs.inside.TextLines.{is_ended}
 use Rattle.dam_desk.proofs.Texts.{ended_after, ended_none, text_snoc}
 use Rattle.dam_desk.proofs.intake.push_lines.Goals as goal
 

@@ -1,7 +1,7 @@
 -- The lines so far and the rest of the text are the text.
 use Rattle.std.proofs.Common.{◌≡◌, ◌++◌, true, length}
-use Rattle.dam_store.specs.Journal.{text_of}
-use Rattle.dam_desk.specs.inside.Lines.{is_ended}
+use Rattle.dam_store.specs.FileLines.{text_of}
+use Rattle.dam_desk.specs.inside.TextLines.{is_ended}
 use Rattle.dam_desk.proofs.intake.push_lines.Given as goal
 
 abbrev pub decreases-loop-line : goal.decreases-loop-line

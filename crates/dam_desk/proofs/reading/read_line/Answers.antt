@@ -1,7 +1,7 @@
 -- A line that isn't too long is kept whole.
 use Rattle.std.proofs.Common.{◌≡◌, ◌++◌, ◌∷◌, [], ◌+◌, ◌≤◌, List, ℕ, inl, length, take, refl, ap, ap₂, ◌∙◌, arith, length-take}
 use Rattle.dam_desk.specs.Limits.{most_line}
-use Rattle.dam_desk.specs.Lines.{text_after}
+use Rattle.dam_desk.specs.InputLines.{text_after}
 use Rattle.dam_desk.proofs.Lists.{kept_whole}
 use Rattle.dam_desk.proofs.reading.read_line.Goals as goal
 

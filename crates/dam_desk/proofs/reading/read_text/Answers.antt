@@ -2,7 +2,7 @@
 use Rattle.std.proofs.Common.{◌++◌, ◌∷◌, [], List, ℕ, inl, inr, length, subst}
 use Rattle.dam_results.specs.Journal.{ReadsAs}
 use Rattle.dam_results.specs.Faults.{IsJournalFault}
-use Rattle.dam_desk.specs.Lines.{record_of}
+use Rattle.dam_desk.specs.InputLines.{record_of}
 use Rattle.dam_desk.proofs.AfterDay.{says_command}
 use Rattle.dam_desk.proofs.Readings.{alone, not_one_alone, not_one_after, same_fault}
 use Rattle.dam_desk.proofs.reading.read_text.Goals as goal

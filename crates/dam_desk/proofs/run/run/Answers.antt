@@ -20,7 +20,7 @@ returns-in-Ok-clause-served g c =
       whole = done.1;
       served = is_served c.serve-done.new.desk disk c.into_disk.ensures is.journal c.as_slice.result.now first done.0
           (g.W.Write.contents c.args.writer.now) (g.W.Write.contents c.serve-done.new.writer) c.journals_grow.ensures.reads
-          c.replies_are_answers.ensures c.journals_settle.ensures is.fresh.reads done.2;
+          c.replies_are_answers.ensures c.journals_are_unambiguous.ensures is.fresh.reads done.2;
     }) (c.serve-done.ensures.done (at_first is.journal) [] is.fresh)
 
 pub returns-in-Ok-clause-answered : goal.returns-in-Ok-clause-answered

@@ -2,10 +2,10 @@
 use Rattle.std.proofs.Common.{rules, ◌<◌, ◌++◌, [], List, ℕ, inl, inr, not, length, take, refl, sym, ap, ◌∙◌, subst, arith, append_assoc, append-nil}
 use Rattle.std.proofs.KnownBytes.{Appends-nil, Consumes-kept, Consumes-nil, Consumes-trans}
 use Rattle.std.specs.Io.KnownBytes.{Appends}
-use Rattle.dam_store.specs.Store.{disk_of, held}
+use Rattle.dam_store.specs.Store.{disk_of, held_lines}
 use Rattle.dam_desk.specs.Desk.{MayLeave, Served, end_answer}
 use Rattle.dam_desk.specs.Faults.{IsEndFault, fault_after, is_failed_sync}
-use Rattle.dam_desk.specs.Journal.{next}
+use Rattle.dam_desk.specs.DeskJournal.{next}
 use Rattle.dam_desk.specs.declared.fault.DeskFault.{DeskFault}
 use Rattle.dam_desk.specs.declared.fault.DeskFault.TheVariants.{Read}
 use Rattle.dam_desk.proofs.Crashes.{keeps_first, grown_more}
@@ -13,42 +13,42 @@ use Rattle.dam_desk.proofs.Desks.{TakesAll, all_given, all_more, all_start, fini
 use Rattle.dam_desk.proofs.Ends.{end_after, end_counts, err_is, sync_after}
 use Rattle.dam_desk.proofs.serve.serve.Goals as goal
 
-pub returns-in-Err-take-clause-crash : goal.returns-in-Err-take-clause-crash
-returns-in-Err-take-clause-crash g c clean =
-    let grown = c.loop.invariant.grown (sym c.take.ensures.clean ∙ clean) in
-    keeps_first (g.D.Disk.may_leave (disk_of c.take.new.self.store)) (held c.args.desk.now.store) (held c.loop.desk.store) grown.0 grown.1
-    (c.take.ensures.crash c.loop.invariant.ready clean)
+pub returns-in-Err-serve_batch-clause-crash : goal.returns-in-Err-serve_batch-clause-crash
+returns-in-Err-serve_batch-clause-crash g c clean =
+    let grown = c.loop.invariant.grown (sym c.serve_batch.ensures.clean ∙ clean) in
+    keeps_first (g.D.Disk.may_leave (disk_of c.serve_batch.new.self.store)) (held_lines c.args.desk.now.store) (held_lines c.loop.desk.store) grown.0 grown.1
+    (c.serve_batch.ensures.crash c.loop.invariant.ready clean)
 
 pub loop-preserved : goal.loop-preserved
 loop-preserved g c = record {
-  ready = c.in-Ok-take.ensures.ready;
-  usable = c.in-Ok-take.ensures.usable c.loop.invariant.ready;
-  no_fault = c.in-Ok-take.ensures.no_fault ∙ c.loop.invariant.no_fault;
-  clean = c.take.ensures.clean ∙ c.loop.invariant.clean;
+  ready = c.in-Ok-serve_batch.ensures.ready;
+  usable = c.in-Ok-serve_batch.ensures.usable c.loop.invariant.ready;
+  no_fault = c.in-Ok-serve_batch.ensures.no_fault ∙ c.loop.invariant.no_fault;
+  clean = c.serve_batch.ensures.clean ∙ c.loop.invariant.clean;
   grown = λ clean.
-      let grown = c.loop.invariant.grown (sym c.take.ensures.clean ∙ clean) in
-      let batch = c.in-Ok-take.ensures.grown clean in (
+      let grown = c.loop.invariant.grown (sym c.serve_batch.ensures.clean ∙ clean) in
+      let batch = c.in-Ok-serve_batch.ensures.grown clean in (
         grown.0 ++ batch.0,
-        grown_more (held c.args.desk.now.store) (held c.loop.desk.store) (held c.take.new.self.store) grown.0 batch.0 grown.1 batch.1,
+        grown_more (held_lines c.args.desk.now.store) (held_lines c.loop.desk.store) (held_lines c.serve_batch.new.self.store) grown.0 batch.0 grown.1 batch.1,
       );
   kept = λ clean.
-      let grown = c.loop.invariant.grown (sym c.take.ensures.clean ∙ clean) in
-      keeps_first (g.D.Disk.may_leave (disk_of c.take.new.self.store)) (held c.args.desk.now.store) (held c.loop.desk.store) grown.0 grown.1
-      (c.take.ensures.crash c.loop.invariant.ready clean);
+      let grown = c.loop.invariant.grown (sym c.serve_batch.ensures.clean ∙ clean) in
+      keeps_first (g.D.Disk.may_leave (disk_of c.serve_batch.new.self.store)) (held_lines c.args.desk.now.store) (held_lines c.loop.desk.store) grown.0 grown.1
+      (c.serve_batch.ensures.crash c.loop.invariant.ready clean);
   chunk = omega (arith, c.read.auto.buf, c.loop.invariant.chunk);
   taken = λ state begun is.
       let so_far = c.loop.invariant.taken state begun is in
       let more = take c.in-Ok.count c.read.new.buf in
       let old = g.W.Write.contents c.args.writer.now in
       let mid = g.W.Write.contents c.loop.writer in
-      let new = g.W.Write.contents c.take.new.writer in
-      let then = c.in-Ok-take.ensures.taken so_far.2.takes.last so_far.2.takes.begun so_far.2.takes.now in (
+      let new = g.W.Write.contents c.serve_batch.new.writer in
+      let then = c.in-Ok-serve_batch.ensures.served so_far.2.takes.last so_far.2.takes.begun so_far.2.takes.now in (
         so_far.0 ++ more,
         Consumes-trans (g.R.Read.remaining c.args.reader.now) (g.R.Read.remaining c.loop.reader) (g.R.Read.remaining c.read.new.self) so_far.0 more
             so_far.1 c.in-Ok.ensures.bytes.0,
-        subst (λ (given : List ℕ). TakesAll c.take.new.self state given c.args.replies.now c.saturating_add-printed.result old new)
+        subst (λ (given : List ℕ). TakesAll c.serve_batch.new.self state given c.args.replies.now c.saturating_add-printed.result old new)
             (append_assoc begun so_far.0 more)
-            (all_more c.loop.desk c.take.new.self state (begun ++ so_far.0) more c.args.replies.now c.loop.printed c.in-Ok-take.count
+            (all_more c.loop.desk c.serve_batch.new.self state (begun ++ so_far.0) more c.args.replies.now c.loop.printed c.in-Ok-serve_batch.count
             c.saturating_add-printed.result old mid new so_far.2 then.0 then.1 c.saturating_add-printed.ensures),
       );
 }
@@ -59,7 +59,7 @@ loop-init g c = record {
   usable = c.is_safe-safe.ensures.usable c.requires;
   no_fault = refl;
   clean = refl;
-  grown = λ clean. ([], sym (append-nil (held c.args.desk.now.store)));
+  grown = λ clean. ([], sym (append-nil (held_lines c.args.desk.now.store)));
   kept = λ clean. c.is_safe-safe.ensures.keeps c.requires clean;
   chunk = search rules;
   taken = λ state begun is. (
@@ -140,26 +140,26 @@ returns-in-Err-end-clause-faulty g c state begun is =
           (subst (λ (n : ℕ). Appends mid new (take part.0 (end_answer (next n) takes.begun))) takes.now.intake.answered part.1)),
     )
 
-pub returns-in-Err-take-clause-faulty : goal.returns-in-Err-take-clause-faulty
-returns-in-Err-take-clause-faulty g c state begun is =
+pub returns-in-Err-serve_batch-clause-faulty : goal.returns-in-Err-serve_batch-clause-faulty
+returns-in-Err-serve_batch-clause-faulty g c state begun is =
     let so_far = c.loop.invariant.taken state begun is in
     let takes = so_far.2.takes in
     let more = take c.in-Ok.count c.read.new.buf in
-    let fault = c.in-Err-take.fault in
+    let fault = c.in-Err-serve_batch.fault in
     let old = g.W.Write.contents c.args.writer.now in
     let mid = g.W.Write.contents c.loop.writer in
-    let new = g.W.Write.contents c.take.new.writer in
+    let new = g.W.Write.contents c.serve_batch.new.writer in
     let input = g.R.Read.remaining c.args.reader.now in
     let left = g.R.Read.remaining c.read.new.self in (
       so_far.0 ++ more,
       Consumes-trans input (g.R.Read.remaining c.loop.reader) left so_far.0 more so_far.1 c.in-Ok.ensures.bytes.0,
-      subst (λ (why : DeskFault). Served state (begun ++ (so_far.0 ++ more)) c.args.replies.now why old new (MayLeave c.take.new.self))
-          (sym c.after-in-Err-take.ensures)
+      subst (λ (why : DeskFault). Served state (begun ++ (so_far.0 ++ more)) c.args.replies.now why old new (MayLeave c.serve_batch.new.self))
+          (sym c.after-in-Err-serve_batch.ensures)
           (subst (λ (given : List ℕ).
-          Served state given c.args.replies.now (fault_after c.loop.printed fault) old new (MayLeave c.take.new.self))
+          Served state given c.args.replies.now (fault_after c.loop.printed fault) old new (MayLeave c.serve_batch.new.self))
           (append_assoc begun so_far.0 more)
           (served_more c.loop.desk state (begun ++ so_far.0) more c.args.replies.now old mid new _ fault c.loop.printed takes so_far.2.count
-          (c.in-Err-take.ensures.faulty takes.last takes.begun takes.now c.loop.invariant.ready))),
+          (c.in-Err-serve_batch.ensures.faulty takes.last takes.begun takes.now c.loop.invariant.ready))),
     )
 
 pub returns-in-Err-clause-answered : goal.returns-in-Err-clause-answered
@@ -184,18 +184,18 @@ returns-in-Err-end-clause-cause g c state begun is =
     (end_after clean before after c.loop.printed c.in-Err-end.fault
     (subst (λ (n : ℕ). IsEndFault clean before n c.in-Err-end.fault) (sym c.loop.invariant.no_fault) (c.in-Err-end.ensures.cause clean before)))
 
-pub returns-in-Err-take-clause-cause : goal.returns-in-Err-take-clause-cause
-returns-in-Err-take-clause-cause g c state begun is =
+pub returns-in-Err-serve_batch-clause-cause : goal.returns-in-Err-serve_batch-clause-cause
+returns-in-Err-serve_batch-clause-cause g c state begun is =
     let takes = (c.loop.invariant.taken state begun is).2.takes in
     let before = g.D.Disk.faults (disk_of c.args.desk.now.store) in
-    let after = g.D.Disk.faults (disk_of c.take.new.self.store) in
-    let clean = g.D.Disk.is_clean (disk_of c.take.new.self.store) in
-    subst (IsEndFault clean before after) (sym c.after-in-Err-take.ensures)
-    (end_after clean before after c.loop.printed c.in-Err-take.fault
-    (end_counts c.in-Err-take.fault refl c.loop.invariant.no_fault refl
-    (c.in-Err-take.ensures.cause takes.last takes.begun takes.now c.loop.invariant.ready)))
+    let after = g.D.Disk.faults (disk_of c.serve_batch.new.self.store) in
+    let clean = g.D.Disk.is_clean (disk_of c.serve_batch.new.self.store) in
+    subst (IsEndFault clean before after) (sym c.after-in-Err-serve_batch.ensures)
+    (end_after clean before after c.loop.printed c.in-Err-serve_batch.fault
+    (end_counts c.in-Err-serve_batch.fault refl c.loop.invariant.no_fault refl
+    (c.in-Err-serve_batch.ensures.cause takes.last takes.begun takes.now c.loop.invariant.ready)))
 
-pub returns-in-Err-take-clause-usable : goal.returns-in-Err-take-clause-usable
-returns-in-Err-take-clause-usable g c =
-    c.in-Err-take.ensures.usable c.loop.invariant.ready
-    ∙ ap not (sym (sync_after c.loop.printed c.in-Err-take.fault) ∙ ap is_failed_sync (sym c.after-in-Err-take.ensures))
+pub returns-in-Err-serve_batch-clause-usable : goal.returns-in-Err-serve_batch-clause-usable
+returns-in-Err-serve_batch-clause-usable g c =
+    c.in-Err-serve_batch.ensures.usable c.loop.invariant.ready
+    ∙ ap not (sym (sync_after c.loop.printed c.in-Err-serve_batch.fault) ∙ ap is_failed_sync (sym c.after-in-Err-serve_batch.ensures))

@@ -1,9 +1,9 @@
 -- What the desk held at first is kept, and what came in is answered.
 use Rattle.std.proofs.Common.{◌≡◌, ◌++◌, List, ℕ, false, IsTrue, length}
 use Rattle.std.specs.Io.KnownBytes.{Consumes}
-use Rattle.dam_store.specs.Store.{disk_of, held, is_broken}
+use Rattle.dam_store.specs.Store.{disk_of, held_lines, is_broken}
 use Rattle.dam_desk.specs.Desk.{IsDesk, KeepsLines}
-use Rattle.dam_desk.specs.Journal.{State}
+use Rattle.dam_desk.specs.DeskJournal.{State}
 use Rattle.dam_desk.specs.declared.serve.TheConstants.{CHUNK}
 use Rattle.dam_desk.proofs.Desks.{TakesAll}
 use Rattle.dam_desk.proofs.serve.serve.Given as goal
@@ -14,8 +14,8 @@ invariant-loop g l = record {
   usable : IsTrue (g.D.Disk.is_usable (disk_of l.desk.store));
   no_fault : g.D.Disk.faults (disk_of l.desk.store) ≡ g.D.Disk.faults (disk_of l.initial.desk.store);
   clean : g.D.Disk.is_clean (disk_of l.desk.store) ≡ g.D.Disk.is_clean (disk_of l.initial.desk.store);
-  grown : IsTrue (g.D.Disk.is_clean (disk_of l.desk.store)) → (more : List (List ℕ)) × held l.desk.store ≡ held l.initial.desk.store ++ more;
-  kept : IsTrue (g.D.Disk.is_clean (disk_of l.desk.store)) → KeepsLines (g.D.Disk.may_leave (disk_of l.desk.store)) (held l.initial.desk.store);
+  grown : IsTrue (g.D.Disk.is_clean (disk_of l.desk.store)) → (more : List (List ℕ)) × held_lines l.desk.store ≡ held_lines l.initial.desk.store ++ more;
+  kept : IsTrue (g.D.Disk.is_clean (disk_of l.desk.store)) → KeepsLines (g.D.Disk.may_leave (disk_of l.desk.store)) (held_lines l.initial.desk.store);
   chunk : length l.chunk ≡ CHUNK;
   taken : (state : State) (begun : List ℕ) → IsDesk l.initial.desk state begun → (given : List ℕ)
       × Consumes (g.R.Read.remaining l.initial.reader) (g.R.Read.remaining l.reader) given

@@ -1,5 +1,5 @@
 use Rattle.std.proofs.Common.{◌≡◌, ℕ, List, [], ◌∷◌, ◌++◌, refl, sym, ap, ◌∙◌, append_assoc}
-use Rattle.dam_store.specs.Journal.{text_of}
+use Rattle.dam_store.specs.FileLines.{text_of}
 use Rattle.dam_store.proofs.laws.texts_follow.Goals as goal
 
 text_more : (lines more : List (List ℕ)) → text_of (lines ++ more) ≡ text_of lines ++ text_of more

@@ -1,5 +1,5 @@
 use Rattle.std.proofs.Common.{List, ℕ, sym, ◌∙◌, subst}
-use Rattle.dam_store.specs.Journal.{StandsFor, lines_in}
+use Rattle.dam_store.specs.FileLines.{StandsFor, lines_in}
 use Rattle.dam_store.specs.inside.Shape.{IsAtRest, IsEndedAt}
 use Rattle.dam_store.proofs.Rest.{journal_of, journal_stands}
 use Rattle.dam_store.proofs.Steps.{opened_from}

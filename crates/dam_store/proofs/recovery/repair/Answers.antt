@@ -1,5 +1,5 @@
 use Rattle.std.proofs.Common.{sym, ap, ◌∙◌, subst}
-use Rattle.dam_store.specs.Journal.{stands_for}
+use Rattle.dam_store.specs.FileLines.{stands_for}
 use Rattle.dam_store.specs.inside.Synced.{IsRest}
 use Rattle.dam_store.proofs.Unmade.{unmade_stands}
 use Rattle.dam_store.proofs.recovery.repair.Goals as goal

@@ -5,8 +5,8 @@ use Rattle.std.specs.Io.KnownBytes.{Appends}
 use Rattle.std.proofs.KnownBytes.{Appends-nil}
 use Rattle.dam_desk.specs.Answers.{fault_line}
 use Rattle.dam_desk.specs.Faults.{SaysCount}
-use Rattle.dam_desk.specs.Journal.{next}
-use Rattle.dam_desk.specs.Lines.{kept_bytes}
+use Rattle.dam_desk.specs.DeskJournal.{next}
+use Rattle.dam_desk.specs.InputLines.{kept_bytes}
 use Rattle.dam_desk.specs.declared.fault.LineFault.TheVariants.{CutShort}
 use Rattle.dam_desk.specs.declared.fault.DeskFault.TheVariants.{Memory}
 use Rattle.dam_desk.proofs.Desks.{written_part}

@@ -1,7 +1,7 @@
 use Rattle.std.proofs.Common.{◌++◌, Option, ℕ, ap, ◌∙◌, subst}
 use Rattle.std.proofs.lemmas.Result.{on_ok_weaker}
-use Rattle.dam_desk.specs.Journal.{answer_to}
-use Rattle.dam_desk.specs.Lines.{Says}
+use Rattle.dam_desk.specs.DeskJournal.{answer_to}
+use Rattle.dam_desk.specs.InputLines.{Says}
 use Rattle.dam_desk.proofs.Steps.{periods_same}
 use Rattle.dam_desk.proofs.state.Intake.answer_line.Goals as goal
 

@@ -1,6 +1,6 @@
 -- The lines so far are answered, and the rest of the bytes is left.
 use Rattle.std.proofs.Common.{List, ℕ, length}
-use Rattle.dam_desk.specs.Journal.{State}
+use Rattle.dam_desk.specs.DeskJournal.{State}
 use Rattle.dam_desk.specs.inside.Intake.{HasRead}
 use Rattle.dam_desk.proofs.state.Intake.answer_lines.Given as goal
 

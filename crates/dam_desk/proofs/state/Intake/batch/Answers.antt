@@ -1,10 +1,10 @@
 -- The lines of the batch are those of its records.
 use Rattle.std.proofs.Common.{◌≡◌, ◌++◌, true, List, ℕ, Option, sym, ap, ◌∙◌}
 use Rattle.dam_book.specs.Book.{commands_of}
-use Rattle.dam_store.specs.Journal.{text_of}
+use Rattle.dam_store.specs.FileLines.{text_of}
 use Rattle.dam_desk.specs.inside.Intake.{records_text}
-use Rattle.dam_desk.specs.inside.Lines.{is_ended}
-use Rattle.dam_desk.specs.declared.day.Day.{Day}
+use Rattle.dam_desk.specs.inside.TextLines.{is_ended}
+use Rattle.dam_desk.specs.declared.desk_day.Day.{Day}
 use Rattle.dam_desk.proofs.Texts.{ended_records}
 use Rattle.dam_desk.proofs.state.Intake.batch.Goals as goal
 

@@ -1,6 +1,6 @@
 use Rattle.std.proofs.Common.{◌++◌, List, ℕ, sym, ap, ◌∙◌, append-nil}
 use Rattle.std.proofs.lemmas.Result.{on_ok_weaker}
-use Rattle.dam_store.specs.Journal.{text_of}
+use Rattle.dam_store.specs.FileLines.{text_of}
 use Rattle.dam_desk.proofs.Texts.{none_both}
 use Rattle.dam_desk.proofs.state.Intake.begin_line.Goals as goal
 

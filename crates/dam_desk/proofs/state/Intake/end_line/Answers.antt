@@ -1,7 +1,7 @@
 -- One line more is answered.
 use Rattle.std.proofs.Common.{◌≡◌, ◌++◌, ◌∷◌, [], List, ℕ, false, refl, sym, ap, ◌∙◌, subst}
-use Rattle.dam_store.specs.Journal.{has_byte}
-use Rattle.dam_desk.specs.Journal.{AreAnswers, answer_to, journal_text, next, state_after}
+use Rattle.dam_store.specs.FileLines.{has_byte}
+use Rattle.dam_desk.specs.DeskJournal.{AreAnswers, answer_to, desk_journal_text, next, state_after}
 use Rattle.dam_desk.proofs.Runs.{answers_snoc}
 use Rattle.dam_desk.proofs.Texts.{all_snoc, line_more, none_both}
 use Rattle.dam_desk.proofs.state.Intake.end_line.Goals as goal
@@ -10,7 +10,7 @@ pub returns : goal.returns
 returns c state given after none read =
     let piece = c.args.piece.now in
     let line = read.begun ++ piece in
-    let before = journal_text state.journal in
+    let before = desk_journal_text state.journal in
     let taken = c.in_ok-answer_line.ensures.step before read.last.journal line (record { day = read.now.day; text = read.text })
     (c.in_ok-extend.ensures read.begun read.now.line) in
     let number = ap next read.now.answered in

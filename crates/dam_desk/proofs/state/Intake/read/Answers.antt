@@ -1,7 +1,7 @@
 use Rattle.std.proofs.Common.{Bor, List, ℕ, Option, sym, ap, ◌∙◌}
-use Rattle.dam_desk.specs.Lines.{record_of}
+use Rattle.dam_desk.specs.InputLines.{record_of}
 use Rattle.dam_desk.specs.inside.Intake.{periods_of}
-use Rattle.dam_desk.specs.declared.day.Day.{Day}
+use Rattle.dam_desk.specs.declared.desk_day.Day.{Day}
 use Rattle.dam_desk.proofs.AfterDay.{valid_day}
 use Rattle.dam_desk.proofs.state.Intake.read.Goals as goal
 use Rattle.dam_desk.proofs.state.Intake.read.Goals.{in-Some, in-None}

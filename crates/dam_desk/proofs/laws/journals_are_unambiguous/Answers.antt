@@ -1,13 +1,13 @@
 use Rattle.std.proofs.Common.{Some, None, ap₂}
 use Rattle.dam_book.specs.Book.{run}
 use Rattle.dam_results.specs.Replies.{replies_to}
-use Rattle.dam_desk.specs.Journal.{journal_text}
-use Rattle.dam_desk.proofs.laws.journals_settle.Goals as goal
+use Rattle.dam_desk.specs.DeskJournal.{desk_journal_text}
+use Rattle.dam_desk.proofs.laws.journals_are_unambiguous.Goals as goal
 
 pub returns : goal.returns
 returns c None reads = tt
 returns c (Some journal) reads =
-    let text = journal_text (Some journal) in
+    let text = desk_journal_text (Some journal) in
     let periods = journal.periods in
     let commands = journal.commands in
     record {

@@ -2,7 +2,7 @@
 use Rattle.std.specs.Prelude.{◌≡◌, ℕ, List, Option, None, Some, length}
 use Rattle.dam_book.specs.Book.{run}
 use Rattle.dam_book.specs.declared.command.Command.{Command}
-use Rattle.dam_desk.specs.declared.day.Day.{Day}
+use Rattle.dam_desk.specs.declared.desk_day.Day.{Day}
 
 -- how many commands were entered
 abbrev pub entered_of : Option Day → ℕ

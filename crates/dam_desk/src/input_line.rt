@@ -1,6 +1,6 @@
 //! A line of the input, as it comes in pieces.
 ghost use Rattle.std.specs.Prelude.{◌≡◌, ◌++◌, List, ℕ, [], OnOk};
-ghost use Rattle.dam_desk.specs.Lines.{kept_bytes};
+ghost use Rattle.dam_desk.specs.InputLines.{kept_bytes};
 
 use crate::limits::MOST_LINE;
 use std::alloc::{AllocError, Global};

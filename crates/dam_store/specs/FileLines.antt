@@ -1,7 +1,7 @@
 -- The lines that a file's bytes stand for, whatever a crash made of them.
 use Rattle.std.specs.Prelude.{◌≡◌, ◌⊎◌, ℕ, ◌==◌, ◌&&◌, ◌||◌, Bool, true, false, if◌then◌else◌, List, [], ◌∷◌, ◌++◌, Option, Some, None, length, take, drop, codes, nat_le, nat_lt, bytes_eq}
-use Rattle.std.specs.List.{list_any}
-use Rattle.dam_store.specs.Limits.{most_bytes}
+use Rattle.std.specs.List.{AllByRecursion, list_any}
+use Rattle.dam_store.specs.Limits.{most_file_bytes}
 
 -- the byte is among these
 abbrev pub has_byte : ℕ → List ℕ → Bool
@@ -10,6 +10,10 @@ has_byte byte bytes = list_any (λ b. b == byte) bytes
 -- the bytes of a line: no newline and no zero byte
 abbrev pub IsLine : List ℕ → Type 0
 IsLine line = (has_byte 10 line ≡ false) × (has_byte 0 line ≡ false)
+
+-- none of the lines has a newline
+abbrev pub HaveNoNewline : List (List ℕ) → Type 0
+HaveNoNewline lines = AllByRecursion (λ line. has_byte 10 line ≡ false) lines
 
 -- lines as a text: a newline ends each
 abbrev pub text_of : List (List ℕ) → List ℕ
@@ -36,9 +40,9 @@ marked_lines bytes = lines_from None bytes
 abbrev pub head_line : List ℕ
 head_line = 43 ∷ codes "dam-desk 1" ++ 10 ∷ []
 
--- lines after the first line, as a file has them
-abbrev pub written : List (List ℕ) → List ℕ
-written lines = head_line ++ marked lines
+-- the bytes that the first line and these lines have on the disk
+abbrev pub bytes_on_disk : List (List ℕ) → List ℕ
+bytes_on_disk lines = head_line ++ marked lines
 
 -- the lines after the first line of a journal's file
 abbrev pub lines_in : List ℕ → List (List ℕ)
@@ -58,13 +62,13 @@ is_unmade (first ∷ second ∷ rest) =
 
 -- the lines, if a file has room for one more byte after them
 abbrev pub with_room : List (List ℕ) → Option (List (List ℕ))
-with_room lines = if nat_lt (length (written lines)) most_bytes then Some lines else None
+with_room lines = if nat_lt (length (bytes_on_disk lines)) most_file_bytes then Some lines else None
 
 -- The lines that a file stands for: those after its first line. A file that was never made whole stands for no lines,
 -- and any other file isn't a journal.
 abbrev pub stands_for : List ℕ → Option (List (List ℕ))
 stands_for file =
-    if nat_lt most_bytes (length file) then None
+    if nat_lt most_file_bytes (length file) then None
     else if bytes_eq (take (length head_line) file) head_line then with_room (lines_in file)
     else if is_unmade file then Some []
     else None

@@ -1,7 +1,7 @@
 //! The lines of a text.
 ghost use Rattle.std.specs.Prelude.{◌≡◌, ◌<◌, false, length, IfSome, MatchOption};
-ghost use Rattle.dam_store.specs.Journal.{has_byte};
-ghost use Rattle.dam_desk.specs.inside.Lines.{BeginsWith};
+ghost use Rattle.dam_store.specs.FileLines.{has_byte};
+ghost use Rattle.dam_desk.specs.inside.TextLines.{BeginsWith};
 
 use memchr::memchr;
 

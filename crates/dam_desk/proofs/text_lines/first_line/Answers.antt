@@ -1,8 +1,8 @@
 use Rattle.std.proofs.Common.{◌≡◌, ◌+◌, suc, take, drop, sym, ap, ◌∙◌, subst, arith}
 use Rattle.std.proofs.lemmas.List.{take_rest}
-use Rattle.dam_desk.specs.inside.Lines.{BeginsWith}
+use Rattle.dam_desk.specs.inside.TextLines.{BeginsWith}
 use Rattle.dam_desk.proofs.Texts.{first_of, none_has}
-use Rattle.dam_desk.proofs.lines.first_line.Goals as goal
+use Rattle.dam_desk.proofs.text_lines.first_line.Goals as goal
 
 pub returns-in_default-clause-first : goal.returns-in_default-clause-first
 returns-in_default-clause-first c = none_has c.args.bytes.now (λ k low. c.in_default.ensures k (omega arith) low)

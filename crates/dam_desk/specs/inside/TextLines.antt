@@ -1,6 +1,6 @@
 -- The lines of a text.
 use Rattle.std.specs.Prelude.{◌≡◌, ◌==◌, ℕ, Bool, true, false, List, [], ◌∷◌, ◌++◌}
-use Rattle.dam_store.specs.Journal.{has_byte}
+use Rattle.dam_store.specs.FileLines.{has_byte}
 
 -- the bytes are a line, its line feed, and then others
 pub record BeginsWith (bytes line after : List ℕ) : Type 0 where

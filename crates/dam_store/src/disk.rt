@@ -1,12 +1,12 @@
 ghost use Rattle.std.specs.Prelude.{◌≡◌, ◌⊎◌, ◌<◌, ◌≤◌, ℕ, List, true, false, not, length, IsTrue, IfOk, IfErr, OnOk, OnErr};
 ghost use Rattle.sqlite_disk.specs.Disk.{Torn, Holds, Follows, CountsFault, MoreFaults};
-ghost use Rattle.dam_store.specs.Limits.{most_bytes};
-ghost use Rattle.dam_store.specs.Faults.{is_failed_read, is_failed_sync, is_failed_write, is_failure, is_refusal, IsRefused};
-ghost use Rattle.dam_store.specs.inside.Synced.{IsSynced, IsRead};
+ghost use Rattle.dam_store.specs.Limits.{most_file_bytes};
+ghost use Rattle.dam_store.specs.Faults.{is_failed_read, is_failed_sync, is_failed_write, is_failure, is_refused_file, IsRefused};
+ghost use Rattle.dam_store.specs.inside.Synced.{IsReadWhole, IsSynced};
 ghost use Rattle.dam_store.specs.declared.fault.StoreFault.TheVariants.{Memory};
 
 use crate::fault::StoreFault;
-use crate::limits::MOST_BYTES;
+use crate::limits::MOST_FILE_BYTES;
 use sqlite_disk::Disk;
 use std::alloc::Global;
 
@@ -14,7 +14,11 @@ use std::alloc::Global;
 ///
 /// Nothing is retried. After a failed sync `is_usable` forbids every call. After a failed write no clause can say that the write
 /// isn't tried again, because a disk's clauses count failed calls from below only (`MoreFaults`): that is seen in the body.
-pub(crate) fn put<D: Disk>(disk: &mut D, at: usize, bytes: &[u8]) -> Result<(), StoreFault>
+pub(crate) fn write_and_sync<D: Disk>(
+    disk: &mut D,
+    at: usize,
+    bytes: &[u8],
+) -> Result<(), StoreFault>
     requires usable { IsTrue (D.Disk.is_usable disk.old) }
     requires some { 0 < length bytes.now }
     ensures synced { OnOk result (IsSynced D.Disk disk.new) }
@@ -37,8 +41,8 @@ pub(crate) fn put<D: Disk>(disk: &mut D, at: usize, bytes: &[u8]) -> Result<(), 
 /// The bytes of the file.
 pub(crate) fn read_file<D: Disk>(alloc: Global, disk: &mut D) -> Result<Vec<u8>, StoreFault>
     requires synced { IsSynced D.Disk disk.old }
-    ensures read { IfOk result (λ bytes. IsRead D.Disk disk.new bytes.items) }
-    ensures short { IfOk result (λ bytes. length bytes.items ≤ most_bytes) }
+    ensures read { IfOk result (λ bytes. IsReadWhole D.Disk disk.new bytes.items) }
+    ensures short { IfOk result (λ bytes. length bytes.items ≤ most_file_bytes) }
     ensures seen { D.Disk.seen disk.new ≡ D.Disk.seen disk.old }
     ensures clean { IsTrue (D.Disk.is_clean disk.new) → IsTrue (D.Disk.is_clean disk.old) }
     ensures crash { (file : List ℕ) → D.Disk.may_leave disk.new file
@@ -48,15 +52,15 @@ pub(crate) fn read_file<D: Disk>(alloc: Global, disk: &mut D) -> Result<Vec<u8>,
         → MoreFaults (D.Disk.faults disk.old) (D.Disk.faults disk.new)) }
     ensures no_failure { IfErr result (λ fault. is_failure fault ≡ false
         → D.Disk.faults disk.new ≡ D.Disk.faults disk.old) }
-    ensures refusal { IfErr result (λ fault. is_refusal fault ≡ true
+    ensures refusal { IfErr result (λ fault. is_refused_file fault ≡ true
         → IsTrue (D.Disk.is_clean disk.new)
         → IsRefused (D.Disk.seen disk.old) fault) }
     ensures no_other { IfErr result (λ fault. (is_failed_read fault ≡ true)
-        ⊎ (is_refusal fault ≡ true) ⊎ (fault ≡ Memory)) }
+        ⊎ (is_refused_file fault ≡ true) ⊎ (fault ≡ Memory)) }
     ensures usable { OnErr result (IsTrue (D.Disk.is_usable disk.new)) }
 {
     let len = disk.len().map_err(StoreFault::Read)?;
-    if len > MOST_BYTES {
+    if len > MOST_FILE_BYTES {
         return Err(StoreFault::TooLong);
     }
     let mut bytes = vec![in alloc; 0u8; len]?;

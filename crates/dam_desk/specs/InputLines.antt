@@ -56,8 +56,8 @@ AreOfOne None commands = commands ≡ []
 AreOfOne (Some periods) commands = length commands ≡ 1
 
 -- The line is too long. Or it is no day, and the text as which it is read has this fault, or more or less than one record.
-abbrev pub IsLineFault : Option ℕ → List ℕ → LineFault → Type 0
-IsLineFault day text fault =
+abbrev pub IsInputLineFault : Option ℕ → List ℕ → LineFault → Type 0
+IsInputLineFault day text fault =
     ((most_line < length text) × (fault ≡ line.TooLong))
     ⊎ (IsNoDay text
     × (((why : JournalFault) × IsJournalFault (text_after day text) why × IsSameFault (length (record_of day)) why fault)
@@ -70,4 +70,4 @@ abbrev pub Says : Option ℕ → List ℕ → Said → Type 0
 Says day text (Day periods) = IsDayLine text periods
 Says None text (Commands command) = ⊥
 Says (Some periods) text (Commands command) = IsCommandLine periods text command
-Says day text (Fault fault) = IsLineFault day text fault
+Says day text (Fault fault) = IsInputLineFault day text fault

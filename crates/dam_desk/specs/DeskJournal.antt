@@ -1,15 +1,14 @@
 -- The journal of a desk: which answer a line of the input gets, and what it enters.
 use Rattle.std.specs.Prelude.{◌≡◌, ◌==◌, ◌+◌, ◌-◌, ◌^◌, ℕ, min, Bool, true, false, not, if◌then◌else◌, List, [], ◌∷◌, ◌++◌, length, Option, None, Some}
-use Rattle.std.specs.List.{AllByRecursion}
 use Rattle.dam_book.specs.Book.{reply_to, run}
 use Rattle.dam_book.specs.declared.command.Command.{Command}
 use Rattle.dam_results.specs.Journal.{ReadsAs}
 use Rattle.dam_results.specs.Replies.{day_line, reply_line, replies_to}
 use Rattle.dam_results.specs.Written.{written}
-use Rattle.dam_store.specs.Journal.{has_byte, text_of, StandsFor}
+use Rattle.dam_store.specs.FileLines.{HaveNoNewline, has_byte, text_of, StandsFor}
 use Rattle.dam_desk.specs.Answers.{fault_line}
-use Rattle.dam_desk.specs.Lines.{Says}
-use Rattle.dam_desk.specs.Room.{is_full}
+use Rattle.dam_desk.specs.InputLines.{Says}
+use Rattle.dam_desk.specs.Room.{is_desk_full}
 use Rattle.dam_desk.specs.declared.fault.LineFault.TheVariants.{OtherDay, JournalFull, NotDay}
 use Rattle.dam_desk.specs.declared.reading.Said.{Said}
 use Rattle.dam_desk.specs.declared.reading.Said.TheVariants.{Day, Command as Commands, Fault}
@@ -25,36 +24,36 @@ day_of None = None
 day_of (Some journal) = Some journal.periods
 
 -- the text of the file's lines: the written journal
-abbrev pub journal_text : Option Journal → List ℕ
-journal_text None = []
-journal_text (Some journal) = written journal.periods journal.commands
+abbrev pub desk_journal_text : Option Journal → List ℕ
+desk_journal_text None = []
+desk_journal_text (Some journal) = written journal.periods journal.commands
 
--- the text reads as the journal
-abbrev pub Reads : Option Journal → Type 0
-Reads None = Unit {0}
-Reads (Some journal) = ReadsAs (written journal.periods journal.commands) journal.periods journal.commands
+-- the written journal reads back as the journal
+abbrev pub ReadsBack : Option Journal → Type 0
+ReadsBack None = Unit {0}
+ReadsBack (Some journal) = ReadsAs (written journal.periods journal.commands) journal.periods journal.commands
 
 -- the text that `dam replay` prints for the journal
-abbrev pub replies_text : Option Journal → List ℕ
-replies_text None = []
-replies_text (Some journal) = replies_to journal.periods journal.commands
+abbrev pub desk_replies_text : Option Journal → List ℕ
+desk_replies_text None = []
+desk_replies_text (Some journal) = replies_to journal.periods journal.commands
 
 -- the journal with one more command, if it has room for it
 abbrev pub with_command : Journal → Command → Journal
 with_command journal command =
-    if is_full (length journal.commands) command then journal
+    if is_desk_full (length journal.commands) command then journal
     else record { periods = journal.periods; commands = journal.commands ++ command ∷ [] }
 
 -- the journal after a line that says this
-abbrev pub journal_after : Option Journal → Said → Option Journal
-journal_after None (Day periods) = Some (record { periods = periods; commands = [] })
-journal_after (Some journal) (Commands command) = Some (with_command journal command)
-journal_after journal said = journal
+abbrev pub journal_after_line : Option Journal → Said → Option Journal
+journal_after_line None (Day periods) = Some (record { periods = periods; commands = [] })
+journal_after_line (Some journal) (Commands command) = Some (with_command journal command)
+journal_after_line journal said = journal
 
 -- the answer to a command of this journal, given in the line of this number
 abbrev pub command_answer : ℕ → Journal → Command → List ℕ
 command_answer number journal command =
-    if is_full (length journal.commands) command then fault_line number JournalFull
+    if is_desk_full (length journal.commands) command then fault_line number JournalFull
     else reply_line (length journal.commands + 1) (reply_to (run journal.periods journal.commands) command)
 
 -- the answer to the line of this number, which says this in this journal
@@ -77,7 +76,7 @@ next answered = min (answered + 1) (2 ^ 64 - 1)
 
 -- the state after a line that says this
 abbrev pub state_after : State → Said → State
-state_after state said = record { answered = next state.answered; journal = journal_after state.journal said }
+state_after state said = record { answered = next state.answered; journal = journal_after_line state.journal said }
 
 -- the text has one answer to each line, in order, and this is the state after them
 abbrev pub AreAnswers : State → List (List ℕ) → List ℕ → State → Type 0
@@ -90,33 +89,29 @@ AreAnswers state (line ∷ lines) text last =
 -- a line that says this enters something
 abbrev pub enters : Option Journal → Said → Bool
 enters None (Day periods) = true
-enters (Some journal) (Commands command) = not (is_full (length journal.commands) command)
+enters (Some journal) (Commands command) = not (is_desk_full (length journal.commands) command)
 enters journal said = false
 
 -- the text has, of the answers to these lines, those to the lines that enter something
-abbrev pub AreReplies : State → List (List ℕ) → List ℕ → Type 0
-AreReplies state [] text = text ≡ []
-AreReplies state (line ∷ lines) text =
+abbrev pub AreAnswersToEntered : State → List (List ℕ) → List ℕ → Type 0
+AreAnswersToEntered state [] text = text ≡ []
+AreAnswersToEntered state (line ∷ lines) text =
     (said : Said) × Says (day_of state.journal) line said
     × (rest : List ℕ) × (text ≡ (if enters state.journal said then answer_to (next state.answered) state.journal said else []) ++ rest)
-    × AreReplies (state_after state said) lines rest
-
--- none of the lines has a line feed
-abbrev pub AreWhole : List (List ℕ) → Type 0
-AreWhole lines = AllByRecursion (λ line. has_byte 10 line ≡ false) lines
+    × AreAnswersToEntered (state_after state said) lines rest
 
 -- the bytes are these lines, each with its line feed, and then the beginning of another line
 pub record AreLines (bytes : List ℕ) (lines : List (List ℕ)) (begun : List ℕ) : Type 0 where
   pub split : bytes ≡ text_of lines ++ begun
-  pub whole : AreWhole lines
+  pub whole : HaveNoNewline lines
   pub unended : has_byte 10 begun ≡ false
 
 -- these are the first lines of the bytes
 pub record FirstLines (bytes : List ℕ) (lines : List (List ℕ)) : Type 0 where
   pub rest : List ℕ
   pub split : bytes ≡ text_of lines ++ rest
-  pub whole : AreWhole lines
+  pub whole : HaveNoNewline lines
 
 -- the file opens to this journal: its lines are the written journal, and read as it
 abbrev pub OpensTo : Option Journal → List ℕ → Type 0
-OpensTo journal file = (lines : List (List ℕ)) × StandsFor lines file × (text_of lines ≡ journal_text journal) × Reads journal
+OpensTo journal file = (lines : List (List ℕ)) × StandsFor lines file × (text_of lines ≡ desk_journal_text journal) × ReadsBack journal

@@ -2,7 +2,7 @@ use Rattle.std.proofs.Common.{◌+◌, ℕ, ◌∙◌, ◌-◌, min, length, ap}
 use Rattle.std.proofs.lemmas.Result.{on_ok_weaker}
 use Rattle.dam_desk.specs.Limits.{most_line}
 use Rattle.dam_desk.proofs.Lists.{more_kept, on_ok_then}
-use Rattle.dam_desk.proofs.line.Line.extend.Goals as goal
+use Rattle.dam_desk.proofs.input_line.Line.extend.Goals as goal
 
 pub returns : goal.returns
 returns c = on_ok_weaker c.extend_from_slice.result (λ items begun is.

@@ -1,6 +1,6 @@
 -- A store through any sequence of openings, appends, faults and crashes.
 use Rattle.std.specs.Prelude.{◌≡◌, ◌⊎◌, List, ℕ, [], ◌∷◌, ◌++◌}
-use Rattle.dam_store.specs.Journal.{StandsForEither}
+use Rattle.dam_store.specs.FileLines.{StandsForEither}
 
 -- what is known of a file: it stands for the sure lines, or for those and all of the pending ones
 pub record Known : Type 0 where

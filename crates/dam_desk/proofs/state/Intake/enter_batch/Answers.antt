@@ -1,8 +1,8 @@
 -- Nothing is entered yet.
 use Rattle.std.proofs.Common.{◌++◌, [], List, ℕ, refl, ap, ◌∙◌, append-nil}
-use Rattle.dam_desk.specs.Journal.{journal_text}
+use Rattle.dam_desk.specs.DeskJournal.{desk_journal_text}
 use Rattle.dam_desk.proofs.Steps.{nothing_yet}
-use Rattle.dam_desk.proofs.state.Intake.take.Goals as goal
+use Rattle.dam_desk.proofs.state.Intake.enter_batch.Goals as goal
 
 pub returns : goal.returns
 returns c state begun is =
@@ -14,6 +14,6 @@ returns c state begun is =
       whole = tt;
       answers = (c.clear-2.ensures.items, refl);
       now = record { answered = is.answered; day = is.day; line = is.line; unended = is.unended };
-      text = ap (λ (t : List ℕ). journal_text state.journal ++ t) (nothing_yet c.args.self.now.day c.clear.new.self.items c.clear.ensures.items)
-          ∙ append-nil (journal_text state.journal);
+      text = ap (λ (t : List ℕ). desk_journal_text state.journal ++ t) (nothing_yet c.args.self.now.day c.clear.new.self.items c.clear.ensures.items)
+          ∙ append-nil (desk_journal_text state.journal);
     })
