@@ -362,7 +362,7 @@ class Facts(unittest.TestCase):
         listed = dict(line.split("#")[0].split(":") for line in (TOP / "crates.txt").read_text().splitlines() if ":" in line.split("#")[0])
         own = {name.split()[0] for name in listed}
         used = {name for names in listed.values() for name in names.split()} - own
-        said = re.search(r"Crates of the kit, with all crates that they use: (.*?) The protection", plain(TOP / "docs" / "ASSURANCE.md"))
+        said = re.search(r"These crates of the kit, and all that they use in turn: (.*?) The protection", plain(TOP / "docs" / "ASSURANCE.md"))
         self.assertEqual(sorted(re.findall(r"`(\w+)`", said[1])), sorted(used | {"std"}))
 
     def test_the_numbers_of_definitions(self):
