@@ -16,9 +16,9 @@ use dam_book::{
     read_day_length, read_pair, read_price, read_volumes,
 };
 
-// Each reader returns the number of the least field that breaks its rule, if there is one. The reader of a command puts
-// it in `command` instead of returning it: a command has room for the volumes of a block, and to return it from function
-// to function would make each record slower.
+// Each reader returns the number of the least field that breaks its rule, if there is one. The readers of commands write
+// the command to their argument: a command has room for the volumes of a block, and to return it from function to function
+// would make each record slower.
 
 fn check_empty(field: &[u8], number: usize) -> Result<(), usize>
     ensures { MatchResult result (λ _. field.now ≡ [])
