@@ -4,7 +4,7 @@ use Rattle.dam_desk.specs.Answers.{fault_line}
 use Rattle.dam_desk.specs.Desk.{end_answer}
 use Rattle.dam_desk.specs.Limits.{most_line}
 use Rattle.dam_desk.specs.InputLines.{kept_bytes}
-use Rattle.dam_desk.specs.declared.fault.LineFault.TheVariants.{CutShort}
+use Rattle.dam_desk.specs.declared.fault.InputLineFault.TheVariants.{CutShort}
 use Rattle.std.proofs.lemmas.List.{drop_at, take_min, take_rest}
 
 take_both : (m : ℕ) (xs ys : List ℕ) → take m xs ++ take (m - length (take m xs)) ys ≡ take m (xs ++ ys)

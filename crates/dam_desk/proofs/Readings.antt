@@ -7,7 +7,7 @@ use Rattle.dam_results.specs.Journal.{ReadsAs}
 use Rattle.dam_results.specs.Records.{day_row}
 use Rattle.dam_results.specs.declared.journal.JournalFault.{JournalFault}
 use Rattle.dam_desk.specs.InputLines.{AreOfOne, IsSameFault, record_of, text_after}
-use Rattle.dam_desk.specs.declared.fault.LineFault.{LineFault}
+use Rattle.dam_desk.specs.declared.fault.InputLineFault.{InputLineFault}
 
 -- the line with its line feed, after the record of the day
 pub alone : (day : Option ℕ) (line text : List ℕ) (before : ℕ) → text ≡ text_after day line → before ≡ length (record_of day)
@@ -33,7 +33,7 @@ pub not_one_after : (day : Option ℕ) (before : ℕ) (commands : List Command) 
 not_one_after None before commands before_is some other one = some before_is
 not_one_after (Some p) before commands before_is some other one = other one
 
-pub same_fault : (before n : ℕ) (why : JournalFault) (fault is : LineFault) → before ≡ n → is ≡ fault → IsSameFault before why fault
+pub same_fault : (before n : ℕ) (why : JournalFault) (fault is : InputLineFault) → before ≡ n → is ≡ fault → IsSameFault before why fault
     → IsSameFault n why is
 same_fault before n why fault is at same has =
-    subst (λ (f : LineFault). IsSameFault n why f) (sym same) (subst (λ (k : ℕ). IsSameFault k why fault) at has)
+    subst (λ (f : InputLineFault). IsSameFault n why f) (sym same) (subst (λ (k : ℕ). IsSameFault k why fault) at has)

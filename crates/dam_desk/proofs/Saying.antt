@@ -6,7 +6,7 @@ use Rattle.dam_results.specs.Journal.{ReadsAs}
 use Rattle.dam_results.specs.declared.journal.JournalFault.{JournalFault}
 use Rattle.dam_results.specs.declared.journal.JournalFault.TheVariants as journal
 use Rattle.dam_desk.specs.InputLines.{IsDayLine, IsInputLineFault, IsSameFault, Says, record_of, text_after}
-use Rattle.dam_desk.specs.declared.fault.LineFault.{LineFault}
+use Rattle.dam_desk.specs.declared.fault.InputLineFault.{InputLineFault}
 use Rattle.dam_desk.specs.declared.reading.Said.{Said}
 use Rattle.dam_desk.specs.declared.reading.Said.TheVariants.{Day as Days, Command as Commands, Fault}
 
@@ -22,7 +22,7 @@ abbrev OneFault : Type 0
 OneFault = (text : List ℕ) (fault other : JournalFault) → IsJournalFault text fault → IsJournalFault text other
     → (fault ≡ other) ⊎ ((fault ≡ journal.Memory) ⊎ (other ≡ journal.Memory))
 
-same_of : (n : ℕ) (why : JournalFault) (fault other : LineFault) → IsSameFault n why fault → IsSameFault n why other → fault ≡ other
+same_of : (n : ℕ) (why : JournalFault) (fault other : InputLineFault) → IsSameFault n why fault → IsSameFault n why other → fault ≡ other
 same_of n journal.TooLong fault other a b = a ∙ sym b
 same_of n (journal.NotAscii offset) fault other a b = a ∙ sym b
 same_of n journal.TooManyRecords fault other a b = a ∙ sym b
@@ -31,14 +31,14 @@ same_of n (journal.FieldCount at) fault other a b = a ∙ sym b
 same_of n (journal.BadField at field) fault other a b = a ∙ sym b
 same_of n journal.Memory fault other a b = absurd a
 
-no_memory : (n : ℕ) (why : JournalFault) (fault : LineFault) → IsSameFault n why fault → why ≡ journal.Memory → ⊥
+no_memory : (n : ℕ) (why : JournalFault) (fault : InputLineFault) → IsSameFault n why fault → why ≡ journal.Memory → ⊥
 no_memory n why fault same is = subst (λ (w : JournalFault). IsSameFault n w fault) is same
 
 day_says : (day : Option ℕ) (text : List ℕ) (periods : ℕ) → Says day text (Days periods) → IsDayLine text periods
 day_says None text periods says = says
 day_says (Some d) text periods says = says
 
-fault_says : (day : Option ℕ) (text : List ℕ) (fault : LineFault) → Says day text (Fault fault) → IsInputLineFault day text fault
+fault_says : (day : Option ℕ) (text : List ℕ) (fault : InputLineFault) → Says day text (Fault fault) → IsInputLineFault day text fault
 fault_says None text fault says = says
 fault_says (Some d) text fault says = says
 
@@ -46,7 +46,7 @@ day_command : (day : Option ℕ) (text : List ℕ) (periods : ℕ) (command : Co
 day_command None text periods command a b = b
 day_command (Some d) text periods command a b = b.0.other periods a
 
-day_fault : (day : Option ℕ) (text : List ℕ) (periods : ℕ) (fault : LineFault) → IsDayLine text periods → IsInputLineFault day text fault → ⊥
+day_fault : (day : Option ℕ) (text : List ℕ) (periods : ℕ) (fault : InputLineFault) → IsDayLine text periods → IsInputLineFault day text fault → ⊥
 day_fault day text periods fault a (inl long) = absurd (omega (arith, a.0, long.0))
 day_fault day text periods fault a (inr other) = other.0.other periods a
 
@@ -58,7 +58,7 @@ module _ (one : OneJournal) (none : NoJournal) (one_fault : OneFault) where
       let same = one (text_after (Some d) text) a.1.0 b.1.0 (command ∷ []) (other ∷ []) a.1.1 b.1.1 in
       let is = same.1 in cc
 
-  command_fault : (day : Option ℕ) (text : List ℕ) (command : Command) (fault : LineFault) → Says day text (Commands command)
+  command_fault : (day : Option ℕ) (text : List ℕ) (command : Command) (fault : InputLineFault) → Says day text (Commands command)
       → IsInputLineFault day text fault → ⊥
   command_fault None text command fault a b = a
   command_fault (Some d) text command fault a (inl long) = absurd (omega (arith, a.0.short, long.0))
@@ -69,7 +69,7 @@ module _ (one : OneJournal) (none : NoJournal) (one_fault : OneFault) where
       let same = one (text_after (Some d) text) a.1.0 many.1.0 (command ∷ []) many.1.1 a.1.1 many.1.2 in
       many.1.3 (ap length (sym same.1))
 
-  faults_one : (day : Option ℕ) (text : List ℕ) (fault other : LineFault) → IsInputLineFault day text fault → IsInputLineFault day text other → fault ≡ other
+  faults_one : (day : Option ℕ) (text : List ℕ) (fault other : InputLineFault) → IsInputLineFault day text fault → IsInputLineFault day text other → fault ≡ other
   faults_one day text fault other (inl a) (inl b) = a.1 ∙ sym b.1
   faults_one day text fault other (inl a) (inr b) = absurd (omega (arith, a.0, b.0.short))
   faults_one day text fault other (inr a) (inl b) = absurd (omega (arith, b.0, a.0.short))

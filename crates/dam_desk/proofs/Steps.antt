@@ -14,8 +14,8 @@ use Rattle.dam_desk.specs.Room.{is_desk_full}
 use Rattle.dam_desk.specs.inside.DeskDay.{IsDayWith}
 use Rattle.dam_desk.specs.inside.Intake.{Answered, HasJournal, IsAt, entered_text, periods_of, records_text}
 use Rattle.dam_desk.specs.declared.desk_day.Day.{Day}
-use Rattle.dam_desk.specs.declared.fault.LineFault.{LineFault}
-use Rattle.dam_desk.specs.declared.fault.LineFault.TheVariants.{OtherDay}
+use Rattle.dam_desk.specs.declared.fault.InputLineFault.{InputLineFault}
+use Rattle.dam_desk.specs.declared.fault.InputLineFault.TheVariants.{OtherDay}
 use Rattle.dam_desk.specs.declared.reading.Said.{Said}
 use Rattle.dam_desk.specs.declared.reading.Said.TheVariants.{Day as Days, Command as Commands, Fault}
 use Rattle.dam_desk.specs.declared.state.Intake.{Intake}
@@ -41,11 +41,11 @@ pub some_journal : (day : Day) (journal : Option Journal) → HasJournal (Some d
 some_journal day None has = absurd has
 some_journal day (Some j) has = record { of = j; is = refl; has = has }
 
-pub fault_answer : (number : ℕ) (journal : Option Journal) (fault : LineFault) → answer_to number journal (Fault fault) ≡ fault_line number fault
+pub fault_answer : (number : ℕ) (journal : Option Journal) (fault : InputLineFault) → answer_to number journal (Fault fault) ≡ fault_line number fault
 fault_answer number None fault = refl
 fault_answer number (Some j) fault = refl
 
-pub fault_after : (journal : Option Journal) (fault : LineFault) → journal_after_line journal (Fault fault) ≡ journal
+pub fault_after : (journal : Option Journal) (fault : InputLineFault) → journal_after_line journal (Fault fault) ≡ journal
 fault_after None fault = refl
 fault_after (Some j) fault = refl
 

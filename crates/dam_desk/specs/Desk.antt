@@ -14,7 +14,7 @@ use Rattle.dam_desk.specs.Faults.{SaysCount, is_failed_call, is_failed_write, is
 use Rattle.dam_desk.specs.DeskJournal.{Journal, State, AreAnswers, AreLines, AreAnswersToEntered, FirstLines, OpensTo, ReadsBack, desk_journal_text, next, desk_replies_text}
 use Rattle.dam_desk.specs.declared.desk.Desk.{Desk}
 use Rattle.dam_desk.specs.declared.fault.DeskFault.{DeskFault}
-use Rattle.dam_desk.specs.declared.fault.LineFault.TheVariants.{CutShort}
+use Rattle.dam_desk.specs.declared.fault.InputLineFault.TheVariants.{CutShort}
 use Rattle.dam_desk.specs.inside.Intake.{IsIn}
 
 -- whatever a crash leaves stands for these lines, and then for others that were given since, if any

@@ -9,7 +9,7 @@ use Rattle.dam_store.specs.FileLines.{HaveNoNewline, has_byte, text_of, StandsFo
 use Rattle.dam_desk.specs.Answers.{fault_line}
 use Rattle.dam_desk.specs.InputLines.{Says}
 use Rattle.dam_desk.specs.Room.{is_desk_full}
-use Rattle.dam_desk.specs.declared.fault.LineFault.TheVariants.{OtherDay, JournalFull, NotDay}
+use Rattle.dam_desk.specs.declared.fault.InputLineFault.TheVariants.{OtherDay, JournalFull, NotDay}
 use Rattle.dam_desk.specs.declared.reading.Said.{Said}
 use Rattle.dam_desk.specs.declared.reading.Said.TheVariants.{Day, Command as Commands, Fault}
 

@@ -8,8 +8,8 @@ use Rattle.dam_results.specs.Journal.{ReadsAs}
 use Rattle.dam_results.specs.Records.{day_row}
 use Rattle.dam_results.specs.Written.{row_line}
 use Rattle.dam_desk.specs.Limits.{most_line}
-use Rattle.dam_desk.specs.declared.fault.LineFault.{LineFault}
-use Rattle.dam_desk.specs.declared.fault.LineFault.TheVariants as line
+use Rattle.dam_desk.specs.declared.fault.InputLineFault.{InputLineFault}
+use Rattle.dam_desk.specs.declared.fault.InputLineFault.TheVariants as line
 use Rattle.dam_desk.specs.declared.reading.Said.{Said}
 use Rattle.dam_desk.specs.declared.reading.Said.TheVariants.{Day, Command as Commands, Fault}
 
@@ -41,7 +41,7 @@ IsCommandLine periods text command =
     IsNoDay text × ((day : ℕ) × ReadsAs (text_after (Some periods) text) day (command ∷ []))
 
 -- the line, which is read after this many bytes, has the fault of the journal
-abbrev pub IsSameFault : ℕ → JournalFault → LineFault → Type 0
+abbrev pub IsSameFault : ℕ → JournalFault → InputLineFault → Type 0
 IsSameFault before journal.TooLong fault = fault ≡ line.TooLong
 IsSameFault before (journal.NotAscii offset) fault = fault ≡ line.NotAscii (offset - before)
 IsSameFault before journal.TooManyRecords fault = fault ≡ line.NotOneRecord
@@ -56,7 +56,7 @@ AreOfOne None commands = commands ≡ []
 AreOfOne (Some periods) commands = length commands ≡ 1
 
 -- The line is too long. Or it is no day, and the text as which it is read has this fault, or more or less than one record.
-abbrev pub IsInputLineFault : Option ℕ → List ℕ → LineFault → Type 0
+abbrev pub IsInputLineFault : Option ℕ → List ℕ → InputLineFault → Type 0
 IsInputLineFault day text fault =
     ((most_line < length text) × (fault ≡ line.TooLong))
     ⊎ (IsNoDay text

@@ -7,7 +7,7 @@ ghost use Rattle.dam_desk.specs.DeskJournal.{State, OpensTo, next};
 ghost use Rattle.dam_desk.specs.InputLines.{kept_bytes};
 ghost use Rattle.dam_desk.specs.Faults.{IsEndFault, SaysCount, is_failed_sync, is_read, is_write};
 
-use crate::fault::{DeskFault, LineFault};
+use crate::fault::{DeskFault, InputLineFault};
 use crate::fault_line::write_fault;
 use crate::laws::journals_grow;
 use crate::output::write_text;
@@ -104,12 +104,13 @@ impl<D: Disk> Desk<D> {
         let alloc = self.intake.alloc;
         let mut text = Vec::new(alloc);
         let number = self.intake.answered.saturating_add(1);
-        write_fault(alloc, &mut text, number, LineFault::CutShort)?;
+        write_fault(alloc, &mut text, number, InputLineFault::CutShort)?;
         write_text(writer, text.as_slice())
     }
 
     /// Whether no write to the file has failed, so that what the desk holds is safe.
     pub(crate) fn is_safe(&self) -> bool
+        ensures value { result ≡ not (is_broken self.now.store) }
         ensures keeps { is_broken self.now.store ≡ false
             → IsTrue (D.Disk.is_clean (disk_of self.now.store))
             → KeepsLines (D.Disk.may_leave (disk_of self.now.store)) (held_lines self.now.store) }

@@ -8,7 +8,7 @@ use thiserror::Error;
 
 /// Why a line enters nothing.
 #[derive(Clone, Copy, PartialEq, Eq, Debug)]
-pub(crate) enum LineFault {
+pub(crate) enum InputLineFault {
     /// It has more than `MOST_LINE` bytes.
     TooLong,
     /// The byte at this place, counted from 0, is the first over 127.

@@ -11,9 +11,9 @@ ghost use Rattle.dam_desk.specs.inside.Intake.{Answered, HasRead, IsAt, IsIn, Ta
 ghost use Rattle.dam_desk.specs.inside.TextLines.{is_ended};
 
 use crate::desk_day::Day;
-use crate::fault::LineFault;
+use crate::fault::InputLineFault;
 use crate::fault_line::write_fault;
-use crate::reading::{Said, read_line};
+use crate::reading::{Said, read_input_line};
 use crate::state::Intake;
 use crate::text_lines::first_line;
 use dam_book::laws::runs_grow;
@@ -89,7 +89,7 @@ impl Intake {
             Some(day) => day.header(),
             None => &[],
         };
-        read_line(self.alloc, header, self.line.bytes())
+        read_input_line(self.alloc, header, self.line.bytes())
     }
 
     /// Enters the record, if the line that has come is one, and adds the answer to it.
@@ -107,7 +107,7 @@ impl Intake {
     }
 
     /// Adds the answer to a line with a fault.
-    fn refuse(&mut self, fault: LineFault) -> Result<(), AllocError>
+    fn refuse(&mut self, fault: InputLineFault) -> Result<(), AllocError>
         ensures line { self.new.line ≡ self.old.line }
         ensures answered { self.new.answered ≡ self.old.answered }
         ensures day { self.new.day ≡ self.old.day }
@@ -130,7 +130,7 @@ impl Intake {
             return self.begin(periods);
         };
         if day.periods() != periods {
-            return self.refuse(LineFault::OtherDay);
+            return self.refuse(InputLineFault::OtherDay);
         }
         self.answers.extend_from_slice(day.line())
     }
@@ -158,10 +158,10 @@ impl Intake {
     {
         runs_grow();
         let Some(day) = &mut self.day else {
-            return self.refuse(LineFault::NotDay);
+            return self.refuse(InputLineFault::NotDay);
         };
         if day.is_full(command) {
-            return self.refuse(LineFault::JournalFull);
+            return self.refuse(InputLineFault::JournalFull);
         }
         let number = day.entered() + 1;
         day.enter(number, command, &mut self.entries, &mut self.answers)
@@ -176,12 +176,12 @@ impl Intake {
         };
         let mut batch = Batch::new(self.alloc)?;
         let records = day.records(self.entries.as_slice())?;
-        push_lines(&mut batch, self.entered(day, records.as_slice()))?;
+        push_lines(&mut batch, self.records_to_enter(day, records.as_slice()))?;
         Ok(batch)
     }
 
     /// The records that the batch enters, of those of the day and its commands.
-    fn entered<'a>(&self, day: &Day, records: &'a [u8]) -> &'a [u8]
+    fn records_to_enter<'a>(&self, day: &Day, records: &'a [u8]) -> &'a [u8]
         requires { records.now
             ≡ written day.now.periods (commands_of self.now.entries.items) }
         ensures { result.now

@@ -21,7 +21,7 @@ use std::alloc::Global;
 
 /// A disk on which no desk was opened, and why.
 #[derive(Drop)]
-pub(crate) struct Refused<D: Disk> {
+pub(crate) struct UnopenedDesk<D: Disk> {
     pub(crate) why: DeskFault,
     pub(crate) disk: D,
 }
@@ -32,7 +32,7 @@ pub(crate) fn open<D: Disk + Drop>(
     alloc: Global,
     seed: Seed,
     disk: D,
-) -> Result<(Desk<D>, Vec<u8>), Refused<D>>
+) -> Result<(Desk<D>, Vec<u8>), UnopenedDesk<D>>
     requires usable { IsTrue (D.Disk.is_usable disk) }
     ensures ready { IfOk result (λ desk. is_broken desk.0.store ≡ false) }
     ensures desk { IfOk result (λ desk. IsOpened desk.0 disk desk.1.items) }
@@ -48,7 +48,7 @@ pub(crate) fn open<D: Disk + Drop>(
         Ok(found) => found,
         Err(unopened) => {
             let why = DeskFault::from(unopened.why);
-            return Err(Refused {
+            return Err(UnopenedDesk {
                 why,
                 disk: unopened.disk,
             });
@@ -58,7 +58,7 @@ pub(crate) fn open<D: Disk + Drop>(
         Ok(reopened) => reopened,
         Err(why) => {
             let disk = found.into_disk();
-            return Err(Refused { why, disk });
+            return Err(UnopenedDesk { why, disk });
         }
     };
     match found.open() {
@@ -68,7 +68,7 @@ pub(crate) fn open<D: Disk + Drop>(
         }
         Err(unopened) => {
             let why = DeskFault::from(unopened.why);
-            Err(Refused {
+            Err(UnopenedDesk {
                 why,
                 disk: unopened.disk,
             })

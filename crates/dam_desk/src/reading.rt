@@ -5,7 +5,7 @@ ghost use Rattle.dam_results.specs.Journal.{ReadsAs};
 ghost use Rattle.dam_desk.specs.Limits.{most_line};
 ghost use Rattle.dam_desk.specs.InputLines.{IsSameFault, Says, record_of, text_after, kept_bytes};
 
-use crate::fault::LineFault;
+use crate::fault::InputLineFault;
 use crate::limits::MOST_LINE;
 use dam_book::{DayLength, PackedCommand};
 use dam_results::laws::{fault_is_no_journal, text_is_one_journal};
@@ -20,20 +20,20 @@ pub(crate) enum Said {
     /// It is the record of this command.
     Command(PackedCommand),
     /// It is no record.
-    Fault(LineFault),
+    Fault(InputLineFault),
 }
 
 /// The fault of a line that is read as a journal after `before` bytes, if that has the fault.
-fn line_fault(before: usize, fault: JournalFault) -> Result<LineFault, AllocError>
+fn line_fault(before: usize, fault: JournalFault) -> Result<InputLineFault, AllocError>
     ensures { IfOk result (IsSameFault before fault) }
 {
     match fault {
-        JournalFault::TooLong => Ok(LineFault::TooLong),
-        JournalFault::NotAscii(at) => Ok(LineFault::NotAscii(at.saturating_sub(before))),
-        JournalFault::TooManyRecords => Ok(LineFault::NotOneRecord),
-        JournalFault::NotDay => Ok(LineFault::NotDay),
-        JournalFault::FieldCount(_) => Ok(LineFault::FieldCount),
-        JournalFault::BadField(_, field) => Ok(LineFault::BadField(field)),
+        JournalFault::TooLong => Ok(InputLineFault::TooLong),
+        JournalFault::NotAscii(at) => Ok(InputLineFault::NotAscii(at.saturating_sub(before))),
+        JournalFault::TooManyRecords => Ok(InputLineFault::NotOneRecord),
+        JournalFault::NotDay => Ok(InputLineFault::NotDay),
+        JournalFault::FieldCount(_) => Ok(InputLineFault::FieldCount),
+        JournalFault::BadField(_, field) => Ok(InputLineFault::BadField(field)),
         JournalFault::Memory => Err(AllocError),
     }
 }
@@ -76,10 +76,10 @@ fn read_text(alloc: Global, text: &[u8], before: usize) -> Result<Said, AllocErr
 {
     // A command is the usual line. After the record of the day, a day isn't read as one.
     let fault = match read_packed_journal(alloc, text) {
-        Ok(_) if before == 0 => LineFault::NotOneRecord,
+        Ok(_) if before == 0 => InputLineFault::NotOneRecord,
         Ok(journal) => match only_command(journal) {
             Some(command) => return Ok(Said::Command(command)),
-            None => LineFault::NotOneRecord,
+            None => InputLineFault::NotOneRecord,
         },
         Err(fault) => line_fault(before, fault)?,
     };
@@ -102,13 +102,13 @@ fn text_of(alloc: Global, header: &[u8], line: &[u8]) -> Result<Vec<u8>, AllocEr
 
 /// The meaning of a line after the record of the day, which has no bytes if there is no day yet. Of a line that is too
 /// long, `line` has the first `MOST_LINE + 1` bytes.
-pub(crate) fn read_line(alloc: Global, header: &[u8], line: &[u8]) -> Result<Said, AllocError>
+pub(crate) fn read_input_line(alloc: Global, header: &[u8], line: &[u8]) -> Result<Said, AllocError>
     ensures { (day : Option ℕ) (text : List ℕ) → IfSome day (λ periods. is_day periods ≡ true)
         → header.now ≡ record_of day → line.now ≡ kept_bytes text
         → IfOk result (Says day text) }
 {
     if line.len() > MOST_LINE {
-        return Ok(Said::Fault(LineFault::TooLong));
+        return Ok(Said::Fault(InputLineFault::TooLong));
     }
     let text = text_of(alloc, header, line)?;
     read_text(alloc, text.as_slice(), header.len())

@@ -1,9 +1,9 @@
 ghost use Rattle.std.specs.Prelude.{◌≡◌, ◌++◌, [], ◌∷◌, ◌==◌, false, length, take, drop, IfOk, IfErr, OnOk, OnErr};
 ghost use Rattle.dam_store.specs.FileLines.{HaveNoNewline, IsLine, has_byte, marked, marked_lines};
 ghost use Rattle.dam_store.specs.inside.Shape.{IsBatch};
-ghost use Rattle.dam_store.specs.declared.fault.LineFault.TheVariants.{NotALine};
+ghost use Rattle.dam_store.specs.declared.fault.BatchFault.TheVariants.{NotALine};
 
-use crate::fault::LineFault;
+use crate::fault::BatchFault;
 use std::alloc::{AllocError, Global};
 use std::marker::Model;
 
@@ -37,17 +37,17 @@ impl Batch {
     }
 
     /// Adds a line, given without a newline.
-    pub fn push(&mut self, line: &[u8]) -> Result<(), LineFault>
+    pub fn push(&mut self, line: &[u8]) -> Result<(), BatchFault>
         ensures ok { OnOk result (self.new ≡ self.old ++ line.now ∷ []) }
         ensures line { OnOk result (IsLine line.now) }
         ensures err { OnErr result (self.new ≡ self.old) }
         ensures not_a_line { IfErr result (λ fault. fault ≡ NotALine → ¬ (IsLine line.now)) }
     {
         if line.contains(&b'\n') || line.contains(&0) {
-            return Err(LineFault::NotALine);
+            return Err(BatchFault::NotALine);
         }
         if add_line(&mut self.bytes, line).is_err() {
-            return Err(LineFault::Memory);
+            return Err(BatchFault::Memory);
         }
         Ok(())
     }

@@ -31,7 +31,7 @@ pub enum FileFault {
 
 /// Why bytes weren't added to a batch.
 #[derive(Clone, Copy, PartialEq, Eq, Debug, Error)]
-pub enum LineFault {
+pub enum BatchFault {
     /// They have a newline or a zero byte.
     #[error("a line has a newline or a zero byte")]
     NotALine,

@@ -17,7 +17,7 @@ mod scan;
 mod store;
 
 pub use batch::Batch;
-pub use fault::{FileFault, LineFault, StoreFault};
+pub use fault::{BatchFault, FileFault, StoreFault};
 pub use file::open_file;
 pub use file_lines::read_text;
 pub use limits::MOST_FILE_BYTES;

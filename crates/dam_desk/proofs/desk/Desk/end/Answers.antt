@@ -7,7 +7,7 @@ use Rattle.dam_desk.specs.Answers.{fault_line}
 use Rattle.dam_desk.specs.Faults.{SaysCount}
 use Rattle.dam_desk.specs.DeskJournal.{next}
 use Rattle.dam_desk.specs.InputLines.{kept_bytes}
-use Rattle.dam_desk.specs.declared.fault.LineFault.TheVariants.{CutShort}
+use Rattle.dam_desk.specs.declared.fault.InputLineFault.TheVariants.{CutShort}
 use Rattle.dam_desk.specs.declared.fault.DeskFault.TheVariants.{Memory}
 use Rattle.dam_desk.proofs.Desks.{written_part}
 use Rattle.dam_desk.proofs.Ends.{err_is}

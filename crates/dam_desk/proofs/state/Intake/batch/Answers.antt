@@ -12,7 +12,7 @@ pub returns : goal.returns
 returns c =
     let begins = c.args.self.now.begins in
     let commands = commands_of c.args.self.now.entries.items in
-    let ended : is_ended c.entered.result.now ≡ true = ap is_ended c.entered.ensures ∙ ended_records c.in-Some.day begins commands in
+    let ended : is_ended c.records_to_enter.result.now ≡ true = ap is_ended c.records_to_enter.ensures ∙ ended_records c.in-Some.day begins commands in
     c.in_ok-push_lines.ensures ended
-    ∙ ap (λ (ls : List (List ℕ)). text_of ls ++ c.entered.result.now) c.in_ok-batch.ensures
-    ∙ c.entered.ensures ∙ ap (λ (d : Option Day). records_text d begins commands) (sym c.in-Some.is)
+    ∙ ap (λ (ls : List (List ℕ)). text_of ls ++ c.records_to_enter.result.now) c.in_ok-batch.ensures
+    ∙ c.records_to_enter.ensures ∙ ap (λ (d : Option Day). records_text d begins commands) (sym c.in-Some.is)

@@ -8,7 +8,7 @@ use Rattle.dam_desk.proofs.state.Intake.read.Goals.{in-Some, in-None}
 
 pub returns : goal.returns
 returns c text line =
-    c.read_line.ensures (periods_of c.args.self.now.day) text (valid_day c.args.self.now.day) (elim c.match-self.branch [
+    c.read_input_line.ensures (periods_of c.args.self.now.day) text (valid_day c.args.self.now.day) (elim c.match-self.branch [
       | in-Some w ↦ ap (λ (h : Bor (List ℕ)). h.now) w.header-is ∙ w.header-header.ensures
           ∙ ap (λ (d : Option Day). record_of (periods_of d)) (sym w.in-Some.is)
       | in-None w ↦ ap (λ (h : Bor (List ℕ)). h.now) w.header-is
