@@ -5,6 +5,7 @@ import asyncio
 import contextlib
 import datetime
 import errno
+import functools
 import http.server
 import io
 import itertools
@@ -21,6 +22,7 @@ import threading
 import tracemalloc
 import unittest
 from pathlib import Path
+from types import SimpleNamespace
 from unittest import mock
 
 from support import AUCTION, AUCTION_RESULTS, FIRST, QUARTERS, QUARTERS_RESULTS, SUNNY, SUNNY_RESULTS, TOOLS, TOP, tool, unsaid
@@ -612,6 +614,16 @@ class SignedHeads(Office):
         self.assertIsNone(await self.started(disk))
         self.assertEqual(newest.read(path, self.key).size, 3)
 
+    async def test_a_head_that_is_not_whole_is_named(self):
+        """The journal can't be compared with it."""
+        disk = Disk()
+        path = await self.entered(disk)
+        for damage in (b"", b"{}", path.read_bytes()[:-9]):
+            path.write_bytes(damage)
+            with mock.patch.object(gate.Gate, "log_event") as told:
+                self.assertIsNone(await self.started(disk))
+            told.assert_any_call("signed head not whole", file=folder.SIGNED)
+
     async def test_the_last_head_is_held_too(self):
         disk = Disk()
         path = await self.entered(disk)
@@ -766,6 +778,17 @@ class Closing(Office):
             await clearing.state(given)
         return given
 
+    async def shows_nothing(self):
+        """A stopped day doesn't show the results, which may have been changed."""
+        again = self.gate()
+        await again.run()
+        request, served = SimpleNamespace(path=f"/days/{DAY}/results"), SimpleNamespace(gate=lambda request: again)
+        served.unstopped = functools.partial(web.Web.unstopped, served)
+        for answer in (web.Web.prices, web.Web.published):
+            with self.assertRaises(gate.Refused) as caught:
+                await answer(served, request)
+            self.assertEqual(caught.exception.fault, "Unavailable")
+
     async def test_a_start_sees_results_and_a_statement_that_were_changed(self):
         files = (await self.closed()).files
         kept = {name: files.read(name) for name in (folder.RESULTS, folder.STATEMENT, folder.SUMS)}
@@ -785,6 +808,7 @@ class Closing(Office):
                 files.file(name).write_bytes(damage)
                 with self.subTest(name=name, damage=damage):
                     self.assertEqual(await fault(), f"{name} isn't as it was made")
+                    await self.shows_nothing()
             files.file(name).write_bytes(kept[name])
         self.assertIsNone(await fault())
         files.drop(folder.SUMS)  # as before there were sums

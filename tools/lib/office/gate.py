@@ -316,6 +316,8 @@ class Gate:
         for name in (folder.SIGNED, folder.HEAD):
             if head := newest.read(self.files.file(name), self.ledger.seal.key):
                 self.ledger.check(head, name)
+            elif self.files.has(name):
+                self.log_event("signed head not whole", file=name)
 
     async def leave_desk(self):
         desk, self.desk = self.desk, None

@@ -391,11 +391,17 @@ class Web:
         periods = gate.terms.periods
         return web.json_response({**self.shown(gate), "begins": [clock.begins(periods, number) for number in range(1, periods + 1)]})
 
+    def unstopped(self, request):
+        """The day of a request. A stopped one shows nothing: its journal may be another than that of earlier heads, or a file isn't as it
+        was made."""
+        gate = self.gate(request)
+        if gate.fault:
+            raise Refused("Unavailable", STOPPED_WORDS)
+        return gate
+
     async def head(self, request):
         """The newest head; with `since` the proof that it goes on from the head of so many entries."""
-        gate = self.gate(request)
-        if gate.fault:  # its journal may be another than that of earlier heads
-            raise Refused("Unavailable", STOPPED_WORDS)
+        gate = self.unstopped(request)
         self.need_known(gate)
         ledger = gate.ledger
         if "since" not in request.query:
@@ -407,14 +413,14 @@ class Web:
 
     async def prices(self, request):
         """The results without the orders and the welfare: the day, and each period's price and volume."""
-        gate = self.gate(request)
+        gate = self.unstopped(request)
         if not gate.published.has_results:
             raise Refused("NotFound", "there are no results yet")
         return web.Response(text=gate.published.prices(gate.terms.periods), content_type="text/plain")
 
     async def published(self, request):
         """The texts that have the orders of all: only if the operator publishes the journal."""
-        gate, name = self.gate(request), request.path.rpartition("/")[2]
+        gate, name = self.unstopped(request), request.path.rpartition("/")[2]
         if not gate.published.has_results:
             raise Refused("NotFound", "there are no results yet")
         if not gate.published.has_journal:
