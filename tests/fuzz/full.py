@@ -1,15 +1,18 @@
 #!/usr/bin/env python3
 """Clears books at their limits, with 4,000 hourly orders and 24 blocks, and compares the results with the rules as `tools/audit` does.
 
-Each length of a day has a book in each of four markets: a deep one; one of 4,000 small orders, in which each block moves the prices; one
-with only two orders of each side in a period; and one with a single price. In every second book each block has another volume in each
+Each length of a day has a book in each of six markets: a deep one; one of 4,000 small orders, in which each block moves the prices; one
+with only two orders of each side in a period; one with a single price; one whose blocks are so large that the search looks at thousands of
+net volumes; and one with all hourly orders in one period. In every second book each block has another volume in each
 period. The blocks are free, linked, in groups, or both. Three of the books come from journals of 10,000 commands, which amend and cancel
 orders, submit them again, and submit orders that the book refuses; the replies to these journals are compared too. Each book is cleared
-under three plans, whose results must be equal. The last line is 'N passed, M failed'."""
+under three plans, whose results must be equal, and with a limit of a few nodes, which either changes nothing or ends the search. The last
+line is 'N passed, M failed'."""
 
 import argparse
 import math
 import random
+import re
 import sys
 from typing import NamedTuple
 
@@ -25,7 +28,9 @@ from lib.results import check, selection
 MOST_COMMANDS = rules.MOST_RECORDS - 1
 PARTICIPANTS = ["A", "BRAVO", "CHARLIE", "DELTA", "ECHO", "FOXTROT", "GOLF", "PARTICIP"]
 PLANS = [[], ["--workers", "1", "--cut", "0"], ["--workers", "8", "--cut", "8"]]
+LIMITED, UNFINISHED = ["--nodes", "100"], re.compile(rb"unfinished: piece \d+ after \d+ nodes\n")
 LEVEL = 6_000  # the mean price of a day, in cents per MWh
+CROWDED = 18  # the period of all orders of a crowded market
 
 
 class Market(NamedTuple):
@@ -37,6 +42,7 @@ class Market(NamedTuple):
     blocks: tuple[int, int]  # the volumes of blocks
     near: int
     swing: int = 1_500  # by which the price of a period differs from the mean
+    is_crowded: bool = False  # whether all hourly orders are in one period
 
 
 MARKETS = {
@@ -44,6 +50,8 @@ MARKETS = {
     "thin": Market(rules.MOST_HOURLY, (1, 9), 2_000, (10, 39), 100),
     "few": Market(0, (50, 399), 2_000, (1, 40), 100),
     "level": Market(rules.MOST_HOURLY, (500, 999), 0, (10, 60), 0, swing=0),
+    "large": Market(rules.MOST_HOURLY, (50, 399), 2_000, (500, 1_999), 50),
+    "crowded": Market(rules.MOST_HOURLY, (1, 99), 2_000, (50, 999), 0, is_crowded=True),
 }
 BONDS = ["free", "links", "groups", "both"]
 LONG = [("deep", 24), ("thin", 100), ("level", 96)]  # the books that come from a long journal
@@ -75,7 +83,9 @@ class Drawn:
 
     def hour(self, number):
         """The record of an hourly order. The names have from 1 to 12 bytes."""
-        period, side = 1 + number % self.periods, "sell" if number // self.periods % 2 else "buy"
+        at, period = divmod(number, self.periods)
+        at, period = (number, CROWDED - 1) if self.market.is_crowded else (at, period)
+        period, side = period + 1, "sell" if at % 2 else "buy"
         who, name = PARTICIPANTS[number % len(PARTICIPANTS)], f"H{number}" if number % 3 else f"HOURLY-{number:05}"
         return f"submit,{who},{name if number else 'H'},hour,{side},{self.limit(period)},{self.volume(period)},,"
 
@@ -100,7 +110,8 @@ class Drawn:
     def offer(self):
         """A limit price near the mean price of the volumes, and these."""
         one = self.rng.randint(*self.market.blocks)
-        volumes = {period: one if self.is_flat else self.rng.randint(*self.market.blocks) for period in range(1, self.periods + 1)}
+        periods = [CROWDED] if self.market.is_crowded else range(1, self.periods + 1)
+        volumes = {period: one if self.is_flat else self.rng.randint(*self.market.blocks) for period in periods}
         mean = sum(self.price(period) * volume for period, volume in volumes.items()) / sum(volumes.values())
         return self.around(round(mean), self.market.near), ";".join(f"{period}:{volume}" for period, volume in volumes.items())
 
@@ -178,6 +189,9 @@ def wrong_results(program, data, held):
             yield f"{words}: {got.stderr.decode().strip() or f'status {got.status}'}"
         elif got != printed[0]:
             yield f"{words}: other results than without a plan"
+    limited = program.printed(["clear", *LIMITED], data)
+    if limited != printed[0] and (limited.status, limited.stdout, bool(UNFINISHED.fullmatch(limited.stderr))) != (3, b"", True):
+        yield f"clear {' '.join(LIMITED)}: {limited.stderr.decode().strip() or f'status {limited.status}'}"
     if not printed[0].status:
         _, wrong = check.differences(selection.Problem(held), printed[0].stdout)
         yield from wrong[:1]
