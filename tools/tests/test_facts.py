@@ -220,21 +220,21 @@ class Facts(unittest.TestCase):
 
     def test_the_parts_of_the_recorded_run(self):
         """CHECK.md names those that are newer."""
-        check, notes = (TOP / "docs/CHECK.md").read_text(), (TOP / "tests/NOTES.md").read_text()
+        check, runs = (TOP / "docs/CHECK.md").read_text(), (TOP / "tests/RUNS.md").read_text()
         parts = set(re.findall(r"^\| (\w+) \| `", check, re.MULTILINE))
-        recorded = set(re.findall(r"^(\w+) +[\d.]+ +[\d.]+ +\d+ passed", notes, re.MULTILINE)) - {"all"}
+        recorded = set(re.findall(r"^(\w+) +[\d.]+ +[\d.]+ +\d+ passed", runs, re.MULTILINE)) - {"all"}
         self.assertGreater(len(recorded), 9)
         later = re.search(r"The parts? ([^.]*) (?:is|are) newer\.", plain(TOP / "docs/CHECK.md"))
         self.assertEqual(parts - recorded, set(re.findall(r"`(\w+)`", later[1])) if later else set())
 
     def test_the_times_of_the_recorded_run(self):
-        """CHECK.md and THEOREM.md round those of the notes on the tests."""
-        notes, check, theorem = (plain(TOP / path) for path in ("tests/NOTES.md", "docs/CHECK.md", "docs/THEOREM.md"))
-        day = re.search(r"The last recorded whole run of `\./check`: commit \w+ \((\S+)\)", notes)[1]
-        wanted = re.search(r" all +([\d.]+) +([\d.]+) +\d+ passed", notes).groups()
-        wanted += re.search(r"The proofs of the crates took ([\d.]+) CPU-minutes .*? the wrong bodies of `must-fail/` ([\d.]+) ", notes).groups()
+        """CHECK.md and THEOREM.md round those of RUNS.md."""
+        runs, check, theorem = (plain(TOP / path) for path in ("tests/RUNS.md", "docs/CHECK.md", "docs/THEOREM.md"))
+        day = re.search(r"The last recorded whole run of `\./check`: commit \w+ \((\S+)\)", runs)[1]
+        wanted = re.search(r" all +([\d.]+) +([\d.]+) +\d+ passed", runs).groups()
+        wanted += re.search(r"The proofs of the crates took ([\d.]+) CPU-minutes .*? the wrong bodies of `must-fail/` ([\d.]+) ", runs).groups()
         wanted = [f"{float(number):.0f}" for number in wanted]
-        self.assertEqual(re.search(r"\(\.\./tests/NOTES\.md#recorded-runs\) took .*? on (\d{4}-\d\d-\d\d)", check)[1], day)
+        self.assertEqual(re.search(r"\(\.\./tests/RUNS\.md#the-whole-check\) took .*? on (\d{4}-\d\d-\d\d)", check)[1], day)
         said = re.search(r"took (\d+) minutes .*? and (\d+) CPU-minutes: (\d+) for the proofs of the crates, (\d+) for the wrong bodies", check)
         self.assertEqual(list(said.groups()), wanted)
         self.assertEqual(re.search(r"Proving the crates took \[(\d+) CPU-minutes\]", theorem)[1], wanted[2])

@@ -17,7 +17,7 @@ from shared.pages import links, prose
 
 CRATES = sorted(path for path in (TOP / "crates").iterdir() if (path / "src").is_dir())
 PAGES = [TOP / "README.md", TOP / "CHANGELOG.md", *sorted((TOP / "docs").glob("*.md")), *sorted((TOP / "crates").glob("*/*.md"))]
-PAGES += [TOP / "crates" / "CHECKLISTS.md", *(TOP / folder / "NOTES.md" for folder in ("crates", "tests", "tools", "package"))]
+PAGES += [TOP / "crates" / "CHECKLISTS.md", TOP / "tests" / "RUNS.md", *(TOP / folder / "NOTES.md" for folder in ("crates", "tests", "tools", "package"))]
 MOST = 200  # characters of a cell
 WIDEST = 140  # columns of a line that isn't of a table
 # The files with comments, which are as wide at most.
@@ -188,7 +188,7 @@ class Pages(unittest.TestCase):
 
     def test_the_names_of_code_on_pages_are_there(self):
         """A crate of the kit and a package that tests need have names, too. A function is in a file with its type, or in its module."""
-        others = set(re.findall(r"\w+", (TOP / "crates.txt").read_text() + (TOP / "tests" / "packages").read_text()))
+        others = set(re.findall(r"\w+", (TOP / "crates.txt").read_text() + (TOP / "tests" / "debian-packages").read_text()))
         sources = {path: path.read_text() for path in (TOP / "crates").glob("*/src/**/*.rt")}
         functions = {(home, name) for path, text in sources.items() for name in re.findall(r"\bfn (\w+)", text)
                      for home in {path.stem, *re.findall(r"\b[A-Z]\w+", text)}}

@@ -25,7 +25,7 @@ class Missing(unittest.TestCase):
         return f"{module}, which Debian has in the package python3-{module}: apt-get install python3-{module}"
 
     def test_packages_are_those_of_the_tests(self):
-        listed = (support.TOP / "tests" / "packages").read_text().split("\n")
+        listed = (support.TOP / "tests" / "debian-packages").read_text().split("\n")
         self.assertLessEqual({*command.PACKAGES.values(), "tzdata"}, set(listed))
 
     @unittest.skipUnless(command.is_debians(), "this isn't Debian's Python")

@@ -26,7 +26,7 @@ LONGEST_PATH = 400  # characters of the name of a file in a message
 MOST_BYTES, PART = 64 << 20, 1 << 20  # of a file that a tool reads, and of those how many at once
 NAMED_BY_OUT = ": name it by --out to replace it"
 SEE_AUDIT = place.as_here("see tools/audit")
-# Debian's packages; tests/packages lists them all.
+# Debian's packages; tests/debian-packages lists them all.
 PACKAGES = {
     "aiohttp": "python3-aiohttp",
     "cryptography": "python3-cryptography",
