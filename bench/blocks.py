@@ -5,25 +5,27 @@ the families that are hard for a search.
 The blocks are base (baseload), peaks (base, peak and night), shaped (an hourly profile), odd (one odd profile among baseload) and random (a
 random volume in each period), with limits within 5 to 1,000 cents of the mean price. The families have 500 and 4,000 hourly orders.
 
-`dam clear` takes turns as clearing.py says, and with the whole run of the twin, with two workers and cut 3 as in the default
-plan."""
+`dam clear` takes turns as clearing.py says, and on the families with a plain twin of the search. The twin's bounds are by prices, as those
+of `dam` are, a selection is a set of bits in both, and neither has a limit on nodes. `dam` reads and prints more, which counts in a search
+of a few milliseconds."""
 
 # blocks.py [KIND..]: only these kinds and families. `bench/run blocks` builds the files that it needs.
 
 import make_blocks
 import make_family
-from clearing import MOST, Book, Together, kinds_of
+from clearing import MOST_OF_BEFORE, MOST_OF_DEEP, Book, Together, kinds_of
 from figures import TWIN, enumeration
 
-DEFAULT = ["2", "3"]  # workers, and how many of the first blocks are cut
-MOST_OF_ENUMERATION, MOST_OF_ALONE = 0.1, 12  # times as long
-OTHERS = {"alone": None, "before": None, "the twin": None, "enumeration": MOST_OF_ENUMERATION}
+DEFAULT = ["2", "3"]  # the default plan: workers, and how many of the first blocks are cut
+MOST = {"before": MOST_OF_BEFORE, "the twin": 2, "enumeration": 0.1}  # times as long
+MOST_TOGETHER = {"alone": 12, "before": 1}
 
 
 def measured(drawn):
     book = Book("blocks", drawn)
-    book.clear({"the twin": [TWIN, *DEFAULT], "enumeration": enumeration(book.path)})
-    book.show(MOST, OTHERS)
+    twin = {"the twin": [TWIN, *DEFAULT]} if drawn in make_family.BOOKS else {}
+    book.clear({**twin, "enumeration": enumeration(book.path)})
+    book.show(MOST_OF_DEEP, MOST)
     book.peers()
     return book
 
@@ -32,7 +34,7 @@ def main():
     drawn = [*make_blocks.BOOKS, *make_family.BOOKS]
     kinds = kinds_of(drawn)
     books = [measured(each) for each in drawn if each.kind in kinds]
-    Together("deep books", books).show({**OTHERS, "alone": MOST_OF_ALONE, "enumeration": None})
+    Together("deep books", books).show(MOST_OF_DEEP, MOST_TOGETHER)
 
 
 main()

@@ -1,17 +1,19 @@
-"""How long `dam clear` takes by the default plan for a book with 24 blocks: a line for each book, and lines for many books together.
+"""How long `dam clear` takes by the default plan for a book with 24 blocks: lines for each book, and for many books together.
 
 It takes turns with itself on the same book without its blocks, with the program of before, with other programs of a part, and with an
-enumeration of all selections with numpy, `tools/audit --best` by four threads, which also checks the results. Then it takes turns with HiGHS
-and CBC, where they are installed; peer.py describes their model. The time of a peer is that of its solver, and that of `dam clear` is from
-its start to its last byte. A run ends after 60 s, and a peer's after 20 s, or after the seconds of LIMIT and HIGHS_LIMIT in the environment.
-A run that didn't end counts as these in a sum. A program that takes longer than 1 s isn't run again."""
+enumeration of all selections with numpy, `tools/audit --best` by four threads, which also checks the results. Then it takes turns with
+HiGHS and CBC, where they are installed; peer.py describes their model. The time of a peer is that of its solver, and that of `dam clear`
+is from its start to its last byte. A run ends after 60 s, and a peer's after 20 s, or after the seconds of LIMIT and HIGHS_LIMIT in the
+environment. A run that didn't end counts as these in a sum. A peer that gave up meets its target if these seconds are enough for that. A
+program that takes longer than 1 s isn't run again."""
 
 import statistics
 import sys
 
-from figures import BEFORE, DAM, HIGHS_LIMIT, LIMIT, by_turns, line, ratio, seconds, write
+from figures import BEFORE, DAM, HIGHS_LIMIT, LIMIT, at_most, by_turns, line, ratio, seconds, times, write
 
-MOST = 0.15  # seconds, for a deep book
+MOST_OF_DEEP = 0.15  # seconds
+MOST_OF_BEFORE = 2  # times as long as the program before
 TURNS, SECONDS, ONCE = 5, 6.0, 1.0  # at most, for a book; a program that takes longer than ONCE isn't run again
 PEERS = {"highs": "HiGHS", "cbc": "CBC"}
 SPARE = 15.0  # seconds that the program of a peer may take to be written
@@ -40,15 +42,16 @@ def answer_of(asked):
     text = asked.text.decode().strip() if asked else "gave up"
     if text.startswith("missing: "):
         return None, f"is left out: {text.removeprefix('missing: ')} is missing"
+    if text == "failed":
+        return None, text
     return (None, f"gave up after {HIGHS_LIMIT:g} s") if text == "gave up" else (int(text), "")
 
 
 class Book:
-    """A book with blocks, and its figures. `walls` has the seconds of the runs of each program. A plan is that of `dam clear`."""
+    """A book with blocks, and its figures. `walls` has the seconds of the runs of each program."""
 
-    def __init__(self, part, drawn, plan=()):
+    def __init__(self, part, drawn):
         self.drawn, self.name, self.walls = drawn, drawn.name, {}
-        self.options = [word for pair in zip(("--workers", "--cut"), plan) for word in pair]
         words = drawn.words, drawn.words_without_blocks
         self.path, self.alone = (write(f"out/{part}-{'-'.join(each)}.csv", drawn.script, *each) for each in words)
 
@@ -58,13 +61,13 @@ class Book:
 
     def in_turns(self, more, limit=LIMIT):
         """The runs of `dam clear`, of itself on the book without its blocks, and of more programs that there are."""
-        clear = [DAM, "clear", *self.options]
+        clear = [DAM, "clear"]
         words = {"dam": clear, "alone": clear, **{name: given for name, given in more.items() if given}}
         return by_turns(words, self.path, TURNS, SECONDS, ONCE, inputs={"alone": self.alone}, limit=limit)
 
     def clear(self, more):
         """Runs `dam clear` and other programs by turns; `more` has the words of further ones. The twin must find the same welfare."""
-        runs = self.in_turns({"before": BEFORE and [BEFORE, "clear", *self.options], **more})
+        runs = self.in_turns({"before": BEFORE and [BEFORE, "clear"], **more})
         if runs["dam"] and any(int(each.text.split()[1]) != welfare_of(runs["dam"][0]) for each in runs.get("the twin", [])):
             sys.exit(f"{self.name}: the twin finds another welfare")
         self.walls = walls_of(runs)
@@ -74,18 +77,18 @@ class Book:
         return statistics.median(self.walls[name]) if self.walls.get(name) else None
 
     def show(self, most, others):
-        """Prints the seconds of `dam clear`, which may be `most`, if there is a target, and how many times as long as other programs it
-        takes; `others` has how many times that may be, or None."""
-        median, target = self.median("dam"), f"at most {seconds(most)}" if most else "ends"
+        """Prints the seconds of `dam clear`, which may be `most`, and how many times as long as other programs it takes; `others` has how
+        many times that may be."""
+        median, target = self.median("dam"), f"at most {seconds(most)}"
         if median is None:
             line(self.what, f"> {LIMIT:g} s", target, False)
             return
-        line(self.what, seconds(median), target, not most or median <= most)
-        for name, times in others.items():
+        line(self.what, seconds(median), target, median <= most)
+        for name, most_times in others.items():
             what = f"{self.what} compared with {OTHERS.get(name, name)}"
             if self.walls.get(name):
                 note = self.drawn.note if name == "enumeration" else ""
-                ratio(what, self.walls["dam"], self.walls[name], times, note=note)
+                ratio(what, self.walls["dam"], self.walls[name], most_times, note=note)
             elif name in self.walls:
                 line(what, "?", detail=f"it didn't end in {LIMIT:g} s")
 
@@ -101,7 +104,8 @@ class Book:
             what = f"{self.name}: {name} compared with dam clear"
             found, why = answer_of(runs[peer][0] if runs[peer] else None)
             if found is None:
-                line(what, "?", detail=f"it {why}")
+                is_slow = why.startswith("gave up") and HIGHS_LIMIT >= LEAST_OF_PEER * statistics.median(walls["dam"])
+                line(what, "?", f"at least {times(LEAST_OF_PEER)}" if is_slow else "", is_slow or None, f"it {why}")
             elif found > welfare:
                 line(what, "?", f"welfare {welfare}", False, f"it finds {found}")
             else:
@@ -119,22 +123,22 @@ class Together:
     def lasted(self, books, name):
         return [LIMIT if book.median(name) is None else book.median(name) for book in books]
 
-    def show(self, others):
-        """Prints the sum of the seconds of `dam clear` and the slowest book, and compares the sum with those of other programs; `others`
-        has how many times as long it may be, or None."""
+    def show(self, most, others):
+        """Prints the sum of the seconds of `dam clear` and the slowest book, which may take `most`, and compares the sum with those of
+        other programs; `others` has how many times as long it may be."""
         if not self.books:
             return
         lasted = self.lasted(self.books, "dam")
         slowest = max(range(len(lasted)), key=lasted.__getitem__)
         line(f"{self.name}: dam clear", seconds(sum(lasted)), detail=f"{len(lasted)} books")
-        line(f"{self.name}: dam clear, the slowest", seconds(lasted[slowest]), detail=self.books[slowest].name)
-        for name, most in others.items():
+        at_most(f"{self.name}: dam clear, the slowest", lasted[slowest], most, detail=self.books[slowest].name)
+        for name, most_times in others.items():
             run_on = self.run_on(name)
             if run_on:
                 ones, others = (sum(self.lasted(run_on, each)) for each in ("dam", name))
                 late = sum(book.median(name) is None for book in run_on)
                 note = f"{late} of {len(run_on)} didn't end in {LIMIT:g} s" if late else ""
-                ratio(f"{self.name}: dam clear compared with {OTHERS.get(name, name)}", [ones], [others], most, note=note)
+                ratio(f"{self.name}: dam clear compared with {OTHERS.get(name, name)}", [ones], [others], most_times, note=note)
 
     def run_on(self, name):
         """The books on which a program was run."""

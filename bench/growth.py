@@ -3,7 +3,8 @@
 of the mean price and 3,800 hourly orders; on days of 24 and of 96 periods. An enumeration would try 2^n selections of n blocks.
 
 Nodes are those of the twin, by one worker without a cut. A node stands for the selections that agree on the blocks that are decided there,
-so a walk that leaves nothing out visits 2^(n+1) - 1 nodes. The parts `blocks` and `thin` have the times of books of 24 blocks."""
+so a walk that leaves nothing out visits 2^(n+1) - 1 nodes. A search of 24 blocks has to visit at most 1% of these. The details have the
+nodes of fewer blocks, which the picture shows too. The parts `blocks` and `thin` have the times of books of 24 blocks."""
 
 import sys
 
@@ -12,6 +13,7 @@ import make_family
 from figures import TWIN, line, run, write
 
 BLOCKS = (8, 12, 16, 20, 24)
+MOST = 2 ** (BLOCKS[-1] + 1) // 100  # nodes
 PERIODS = {24: "1", 96: "4"}  # and how many of them an hour has
 BASE = "base"
 FAMILIES = [*make_family.FAMILIES, BASE]
@@ -19,14 +21,21 @@ PICTURE = "../docs/growth.svg"
 
 
 def counted(family, periods, blocks):
-    """Prints the nodes of a book, and returns them; None if the twin didn't end in time."""
+    """The nodes of a book; None if the twin didn't end in time."""
     usual = ["./make_blocks.py", BASE, str(make_blocks.USUAL), "1", PERIODS[periods], str(blocks)]
     words = usual if family == BASE else ["./make_family.py", family, "500", str(blocks), PERIODS[periods]]
     path = write(f"out/growth-{family}-{periods}-{blocks}.csv", *words)
     searched = run([TWIN, "1", "0"], path)
-    nodes = searched and int(searched.text.split()[-1])
-    line(f"Nodes: {family}, {periods} periods, {blocks} blocks", "?" if nodes is None else f"{nodes:,}")
-    return nodes
+    return searched and int(searched.text.split()[-1])
+
+
+def show(family, periods, counts):
+    """Prints the nodes of a family's greatest book, and returns those of each of its books."""
+    *smaller, most = ("?" if nodes is None else f"{nodes:,}" for nodes in counts)
+    holds = counts[-1] is not None and counts[-1] <= MOST
+    detail = "; ".join(f"{nodes} with {blocks}" for blocks, nodes in zip(BLOCKS, smaller))
+    line(f"{family}, {periods} periods: nodes with {BLOCKS[-1]} blocks", most, f"at most {MOST:,}", holds, detail)
+    return counts
 
 
 def draw(nodes):
@@ -55,4 +64,4 @@ def draw(nodes):
 
 
 days = [(family, periods) for family in FAMILIES for periods in PERIODS]
-draw({(family, periods): [counted(family, periods, blocks) for blocks in BLOCKS] for family, periods in days})
+draw({day: show(*day, [counted(*day, blocks) for blocks in BLOCKS]) for day in days})

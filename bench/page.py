@@ -20,14 +20,13 @@ HERE = Path(__file__).resolve().parent
 PAGE = HERE.parent / "docs" / "MEASURED.md"
 KEPT = HERE / "measured"
 WRITTEN = ["docs/MEASURED.md", "docs/growth.svg", "bench/measured"]  # by the bench itself
-PARTS = ["quick", "families", "blocks", "thin", "growth", "workers", "looks", "desk", "office"]
+PARTS = ["quick", "blocks", "thin", "growth", "workers", "looks", "desk", "office"]
 COLUMNS = ["what", "figure", "target", "holds", "details"]
 RUN_COLUMNS = ["part", "date", "commit", "machine", "load", "kit", "notes"]
 # The figures that the page shows of each part, apart from those that miss a target; the others stand in the files alone. Of two groups the
 # first names the row of a table, and the second its column.
 SHOWN = {
     "quick": r"(?:dam (?:replay|clear)|settle) .*(?:wall time|plain pass)|dam day compared with the baseline.*processor time",
-    "families": r"(\w+) (\d+), plan 2 3: dam clear",
     "blocks": r"(\w+) (\d+), spread 50, seed 1: dam clear",
     "thin": r"(base|peaks|shaped|odd|random) 96, (500|1,500) orders, spread (?:0|20|50), seed 1: dam clear",
     "workers": r"(?:base|odd) .*the rate of 4 workers compared with 1",
@@ -37,12 +36,11 @@ SHOWN = {
 }
 # The contents of the cells of such a table, and the names of its columns.
 CELLS = {
-    "families": ("`dam clear` by the default plan", "{} hourly orders"),
     "blocks": ("`dam clear` by the default plan, spread 50", "{} periods"),
     "thin": ("`dam clear` by the default plan, 96 periods", "{} hourly orders"),
 }
 # The figures of many books together, which the page shows of any part.
-TOGETHER = r"(?:deep|all thin) books together: (?!.*(?:twin|the enumeration)).*"
+TOGETHER = r"(?:deep|all thin) books together: .*"
 PICTURES = {
     "growth": "A node stands for all selections with its decisions. The further a family lies below the dashed line, the more its "
     "bound saves.\n\n"

@@ -1,7 +1,7 @@
 #!/usr/bin/env python3
 """peer.py PEER JOURNAL SECONDS: measures how long a solver of programs in whole and real numbers takes to find a selection of greatest
 welfare of a journal's blocks. PEER is `highs`, which scipy has in it, or `cbc`, Debian's coinor-cbc with its usual cuts. Prints the
-welfare, and on standard error the nanoseconds that the solver took; or prints `gave up`, or `missing: PACKAGE`.
+welfare, and on standard error the nanoseconds that the solver took; or prints `gave up` at the limit, `failed`, or `missing: PACKAGE`.
 
 Both get the program of tools/lib/audit/solver.py. It has the executions of the hourly orders, the balance of each period, blocks that are
 accepted as a whole or not at all, links and groups, and prices that support the executions, at which no accepted block loses, unless its
@@ -86,21 +86,21 @@ SOLVERS = {"highs": highs, "cbc": cbc}
 
 
 def find(solve, model, problem, limit):
-    """The welfare, and the seconds that the solver took; None if it gave up."""
+    """The welfare, or a word that says why there is none, and the seconds that the solver took."""
     lasted = 0.0
     while lasted < limit:
         try:
             chosen, taken = solve(model, limit - lasted)
         except TimeoutError:
-            return None
+            break
         lasted += taken
         if chosen is None:
-            return None
+            return "failed", lasted
         welfare = selection.eligible(problem, chosen)
         if welfare is not None and lasted < limit:  # at its limit HiGHS returns its selection, whether it is the best or not
             return welfare, lasted
         model.forbid(chosen)
-    return None
+    return "gave up", limit
 
 
 def missing(peer):
@@ -122,12 +122,8 @@ def main():
     problem = selection.Problem(closed)
     model = solver.Model(problem)
     model.ask(0, [], solver.ROOM)
-    found = find(SOLVERS[peer], model, problem, float(limit))
-    if found is None:
-        print("gave up")
-        return
-    welfare, lasted = found
-    print(welfare)
+    found, lasted = find(SOLVERS[peer], model, problem, float(limit))
+    print(found)
     print(peer, round(lasted * 1e9), file=sys.stderr)
 
 

@@ -28,7 +28,6 @@ def journals():
     what = "dam day compared with the baseline with threads, peak memory"
     note = "the baseline keeps one book, and a gate that shows versions two; each entry and order has room for 100 volumes"
     ratio(what, [peak(day, DAY)], [peak(baseline, DAY)], 1.5, shown=MIB, note=note)
-    programs("dam day compared with dam replay, 9,999 commands", day, replay, DAY, None)
 
 
 journals()

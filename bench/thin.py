@@ -16,38 +16,31 @@ search looks for a subset of the volumes with the best sum, and hardly any bound
 
 import make_blocks
 import make_family
-from clearing import Book, Together, kinds_of
+from clearing import MOST_OF_BEFORE, Book, Together, kinds_of
 from figures import enumeration
 
 MOST = 3.0  # seconds
-MOST_OF_BEFORE, MOST_OF_SUM_BEFORE, ONE_IN = 2, 1 / 6, 20
+MOST_OF_SUM_BEFORE, ONE_IN = 1 / 6, 20
 MOST_OF_ENUMERATION = {True: 0.5, False: 0.1}  # by whether the market is thin
-BOOKS = {
-    "thin books": make_blocks.THIN + make_blocks.HARDEST,
-    "linked and grouped thin books": make_blocks.BOUND + make_family.THIN,
-    "wide and mixed books": make_blocks.DEEP,
-}
+BOOKS = make_blocks.THIN + make_blocks.HARDEST + make_blocks.BOUND + make_family.THIN + make_blocks.DEEP
 
 
 def measured(drawn):
     book = Book("thin", drawn)
     book.clear({"enumeration": enumeration(book.path)})
-    book.show(MOST, {"alone": None, "before": MOST_OF_BEFORE, "enumeration": MOST_OF_ENUMERATION[drawn.is_thin]})
+    book.show(MOST, {"before": MOST_OF_BEFORE, "enumeration": MOST_OF_ENUMERATION[drawn.is_thin]})
     if not drawn.is_thin:
         book.peers()
     return book
 
 
 def main():
-    kinds = kinds_of(each for drawn in BOOKS.values() for each in drawn)
-    books = {name: [measured(each) for each in drawn if each.kind in kinds] for name, drawn in BOOKS.items()}
-    sums = {"alone": None, "before": None, "enumeration": None}
-    for name, found in books.items():
-        Together(name, found).show(sums)
-    thin = [book for found in books.values() for book in found if book.drawn.is_thin]
-    together = Together("all thin books", thin)
-    together.show({**sums, "before": MOST_OF_SUM_BEFORE})
-    together.slower(ONE_IN)
+    kinds = kinds_of(BOOKS)
+    books = [measured(each) for each in BOOKS if each.kind in kinds]
+    Together("wide and mixed books", [book for book in books if not book.drawn.is_thin]).show(MOST, {})
+    thin = Together("all thin books", [book for book in books if book.drawn.is_thin])
+    thin.show(MOST, {"before": MOST_OF_SUM_BEFORE})
+    thin.slower(ONE_IN)
 
 
 main()

@@ -6,10 +6,8 @@ A second worker costs the start of a thread, about a tenth of a millisecond, whi
 win back. The size of a program's environment moves its stack, and with that the time of the same walk varies; so each turn has the stack
 at another place."""
 
-import statistics
-
 import make_family
-from figures import LIMIT, MEASURES, by_turns, line, ratio, seconds, write
+from figures import LIMIT, MEASURES, by_turns, ratio, write
 from make_blocks import book
 
 CUT = "8"
@@ -28,10 +26,8 @@ def searched(plans, book, most):
 
 def speed(name, book):
     found = searched([(workers, CUT) for workers in ("1", *LEAST)], book, most=8)
-    one = found["1", CUT]
-    line(f"{name}, cut {CUT}: the search with 1 worker", seconds(statistics.median(one)))
     for workers, least in LEAST.items():
-        ratio(f"{name}, cut {CUT}: the rate of {workers} workers compared with 1", one, found[workers, CUT], least=least)
+        ratio(f"{name}, cut {CUT}: the rate of {workers} workers compared with 1", found["1", CUT], found[workers, CUT], least=least)
 
 
 def default(name, book):

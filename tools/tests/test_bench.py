@@ -47,20 +47,21 @@ class Together(unittest.TestCase):
 
     def test_sums_and_the_slowest(self):
         books = [Timed("a", dam=[1.0, 3.0, 2.0], before=[8.0]), Timed("b", dam=[4.0], before=[4.0]), Timed("c", dam=[0.5])]
-        lines = self.printed(lambda: clearing.Together("three", books).show({"before": 0.6, "enumeration": None}))
+        lines = self.printed(lambda: clearing.Together("three", books).show(3.0, {"before": 0.6, "enumeration": 1}))
         self.assertEqual(
             lines,
             [
                 ["three together: dam clear", "6.5 s", "", "", "3 books"],
-                ["three together: dam clear, the slowest", "4 s", "", "", "b"],
+                ["three together: dam clear, the slowest", "4 s", "at most 3 s", "MISSED", "b"],
                 ["three together: dam clear compared with the program before", "0.50 x", "at most 0.60 x", "holds", "6 s and 12 s"],
             ],
         )
 
     def test_a_run_that_did_not_end_counts_as_the_limit(self):
         books = [Timed("a", dam=[1.0], before=[]), Timed("b", dam=[], before=[1.0])]
-        lines = self.printed(lambda: clearing.Together("two", books).show({"before": 2}))
-        self.assertEqual([line[1:4] for line in lines], [["61 s", "", ""], ["60 s", "", ""], ["1.00 x", "at most 2.00 x", "holds"]])
+        lines = self.printed(lambda: clearing.Together("two", books).show(60, {"before": 2}))
+        slowest, compared = ["60 s", "at most 60 s", "holds"], ["1.00 x", "at most 2.00 x", "holds"]
+        self.assertEqual([line[1:4] for line in lines], [["61 s", "", ""], slowest, compared])
         self.assertIn("1 of 2 didn't end in 60 s", lines[-1][4])
 
     def test_books_slower_than_before(self):

@@ -13,10 +13,10 @@ sys.path.insert(0, str(TOP / "bench"))
 import page
 
 ROWS = [
-    ["links 500, plan 2 3: dam clear", "2 ms", "ends", "holds", ""],
-    ["links 4000, plan 2 3: dam clear", "8 ms", "", "", ""],
-    ["links 4000, plan 2 3: dam clear compared with the twin", "2.46 x", "at most 2.00 x", "MISSED", "8.1 ms and 3.3 ms"],
-    ["links 500, plan 2 3: dam clear compared with the twin", "2.70 x", "at most 2.00 x", "MISSED", "2.7 ms and 1 ms"],
+    ["links 24, spread 50, seed 1: dam clear", "2 ms", "ends", "holds", ""],
+    ["links 96, spread 50, seed 1: dam clear", "8 ms", "", "", ""],
+    ["links 96, spread 50, seed 1: dam clear compared with the twin", "2.46 x", "at most 2.00 x", "MISSED", "8.1 ms and 3.3 ms"],
+    ["links 24, spread 50, seed 1: dam clear compared with the twin", "2.70 x", "at most 2.00 x", "MISSED", "2.7 ms and 1 ms"],
     ["deep books together: dam clear", "10 ms", "", "", "2 books"],
 ]
 
@@ -74,21 +74,21 @@ class Measured(unittest.TestCase):
             here = Path(folder)
             (here / "out").mkdir()
             (here / "measured").mkdir()
-            (here / "families.py").write_text('"""Hard books.\n\nMore."""\n')
-            (here / "out" / "families.tsv").write_text("".join("\t".join(row) + "\n" for row in ROWS))
+            (here / "blocks.py").write_text('"""Hard books.\n\nMore."""\n')
+            (here / "out" / "blocks.tsv").write_text("".join("\t".join(row) + "\n" for row in ROWS))
             with unittest.mock.patch.multiple(page, HERE=here, KEPT=here / "measured"):
                 with unittest.mock.patch.dict("os.environ", {"HIGHS_LIMIT": "5", "BEFORE_IS": "that of yesterday"}):
-                    page.take_over(["families"])
+                    page.take_over(["blocks"])
                     of_peers = [page.run_of(part)[-1] for part in ("blocks", "thin")]
                 text = page.page()
         self.assertEqual(of_peers, ["HiGHS and CBC each had 5 s for each book; the program before is that of yesterday"] * 2)
-        self.assertIn("Notes: (1) the program before is that of yesterday.", " ".join(text.split()))
-        self.assertRegex(text, r"\| families \| \[5\]\(../bench/measured/families.csv\) \| 2 of 3 \| .* \| \(1\) \|\n")
+        self.assertIn("Notes: (1) HiGHS and CBC each had 5 s for each book; (2) the program before is that of yesterday.", " ".join(text.split()))
+        self.assertRegex(text, r"\| blocks \| \[5\]\(../bench/measured/blocks.csv\) \| 2 of 3 \| .* \| \(1\) \(2\) \|\n")
         self.assertIn("Hard books.\n", text)
-        self.assertIn("| `dam clear` by the default plan | 500 hourly orders | 4,000 hourly orders |\n|---|---|---|\n| links | 2 ms | 8 ms |\n", text)
+        self.assertIn("| `dam clear` by the default plan, spread 50 | 24 periods | 96 periods |\n|---|---|---|\n| links | 2 ms | 8 ms |\n", text)
         self.assertIn("| deep books together: dam clear | 10 ms |  |\n", text)
         kind = "dam clear compared with the twin"
-        self.assertIn(f"| families | {kind} | 2 of 2 | 2.46 to 2.70 x | at most 2.00 x | links 500, plan 2 3 |\n", text)
+        self.assertIn(f"| blocks | {kind} | 2 of 2 | 2.46 to 2.70 x | at most 2.00 x | links 24, spread 50, seed 1 |\n", text)
         self.assertNotIn("8.1 ms", text)
 
 

@@ -10,7 +10,7 @@ from pathlib import Path
 from support import AUCTION, AUCTION_RESULTS, journal_of, printed, tool, written
 
 import days
-from lib.base import common, rules
+from lib.base import rules, subsequence
 from lib.journal import book, journal
 from lib.lint import sent
 from lib.tool import command
@@ -393,7 +393,7 @@ class InOrder(unittest.TestCase):
         rng = random.Random("in order")
         for _ in range(2_000):
             one, other = (rng.choices(range(rng.randint(1, 5)), k=rng.randint(0, 12)) for _ in range(2))
-            pairs = common.in_order(one, other)
+            pairs = subsequence.in_order(one, other)
             self.assertEqual(len(pairs), self.length(one, other), (one, other))
             self.assertTrue(all(one[at] == other[place] for at, place in pairs))
             self.assertTrue(all(a < c and b < d for (a, b), (c, d) in zip(pairs, pairs[1:])))
@@ -402,7 +402,7 @@ class InOrder(unittest.TestCase):
         rng = random.Random("long")
         for count in (59, 60, 61, 64, 65, 200, 700):
             one, other = (rng.choices(range(4), k=count) for _ in range(2))
-            self.assertEqual(len(common.in_order(one, other)), self.length(one, other))
+            self.assertEqual(len(subsequence.in_order(one, other)), self.length(one, other))
 
 
 if __name__ == "__main__":

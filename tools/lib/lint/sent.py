@@ -5,7 +5,7 @@ from bisect import bisect_left
 from collections import Counter, defaultdict, deque
 from typing import NamedTuple
 
-from ..base import common, text
+from ..base import subsequence, text
 from ..journal import journal
 from ..sheets import command_table, kinds, order_table
 from . import lint
@@ -168,7 +168,7 @@ def held_of(closed, who):
 
 def differences(sent, published, where=JOURNAL, look=lambda: None, proof=no_proof):
     """The faults of the published commands, or of the book's, a line each, by their records."""
-    pairs = common.in_order(*([entry.command for entry in entries] for entries in (sent, published)), look)
+    pairs = subsequence.in_order(*([entry.command for entry in entries] for entries in (sent, published)), look)
     there, here = ({place[side] for place in pairs} for side in (0, 1))
     left = [entry for at, entry in enumerate(sent) if at not in there]
     more = [entry for at, entry in enumerate(published) if at not in here]
