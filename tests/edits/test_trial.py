@@ -7,7 +7,7 @@ import re
 import tempfile
 import unittest
 
-from edits import edits_of, read, write
+from edit_files import edits_of, read, write
 from report import Report
 from source import functions_of
 from trial import NotProved, Trial

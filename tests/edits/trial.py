@@ -7,7 +7,7 @@ import subprocess
 import time
 from collections import Counter
 
-from edits import batches_of, read, write
+from edit_files import batches_of, read, write
 from report import Report
 from source import functions_of, homes_of, leaders_of, listed_name, outside
 

@@ -4,7 +4,7 @@ import os
 import tempfile
 import unittest
 
-from edits import Unfit, batches_of, edits_of, edits_that_tests_find, texts_made, write
+from edit_files import Unfit, batches_of, edits_of, edits_that_tests_find, texts_made, write
 
 LIB = """\
 const MOST: u64 = 5;
