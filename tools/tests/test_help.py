@@ -68,7 +68,7 @@ class Help(unittest.TestCase):
         self.assertTrue(all(tools_of.values()), tools_of)
         # a search of the audit, heads of receipts, and the results of an office
         self.assertEqual(tools_of["4"], {"audit", "receipts", "office"})
-        for words in "a search timed out", "no extension connects two heads", "`tools/office`: no results yet":
+        for words in "a search timed out", "no extension connects two heads", "`tools/office close`: no results yet":
             self.assertIn(words, rows["4"])
         self.assertEqual(tools_of["7"], {"lint"})
         self.assertEqual(needs_program, {"whatif", "office"})
