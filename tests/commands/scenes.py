@@ -123,7 +123,7 @@ OFFICE = Scene(
 
 PAGES = {
     "README.md": Scene(
-        needs=(*SERVED, "openpyxl", "numpy"),
+        needs=(*SERVED, "jinja2", "matplotlib", "openpyxl", "numpy"),
         edits={"tools/office demo": DEMO, "/usr/share/doc/dam": "$PREFIX/share/doc/dam"},
         then={"tools/office demo": f'test "$(grep -c ^period "$SHOWN")" -eq 24\n{SAW}'},
         left_out={
@@ -153,8 +153,7 @@ PAGES = {
             "dam-table --journal orders.xlsx": Span(says="has no orders"),
             "dam-table --all day.xlsx day.csv results.txt": REFUSED,
             "dam-lint day.csv": Span(1),
-            "dam-table --rows blocks day.csv results.txt": REFUSED,
-            "dam-whatif limit --participant COAL --all day.csv": DONE,
+            "dam-report --participant COAL -o coal.html day.csv results.txt": REFUSED,
             "dam-whatif change day.csv more.csv": DONE,
             "dam-audit --best day.csv results.txt --sent mine.csv --participant NORD": DONE,
             "dam-receipts verify NORD.jsonl --key KEY --head HEAD": DONE,

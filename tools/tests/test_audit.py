@@ -59,6 +59,25 @@ class Results(unittest.TestCase):
                 refused += 1
         self.assertGreater(refused, 1_000)
 
+    def test_numbers_that_change_places_late_in_a_full_book_are_refused(self):
+        """Those of two neighbours, so that no sum changes: the surpluses of 24 blocks, and the volumes of 600 orders of one period."""
+        orders = [f"submit,A,H{number},hour,{'sell' if number % 2 else 'buy'},{6_000 + 7 * number},18:{number + 1},," for number in range(600)]
+        blocks = [f"submit,B,K{number},block,sell,{9_000 + number},18:{10 + number},," for number in range(rules.MOST_BLOCKS)]
+        data = journal_of(*orders, *blocks)
+        day, right = problem(data), results_of(data, frozenset()).decode().splitlines()
+        for start, least in (("block,", rules.MOST_BLOCKS), ("hour,", 600)):
+            rows = [place for place, line in enumerate(right) if line.startswith(start)]
+            self.assertEqual(len(rows), least)
+            swapped = 0
+            for one, other in zip(rows, rows[1:]):
+                (front, _, first), (back, _, last) = right[one].rpartition(","), right[other].rpartition(",")
+                if first != last:
+                    wrong = [*right[:one], f"{front},{last}", f"{back},{first}", *right[other + 1 :]]
+                    found = check.differences(day, "".join(f"{line}\n" for line in wrong).encode())[1]
+                    self.assertLessEqual({one + 1, other + 1}, {fault.line for fault in found}, right[one])
+                    swapped += 1
+            self.assertGreater(swapped, 20)
+
     def test_each_turned_block_is_refused(self):
         data, text = AUCTION.read_bytes(), printed(AUCTION)
         turned = 0

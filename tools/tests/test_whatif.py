@@ -110,6 +110,12 @@ class Limits(unittest.TestCase):
         founds = [search(SMALL[0], *offers, key=("GEN", name)).worst() for name in ("UNIT10", "UNIT1")]
         self.assertEqual([(found.limit, found.past_limit) for found in founds], [(4500, 4501), (3999, 4000)])
 
+    def test_a_child_that_no_limit_helps(self):
+        """The reason begins with its family."""
+        lines = ["submit,TOWN,T,hour,buy,4000,1:10,,", "submit,GAS,PAR,block,sell,6000,1:10,,", "submit,GAS,CHILD,block,sell,3000,1:10,PAR,"]
+        one = search("submit,GAS,UNIT,block,sell,1000,1:10,,", *lines, key=("GAS", "CHILD"))
+        self.assertRegex("\n".join(limits.lines(one, one.worst())), r"with the best, -500\.00 EUR/MWh, with PAR it would gain [0-9.,]+ EUR at the prices")
+
     def test_no_limit_is_enough(self):
         one = search(*NEVER, key=("GEN", "B"))
         found = one.worst()

@@ -113,7 +113,8 @@ def why_never(search, found):
     read = journal.read_journal(search.text(found.past_limit))
     day = command.Day.of(read, search.printed[found.past_limit])
     place = day.problem.place(*search.key)
-    return decisions.decisions(day.problem, day.said.accepted, day.outcome)[place].why
+    why = decisions.decisions(day.problem, day.said.accepted, day.outcome)[place].why
+    return why if why.startswith("with ") else f"it {why}"  # 'with' its family, 'it' would gain
 
 
 def others(search, found):
@@ -128,7 +129,7 @@ def row(search, found):
     order, own = search.order, search.at(search.order.price)
     cells = [*search.key, order.side, text.cents(order.price), own.outcome(search.key)]
     if found.limit is None:
-        return [*cells, "", "", "", "", f"no limit of the range is enough: with the best it {why_never(search, found)}"]
+        return [*cells, "", "", "", "", f"no limit of the range is enough: with the best, {why_never(search, found)}"]
     amounts = [text.euros(amount, own.hours, thousands="") for amount in (found.at.surplus(search.key), found.at.welfare)]
     why = "every limit of the range is enough" if found.past is None else ""
     return [*cells, text.cents(found.limit), *amounts, len(others(search, found)), why]
@@ -183,7 +184,7 @@ def sentences(search, found):
     yield f"{who} {does} {energy} MWh in a block with a limit of {text.shown_price(order.price)} EUR/MWh, and is {outcome}."
     if found.limit is None:
         best = text.shown_price(found.past_limit)
-        yield f"No limit of the range is enough: with the best, {best} EUR/MWh, it {why_never(search, found)}."
+        yield f"No limit of the range is enough: with the best, {best} EUR/MWh, {why_never(search, found)}."
     elif found.past is None:
         yield f"Every limit of the range is enough, up to the worst, {text.shown_price(found.limit)} EUR/MWh."
     else:
