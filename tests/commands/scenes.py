@@ -153,7 +153,7 @@ PAGES = {
             "dam-table --journal orders.xlsx": Span(says="has no orders"),
             "dam-table --all day.xlsx day.csv results.txt": REFUSED,
             "dam-lint day.csv": Span(1),
-            "dam-report --participant COAL -o coal.html day.csv results.txt": REFUSED,
+            "dam-report --participant COAL -o coal.html day.csv results.txt": DONE,
             "dam-whatif change day.csv more.csv": DONE,
             "dam-audit --best day.csv results.txt --sent mine.csv --participant NORD": DONE,
             "dam-receipts verify NORD.jsonl --key KEY --head HEAD": DONE,
