@@ -581,6 +581,7 @@ async def other_day(page, counts):
     count = len(await rows(page, "orders-table"))
     await page.run("say('unsure', 'wrong', 'unsure'); byId('days').dispatchEvent(new Event('change'))")  # as if it were another day
     await click(page, "#yes")
+    await page.until("!byId('sure').open && byId('message').textContent === '' && byId('name').value === ''")
     await until_rows(page, "orders-table", count)
     await page.run("look()")
     left = await page.run("[byId('message').textContent, byId('name').value]")
