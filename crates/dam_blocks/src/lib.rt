@@ -30,8 +30,8 @@ pub mod laws;
 mod links;
 pub mod market;
 mod problem;
+mod problem_making;
 mod result;
-mod rows;
 mod scoring;
 mod selection;
 

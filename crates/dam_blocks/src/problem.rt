@@ -8,7 +8,7 @@ ghost use Rattle.dam_blocks.specs.Problem.{IsProblem, problem_of};
 ghost use Rattle.dam_blocks.specs.inside.Hindrances.{AreHindrances};
 
 use crate::hindrances::{Hindrances, all_hindrances};
-use crate::rows::{hours_of, lists_of};
+use crate::problem_making::{hours_of, lists_of};
 use dam_book::{BlockOrder, Book, DayLength, LAST_PERIOD, Name, Participant, Period};
 use dam_hour::{Hour, Step};
 use std::alloc::{AllocError, Allocator, Global};

@@ -1,7 +1,7 @@
 -- The lists so far, and those that are left.
 use Rattle.std.proofs.Common.{◌≡◌, ◌+◌, ◌-◌, ◌++◌, [], map}
 use Rattle.dam_blocks.specs.Problem.{hours_from}
-use Rattle.dam_blocks.proofs.rows.no_steps.Given as goal
+use Rattle.dam_blocks.proofs.problem_making.no_steps.Given as goal
 
 abbrev pub invariant-loop : goal.invariant-loop
 invariant-loop g l =

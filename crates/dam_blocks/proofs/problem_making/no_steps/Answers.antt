@@ -3,7 +3,7 @@ use Rattle.std.proofs.Common.{Vec, List, ◌∷◌, ◌++◌, [], map, ap, ◌�
 use Rattle.std.proofs.lemmas.List.{map-append}
 use Rattle.dam_hour.specs.declared.step.Step.{Step}
 use Rattle.dam_blocks.proofs.RowByRow.{none_more}
-use Rattle.dam_blocks.proofs.rows.no_steps.Goals as goal
+use Rattle.dam_blocks.proofs.problem_making.no_steps.Goals as goal
 
 pub loop-preserved : goal.loop-preserved
 loop-preserved g c =

@@ -2,7 +2,7 @@
 use Rattle.std.proofs.Common.{Vec, ◌<◌, ◌-◌, length, ◌∙◌, arith}
 use Rattle.dam_hour.specs.declared.step.Step.{Step}
 use Rattle.dam_blocks.proofs.RowByRow.{same_step, list_grown}
-use Rattle.dam_blocks.proofs.rows.add_step.Goals as goal
+use Rattle.dam_blocks.proofs.problem_making.add_step.Goals as goal
 
 pub returns-clause-added : goal.returns-clause-added
 returns-clause-added g c =

@@ -10,8 +10,8 @@ use Rattle.dam_blocks.specs.declared.problem.Place.TheVariants.{Hour as AtHour, 
 use Rattle.dam_blocks.specs.Problem.{hours_from, block_under, blocks_in}
 use Rattle.dam_blocks.proofs.FromBook.{length-hours_from}
 use Rattle.dam_blocks.proofs.RowByRow.{in_day, nothing_placed, hour_placed, block_placed, more_some, more_none, same_block, one_longer}
-use Rattle.dam_blocks.proofs.rows.lists_of.Goals as goal
-use Rattle.dam_blocks.proofs.rows.lists_of.Goals.{in-Hour+in_ok-add_step-in-Hour, in-Block+in_ok-push-in-Block}
+use Rattle.dam_blocks.proofs.problem_making.lists_of.Goals as goal
+use Rattle.dam_blocks.proofs.problem_making.lists_of.Goals.{in-Hour+in_ok-add_step-in-Hour, in-Block+in_ok-push-in-Block}
 
 pub loop-place-init : goal.loop-place-init
 loop-place-init g c = record {

@@ -4,7 +4,7 @@ use Rattle.std.proofs.lemmas.Option.{slice_get_read}
 use Rattle.std.proofs.lemmas.List.{take_all, length-map}
 use Rattle.dam_hour.specs.declared.step.Step.{Step}
 use Rattle.dam_blocks.proofs.RowByRow.{hour_more, few_of_period}
-use Rattle.dam_blocks.proofs.rows.hours_of.Goals as goal
+use Rattle.dam_blocks.proofs.problem_making.hours_of.Goals as goal
 
 pub build-requires : goal.build-requires
 build-requires g c =

@@ -2,7 +2,7 @@
 use Rattle.std.proofs.Common.{◌≡◌, ◌++◌, drop, length, map}
 use Rattle.dam_blocks.specs.Problem.{blocks_in}
 use Rattle.dam_blocks.proofs.RowByRow.{IsPlacedSoFar}
-use Rattle.dam_blocks.proofs.rows.lists_of.Given as goal
+use Rattle.dam_blocks.proofs.problem_making.lists_of.Given as goal
 
 abbrev pub invariant-loop-place : goal.invariant-loop-place
 invariant-loop-place g l = record {
