@@ -116,7 +116,7 @@ fn enter<J: GateName, H: Wait + Drop>(
         let Some(given) = commands.get(*place) else {
             continue;
         };
-        let Ok(_answer) = gate.enter(rt, pass, given) else {
+        let Ok(_answer) = gate.call_packed(rt, pass, given) else {
             return;
         };
     }
@@ -356,7 +356,7 @@ fn run_at_gate<J: GateName + Send + Sync, R: Threads + Wait + Sync, T: Turnstile
     learn_from_all(&mut operator, &passes);
     let closed = gate.close(&mut operator)?;
     let (passes, mut parts) = accounts_of(alloc, passes, operator)?;
-    let journal = closed.into_counted_journal(&mut parts);
+    let journal = closed.into_audited_journal(&mut parts);
     let settled = settle_day(alloc, journal, &passes)?;
     Ok(SettledDay { settled, passes })
 }

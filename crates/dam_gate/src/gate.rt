@@ -7,7 +7,7 @@ ghost use Rattle.dam_gate.specs.inside.Entering.{IsClosedByOperator};
 ghost use Rattle.dam_gate.specs.inside.Locked.{entry_of};
 
 use crate::history::{GateName, Opening};
-use crate::keeper::{BeginFault, Journal, KeeperFault};
+use crate::keeper::{BeginFault, Journal, KeeperFault, is_full};
 use crate::locked::Locked;
 use crate::pass::Pass;
 use crate::version::{NextShown, Shown};
@@ -191,7 +191,7 @@ impl<J: GateName, R: Wait + Drop> Gate<J, R> {
     }
 
     /// Makes the call of a packed command, which its caller keeps. It returns the number and the reply of the entry.
-    pub(crate) fn enter(
+    pub(crate) fn call_packed(
         &self,
         rt: &impl Wait,
         pass: &mut Pass<J>,
@@ -206,7 +206,12 @@ impl<J: GateName, R: Wait + Drop> Gate<J, R> {
         if !pass.acts_for(command.participant()) {
             return Err(GateFault::NotYours);
         }
-        pass.step(&mut self.locked.lock(rt), command)
+        let mut locked = self.locked.lock(rt);
+        let held = locked.len();
+        if is_full(held, command.participant()) {
+            return Err(GateFault::JournalFull { held });
+        }
+        pass.step(&mut locked, command)
     }
 
     /// Makes room in the journal for this number of further entries.

@@ -167,7 +167,7 @@ impl<A: Allocator + Copy> Keeper<A> {
     /// Packs the command for its entry, unless the journal is full for it.
     pub(crate) fn pack(&self, command: &Command) -> Result<PackedCommand<A>, KeeperFault>
         ensures packed { IfOk result (λ packed. packed ≡ command.now) }
-        ensures room { OnOk result
+        ensures not_full { OnOk result
             (is_full (length self.now.journal.entries) command.now ≡ false) }
         ensures fault { IfErr result
             (IsKeeperFault (length self.now.journal.entries) command.now) }
@@ -202,7 +202,7 @@ impl<A: Allocator + Copy> Keeper<A> {
         command: &Command,
     ) -> Result<Ready<A>, AllocError>
         requires packed { packed ≡ command.now }
-        requires room { is_full (length self.old.journal.entries) command.now ≡ false }
+        requires not_full { is_full (length self.old.journal.entries) command.now ≡ false }
         ensures ready { IfOk result (IsReadyFor self.new command.now) }
         ensures journal { self.new.journal ≡ self.old.journal }
         ensures room { self.old.room ≤ self.new.room }
@@ -276,7 +276,7 @@ impl<A: Allocator + Copy> Keeper<A> {
     pub fn apply(&mut self, command: Command) -> Result<Entry, KeeperFault>
         ensures entry { IfOk result (λ entry. entry ≡ next_entry self.old.journal command) }
         ensures step { OnOk result (self.new.journal ≡ journal_after self.old.journal command) }
-        ensures room { OnOk result
+        ensures not_full { OnOk result
             (is_full (length self.old.journal.entries) command ≡ false) }
         ensures err { OnErr result (self.new.journal ≡ self.old.journal) }
         ensures fault { IfErr result (IsKeeperFault (length self.old.journal.entries) command) }

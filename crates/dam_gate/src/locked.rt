@@ -237,6 +237,8 @@ impl<J: GateName, R: Wait + Drop> Locked<J, R> {
     /// The command as its entry will have it, if the journal isn't full for it.
     pub(crate) fn pack(&self, command: &Command) -> Result<PackedCommand, KeeperFault>
         ensures packed { IfOk result (λ packed. packed ≡ command.now) }
+        ensures not_full { OnOk result
+            (is_full (length self.now.journal.entries) command.now ≡ false) }
         ensures fault { IfErr result
             (IsKeeperFault (length self.now.journal.entries) command.now) }
         ensures few { length self.now.journal.entries ≤ most_entries }
@@ -262,8 +264,8 @@ impl<J: GateName, R: Wait + Drop> Locked<J, R> {
         keeper.into_journal()
     }
 
-    /// The journal of `into_journal`, of which the parts of all passes show how many entries it has.
-    pub(crate) fn into_counted_journal(self, parts: &mut LedgerPart<Answered<J>>) -> Journal
+    /// The journal of `into_journal`, after an audit of these parts: the parts of all passes show how many entries it has.
+    pub(crate) fn into_audited_journal(self, parts: &mut LedgerPart<Answered<J>>) -> Journal
         ensures value { result ≡ self.journal }
         ensures valid { IsJournal result }
         ensures day { result.book.periods ≡ J.opening.periods }
@@ -282,7 +284,7 @@ impl<J: GateName, R: Wait + Drop> Locked<J, R> {
     /// A pass that has seen nothing.
     pub(crate) fn pass(&mut self, holder: Option<Participant>) -> Result<Pass<J>, PassFault>
         ensures pass { IfOk result (λ pass. pass ≡ knowing_nothing holder) }
-        ensures room { OnOk result (self.old.passes < J.opening.passes) }
+        ensures left { OnOk result (self.old.passes < J.opening.passes) }
         ensures count { OnOk result (self.new.passes ≡ self.old.passes + 1) }
         ensures journal { self.new.journal ≡ self.old.journal }
         ensures err { OnErr result (self.new ≡ self.old) }
@@ -305,14 +307,14 @@ impl<J: GateName, R: Wait + Drop> Locked<J, R> {
     ///
     /// All that may be refused comes first. The next call takes the slot that a refused call has left at the writer. The
     /// caller's part counts the entry.
-    pub(crate) fn enter(
+    pub(crate) fn journal_and_publish(
         &mut self,
         seen: &History<J>,
         learnt: &History<J>,
         part: &mut LedgerPart<Answered<J>>,
         command: &PackedCommand,
     ) -> Result<((u32, Reply), History<J>), GateFault>
-        requires room { is_full (length self.old.journal.entries) command.now ≡ false }
+        requires not_full { is_full (length self.old.journal.entries) command.now ≡ false }
         requires part { 0 < part.old.parts }
         ensures entry { IfOk result (λ r.
             entry_of command.now r.0 ≡ next_entry self.old.journal command.now) }

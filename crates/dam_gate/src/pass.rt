@@ -1,16 +1,14 @@
-ghost use Rattle.std.specs.Prelude.{◌≡◌, ◌<◌, ◌≤◌, ◌⊎◌, [], true, length, IfOk, IfErr, IfSome, OnOk, OnErr, OnSome, IfNone};
+ghost use Rattle.std.specs.Prelude.{◌≡◌, ◌<◌, ◌≤◌, ◌⊎◌, [], true, false, length, IfOk, IfErr, IfSome, OnOk, OnErr, OnSome, IfNone};
 ghost use Rattle.std.specs.Option.{option_copied};
 ghost use mathlib.Core.List.{IsPrefix};
-ghost use Rattle.dam_book.specs.Limits.{most_entries};
-ghost use Rattle.dam_gate.specs.Journal.{journal_after, next_entry};
+ghost use Rattle.dam_gate.specs.Journal.{is_full, journal_after, next_entry};
 ghost use Rattle.dam_gate.specs.Pass.{IsKnowledge, after_learning, after_look, is_own, knowing_nothing, same_giver};
 ghost use Rattle.dam_gate.specs.Gate.{BeginsWithAll, IsCalled, IsLook};
-ghost use Rattle.dam_gate.specs.inside.Locked.{IsFaultAt, entry_of};
+ghost use Rattle.dam_gate.specs.inside.Locked.{entry_of};
 
 use crate::account::{Account, acts_for, copy_of};
 use crate::gate::GateFault;
 use crate::history::{Answered, GateName, History};
-use crate::keeper::is_full;
 use crate::locked::Locked;
 use crate::version::{NextShown, Shown};
 use dam_book::{Name, Order, PackedCommand, PackedEntry, Participant, Reply};
@@ -220,7 +218,8 @@ impl<J: GateName> Pass<J> {
         locked: &mut Locked<J, R>,
         command: &PackedCommand,
     ) -> Result<(u32, Reply), GateFault>
-        requires { is_own self.old.account.holder command.now ≡ true }
+        requires own { is_own self.old.account.holder command.now ≡ true }
+        requires not_full { is_full (length locked.old.journal.entries) command.now ≡ false }
         ensures entry { IfOk result (λ answer.
             entry_of command.now answer ≡ next_entry locked.old.journal command.now) }
         ensures journal { OnOk result
@@ -231,17 +230,18 @@ impl<J: GateName> Pass<J> {
         ensures learnt { OnOk result
             (IsPrefix self.old.learnt locked.old.journal.entries) }
         ensures err { OnErr result ((locked.new ≡ locked.old) × (self.new ≡ self.old)) }
-        ensures fault { IfErr result
-            (IsFaultAt (length locked.old.journal.entries) self.old.account command.now) }
-        ensures few { length locked.old.journal.entries ≤ most_entries }
+        ensures fault { IfErr result (λ fault.
+            (fault ≡ GateFault.Memory) ⊎ (fault ≡ GateFault.NoVersion)) }
     {
-        let held = locked.len();
-        if is_full(held, command.participant()) {
-            return Err(GateFault::JournalFull { held });
-        }
+        let _held = locked.len(); // for the proof: the invariant of a journal
         self.receipts.reserve(1)?;
         let packed = command.clone()?;
-        let (answer, after) = locked.enter(&self.history, &self.learnt, &mut self.part, command)?;
+        let (answer, after) = locked.journal_and_publish(
+            &self.history,
+            &self.learnt,
+            &mut self.part,
+            command,
+        )?;
         self.receipts
             .push_reserved(PackedEntry::new(answer.0, packed, answer.1));
         self.note = Some(Note {

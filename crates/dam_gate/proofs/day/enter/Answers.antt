@@ -44,14 +44,14 @@ loop-place-preserved g c =
           c.loop-place.pass.account.receipts e c.loop-place.invariant.entered more;
     }
 
-pub returns-in_default-enter : goal.returns-in_default-enter
-returns-in_default-enter g c =
+pub returns-in_default-call_packed : goal.returns-in_default-call_packed
+returns-in_default-call_packed g c =
     record {
-      holder = ap (λ (k : Knowledge). k.account.holder) c.in_default-enter.ensures.err ∙ c.loop-place.invariant.holder;
+      holder = ap (λ (k : Knowledge). k.account.holder) c.in_default-call_packed.ensures.err ∙ c.loop-place.invariant.holder;
       entered = record {
         entered = commands_at c.args.commands.now (take c.loop-place.place-index c.args.places.now);
         left = commands_at c.args.commands.now (drop c.loop-place.place-index c.args.places.now);
         own_is = own-split c.args.commands.now c.args.places.now c.loop-place.place-index;
-        receipts = ap (λ (k : Knowledge). commands_of k.account.receipts) c.in_default-enter.ensures.err ∙ c.loop-place.invariant.entered;
+        receipts = ap (λ (k : Knowledge). commands_of k.account.receipts) c.in_default-call_packed.ensures.err ∙ c.loop-place.invariant.entered;
       };
     }

@@ -22,24 +22,24 @@ returns-clause-day g c =
     let ks : List Knowledge = c.in_ok-passes.passes.items in
     let before : Knowledge = c.learn_from_all.new.pass in
     let op : PassState = c.close.new.operator.account in
-    let j = c.into_counted_journal-journal.result in
+    let j = c.into_audited_journal-journal.result in
     let passes = c.in_ok-passes-2.passes.items in
-    let closed : IsClosedByOperator before op j = subst (IsClosedByOperator before op) (sym c.into_counted_journal-journal.ensures.value) c.in_ok-closed.ensures in
+    let closed : IsClosedByOperator before op j = subst (IsClosedByOperator before op) (sym c.into_audited_journal-journal.ensures.value) c.in_ok-closed.ensures in
     let is : before ≡ after_learning (knowing_nothing None) before.learnt =
     c.learn_from_all.ensures.pass ∙ ap (λ (k : Knowledge). after_learning k before.learnt) c.in_ok-operator.ensures in
     let begin = subst (λ (xs : List Knowledge). (i : ℕ) (d : Knowledge) → i < length xs → IsPrefix (get_or xs i d).history before.learnt)
     c.deref.ensures.value c.learn_from_all.ensures.learnt in
     let most = sym (ap (λ (o : OpeningState). o.passes) c.requires.name) ∙ c.requires.passes in
     let day = counted given participants ks before op j passes c.in_ok-passes-2.parts.parts g.J.GateName.opening.passes
-    c.in_ok-passes-2.parts.amount closed is c.into_counted_journal-journal.ensures.valid c.requires.givers.apart
+    c.in_ok-passes-2.parts.amount closed is c.into_audited_journal-journal.ensures.valid c.requires.givers.apart
     c.in_ok-passes.ensures.ok c.in_ok-passes.ensures.holders c.in_ok-passes.ensures.valid begin c.in_ok-passes-2.ensures.accounts
-    c.in_ok-passes-2.ensures.parts most c.in_ok-passes-2.ensures.count c.into_counted_journal-journal.ensures.count in
+    c.in_ok-passes-2.ensures.parts most c.in_ok-passes-2.ensures.count c.into_audited_journal-journal.ensures.count in
     let ps = accounts ks in
     let settled = c.in_ok-settled.settled in
     let same : settled ≡ j = c.in_ok-settled.ensures.journal in
     let periods : j.book.periods ≡ c.args.periods =
-    c.into_counted_journal-journal.ensures.day ∙ (sym (ap (λ (o : OpeningState). o.periods) c.requires.name) ∙ c.requires.day) in
-    let legal = subst (λ (n : ℕ). IsLegalHistory n j.entries) periods c.into_counted_journal-journal.ensures.valid.history.legal in
+    c.into_audited_journal-journal.ensures.day ∙ (sym (ap (λ (o : OpeningState). o.periods) c.requires.name) ∙ c.requires.day) in
+    let legal = subst (λ (n : ℕ). IsLegalHistory n j.entries) periods c.into_audited_journal-journal.ensures.valid.history.legal in
     let all : passes ≡ ps ++ op ∷ [] = c.in_ok-passes-2.ensures.accounts in
     let run = day_run c.args.periods given participants j.entries ps op day.before legal
     (subst (λ (xs : List PassState). AreReceipts j.entries (receipts_of xs)) all day.are) c.requires.givers c.in_ok-passes.ensures.ok
@@ -47,7 +47,7 @@ returns-clause-day g c =
     rw same (record {
       taken = c.requires.taken;
       day_length = periods;
-      journal = c.into_counted_journal-journal.ensures.valid;
+      journal = c.into_audited_journal-journal.ensures.valid;
       run = run;
       account = subst (λ (x : JournalState). IsWholeAccount x passes) same
           (subst (λ (xs : List PassState). IsWholeAccount settled xs) c.deref-2.ensures.value c.in_ok-settled.ensures.account);
@@ -62,18 +62,18 @@ returns-in_err-settled-clause-err g c =
     let ks : List Knowledge = c.in_ok-passes.passes.items in
     let before : Knowledge = c.learn_from_all.new.pass in
     let op : PassState = c.close.new.operator.account in
-    let j = c.into_counted_journal-journal.result in
+    let j = c.into_audited_journal-journal.result in
     let passes = c.in_ok-passes-2.passes.items in
-    let closed : IsClosedByOperator before op j = subst (IsClosedByOperator before op) (sym c.into_counted_journal-journal.ensures.value) c.in_ok-closed.ensures in
+    let closed : IsClosedByOperator before op j = subst (IsClosedByOperator before op) (sym c.into_audited_journal-journal.ensures.value) c.in_ok-closed.ensures in
     let is : before ≡ after_learning (knowing_nothing None) before.learnt =
     c.learn_from_all.ensures.pass ∙ ap (λ (k : Knowledge). after_learning k before.learnt) c.in_ok-operator.ensures in
     let begin = subst (λ (xs : List Knowledge). (i : ℕ) (d : Knowledge) → i < length xs → IsPrefix (get_or xs i d).history before.learnt)
     c.deref.ensures.value c.learn_from_all.ensures.learnt in
     let most = sym (ap (λ (o : OpeningState). o.passes) c.requires.name) ∙ c.requires.passes in
     let day = counted given participants ks before op j passes c.in_ok-passes-2.parts.parts g.J.GateName.opening.passes
-    c.in_ok-passes-2.parts.amount closed is c.into_counted_journal-journal.ensures.valid c.requires.givers.apart
+    c.in_ok-passes-2.parts.amount closed is c.into_audited_journal-journal.ensures.valid c.requires.givers.apart
     c.in_ok-passes.ensures.ok c.in_ok-passes.ensures.holders c.in_ok-passes.ensures.valid begin c.in_ok-passes-2.ensures.accounts
-    c.in_ok-passes-2.ensures.parts most c.in_ok-passes-2.ensures.count c.into_counted_journal-journal.ensures.count in
+    c.in_ok-passes-2.ensures.parts most c.in_ok-passes-2.ensures.count c.into_audited_journal-journal.ensures.count in
     let settled = subst (λ (xs : List PassState). IsSettled j xs) (sym c.deref-2.ensures.value) day.settled in
     let fault = c.in_err-settled.field-0.0 in
     passed_on (λ (f : DayFault). f ≡ Memory) c.from_residual-in_err-settled.result fault c.from_residual-in_err-settled.ensures.1

@@ -1,10 +1,6 @@
 -- The receipt of a call, and the knowledge of the pass after it.
-use Rattle.std.proofs.Common.{◌≡◌, ◌-◌, ◌++◌, ◌∷◌, [], ℕ, List, Option, true, false, length, refl, sym, ap, subst, ◌∙◌, arith, length-append}
-use Rattle.std.specs.Prelude.{is_some, nat_le, if◌then◌else◌}
+use Rattle.std.proofs.Common.{◌≡◌, ◌-◌, ◌++◌, ◌∷◌, [], ℕ, true, false, length, refl, sym, ap, subst, ◌∙◌, arith, length-append}
 use mathlib.Core.List.{IsPrefix}
-use Rattle.dam_book.specs.Command.{giver}
-use Rattle.dam_book.specs.Limits.{most_entries}
-use Rattle.dam_book.specs.declared.command.Command.{Command}
 use Rattle.dam_book.specs.declared.command.Entry.{Entry}
 use Rattle.dam_gate.specs.Journal.{IsHistory, is_full, next_entry}
 use Rattle.dam_gate.specs.Pass.{Knowledge, AreInOrder, is_own}
@@ -14,11 +10,6 @@ use Rattle.dam_gate.proofs.Receipts.{AreInOrder-snoc, AreOwn-snoc}
 use Rattle.dam_gate.proofs.Histories.{history-after}
 use Rattle.dam_gate.proofs.Standing.{stand-called}
 use Rattle.dam_gate.proofs.pass.Pass.step.Goals as goal
-
--- the room for a command of its giver is the room for it
-full_for : (held : ℕ) (who : Option (List ℕ)) (c : Command) → who ≡ giver c
-    → nat_le (if is_some who then most_entries - 1 else most_entries) held ≡ is_full held c
-full_for held who c same = ap (λ (w : Option (List ℕ)). nat_le (if is_some w then most_entries - 1 else most_entries) held) same
 
 pub invariant_of-self-2 : goal.invariant_of-self-2
 invariant_of-self-2 g c =
@@ -31,11 +22,8 @@ invariant_of-self-2 g c =
     omega (arith, number, ap length c.in_ok-answer.ensures.history, length-append held (e ∷ [])) in
     let before : e.number - 1 ≡ length held = omega (arith, number) in
     let mine : is_own holder e.command ≡ true =
-    ap (λ (k : Knowledge). is_own k.account.holder c.args.command.now) c.self.view_is ∙ c.requires in
-    let left : is_full (length held) c.args.command.now ≡ false =
-    ap (λ (n : ℕ). is_full n c.args.command.now) (sym c.len-held.ensures.value)
-    ∙ (sym (full_for c.len-held.result _ c.args.command.now c.participant.ensures) ∙ (sym c.is_full.ensures ∙ c.if-is_full.false)) in
-    let room : is_full (e.number - 1) e.command ≡ false = ap (λ (n : ℕ). is_full n c.args.command.now) before ∙ left in
+    ap (λ (k : Knowledge). is_own k.account.holder c.args.command.now) c.self.view_is ∙ c.requires.own in
+    let room : is_full (e.number - 1) e.command ≡ false = ap (λ (n : ℕ). is_full n c.args.command.now) before ∙ c.requires.not_full in
     let earlier = prefix_length c.self.inside.history held c.in_ok-answer.ensures.seen in
     let copied : c.in_ok-packed.packed ≡ c.args.command.now = c.in_ok-packed.ensures.cases in
     rw (c.push_reserved.ensures.items, c.reserve.ensures.items, c.new.ensures, copied)
@@ -61,9 +49,6 @@ returns-clause-answered g c =
     let whole : length after ≡ e.number =
     omega (arith, number, ap length c.in_ok-answer.ensures.history, length-append j.entries (e ∷ [])) in
     let earlier = prefix_length c.self.inside.history j.entries c.in_ok-answer.ensures.seen in
-    let left : is_full (length j.entries) c.args.command.now ≡ false =
-    ap (λ (n : ℕ). is_full n c.args.command.now) (sym c.len-held.ensures.value)
-    ∙ (sym (full_for c.len-held.result _ c.args.command.now c.participant.ensures) ∙ (sym c.is_full.ensures ∙ c.if-is_full.false)) in
     let last : after ≡ j.entries ++ next_entry j c.args.command.now ∷ [] =
     c.in_ok-answer.ensures.history ∙ ap (λ (x : Entry). j.entries ++ x ∷ []) c.in_ok-answer.ensures.entry in
     let copied : c.in_ok-packed.packed ≡ c.args.command.now = c.in_ok-packed.ensures.cases in
@@ -81,7 +66,7 @@ returns-clause-answered g c =
       history = record {
         before = j.entries;
         legal = subst (λ (n : ℕ). IsHistory n after) c.len-held.ensures.day
-            (subst (IsHistory j.book.periods) (sym last) (history-after j c.args.command.now c.len-held.ensures.valid left));
+            (subst (IsHistory j.book.periods) (sym last) (history-after j c.args.command.now c.len-held.ensures.valid c.requires.not_full));
         last = c.in_ok-answer.ensures.history;
         number = sym whole;
         seen = subst (λ (k : Knowledge). IsPrefix k.history j.entries) c.self.view_is c.in_ok-answer.ensures.seen;

@@ -6,7 +6,7 @@ use Rattle.dam_book.specs.declared.command.Reply.{Reply}
 use Rattle.dam_gate.specs.Journal.{JournalState, is_full, journal_after, next_entry}
 use Rattle.dam_gate.specs.inside.Locked.{LockedState, entry_of}
 use Rattle.dam_gate.proofs.Histories.{book_after-periods, journal_after_is}
-use Rattle.dam_gate.proofs.locked.Locked.enter.Goals as goal
+use Rattle.dam_gate.proofs.locked.Locked.journal_and_publish.Goals as goal
 
 pub extend_history-requires-clause-journal : goal.extend_history-requires-clause-journal
 extend_history-requires-clause-journal g c =
