@@ -14,11 +14,11 @@ use Rattle.dam_blocks.specs.Magnitude.{IsWithin}
 use Rattle.dam_blocks.specs.Selection.{accepts, net_volume_of, net_volume}
 use Rattle.dam_blocks.specs.Eligible.{IsEligible}
 use Rattle.dam_bound.specs.ClassCurves.{class_orders, least_net_in, most_net_in, IsClassIn}
-use Rattle.dam_bound.specs.Limits.{most_limits, room_taken, if_open, taken_under, every_place, greatest_room, IsLimit, limit_in, AreLimits, AreRooms, HasRoom}
+use Rattle.dam_bound.specs.NetLimits.{most_limits, room_taken, if_open, taken_under, every_place, greatest_room, IsLimit, limit_in, AreLimits, AreRooms, HasRoom}
 use Rattle.dam_bound.specs.Prices.{over_gains}
 use Rattle.dam_bound.specs.Sums.{at_places}
 use Rattle.dam_bound.specs.declared.class_curves.Class.{Class}
-use Rattle.dam_bound.specs.declared.limits.Limit.{Limit}
+use Rattle.dam_bound.specs.declared.net_limits.Limit.{Limit}
 use Rattle.dam_bound.specs.inside.Numbers.{AreNumbersWithin, negative_sum}
 use Rattle.dam_bound.proofs.Accepted.{if_accepted}
 use Rattle.dam_bound.proofs.ByClass.{has_whole}

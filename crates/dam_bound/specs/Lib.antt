@@ -6,5 +6,5 @@ pub mod ClassCurves
 pub mod Prices
 pub mod ClassPrices
 pub mod Open
-pub mod Limits
+pub mod NetLimits
 pub mod inside

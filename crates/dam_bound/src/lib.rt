@@ -45,7 +45,7 @@ mod families;
 pub mod laws;
 mod levels;
 mod limit_making;
-mod limits;
+mod net_limits;
 mod numbers;
 mod price_bound;
 mod relaxed;
@@ -53,6 +53,6 @@ mod rivals;
 
 pub use class_curves::ClassCurves;
 pub use class_prices::ClassPrices;
-pub use limits::{Limit, Limits, MOST_LIMITS, Room};
+pub use net_limits::{Limit, Limits, MOST_LIMITS, Room};
 pub use price_bound::PriceBound;
 pub use relaxed::Relaxed;

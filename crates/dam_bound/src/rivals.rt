@@ -65,7 +65,7 @@ impl<A: Allocator, B: Allocator> ClassCurves<'_, A, B> {
         if self.families[sell].is_some() || self.families[buy].is_some() {
             return false;
         }
-        let Some(weights) = self.weights_of(sell, buy) else {
+        let Some(weights) = self.cancelling_weights(sell, buy) else {
             return false;
         };
         match self.most_of_two(sell, buy, weights) {
@@ -76,7 +76,7 @@ impl<A: Allocator, B: Allocator> ClassCurves<'_, A, B> {
 
     /// The weights at which the volumes of the two blocks cancel in the first class in which one sells and the other buys;
     /// nothing if there is none.
-    fn weights_of(&self, sell: usize, buy: usize) -> Option<Weights>
+    fn cancelling_weights(&self, sell: usize, buy: usize) -> Option<Weights>
         requires sell { sell < length self.now.blocks }
         requires buy { buy < length self.now.blocks }
         ensures { IfSome result (λ weights. AreVolumes weights) }

@@ -9,9 +9,9 @@ use Rattle.dam_book.specs.Limits.{most_blocks}
 use Rattle.dam_blocks.specs.Problem.{ProblemState}
 use Rattle.dam_blocks.specs.Selection.{accepts, padded, choice}
 use Rattle.dam_blocks.specs.Eligible.{IsEligible}
-use Rattle.dam_bound.specs.declared.limits.Limit.{Limit}
-use Rattle.dam_bound.specs.declared.limits.Room.{Room}
-use Rattle.dam_bound.specs.Limits.{room_taken, if_open, taken_under, most_limits, limit_in, AreLimits, AreRooms, HasRoom, every_place}
+use Rattle.dam_bound.specs.declared.net_limits.Limit.{Limit}
+use Rattle.dam_bound.specs.declared.net_limits.Room.{Room}
+use Rattle.dam_bound.specs.NetLimits.{room_taken, if_open, taken_under, most_limits, limit_in, AreLimits, AreRooms, HasRoom, every_place}
 use Rattle.dam_bound.specs.Open.{is_among, IsOpen}
 use Rattle.dam_bound.specs.Relaxed.{without_rows}
 use Rattle.dam_search.specs.Piece.{IsSound}

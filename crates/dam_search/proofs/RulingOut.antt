@@ -10,9 +10,9 @@ use Rattle.dam_blocks.specs.Selection.{accepts, empty_selection, are_of_one_grou
 use Rattle.dam_blocks.specs.Family.{descends}
 use Rattle.dam_blocks.specs.Eligible.{IsEligible}
 use Rattle.dam_bound.specs.Relaxed.{without_rows}
-use Rattle.dam_bound.specs.Limits.{AreLimits}
-use Rattle.dam_bound.specs.declared.limits.Limit.{Limit}
-use Rattle.dam_bound.specs.declared.limits.Limits.{Limits}
+use Rattle.dam_bound.specs.NetLimits.{AreLimits}
+use Rattle.dam_bound.specs.declared.net_limits.Limit.{Limit}
+use Rattle.dam_bound.specs.declared.net_limits.Limits.{Limits}
 use Rattle.dam_search.specs.declared.conflicts.Conflicts.{Conflicts}
 use Rattle.dam_search.specs.inside.Conflicts.{AcceptsAll, AcceptsNone, Needs, IsNeededBy, Excludes, AreConflicts, IsSetOf, are_two_of_group, is_other_of_group}
 use Rattle.dam_search.proofs.Sets.{accepts-none, passes_test}

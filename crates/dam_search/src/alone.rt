@@ -13,7 +13,7 @@ use crate::fault::SearchFault;
 use crate::first::first_selection;
 use crate::incumbent::{Incumbent, Private};
 use crate::order::decision_order;
-use crate::prices::Prices;
+use crate::priced_problem::PricedProblem;
 use crate::space::SearchSpace;
 use dam_blocks::{Best, Problem};
 use dam_bound::{ClassCurves, Relaxed};
@@ -24,12 +24,12 @@ use std::alloc::Global;
 fn search_alone_with_explorer<E: Explorer>(
     problem: &Problem,
     explorer: &E,
-    first: u64,
+    first_welfare: u64,
     nodes: Nodes,
 ) -> Result<Best, SearchFault>
     requires same { E.explored explorer.now ≡ problem.now }
     requires suits { E.suits explorer.now 0 nodes ≡ true }
-    requires first { IsReached problem.now first }
+    requires reached { IsReached problem.now first_welfare }
     ensures ok { IfOk result (λ best. IsResult problem.now best.selection (pos best.welfare)) }
     ensures unfinished { (piece visited : ℕ)
         → IsErrOf result (SearchFault.Unfinished piece visited)
@@ -38,19 +38,19 @@ fn search_alone_with_explorer<E: Explorer>(
     ensures whole { (piece : ℕ) → ¬ (IsErrOf result (SearchFault.Collected piece)) }
 {
     let mut incumbent = Private::new();
-    incumbent.offer(first);
+    incumbent.offer(first_welfare);
     let answer = explorer.explore(0, 0, nodes, &mut incumbent);
     collected(problem, 0, nodes, &[answer])
 }
 
 /// The result of the problem, by the explorer that suits the limit.
-fn search_alone_with_prices<P: Prices>(
+fn search_alone_priced<P: PricedProblem>(
     alloc: Global,
     problem: &Problem,
-    prices: &P,
+    priced: &P,
     nodes: Nodes,
 ) -> Result<Best, SearchFault>
-    requires { P.problem prices.now ≡ without_rows problem.now }
+    requires { P.problem priced.now ≡ without_rows problem.now }
     ensures ok { IfOk result (λ best. IsResult problem.now best.selection (pos best.welfare)) }
     ensures unfinished { (piece visited : ℕ)
         → IsErrOf result (SearchFault.Unfinished piece visited)
@@ -58,22 +58,22 @@ fn search_alone_with_prices<P: Prices>(
     ensures needed { IfOk result (λ best. LimitHasNeeded problem.now 0 nodes best.welfare) }
     ensures whole { (piece : ℕ) → ¬ (IsErrOf result (SearchFault.Collected piece)) }
 {
-    let first = first_selection(problem, prices).welfare;
+    let first_welfare = first_selection(problem, priced).welfare;
     if limit_can_bind(problem, 0, nodes) {
         let relaxed = &Relaxed::build(alloc, problem)?;
         let space = &SearchSpace { problem, relaxed };
-        return search_alone_with_explorer(problem, space, first, nodes);
+        return search_alone_with_explorer(problem, space, first_welfare, nodes);
     }
-    let conflicts = &Conflicts::of(problem, prices);
+    let conflicts = &Conflicts::of(problem, priced);
     let order = &decision_order(alloc, problem, 0)?;
     let by_prices = &ByPrices {
         problem,
-        prices,
+        priced,
         conflicts,
         depth: 0,
         order,
     };
-    search_alone_with_explorer(problem, by_prices, first, nodes)
+    search_alone_with_explorer(problem, by_prices, first_welfare, nodes)
 }
 
 /// The result of a problem, found on the calling thread alone, without other threads, locks or shared
@@ -90,5 +90,5 @@ pub fn search_alone(alloc: Global, problem: &Problem, nodes: Nodes) -> Result<Be
     ensures whole { (piece : ℕ) → ¬ (IsErrOf result (SearchFault.Collected piece)) }
 {
     let curves = ClassCurves::of(alloc, problem)?;
-    search_alone_with_prices(alloc, problem, &curves, nodes)
+    search_alone_priced(alloc, problem, &curves, nodes)
 }

@@ -7,7 +7,7 @@ ghost use Rattle.dam_blocks.specs.Eligible.{IsEligible};
 ghost use Rattle.dam_bound.specs.Relaxed.{without_rows};
 ghost use Rattle.dam_search.specs.inside.Conflicts.{AcceptsAll, AcceptsNone, AreConflicts, Excludes, IsSetOf, is_other_of_group};
 
-use crate::prices::Prices;
+use crate::priced_problem::PricedProblem;
 use dam_blocks::{Block, Problem, Selection, are_of_one_group, descends};
 use dam_book::MOST_BLOCKS;
 use dam_bound::Limits;
@@ -28,9 +28,9 @@ pub(crate) struct Conflicts {
 }
 
 impl Conflicts {
-    /// The conflicts of a problem's blocks. The prices tell which blocks are rivals, and the limits.
-    pub(crate) fn of<A: Allocator, P: Prices>(problem: &Problem<A>, prices: &P) -> Conflicts
-        requires { P.problem prices.now ≡ without_rows problem.now }
+    /// The conflicts of a problem's blocks. The priced problem tells which blocks are rivals, and the limits.
+    pub(crate) fn of<A: Allocator, P: PricedProblem>(problem: &Problem<A>, priced: &P) -> Conflicts
+        requires { P.problem priced.now ≡ without_rows problem.now }
         ensures { AreConflicts problem.now result }
     {
         dam_blocks::laws::conflicts();
@@ -39,13 +39,13 @@ impl Conflicts {
             needs: [Selection::none(); MOST_BLOCKS],
             needed_by: [Selection::none(); MOST_BLOCKS],
             excludes: [Selection::none(); MOST_BLOCKS],
-            limits: prices.limits(),
+            limits: priced.limits(),
         };
         for place in 0..blocks.len() {
             conflicts.needs[place] = ancestors_of(blocks, place);
             conflicts.needed_by[place] = descendants_of(blocks, place);
             conflicts.excludes[place] = with_rivals(
-                prices,
+                priced,
                 place,
                 blocks.len(),
                 others_of_group(blocks, place),
@@ -136,27 +136,32 @@ fn others_of_group(blocks: &[Block], place: usize) -> Selection
 
 /// Whether no eligible selection accepts the block at the one place beside that at the other, since one of them would lose
 /// at any prices. It may be `false` even then.
-fn exclude_each_other<P: Prices>(prices: &P, place: usize, at: usize) -> bool
-    requires place { place < length (P.problem prices.now).blocks }
-    requires at { at < length (P.problem prices.now).blocks }
+fn exclude_each_other<P: PricedProblem>(priced: &P, place: usize, at: usize) -> bool
+    requires place { place < length (P.problem priced.now).blocks }
+    requires at { at < length (P.problem priced.now).blocks }
     ensures { result ≡ true → (selection : List Bool) (w : ℤ)
-        → IsEligible (P.problem prices.now) selection w
+        → IsEligible (P.problem priced.now) selection w
         → accepts selection place ≡ true → accepts selection at ≡ false }
 {
-    prices.are_rivals(place, at) || prices.are_rivals(at, place)
+    priced.are_rivals(place, at) || priced.are_rivals(at, place)
 }
 
 /// The places that can't be accepted beside a block, with its rivals among the first `count` blocks added.
-fn with_rivals<P: Prices>(prices: &P, place: usize, count: usize, others: Selection) -> Selection
+fn with_rivals<P: PricedProblem>(
+    priced: &P,
+    place: usize,
+    count: usize,
+    others: Selection,
+) -> Selection
     requires few { count ≤ most_blocks }
-    requires count { count ≤ length (P.problem prices.now).blocks }
-    requires place { place < length (P.problem prices.now).blocks }
-    requires others { Excludes (P.problem prices.now) place others }
-    ensures { Excludes (P.problem prices.now) place result }
+    requires count { count ≤ length (P.problem priced.now).blocks }
+    requires place { place < length (P.problem priced.now).blocks }
+    requires others { Excludes (P.problem priced.now) place others }
+    ensures { Excludes (P.problem priced.now) place result }
 {
     let mut excluded = others;
     for at in 0..count {
-        if exclude_each_other(prices, place, at) {
+        if exclude_each_other(priced, place, at) {
             excluded = excluded.with(at);
         }
     }

@@ -14,7 +14,7 @@ use crate::answer::PieceAnswer;
 use crate::conflicts::Conflicts;
 use crate::incumbent::Incumbent;
 use crate::piece::search_piece;
-use crate::prices::Prices;
+use crate::priced_problem::PricedProblem;
 use crate::space::SearchSpace;
 use crate::walk::explore_by_prices;
 use dam_blocks::Problem;
@@ -87,22 +87,22 @@ pub(crate) fn limit_can_bind<A: Allocator>(problem: &Problem<A>, depth: usize, n
 
 /// A problem, and what a walk by prices reads for the pieces of one cutting.
 #[derive(Drop)]
-pub(crate) struct ByPrices<'a, A: Allocator, P: Prices> {
+pub(crate) struct ByPrices<'a, A: Allocator, P: PricedProblem> {
     pub(crate) problem: &'a Problem<A>,
-    pub(crate) prices: &'a P,
+    pub(crate) priced: &'a P,
     pub(crate) conflicts: &'a Conflicts,
     /// The depth of the cutting.
     pub(crate) depth: usize,
     /// The places from the depth on, in the order in which they are decided.
     pub(crate) order: &'a [u8],
-    ghost same: { P.problem prices.now ≡ without_rows problem.now },
+    ghost same: { P.problem priced.now ≡ without_rows problem.now },
     ghost are_conflicts: { AreConflicts problem.now conflicts.now },
     ghost is_order: { IsDecisionOrder depth (length problem.now.blocks) order.now } by { Prim.hlevel (props, AreDistinct-prop) },
 }
 
 /// Explores by bounds at prices, to the end of each piece. It doesn't count nodes as the limit does, so it suits only a
 /// limit that can't bind.
-impl<A: Allocator, P: Prices> Explorer for ByPrices<'_, A, P> {
+impl<A: Allocator, P: PricedProblem> Explorer for ByPrices<'_, A, P> {
     ghost use Rattle.std.specs.Prelude.{◌-◌, ◌==◌, ◌&&◌, nat_le, length};
     ghost use Rattle.dam_search.specs.Piece.{all_nodes};
 
@@ -120,7 +120,7 @@ impl<A: Allocator, P: Prices> Explorer for ByPrices<'_, A, P> {
     ) -> PieceAnswer {
         explore_by_prices(
             self.problem,
-            self.prices,
+            self.priced,
             self.conflicts,
             self.order,
             piece,

@@ -44,7 +44,7 @@ pub(crate) fn equals(bound: i64, value: u64) -> bool
 
 impl<A: Allocator, B: Allocator> SearchSpace<'_, A, B> {
     /// The prefix's bound, if it is at least the value.
-    fn open_bound(&self, prefix: &Prefix, least: u64) -> Option<i64>
+    fn live_bound(&self, prefix: &Prefix, least: u64) -> Option<i64>
         requires { length prefix.now ≤ length self.now.problem.now.blocks }
         ensures { MatchOption result
             (reaches (relaxed_welfare self.now.problem.now prefix.now) least ≡ false)
@@ -126,7 +126,7 @@ impl<A: Allocator, B: Allocator> SearchSpace<'_, A, B> {
             return true;
         }
         found.read = incumbent.read();
-        let Some(bound) = self.open_bound(prefix, found.read) else {
+        let Some(bound) = self.live_bound(prefix, found.read) else {
             return true;
         };
         let accept = equals(bound, found.read);

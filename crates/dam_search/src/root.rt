@@ -4,12 +4,12 @@ ghost use Rattle.std.specs.Prelude.{◌≡◌, ◌<◌, ◌≤◌, ℤ, List, Bo
 ghost use Rattle.dam_book.specs.Limits.{most_blocks};
 ghost use Rattle.dam_blocks.specs.Eligible.{IsEligible};
 ghost use Rattle.dam_blocks.specs.Problem.{ProblemState};
-ghost use Rattle.dam_bound.specs.Limits.{AreLimits, AreRooms, HasRoom};
+ghost use Rattle.dam_bound.specs.NetLimits.{AreLimits, AreRooms, HasRoom};
 ghost use Rattle.dam_bound.specs.Prices.{most_of, IsPriceBound};
 ghost use Rattle.dam_search.specs.inside.PriceWalk.{AgreesUnder};
 
 use crate::first::all_places;
-use crate::prices::Prices;
+use crate::priced_problem::PricedProblem;
 use dam_blocks::Selection;
 use dam_bound::{Limits, PriceBound, Room};
 
@@ -19,8 +19,8 @@ use dam_bound::{Limits, PriceBound, Room};
 /// The prices are those that suit one of the prefixes of these decisions: of all of them, and of none, those with the least
 /// bound. A walk that decides one block after the other has the same bounds on its way. The prices of the whole prefix
 /// alone may be poor ones, if the decisions are far from the best selection.
-pub(crate) fn bound_of_piece<P: Prices>(
-    prices: &P,
+pub(crate) fn bound_of_piece<P: PricedProblem>(
+    priced: &P,
     taken: Selection,
     order: &[u8],
     depth: usize,
@@ -29,23 +29,23 @@ pub(crate) fn bound_of_piece<P: Prices>(
     requires depth { depth ≤ most_blocks }
     requires places { All (λ place. place < most_blocks) order.now }
     requires few { length order.now ≤ most_blocks }
-    ensures bound { IsPriceBound (P.problem prices.now) bound.new }
+    ensures bound { IsPriceBound (P.problem priced.now) bound.new }
     ensures most { result ≡ most_of bound.new taken order.now }
 {
     let places = all_places();
     let mut prefix = Selection::none();
-    prices.bound_by_prices(prefix, &places, bound);
+    priced.bound_by_prices(prefix, &places, bound);
     let mut most = bound.most(taken, order);
     for at in 0..depth {
         if taken.has(at) {
             prefix = prefix.with(at);
         }
-        let mut own = PriceBound::empty();
-        prices.bound_by_prices(prefix, &places[at + 1..], &mut own);
-        let own_most = own.most(taken, order);
+        let mut own_bound = PriceBound::empty();
+        priced.bound_by_prices(prefix, &places[at + 1..], &mut own_bound);
+        let own_most = own_bound.most(taken, order);
         if own_most < most {
             most = own_most;
-            *bound = own;
+            *bound = own_bound;
         }
     }
     most

@@ -16,7 +16,7 @@ use crate::conflicts::Conflicts;
 use crate::incumbent::Incumbent;
 use crate::node::Node;
 use crate::piece::{WalkState, equals, surpasses};
-use crate::prices::Prices;
+use crate::priced_problem::PricedProblem;
 use crate::root::{bound_of_piece, room_of_piece};
 use crate::space::use_invariant;
 use dam_blocks::{Best, Problem, Selection, admissible, ranks_above};
@@ -28,11 +28,11 @@ const EXAMINED: usize = 10;
 
 /// The input of a walk by prices.
 #[derive(Drop)]
-struct PriceWalk<'a, A: Allocator, P: Prices> {
+struct PriceWalk<'a, A: Allocator, P: PricedProblem> {
     problem: &'a Problem<A>,
-    prices: &'a P,
+    priced: &'a P,
     conflicts: &'a Conflicts,
-    ghost same: { P.problem prices.now ≡ without_rows problem.now },
+    ghost same: { P.problem priced.now ≡ without_rows problem.now },
     ghost are_conflicts: { AreConflicts problem.now conflicts.now },
 }
 
@@ -91,20 +91,20 @@ fn is_passed(node: &Node, found: &WalkState) -> bool
     !ranks_above(top, best)
 }
 
-impl<A: Allocator, P: Prices> PriceWalk<'_, A, P> {
+impl<A: Allocator, P: PricedProblem> PriceWalk<'_, A, P> {
     /// Takes the selection of a node that leaves no place, and offers its welfare, if it is eligible and the best so
     /// far.
     fn try_selection<I: Incumbent>(
         &self,
         taken: Selection,
-        prices: &PriceBound,
+        bound: &PriceBound,
         incumbent: &mut I,
         found: &mut WalkState,
     )
         requires long { length taken ≡ most_blocks }
         requires fits { found.old.read < 2 ^ 63 }
-        requires prices { (bound : ℤ)
-            × IsBounded (P.problem self.now.prices.now) prices.now taken [] bound }
+        requires bounded { (most : ℤ)
+            × IsBounded (P.problem self.now.priced.now) bound.now taken [] most }
         requires ready { IsReady
             (I.greatest_read incumbent.old) (I.greatest_offer incumbent.old) found.old }
         ensures walked { IsWalkedOpen self.now.problem.now taken []
@@ -116,10 +116,10 @@ impl<A: Allocator, P: Prices> PriceWalk<'_, A, P> {
         dam_blocks::laws::ranking();
         dam_bound::laws::prices();
         use_invariant(self.problem);
-        let mut own = ClassPrices::empty();
+        let mut prices = ClassPrices::empty();
         let Some(welfare) = self
-            .prices
-            .welfare(taken, prices, found.read as i64, &mut own)
+            .priced
+            .welfare(taken, bound, found.read as i64, &mut prices)
         else {
             return;
         };
@@ -129,7 +129,7 @@ impl<A: Allocator, P: Prices> PriceWalk<'_, A, P> {
         if !admissible(self.problem, taken) {
             return;
         }
-        if self.prices.has_loss(taken, &own) {
+        if self.priced.has_loss(taken, &prices) {
             return;
         }
         let offer = best.welfare;
@@ -159,13 +159,13 @@ impl<A: Allocator, P: Prices> PriceWalk<'_, A, P> {
     fn visit<I: Incumbent>(
         &self,
         node: &Node,
-        prices: &PriceBound,
+        bound: &PriceBound,
         room: &Room,
         incumbent: &mut I,
         found: &mut WalkState,
     )
         requires node { IsNode node.now.taken node.now.rejected node.now.left.now }
-        requires bounded { IsBounded (P.problem self.now.prices.now) prices.now
+        requires bounded { IsBounded (P.problem self.now.priced.now) bound.now
             node.now.taken node.now.left.now node.now.bound }
         requires room { IsRoom self.now.problem.now self.now.conflicts.now.limits.limits
             node.now.taken node.now.left.now room.now }
@@ -184,10 +184,10 @@ impl<A: Allocator, P: Prices> PriceWalk<'_, A, P> {
             return;
         }
         if node.left.len() < EXAMINED {
-            self.branch(node, prices, room, incumbent, found);
+            self.branch(node, bound, room, incumbent, found);
             return;
         }
-        self.examine(node, prices, room, incumbent, found);
+        self.examine(node, bound, room, incumbent, found);
     }
 
     /// Explores a node with prices of its own, if they give it a lesser bound.
@@ -198,13 +198,13 @@ impl<A: Allocator, P: Prices> PriceWalk<'_, A, P> {
     fn examine<I: Incumbent>(
         &self,
         node: &Node,
-        prices: &PriceBound,
+        bound: &PriceBound,
         room: &Room,
         incumbent: &mut I,
         found: &mut WalkState,
     )
         requires node { IsNode node.now.taken node.now.rejected node.now.left.now }
-        requires bounded { IsBounded (P.problem self.now.prices.now) prices.now
+        requires bounded { IsBounded (P.problem self.now.priced.now) bound.now
             node.now.taken node.now.left.now node.now.bound }
         requires room { IsRoom self.now.problem.now self.now.conflicts.now.limits.limits
             node.now.taken node.now.left.now room.now }
@@ -218,23 +218,24 @@ impl<A: Allocator, P: Prices> PriceWalk<'_, A, P> {
         ensures kept { I.kept incumbent.new ≡ I.kept incumbent.old }
     {
         dam_bound::laws::open_bound();
-        let mut own = PriceBound::empty();
-        self.prices.bound_by_prices(node.taken, node.left, &mut own);
-        let bound = own.most(node.taken, node.left);
-        if bound >= node.bound {
-            self.branch(node, prices, room, incumbent, found);
+        let mut own_bound = PriceBound::empty();
+        self.priced
+            .bound_by_prices(node.taken, node.left, &mut own_bound);
+        let most = own_bound.most(node.taken, node.left);
+        if most >= node.bound {
+            self.branch(node, bound, room, incumbent, found);
             return;
         }
         let node = Node {
             taken: node.taken,
             rejected: node.rejected,
             left: node.left,
-            bound,
+            bound: most,
         };
         if is_passed(&node, found) {
             return;
         }
-        self.branch(&node, &own, room, incumbent, found);
+        self.branch(&node, &own_bound, room, incumbent, found);
     }
 
     /// Explores both decisions on the next place, first the one that the sign of the block's gain is for. If no place
@@ -243,13 +244,13 @@ impl<A: Allocator, P: Prices> PriceWalk<'_, A, P> {
     fn branch<I: Incumbent>(
         &self,
         node: &Node,
-        prices: &PriceBound,
+        bound: &PriceBound,
         room: &Room,
         incumbent: &mut I,
         found: &mut WalkState,
     )
         requires node { IsNode node.now.taken node.now.rejected node.now.left.now }
-        requires bounded { IsBounded (P.problem self.now.prices.now) prices.now
+        requires bounded { IsBounded (P.problem self.now.priced.now) bound.now
             node.now.taken node.now.left.now node.now.bound }
         requires room { IsRoom self.now.problem.now self.now.conflicts.now.limits.limits
             node.now.taken node.now.left.now room.now }
@@ -264,13 +265,13 @@ impl<A: Allocator, P: Prices> PriceWalk<'_, A, P> {
     {
         dam_blocks::laws::ranking();
         let Some((place, left)) = node.left.split_first() else {
-            self.try_selection(node.taken, prices, incumbent, found);
+            self.try_selection(node.taken, bound, incumbent, found);
             return;
         };
         let place = usize::from(*place);
-        let accept = prices.gains[place] >= 0;
-        self.decide(node, place, left, accept, prices, room, incumbent, found);
-        self.decide(node, place, left, !accept, prices, room, incumbent, found);
+        let accept = bound.gains[place] >= 0;
+        self.decide(node, place, left, accept, bound, room, incumbent, found);
+        self.decide(node, place, left, !accept, bound, room, incumbent, found);
     }
 
     /// Explores the node with this decision on the block at `place`, unless no eligible selection has it, by the conflicts
@@ -282,14 +283,14 @@ impl<A: Allocator, P: Prices> PriceWalk<'_, A, P> {
         place: usize,
         left: &[u8],
         accept: bool,
-        prices: &PriceBound,
+        bound: &PriceBound,
         room: &Room,
         incumbent: &mut I,
         found: &mut WalkState,
     )
         requires split { node.now.left.now ≡ place ∷ left.now }
         requires node { IsNode node.now.taken node.now.rejected node.now.left.now }
-        requires bounded { IsBounded (P.problem self.now.prices.now) prices.now
+        requires bounded { IsBounded (P.problem self.now.priced.now) bound.now
             node.now.taken node.now.left.now node.now.bound }
         requires room { IsRoom self.now.problem.now self.now.conflicts.now.limits.limits
             node.now.taken node.now.left.now room.now }
@@ -310,8 +311,8 @@ impl<A: Allocator, P: Prices> PriceWalk<'_, A, P> {
         let Some(room) = limits.room_after(room, place, accept) else {
             return;
         };
-        let next = node.decided(place, left, accept, prices.gains[place]);
-        self.visit(&next, prices, &room, incumbent, found);
+        let next = node.decided(place, left, accept, bound.gains[place]);
+        self.visit(&next, bound, &room, incumbent, found);
     }
 }
 
@@ -335,16 +336,16 @@ fn rejected_under(depth: usize, selection: Selection) -> Selection
 ///
 /// The other blocks are decided in this order. A node is visited when the incumbent is read for it, and its bound is
 /// compared with that.
-pub(crate) fn explore_by_prices<A: Allocator, P: Prices, I: Incumbent>(
+pub(crate) fn explore_by_prices<A: Allocator, P: PricedProblem, I: Incumbent>(
     problem: &Problem<A>,
-    prices: &P,
+    priced: &P,
     conflicts: &Conflicts,
     order: &[u8],
     piece: u32,
     depth: usize,
     incumbent: &mut I,
 ) -> PieceAnswer
-    requires same { P.problem prices.now ≡ without_rows problem.now }
+    requires same { P.problem priced.now ≡ without_rows problem.now }
     requires conflicts { AreConflicts problem.now conflicts.now }
     requires order { IsDecisionOrder depth (length problem.now.blocks) order.now }
     requires depth { depth ≤ length problem.now.blocks }
@@ -382,7 +383,7 @@ pub(crate) fn explore_by_prices<A: Allocator, P: Prices, I: Incumbent>(
         };
     };
     let mut bound = PriceBound::empty();
-    let most = bound_of_piece(prices, taken, order, depth, &mut bound);
+    let most = bound_of_piece(priced, taken, order, depth, &mut bound);
     let node = Node {
         taken,
         rejected: rejected_under(depth, taken),
@@ -396,7 +397,7 @@ pub(crate) fn explore_by_prices<A: Allocator, P: Prices, I: Incumbent>(
     };
     let walk = PriceWalk {
         problem,
-        prices,
+        priced,
         conflicts,
     };
     walk.visit(&node, &bound, &room, incumbent, &mut found);

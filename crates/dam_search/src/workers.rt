@@ -17,7 +17,7 @@ use crate::fault::SearchFault;
 use crate::first::first_selection;
 use crate::incumbent::Incumbent;
 use crate::order::decision_order;
-use crate::prices::Prices;
+use crate::priced_problem::PricedProblem;
 use crate::shared::Shared;
 use crate::space::SearchSpace;
 use crate::words::{ClosedWords, close, new_words};
@@ -46,7 +46,7 @@ pub(crate) struct Task<'a, E: Explorer> {
     pub(crate) nodes: Nodes,
     pub(crate) workers: u8,
     /// The welfare that is offered before any worker starts.
-    pub(crate) first: u64,
+    pub(crate) first_welfare: u64,
     ghost inside: { depth ≤ length problem.now.blocks },
     ghost same: { E.explored explorer.now ≡ problem.now },
     ghost suits: { E.suits explorer.now depth nodes ≡ true },
@@ -191,12 +191,12 @@ pub(crate) fn explore_all<R: Threads + Sync, E: Explorer + Sync, T: Turnstile + 
     requires some_worker { 1 ≤ task.now.workers }
     requires few_workers { task.now.workers ≤ most_workers }
     ensures { IfOk result (λ explored. AreAllAnswers task.now.problem.now task.now.depth
-        task.now.nodes task.now.first explored.answers.items) }
+        task.now.nodes task.now.first_welfare explored.answers.items) }
 {
     let count = pieces(task.depth);
     let (words, seat) = new_words(task.alloc, count)?;
     let mut first = Shared::first(&words, seat, count);
-    first.offer(task.first);
+    first.offer(task.first_welfare);
     let answers = explore_with_workers(rt, task, turnstile, &mut first)?;
     let seat = first.into_seat();
     let totals = close(words, seat);
@@ -209,14 +209,15 @@ fn search_with_explorer<R: Threads + Sync, E: Explorer + Sync, T: Turnstile + Sy
     alloc: Global,
     problem: &Problem,
     explorer: &E,
+    depth: usize,
     plan: Plan,
-    first: u64,
+    first_welfare: u64,
     turnstile: &T,
 ) -> Result<Best, SearchFault>
     requires same { E.explored explorer.now ≡ problem.now }
-    requires suits { E.suits explorer.now (min plan.cut (length problem.now.blocks)) plan.nodes
-        ≡ true }
-    requires first { IsReached problem.now first }
+    requires depth { depth ≡ min plan.cut (length problem.now.blocks) }
+    requires suits { E.suits explorer.now depth plan.nodes ≡ true }
+    requires reached { IsReached problem.now first_welfare }
     ensures ok { IfOk result (λ best. IsResult problem.now best.selection (pos best.welfare)) }
     ensures unfinished { (piece visited : ℕ)
         → IsErrOf result (SearchFault.Unfinished piece visited)
@@ -230,25 +231,25 @@ fn search_with_explorer<R: Threads + Sync, E: Explorer + Sync, T: Turnstile + Sy
         alloc,
         problem,
         explorer,
-        depth: plan.depth(problem.block_count()),
+        depth,
         nodes: plan.nodes(),
         workers: plan.workers(),
-        first,
+        first_welfare,
     };
     let explored = explore_all(rt, &task, turnstile)?;
     collected(problem, task.depth, task.nodes, &explored.answers)
 }
 
 /// The result of the problem, by the explorer that suits the plan.
-fn search_with_prices<R: Threads + Sync, P: Prices + Sync, T: Turnstile + Sync>(
+fn search_priced<R: Threads + Sync, P: PricedProblem + Sync, T: Turnstile + Sync>(
     rt: &R,
     alloc: Global,
     problem: &Problem,
-    prices: &P,
+    priced: &P,
     plan: Plan,
     turnstile: &T,
 ) -> Result<Best, SearchFault>
-    requires { P.problem prices.now ≡ without_rows problem.now }
+    requires { P.problem priced.now ≡ without_rows problem.now }
     ensures ok { IfOk result (λ best. IsResult problem.now best.selection (pos best.welfare)) }
     ensures unfinished { (piece visited : ℕ)
         → IsErrOf result (SearchFault.Unfinished piece visited)
@@ -258,23 +259,41 @@ fn search_with_prices<R: Threads + Sync, P: Prices + Sync, T: Turnstile + Sync>(
         (min plan.cut (length problem.now.blocks)) plan.nodes best.welfare) }
     ensures whole { (piece : ℕ) → ¬ (IsErrOf result (SearchFault.Collected piece)) }
 {
-    let first = first_selection(problem, prices).welfare;
+    let first_welfare = first_selection(problem, priced).welfare;
     let depth = plan.depth(problem.block_count());
     if limit_can_bind(problem, depth, plan.nodes()) {
         let relaxed = &Relaxed::build(alloc, problem)?;
         let space = &SearchSpace { problem, relaxed };
-        return search_with_explorer(rt, alloc, problem, space, plan, first, turnstile);
+        return search_with_explorer(
+            rt,
+            alloc,
+            problem,
+            space,
+            depth,
+            plan,
+            first_welfare,
+            turnstile,
+        );
     }
-    let conflicts = &Conflicts::of(problem, prices);
+    let conflicts = &Conflicts::of(problem, priced);
     let order = &decision_order(alloc, problem, depth)?;
     let by_prices = &ByPrices {
         problem,
-        prices,
+        priced,
         conflicts,
         depth,
         order,
     };
-    search_with_explorer(rt, alloc, problem, by_prices, plan, first, turnstile)
+    search_with_explorer(
+        rt,
+        alloc,
+        problem,
+        by_prices,
+        depth,
+        plan,
+        first_welfare,
+        turnstile,
+    )
 }
 
 /// The result of a problem (`IsResult`): the eligible selection that no eligible one ranks above. Ties go to the one
@@ -307,5 +326,5 @@ pub fn search<R: Threads + Sync, T: Turnstile + Sync>(
     ensures whole { (piece : ℕ) → ¬ (IsErrOf result (SearchFault.Collected piece)) }
 {
     let curves = ClassCurves::of(alloc, problem)?;
-    search_with_prices(rt, alloc, problem, &curves, plan, turnstile)
+    search_priced(rt, alloc, problem, &curves, plan, turnstile)
 }

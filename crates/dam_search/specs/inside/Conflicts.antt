@@ -4,7 +4,7 @@ use Rattle.dam_blocks.specs.declared.problem.Block.{Block}
 use Rattle.dam_blocks.specs.Problem.{ProblemState}
 use Rattle.dam_blocks.specs.Selection.{accepts, are_of_one_group}
 use Rattle.dam_blocks.specs.Eligible.{IsEligible}
-use Rattle.dam_bound.specs.Limits.{AreLimits}
+use Rattle.dam_bound.specs.NetLimits.{AreLimits}
 use Rattle.dam_search.specs.declared.conflicts.Conflicts.{Conflicts}
 
 -- the selection accepts all of these places

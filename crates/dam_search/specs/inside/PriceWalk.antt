@@ -10,9 +10,9 @@ use Rattle.dam_blocks.specs.Problem.{ProblemState}
 use Rattle.dam_blocks.specs.Selection.{accepts}
 use Rattle.dam_blocks.specs.Eligible.{IsEligible}
 use Rattle.dam_bound.specs.declared.price_bound.PriceBound.{PriceBound}
-use Rattle.dam_bound.specs.declared.limits.Limit.{Limit}
-use Rattle.dam_bound.specs.declared.limits.Room.{Room}
-use Rattle.dam_bound.specs.Limits.{AreRooms, HasRoom}
+use Rattle.dam_bound.specs.declared.net_limits.Limit.{Limit}
+use Rattle.dam_bound.specs.declared.net_limits.Room.{Room}
+use Rattle.dam_bound.specs.NetLimits.{AreRooms, HasRoom}
 use Rattle.dam_bound.specs.Open.{is_among, IsOpen, AreFree}
 use Rattle.dam_bound.specs.Prices.{most_of, IsPriceBound}
 use Rattle.dam_search.specs.declared.piece.WalkState.{WalkState}

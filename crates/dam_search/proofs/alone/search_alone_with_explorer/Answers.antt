@@ -9,14 +9,14 @@ use Rattle.dam_search.proofs.alone.search_alone_with_explorer.Goals as goal
 
 pub collected-requires-clause-worked : goal.collected-requires-clause-worked
 collected-requires-clause-worked g c =
-    let problem = c.args.problem.now in let a = c.explore-answer.result in let first = c.args.first in
+    let problem = c.args.problem.now in let a = c.explore-answer.result in let first = c.args.first_welfare in
     let explored = c.explore-answer.ensures in
     let read : a.read ≤ max first (welfare_found a.best) =
     (let told = explored.greatest_read in let top = explored.offered in let known = c.explore-answer.new.incumbent.known in let offered =
     c.offer.ensures.greatest_offer in let none =
     c.new-incumbent.ensures.greatest_offer in omega (arith, told, top, known, offered, none)) in
     all_one (λ (x : PieceAnswer). IsWorked problem 0 c.args.nodes x) a
-    (worked_is problem (g.E.Explorer.explored c.args.explorer.now) first c.args.nodes a c.requires.same explored.explored c.requires.first read)
+    (worked_is problem (g.E.Explorer.explored c.args.explorer.now) first c.args.nodes a c.requires.same explored.explored c.requires.reached read)
 
 pub returns-clause-whole : goal.returns-clause-whole
 returns-clause-whole g c piece e =

@@ -8,8 +8,8 @@ use Rattle.dam_search.proofs.conflicts.with_rivals.Goals as goal
 pub loop-at-preserved : goal.loop-at-preserved
 loop-at-preserved g c = elim c.if-exclude_each_other.branch [
   | then-exclude_each_other w ↦
-      rival_more (g.P.Prices.problem c.args.prices.now) c.args.place c.loop-at.at c.loop-at.excluded _ (w.excluded-is ∙ w.with-excluded.ensures)
+      rival_more (g.P.PricedProblem.problem c.args.priced.now) c.args.place c.loop-at.at c.loop-at.excluded _ (w.excluded-is ∙ w.with-excluded.ensures)
       (c.exclude_each_other.ensures w.if-exclude_each_other.true) c.loop-at.invariant
   | else-exclude_each_other w ↦
-      subst (λ (r : List Bool). Excludes (g.P.Prices.problem c.args.prices.now) c.args.place r) (sym w.excluded-is) c.loop-at.invariant
+      subst (λ (r : List Bool). Excludes (g.P.PricedProblem.problem c.args.priced.now) c.args.place r) (sym w.excluded-is) c.loop-at.invariant
 ]

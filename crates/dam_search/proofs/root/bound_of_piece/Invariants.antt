@@ -5,6 +5,6 @@ use Rattle.dam_search.proofs.root.bound_of_piece.Given as goal
 
 abbrev pub invariant-loop-at : goal.invariant-loop-at
 invariant-loop-at g l = record {
-  is_bound : IsPriceBound (g.P.Prices.problem l.prices) l.bound;
+  is_bound : IsPriceBound (g.P.PricedProblem.problem l.priced) l.bound;
   most_is : l.most ≡ most_of l.bound l.taken l.order;
 }

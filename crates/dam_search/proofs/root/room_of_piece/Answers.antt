@@ -1,7 +1,7 @@
 -- Before the loop every place is open; each decision closes one.
 use Rattle.std.proofs.Common.{◌≡◌, ℕ, ◌+◌, Bool, List, not, ◌∙◌, sym, subst, refl, arith}
 use Rattle.std.specs.Prelude.{nat_lt}
-use Rattle.dam_bound.specs.Limits.{HasRoom, every_place}
+use Rattle.dam_bound.specs.NetLimits.{HasRoom, every_place}
 use Rattle.dam_search.proofs.Rooms.{less_open, open_at, decided_at, others_open, agrees_less, agrees_here}
 use Rattle.dam_search.proofs.root.room_of_piece.Goals as goal
 

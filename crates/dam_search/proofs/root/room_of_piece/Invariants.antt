@@ -3,7 +3,7 @@ use Rattle.std.proofs.Common.{ℤ, Bool, List, not}
 use Rattle.std.specs.Prelude.{nat_lt}
 use Rattle.dam_blocks.specs.Problem.{ProblemState}
 use Rattle.dam_blocks.specs.Eligible.{IsEligible}
-use Rattle.dam_bound.specs.Limits.{AreLimits, AreRooms, HasRoom}
+use Rattle.dam_bound.specs.NetLimits.{AreLimits, AreRooms, HasRoom}
 use Rattle.dam_search.specs.inside.PriceWalk.{AgreesUnder}
 use Rattle.dam_search.proofs.root.room_of_piece.Given as goal
 

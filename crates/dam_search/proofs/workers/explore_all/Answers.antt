@@ -56,6 +56,6 @@ returns g c =
     let top = c.offer.ensures.greatest_offer in let none = ap (λ (x : View). x.greatest_offer) first in
     let totals = c.close-totals.result.draws ∷ c.close-totals.result.offered ∷ [] in
     let closed = subst (λ (x : View). AreClosedWords c.in_ok-words.words.shared.key totals x) last c.close-totals.ensures in
-    whole task.problem.now task.depth task.nodes task.first task.workers c.in_ok-words.words.shared.key totals
+    whole task.problem.now task.depth task.nodes task.first_welfare task.workers c.in_ok-words.words.shared.key totals
     (record v { seats_left = v.seats_left - task.workers }) c.explore_with_workers.new.first.seat.me.0 c.in_ok-answers.answers.items
     c.in_ok-answers.ensures.joined b.going (omega (arith, top, none)) c.requires.some_worker (key ∙ count) closed

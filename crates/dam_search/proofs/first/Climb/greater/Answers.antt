@@ -16,7 +16,7 @@ next_above-least-requires g c =
 
 pub returns-clause-eligible : goal.returns-clause-eligible
 returns-clause-eligible g c =
-    let problem = c.args.self.now.problem.now in let relaxed = g.P.Prices.problem c.args.self.now.prices.now in
+    let problem = c.args.self.now.problem.now in let relaxed = g.P.PricedProblem.problem c.args.self.now.priced.now in
     let selection = c.args.selection in
     let w = c.in-Some.welfare in
     let fits : SFits w64 w = search rules in

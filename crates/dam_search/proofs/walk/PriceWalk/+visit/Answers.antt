@@ -63,12 +63,12 @@ decide-returns-in_default-clause-walked g t c =
 
 pub decide-visit-requires : goal.decide-visit-requires
 decide-visit-requires g t c κs within =
-    let node = c.args.node.now in let next = c.decided-next.result in let relaxed = g.P.Prices.problem c.args.self.now.prices.now in
+    let node = c.args.node.now in let next = c.decided-next.result in let relaxed = g.P.PricedProblem.problem c.args.self.now.priced.now in
     let accept = c.args.accept in let place = c.args.place in let left = c.args.left.now in
     let is = subst (λ (xs : List ℕ). IsNode node.taken node.rejected xs) c.requires.split c.requires.node in
-    let bounded = subst (λ (xs : List ℕ). IsBounded relaxed c.args.prices.now node.taken xs node.bound) c.requires.split c.requires.bounded in
+    let bounded = subst (λ (xs : List ℕ). IsBounded relaxed c.args.bound.now node.taken xs node.bound) c.requires.split c.requires.bounded in
     let ensured = c.decided-next.ensures in
-    let gain = get_or c.args.prices.now.gains place (pos 0) in
+    let gain = get_or c.args.bound.now.gains place (pos 0) in
     let own = bounded.is_price_bound.small_gains place (pos 0) is.free.0 in
     let low = own.at_least in let high = own.at_most in
     let value = to_z-of_z w64 gain (omega (arith, ints, low, high)) in
@@ -76,9 +76,9 @@ decide-visit-requires g t c κs within =
     let node' : IsNode next.taken next.rejected next.left.now =
     node_is _ _ next.taken next.rejected left next.left.now ensured.taken ensured.rejected ensured.left
     (node_after accept node.taken node.rejected place left is) in
-    let bounded' : IsBounded relaxed c.args.prices.now next.taken next.left.now next.bound =
-    bounded_is relaxed c.args.prices.now _ next.taken left next.left.now _ next.bound ensured.taken ensured.left bound
-    (bounded_after accept relaxed c.args.prices.now node.taken node.rejected place left node.bound is bounded) in
+    let bounded' : IsBounded relaxed c.args.bound.now next.taken next.left.now next.bound =
+    bounded_is relaxed c.args.bound.now _ next.taken left next.left.now _ next.bound ensured.taken ensured.left bound
+    (bounded_after accept relaxed c.args.bound.now node.taken node.rejected place left node.bound is bounded) in
     let long = ap (λ (xs : List ℕ). length xs) ensured.left in
     let limits = c.args.self.now.conflicts.now.limits.limits in
     let had = subst (λ (xs : List ℕ). IsRoom c.args.self.now.problem.now limits node.taken xs c.args.room.now) c.requires.split c.requires.room in
@@ -92,15 +92,15 @@ decide-visit-requires g t c κs within =
 pub examine-bound_by_prices-requires : goal.examine-bound_by_prices-requires
 examine-bound_by_prices-requires g t c = all_within c.args.node.now.taken c.args.node.now.left.now c.requires.node.free
 
-pub examine-most-bound-requires-clause-places : goal.examine-most-bound-requires-clause-places
-examine-most-bound-requires-clause-places g t c = all_within c.args.node.now.taken c.args.node.now.left.now c.requires.node.free
+pub examine-most-most-requires-clause-places : goal.examine-most-most-requires-clause-places
+examine-most-most-requires-clause-places g t c = all_within c.args.node.now.taken c.args.node.now.left.now c.requires.node.free
 
 pub examine-returns-then-is_passed-clause-walked : goal.examine-returns-then-is_passed-clause-walked
 examine-returns-then-is_passed-clause-walked g t c =
-    let problem = c.args.self.now.problem.now in let relaxed = g.P.Prices.problem c.args.self.now.prices.now in
+    let problem = c.args.self.now.problem.now in let relaxed = g.P.PricedProblem.problem c.args.self.now.priced.now in
     let node = c.args.node.now in let own = c.bound_by_prices.new.bound in
-    let fits : SFits w64 c.most-bound.result = search rules in
-    let value = to_z-of_z w64 c.most-bound.result fits in let most = c.most-bound.ensures in
+    let fits : SFits w64 c.most-most.result = search rules in
+    let value = to_z-of_z w64 c.most-most.result fits in let most = c.most-most.ensures in
     walked_nothing problem node.taken node.left.now _ _ c.args.found.now c.requires.ready
     (λ sel w opened e. c.is_passed.ensures.passed c.if-is_passed.true sel w opened
     (under_bound problem relaxed own node.taken node.rejected sel node.left.now _ w c.open_bound.ensures c.args.self.now.same c.requires.node
@@ -113,11 +113,11 @@ examine-branch-self-requires-2 g t c = search rules
 
 pub visit-returns-then-is_passed-clause-walked : goal.visit-returns-then-is_passed-clause-walked
 visit-returns-then-is_passed-clause-walked g t c =
-    let problem = c.args.self.now.problem.now in let relaxed = g.P.Prices.problem c.args.self.now.prices.now in
+    let problem = c.args.self.now.problem.now in let relaxed = g.P.PricedProblem.problem c.args.self.now.priced.now in
     let node = c.args.node.now in let was = c.requires.ready.read in
     let read = c.read-found.ensures in let rises = read.rises in
     walked_over problem node.taken node.left.now _ _ _ _ c.args.found.now _ c.requires.ready refl (omega (arith, was, rises))
     (sym read.greatest_read) read.greatest_offer
     (λ sel w opened e. c.is_passed.ensures.passed c.if-is_passed.true sel w opened
-    (under_bound problem relaxed c.args.prices.now node.taken node.rejected sel node.left.now _ w c.open_bound.ensures c.args.self.now.same
+    (under_bound problem relaxed c.args.bound.now node.taken node.rejected sel node.left.now _ w c.open_bound.ensures c.args.self.now.same
     c.requires.node c.requires.bounded opened e))

@@ -14,14 +14,14 @@ unadmitted false e t = absurd (cc)
 
 pub returns-in_default-clause-walked : goal.returns-in_default-clause-walked
 returns-in_default-clause-walked g c =
-    let problem = c.args.self.now.problem.now in let relaxed = g.P.Prices.problem c.args.self.now.prices.now in let found = c.args.found.now in
+    let problem = c.args.self.now.problem.now in let relaxed = g.P.PricedProblem.problem c.args.self.now.priced.now in let found = c.args.found.now in
     walked_nothing problem c.args.taken [] _ _ found c.requires.ready
     (covers_leaf problem relaxed c.args.taken found.best found.read c.requires.long c.args.self.now.same
     (λ w is e. (let under = c.welfare.ensures.none c.in_default.is w e in inl (omega (arith, ints, under, c.requires.fits)))))
 
 pub returns-in_default-candidate-clause-walked : goal.returns-in_default-candidate-clause-walked
 returns-in_default-candidate-clause-walked g c =
-    let problem = c.args.self.now.problem.now in let relaxed = g.P.Prices.problem c.args.self.now.prices.now in let found = c.args.found.now in
+    let problem = c.args.self.now.problem.now in let relaxed = g.P.PricedProblem.problem c.args.self.now.priced.now in let found = c.args.found.now in
     let fits : SFits w64 c.in-Some.welfare = search rules in
     let value = to_z-of_z w64 c.in-Some.welfare fits in
     walked_nothing problem c.args.taken [] _ _ found c.requires.ready
@@ -31,21 +31,21 @@ returns-in_default-candidate-clause-walked g c =
 
 pub returns-then-not-admissible-clause-walked : goal.returns-then-not-admissible-clause-walked
 returns-then-not-admissible-clause-walked g c =
-    let problem = c.args.self.now.problem.now in let relaxed = g.P.Prices.problem c.args.self.now.prices.now in let found = c.args.found.now in
+    let problem = c.args.self.now.problem.now in let relaxed = g.P.PricedProblem.problem c.args.self.now.priced.now in let found = c.args.found.now in
     walked_nothing problem c.args.taken [] _ _ found c.requires.ready
     (covers_leaf problem relaxed c.args.taken found.best found.read c.requires.long c.args.self.now.same
     (λ w is e. absurd (unadmitted c.admissible.result c.if-not-admissible.true (c.admissible.ensures.1 is.admissible))))
 
 pub returns-then-has_loss-clause-walked : goal.returns-then-has_loss-clause-walked
 returns-then-has_loss-clause-walked g c =
-    let problem = c.args.self.now.problem.now in let relaxed = g.P.Prices.problem c.args.self.now.prices.now in let found = c.args.found.now in
+    let problem = c.args.self.now.problem.now in let relaxed = g.P.PricedProblem.problem c.args.self.now.priced.now in let found = c.args.found.now in
     walked_nothing problem c.args.taken [] _ _ found c.requires.ready
     (covers_leaf problem relaxed c.args.taken found.best found.read c.requires.long c.args.self.now.same
     (λ w is e. absurd (no_eligible_loss problem relaxed c.args.taken c.has_loss.result w c.args.self.now.same c.if-has_loss.true c.has_loss.ensures is)))
 
 pub returns-clause-walked : goal.returns-clause-walked
 returns-clause-walked g c =
-    let problem = c.args.self.now.problem.now in let relaxed = g.P.Prices.problem c.args.self.now.prices.now in let found = c.args.found.now in
+    let problem = c.args.self.now.problem.now in let relaxed = g.P.PricedProblem.problem c.args.self.now.priced.now in let found = c.args.found.now in
     let best = c.in-Some-candidate.best in let taken = c.args.taken in
     let fits : SFits w64 c.in-Some.welfare = search rules in
     let value = to_z-of_z w64 c.in-Some.welfare fits in

@@ -1,7 +1,7 @@
 -- The rooms so far.
 use Rattle.std.proofs.Common.{◌≡◌, ℕ, ◌<◌, ℤ, length, get_or}
-use Rattle.dam_bound.specs.Limits.{most_limits, limit_in}
-use Rattle.dam_bound.proofs.limits.Limits.room.Given as goal
+use Rattle.dam_bound.specs.NetLimits.{most_limits, limit_in}
+use Rattle.dam_bound.proofs.net_limits.Limits.room.Given as goal
 
 abbrev pub invariant-loop-k : goal.invariant-loop-k
 invariant-loop-k l = record {

@@ -6,7 +6,7 @@ ghost use Rattle.dam_blocks.specs.Eligible.{IsEligible};
 ghost use Rattle.dam_blocks.specs.Magnitude.{IsWithin};
 ghost use Rattle.dam_blocks.specs.Problem.{ProblemState};
 ghost use Rattle.dam_blocks.specs.Selection.{accepts};
-ghost use Rattle.dam_bound.specs.Limits.{most_limits, limit_in, room_taken, greatest_room, AreLimits, AreRooms, AreRoomsWithin, HasRoom, every_place};
+ghost use Rattle.dam_bound.specs.NetLimits.{most_limits, limit_in, room_taken, greatest_room, AreLimits, AreRooms, AreRoomsWithin, HasRoom, every_place};
 
 use dam_book::MOST_BLOCKS;
 

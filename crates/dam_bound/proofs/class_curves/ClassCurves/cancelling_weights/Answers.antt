@@ -5,7 +5,7 @@ use Rattle.dam_bound.specs.ClassCurves.{AreClassCurves}
 use Rattle.dam_bound.specs.declared.class_curves.Class.{Class}
 use Rattle.dam_bound.proofs.LineByLine.{own_class}
 use Rattle.dam_bound.proofs.Rivalry.{net_held, are_volumes}
-use Rattle.dam_bound.proofs.class_curves.ClassCurves.weights_of.Goals as goal
+use Rattle.dam_bound.proofs.class_curves.ClassCurves.cancelling_weights.Goals as goal
 
 abbrev nothing : Class
 nothing = record {

@@ -3,7 +3,7 @@ use Rattle.std.specs.Prelude.{pos}
 use Rattle.std.proofs.Common.{arith}
 use Rattle.std.proofs.lemmas.Int.{ints}
 use Rattle.dam_bound.proofs.Limiting.{AreLowered, none_fits, still_rooms, still_has}
-use Rattle.dam_bound.proofs.limits.Limits.room_after.Goals as goal
+use Rattle.dam_bound.proofs.net_limits.Limits.room_after.Goals as goal
 
 pub returns-then-least-lt0-clause-none : goal.returns-then-least-lt0-clause-none
 returns-then-least-lt0-clause-none c e sel free has on decided =

@@ -1,7 +1,7 @@
 -- Before any decision there is the whole room.
 use Rattle.std.proofs.Common.{pos, arith}
 use Rattle.std.proofs.lemmas.Int.{ints}
-use Rattle.dam_bound.proofs.limits.Limits.room.Goals as goal
+use Rattle.dam_bound.proofs.net_limits.Limits.room.Goals as goal
 
 pub returns-clause-eligible : goal.returns-clause-eligible
 returns-clause-eligible c problem sel w are e k l =

@@ -6,7 +6,7 @@ use Rattle.dam_blocks.specs.Problem.{ProblemState}
 use Rattle.dam_blocks.specs.Magnitude.{IsWithin}
 use Rattle.dam_blocks.specs.Selection.{accepts}
 use Rattle.dam_blocks.specs.Eligible.{IsEligible}
-use Rattle.dam_bound.specs.declared.limits.Limit.{Limit}
+use Rattle.dam_bound.specs.declared.net_limits.Limit.{Limit}
 
 -- how many limits there are
 abbrev pub most_limits : ℕ

@@ -1,7 +1,7 @@
 -- The rooms so far are lowered, and the others are as they were.
 use Rattle.std.proofs.Common.{◌≡◌, ℕ, ◌<◌, ◌≤◌, ℤ, pos, ◌-ℤ◌, length, get_or}
-use Rattle.dam_bound.specs.Limits.{most_limits, limit_in, room_taken}
-use Rattle.dam_bound.proofs.limits.Limits.lowered.Given as goal
+use Rattle.dam_bound.specs.NetLimits.{most_limits, limit_in, room_taken}
+use Rattle.dam_bound.proofs.net_limits.Limits.lowered.Given as goal
 
 abbrev pub invariant-loop-k : goal.invariant-loop-k
 invariant-loop-k l = record {

@@ -4,15 +4,15 @@ ghost use Rattle.dam_blocks.specs.Problem.{ProblemState};
 ghost use Rattle.dam_blocks.specs.Selection.{accepts};
 ghost use Rattle.dam_blocks.specs.Eligible.{selection_welfare, ArePrices, HasNoLoss, IsEligible};
 ghost use Rattle.dam_bound.specs.ClassPrices.{AreClassPrices};
-ghost use Rattle.dam_bound.specs.Limits.{AreLimits};
+ghost use Rattle.dam_bound.specs.NetLimits.{AreLimits};
 ghost use Rattle.dam_bound.specs.Prices.{IsPriceBound};
 
 use dam_blocks::Selection;
 use dam_bound::{ClassCurves, ClassPrices, Limits, PriceBound};
 use std::alloc::Allocator;
 
-/// The hourly orders and blocks of a problem, as a walk by prices asks for them.
-pub trait Prices {
+/// A problem that can be priced: the hourly orders and blocks of a problem, as a walk by prices asks for them.
+pub trait PricedProblem {
     /// The problem, without its rows.
     ghost problem: { Self → ProblemState };
 
@@ -59,7 +59,7 @@ pub trait Prices {
         ensures { AreLimits (problem self.now) result.limits };
 }
 
-impl<A: Allocator, B: Allocator> Prices for ClassCurves<'_, A, B> {
+impl<A: Allocator, B: Allocator> PricedProblem for ClassCurves<'_, A, B> {
     ghost problem = { λ problem. problem };
 
     fn bound_by_prices(&self, taken: Selection, left: &[u8], bound: &mut PriceBound) {

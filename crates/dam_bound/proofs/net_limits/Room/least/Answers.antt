@@ -2,7 +2,7 @@
 use Rattle.std.proofs.Common.{◌≡◌, ◌+◌, sym, subst, pos, get_or, to_z, of_z, w32, rules, arith}
 use Rattle.std.proofs.lemmas.Int.{ints, to_z-of_z}
 use Rattle.dam_bound.proofs.Limiting.{IsLeast, least_more}
-use Rattle.dam_bound.proofs.limits.Room.least.Goals as goal
+use Rattle.dam_bound.proofs.net_limits.Room.least.Goals as goal
 
 pub loop-k-preserved : goal.loop-k-preserved
 loop-k-preserved c =

@@ -5,9 +5,9 @@ use Rattle.std.proofs.lemmas.Bool.{cases_eq}
 use Rattle.std.proofs.lemmas.List.{get_or-set_other, length-set}
 use Rattle.dam_book.specs.Limits.{greatest_volume}
 use Rattle.dam_blocks.specs.Magnitude.{IsWithin}
-use Rattle.dam_bound.specs.Limits.{limit_in, room_taken}
+use Rattle.dam_bound.specs.NetLimits.{limit_in, room_taken}
 use Rattle.dam_bound.proofs.Limiting.{lowered_here, taken_within}
-use Rattle.dam_bound.proofs.limits.Limits.lowered.Goals as goal
+use Rattle.dam_bound.proofs.net_limits.Limits.lowered.Goals as goal
 
 net_narrow : (x : ℤ) → IsWithin greatest_volume x → to_z w32 (of_z w32 x) ≡ x
 net_narrow x w = let l = w.at_least in let h = w.at_most in to_z-of_z w32 x (omega (arith, ints, l, h))
