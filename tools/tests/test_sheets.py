@@ -4,6 +4,7 @@ import csv
 import io
 import os
 import tempfile
+import time
 import unittest
 from pathlib import Path
 
@@ -58,6 +59,16 @@ class Columns(unittest.TestCase):
         self.assertEqual(made(*rows[:2], header=header), made(*rows[:2]))
         with self.assertRaises(order_table.Wrong):  # also if the row is one of others
             order_table.read_tables([("", table(*rows, header=header))], 24, "A")
+
+    def test_many_columns_without_a_name(self):
+        """Of each row only its own cells are looked at."""
+        header = f"{HEADER.removesuffix(',parent,group')}{',' * 16_376},x"
+        began = time.process_time()
+        lines, notes = made(*(f"A,H{number},hour,buy,1,8,5" for number in range(2_000)), header=header)
+        self.assertLess(time.process_time() - began, 2)
+        self.assertEqual((len(lines), notes), (2_000, ["the column 'x' isn't used"]))
+        said = "line 3, column 16383: 'y' is in a column without a name: write one, or remove it"
+        self.assertEqual(wrong("A,H,hour,buy,1,8,5", f"A,I,hour,buy,1,8,5{',' * 16_376}y", header=header), [said])
 
     def test_all_wrong_columns_at_once(self):
         found = wrong(self.ROW, header="participants,order,order,side,price,periods,volume,parnt,group")

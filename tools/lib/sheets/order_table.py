@@ -429,11 +429,10 @@ def table_of(name, found, needed=NEEDED, further=()):
 
 def refuse_unnamed(header, rows):
     """Refuses a table with a cell below an empty heading, which may be one that orders have: of each such column the first cell."""
-    first, unnamed = {}, [at for at, heading in enumerate(header, 1) if not heading.strip()]
+    first, unnamed = {}, {at for at, heading in enumerate(header, 1) if not heading.strip()}
     for line, cells in rows if unnamed else []:
-        for at in unnamed:
-            cell = cells[at - 1] if at <= len(cells) else ""
-            if cell.strip() and at not in first:
+        for at, cell in enumerate(cells, 1):
+            if at in unnamed and at not in first and cell.strip():
                 first[at] = f"line {line}, column {at}: {text.quoted(cell.strip())} is in a column without a name: write one, or remove it"
     if first:
         raise Wrong("\n".join(first.values()))
