@@ -111,6 +111,15 @@ class Isolation(unittest.TestCase):
             self.assertEqual(self.ran(*words, PYTHONTZPATH=places)[::2], (0, b""), places)
 
     @unittest.skipUnless(command.has("matplotlib"), "matplotlib is missing (Debian's python3-matplotlib)")
+    def test_a_date_of_files_that_is_none(self):
+        words, pictures = ("plot", AUCTION, AUCTION_RESULTS, "-o"), []
+        for name, given in (("a.svg", "abc"), ("b.svg", "1")):
+            ran = self.ran(*words, self.folder / name, SOURCE_DATE_EPOCH=given)
+            self.assertEqual(ran[::2], (0, b""), given)
+            pictures.append(self.folder.joinpath(name).read_bytes())
+        self.assertEqual(*pictures)
+
+    @unittest.skipUnless(command.has("matplotlib"), "matplotlib is missing (Debian's python3-matplotlib)")
     def test_the_cache_of_pictures_is_apart_too(self):
         names = {path.name for path in self.folder.iterdir()}
         words = ("plot", AUCTION, AUCTION_RESULTS, "-o", "-")

@@ -10,15 +10,17 @@ PATHS = (
     "OPENSSL_MODULES", "PYTHONTZPATH", "XDG_CACHE_HOME", "XDG_CONFIG_HOME", "XDG_DATA_HOME",
 )  # fmt: skip
 LISTS = "FONTCONFIG_PATH", "PYTHONTZPATH"  # those of them that name several
+DATE = "SOURCE_DATE_EPOCH"  # matplotlib fails if it isn't a number, also for a picture without a date
 NO_HOME = "/nonexistent"  # as Debian has it for users without a home
 
 
 def keep_apart():
-    """Removes relative paths from the environment, and the search for translations, which would follow any path."""
+    """Removes relative paths and the date of files from the environment, and the search for translations, which would follow any path."""
     for name in PATHS:
         named = os.environ.get(name) or "/"
         if not all(map(os.path.isabs, named.split(os.pathsep) if name in LISTS else [named])):
             del os.environ[name]
+    os.environ.pop(DATE, None)
     os.environ["LANGUAGE"] = "C"  # before the locale, whose name gettext would take for a folder
     os.environ.setdefault("HOME", home())
 
