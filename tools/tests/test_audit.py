@@ -13,8 +13,8 @@ import unittest.mock
 from fractions import Fraction
 
 import support
-from support import AUCTION, AUCTION_RESULTS, QUARTERS, audit, cleared_cases, journal_of, printed, problem, ranked, results_of, small_problems
-from support import tool
+from support import AUCTION, AUCTION_RESULTS, FIRST, QUARTERS, audit, cleared_cases, journal_of, printed, problem, ranked, results_of
+from support import small_problems, tool
 
 import days
 from lib.audit import best, verdict
@@ -485,6 +485,13 @@ class CommandLine(unittest.TestCase):
             status, out, err = audit(AUCTION.read_bytes(), printed(AUCTION), "--best", "--by", method, "--seconds", "0")
             said = f"audit: the results obey the other rules, but after 0 seconds, {far}: --seconds gives more time\n"
             self.assertEqual((status, out, err), (command.UNDECIDED, b"", said))
+
+    @unittest.skipUnless(command.has("scipy"), "scipy is missing (Debian's python3-scipy)")
+    def test_highs_without_blocks(self):
+        """The day has one selection, and the answer is as without HiGHS."""
+        found = [audit(FIRST, results_of(FIRST, frozenset()), "--best", *words) for words in ((), ("--by", "highs"))]
+        self.assertEqual((found[0][0], found[0]), (command.DONE, found[1]))
+        self.assertIn(b"; no selection is better: there is no block to select\n", found[1][1])
 
     @unittest.skipUnless(command.has("scipy"), "scipy is missing (Debian's python3-scipy)")
     def test_the_words_for_what_highs_offers(self):

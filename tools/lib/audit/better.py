@@ -36,7 +36,10 @@ def enumerate_all(problem, said, progress, jobs, few=FEW_BLOCKS):
     return enumeration.better(problem, frozenset(said.accepted), said.welfare, progress, jobs)
 
 
-def ask_highs(problem, said, progress, _):
+def ask_highs(problem, said, progress, jobs):
+    """By HiGHS, which takes no program of a day without blocks."""
+    if not problem.blocks:
+        return enumerate_all(problem, said, progress, jobs)
     command.need("scipy")
 
     def ask(tell):
