@@ -1619,7 +1619,8 @@ class Setup(Office):
         self.assertEqual((made["command"], list(made["tokens"]), made["closes"]), ("init", ["GAS"], "2099-11-27T11:00:00+00:00"))
         self.assertEqual(tool("office", "init", self.office.path, *words)[0], command.NO_INPUT)
         self.assertEqual(tool("office", "serve", self.office.path, "--host", "0.0.0.0")[0], command.COMMAND_LINE)
-        self.assertEqual(tool("office", "serve", room)[0], command.NO_INPUT)
+        said = f"office: {room} isn't the folder of an office: tools/office init makes one\n"
+        self.assertEqual(tool("office", "serve", room), (command.NO_INPUT, b"", said))
         self.assertEqual(tool("office", "revoke", self.office.path, "OIL")[0], command.NO_INPUT)
         status, out, _ = tool("office", "renew", self.office.path, "GAS")
         self.assertTrue(tokens.Register(self.office.file(folder.PARTICIPANTS)).knows("GAS", out.decode().strip()))

@@ -9,7 +9,7 @@ import tempfile
 from pathlib import Path
 from typing import NamedTuple
 
-from ..base import replacing, rules, text
+from ..base import place, replacing, rules, text
 from ..seal import heads
 from ..tool import command
 
@@ -153,7 +153,7 @@ class Folder:
     def need(self):
         """Ends the tool if this isn't the folder of an office, or others may read its secrets."""
         if not self.file(PARTICIPANTS).is_file():
-            raise command.Stop(f"{command.shown(self.path)} isn't the folder of an office: dam-office init makes one")
+            raise command.Stop(f"{command.shown(self.path)} isn't the folder of an office: {place.as_here('tools/office init')} makes one")
         for name in (KEY, PARTICIPANTS):
             if self.file(name).stat().st_mode & PRIVATE:
                 raise command.Stop(f"{command.shown(self.file(name))} can be read by others: chmod 600")
