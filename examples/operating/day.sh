@@ -1,6 +1,6 @@
 #!/bin/sh
 # day.sh FOLDER: clears day.csv, of day.desk if it is there; results.txt is there if it may be published
-cd "$1" && command exec 9> lock || exit 10
+[ "$1" ] && CDPATH= cd -- "$1/" && command exec 9> lock || exit 10
 flock -n 9 || { echo "$1: another run has the lock" >&2; exit 75; }
 rm -rf new.* results.txt replies.txt
 new=$(mktemp -d new.XXXXXX) || exit 10

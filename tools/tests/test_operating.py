@@ -45,14 +45,14 @@ class Day(unittest.TestCase):
         path.write_text(f"#!/bin/sh\n{line}\n")
         path.chmod(0o755)
 
-    def start(self):
-        own = {**os.environ, "PATH": f"{self.bin}:{os.environ['PATH']}"}
+    def start(self, *folder, **environment):
+        own = {**os.environ, "PATH": f"{self.bin}:{os.environ['PATH']}", **environment}
         words = {"cwd": self.bin.parent, "env": own, "stdout": subprocess.PIPE, "stderr": subprocess.PIPE, "text": True}
-        return subprocess.Popen([SCRIPT, self.day], start_new_session=True, **words)
+        return subprocess.Popen([SCRIPT, *folder], start_new_session=True, **words)
 
-    def run_once(self):
+    def run_once(self, *folder, **environment):
         """The status of a run, and its last lines on standard output and error."""
-        run = self.start()
+        run = self.start(*(folder or [self.day]), **environment)
         self.addCleanup(kill, run)
         out, err = run.communicate(timeout=SECONDS)
         return run.returncode, out.splitlines()[-1:], err.splitlines()[-1:]
@@ -93,7 +93,7 @@ class Day(unittest.TestCase):
         """The second one ends, says why, and spoils nothing of the first."""
         go = self.bin / "go"
         self.script("dam-lint", f'touch "{go}.begun"; while [ ! -e "{go}" ]; do sleep 0.05; done')
-        first = self.start()
+        first = self.start(self.day)
         while not Path(f"{go}.begun").exists():
             time.sleep(0.05)
         second = self.run_once()
@@ -124,7 +124,7 @@ class Day(unittest.TestCase):
         self.assertEqual(self.run_once()[0], 0)
         begun, before = self.bin / "begun", (self.bin / "dam-audit").read_text()
         self.script("dam-audit", f'touch "{begun}"; exec sleep 60')
-        run = self.start()
+        run = self.start(self.day)
         while not begun.exists():
             time.sleep(0.05)
         os.killpg(run.pid, signal.SIGKILL)
@@ -136,6 +136,20 @@ class Day(unittest.TestCase):
     def test_a_folder_that_is_not_there(self):
         self.day = self.day / "none"
         self.assertEqual(self.run_once()[0], 10)
+
+    def test_no_other_folder_is_touched(self):
+        """Neither the working folder, if no folder is named, nor one that the environment names."""
+        other = self.bin.parent / "other" / self.day.name
+        other.mkdir(parents=True)
+        kept = [folder / "results.txt" for folder in (self.bin.parent, other)]
+        for path in kept:
+            path.touch()
+        for words in ([], [""], ["-"]):
+            run = self.start(*words, OLDPWD=str(other))
+            run.communicate(timeout=SECONDS)
+            self.assertEqual((run.returncode, [path.exists() for path in kept]), (10, [True, True]), words)
+        self.assertEqual(self.run_once(self.day.name, CDPATH="other")[0], 0)
+        self.assertEqual((self.names(), kept[1].exists()), (["day.csv", "replies.txt", "results.txt"], True))
 
     def test_a_lock_that_cannot_be_opened(self):
         """A redirection of `exec` alone that fails would end the shell, with its own status."""
