@@ -199,16 +199,16 @@ class Interrupted(unittest.TestCase):
     def setUp(self):
         heed_interrupts(self)
 
-    def interrupted(self, name):
-        """The end of a tool that is interrupted while it waits for its journal."""
+    def interrupted(self, name, *words, number=signal.SIGINT):
+        """The end of a tool that gets a signal while it waits for its journal."""
         with tempfile.TemporaryDirectory() as folder:
             pipe = Path(folder, "journal")
             os.mkfifo(pipe)
-            running = subprocess.Popen([sys.executable, TOOLS / name, pipe], stdout=subprocess.PIPE, stderr=subprocess.PIPE, cwd=folder)
+            running = subprocess.Popen([sys.executable, TOOLS / name, *words, pipe], stdout=subprocess.PIPE, stderr=subprocess.PIPE, cwd=folder)
             try:
                 writing = opened(pipe)
                 wait_until_asleep(running)
-                running.send_signal(signal.SIGINT)
+                running.send_signal(number)
                 out, err = running.communicate(timeout=SECONDS)
                 os.close(writing)
             finally:
@@ -221,6 +221,18 @@ class Interrupted(unittest.TestCase):
             if all(map(command.has, packages)):
                 with self.subTest(name):
                     self.assertEqual(self.interrupted(name), (130, b"", f"{name}: interrupted\n"))
+
+    def test_an_audit_without_a_record(self):
+        """docs/FORMATS.md has the statuses with which it prints none."""
+        page = " ".join(TOP.joinpath("docs", "FORMATS.md").read_text().split())
+        end = r" or if memory or open files run out at its start\."
+        said = re.search(rf"`tools/audit --json` prints a JSON object, even without a verdict, except with statuses ([0-9, and]+),{end}", page)[1]
+        ran = subprocess.run([sys.executable, TOOLS / "audit", "--json", ""], capture_output=True)
+        found = [(ran.returncode, ran.stdout)]
+        for number in (signal.SIGHUP, signal.SIGINT, signal.SIGTERM):
+            self.addCleanup(signal.signal, number, signal.signal(number, signal.SIG_DFL))  # whatever this process ignores
+            found.append(self.interrupted("audit", "--json", number=number)[:2])
+        self.assertEqual(found, [(int(status), b"") for status in re.findall("[0-9]+", said)])
 
     def test_while_it_imports(self):
         """At its first module, then with one line: in the midst of an import that may take the exception for its own."""
