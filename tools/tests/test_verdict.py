@@ -4,19 +4,22 @@ import functools
 import hashlib
 import json
 import os
+import random
 import re
 import resource
 import subprocess
 import sys
 import tempfile
+import tracemalloc
 import unittest
+import unittest.mock
 from pathlib import Path
 
 from support import AUCTION, AUCTION_RESULTS, QUARTERS, TOOLS, TOP, audit, cleared_cases, journal_of, printed, results_of, tool
 
 from lib.audit import verdict
 from lib.base import rules
-from lib.results import faults
+from lib.results import faults, results
 from lib.tool import command
 
 DATA, TEXT = AUCTION.read_bytes(), printed(AUCTION)
@@ -56,6 +59,20 @@ class Encoding(unittest.TestCase):
         both = MARK + PRINTED["CR LF"]
         status, out, _ = audit(DATA, both)
         self.assertEqual((status, out.count(b"the encoding differs: ")), (command.ENCODING, 2))
+
+    def test_many_fields_in_quotes(self):
+        """They are read in parts, each of whole fields: that takes the memory of a few such texts, and the fields are the same."""
+        data = b'"a",' * (1 << 18) + b"\n"
+        tracemalloc.start()
+        self.addCleanup(tracemalloc.stop)
+        self.assertEqual(results.plain(data)[0], data.replace(b'"', b""))
+        self.assertLess(tracemalloc.get_traced_memory()[1], 8 * len(data))
+        rng = random.Random(7)
+        for part in (1, 2, 5):
+            with unittest.mock.patch.object(results, "PART", part):
+                for _ in range(300):
+                    data = bytes(rng.choices(b'"",\nab', k=rng.randrange(1, 20))) + b"a\n"
+                    self.assertEqual(results.plain(data)[0], results.QUOTED.sub(rb"\1", data), data)
 
     def test_replies_and_days(self):
         replies = b"day,24\r\n1,done\r\n"

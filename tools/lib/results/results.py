@@ -72,6 +72,8 @@ def beginning(line):
 
 
 QUOTED = re.compile(rb'(?<![^,\n])"([^",\n]*)"(?![^,\n])')
+FIELD_END = re.compile(rb"[,\n]")
+PART = 1 << 16  # bytes of a text that are changed at once, or a field more
 MARKS = {text.MARK: ("utf-8-sig", "a byte order mark"), b"\xff\xfe": ("utf-16", "a byte order mark of UTF-16")}
 MARKS[b"\xfe\xff"] = MARKS[b"\xff\xfe"]
 UTF_32 = b"\xff\xfe\0\0"  # its mark begins as the mark of UTF-16
@@ -95,9 +97,19 @@ def plain(data):
         data = data.rstrip(b"\n") + b"\n"
         odd.append("empty lines follow the last line")
     if QUOTED.search(data):
-        data = QUOTED.sub(rb"\1", data)
+        data = b"".join(QUOTED.sub(rb"\1", part) for part in parts_of(data))
         odd.append("fields stand in quotes")
     return data, [Fault(words, "encoding") for words in odd]
+
+
+def parts_of(data):
+    """The parts of a text, each of whole fields: to change all fields at once takes far more memory."""
+    begin = 0
+    while begin < len(data):
+        found = FIELD_END.search(data, begin + PART)
+        end = found.end() if found else len(data)
+        yield data[begin:end]
+        begin = end
 
 
 def is_text(data, encoding):
