@@ -8,6 +8,7 @@ import resource
 import signal
 import subprocess
 import sys
+import tracemalloc
 import unittest
 import unittest.mock
 from pathlib import Path
@@ -16,6 +17,7 @@ from support import AUCTION, QUARTERS, TOOLS, new_folder, printed, results_of, t
 
 from lib.audit import days, verdict
 from lib.base import record, text
+from lib.results import faults
 from lib.runs import engine
 from lib.tool import command
 
@@ -132,6 +134,7 @@ class Days(unittest.TestCase):
         status, out, _ = self.audit("--json")
         made = json.loads(out)
         self.assertEqual((status, made["status"], [day["verdict"] for day in made["days"]]), (3, 3, ["right", "unread"]))
+        self.assertEqual(out, f"{json.dumps(made, indent=1)}\n")
         self.assertEqual(made["counts"], {**dict.fromkeys(record.VERDICTS, 0), "right": 1, "unread": 1})
         self.assertEqual(made["days"][0]["day"]["periods"], 24)
         self.assertEqual(made["days"][0].keys(), made["days"][1].keys())
@@ -258,6 +261,26 @@ class Days(unittest.TestCase):
         with unittest.mock.patch.object(days.threading.Thread, "start", side_effect=RuntimeError("can't start new thread")):
             found = days.audit_all([pairs[0]._replace(unread="x")] * 2, [], 2, bar)
         self.assertEqual([made["message"] for made in found], ["x", "x"])
+
+    def test_days_with_many_faults(self):
+        """The faults of all days aren't in memory together. The record is the same as if they were."""
+        wrong = [faults.of_line("stray", line, None, "'hour,A,NAME,1' doesn't belong here").record() for line in range(3_000)]
+        made = {**record.unread(verdict.WRONG, command.DIFFERS, None), "faults": wrong}
+        out = json.dumps(made, indent=1).encode() + b"\n"
+        pairs = [days.Pair(f"{number}\udcff", Path("a.csv"), None, "x" if number == 3 else None) for number in range(8)]
+        unread = {"name": "3\\xff", **record.unread(verdict.UNREAD, command.NO_INPUT, "x", [("journal", "a.csv")])}
+        wanted = [unread if number == 3 else {"name": f"{number}\\xff", **made} for number in range(8)]
+        for words in ({}, {"is_json": True}):
+            tracemalloc.start()
+            self.addCleanup(tracemalloc.stop)
+            with unittest.mock.patch.object(days, "ran", return_value=(command.DIFFERS, out, b"")):
+                found = days.audit_all(pairs, [], 2, unittest.mock.Mock(), **words)
+            self.assertLess(tracemalloc.get_traced_memory()[0], len(out))
+            tracemalloc.stop()
+            self.assertIn("  3000      0.0  results line 0: 'hour,A,NAME,1' doesn't belong here", list(days.table(found))[1])
+        parts = list(days.printed(command.DIFFERS, found))
+        self.assertLessEqual(max(map(len, parts)), days.PART)
+        self.assertEqual(b"".join(parts).decode(), f"{json.dumps(record.of_days(command.DIFFERS, wanted), indent=1)}\n")
 
     def test_the_time_grows_with_the_number_of_days(self):
         """While days are audited, the records of others aren't gone through again."""

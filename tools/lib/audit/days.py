@@ -4,6 +4,7 @@ import json
 import os
 import subprocess
 import threading
+import zlib
 from pathlib import Path
 from typing import NamedTuple
 
@@ -19,6 +20,8 @@ TOOL = Path(__file__).resolve().parents[2] / "audit"
 JOURNAL, RESULTS = ".csv", ".txt"
 NAME, COLUMNS = "day", ["journal", "results"]  # the columns of a manifest: the day's name, and those that it needs
 MOST_SHOWN = command.LONGEST_PATH + 200  # characters of the first fault, which may begin with a file's name
+PART = 1 << 16  # bytes of a record that are packed or printed at once
+READING = threading.Lock()  # held while a record is read: it may have many faults, and two at once would take more memory
 # Of the statuses of the days, the first that one of them has is the status of all.
 WORST = [command.DIFFERS, command.FAILED, command.NO_INPUT, command.UNDECIDED, command.ENCODING]
 HEADS = ["day", "verdict", "periods", "hourly", "blocks", "accepted", "welfare, EUR", "refused", "faults", "seconds", "first fault"]
@@ -135,18 +138,60 @@ def seconds_of(args):
     return MORE_SECONDS + (verdict.SECONDS if args.seconds is None else args.seconds) * args.best
 
 
-def audited(pair, options, running, seconds=MORE_SECONDS):
-    """The record of the audit of a day, also if the audit fails."""
+def audited(pair, options, running, seconds=MORE_SECONDS, is_json=False):
+    """As much as is kept of the record of the audit of a day, also if the audit fails."""
     if pair.unread is not None:
-        return failed(pair, command.NO_INPUT, pair.unread)
+        return kept(failed(pair, command.NO_INPUT, pair.unread), is_json)
     try:
-        return of_process(pair, *ran(pair, options, running, seconds))
+        status, out, err = ran(pair, options, running, seconds)
+        with READING:
+            return kept(of_process(pair, status, out, err), is_json, out)
     except subprocess.TimeoutExpired as fault:
-        return failed(pair, command.FAILED, f"its process didn't end in {fault.timeout:g} seconds")
+        made = failed(pair, command.FAILED, f"its process didn't end in {fault.timeout:g} seconds")
     except OSError as fault:
-        return failed(pair, command.FAILED, f"its process can't be started: {fault.strerror}")
+        made = failed(pair, command.FAILED, f"its process can't be started: {fault.strerror}")
     except Exception as fault:
-        return failed(pair, command.FAILED, ending.words(fault))
+        made = failed(pair, command.FAILED, ending.words(fault))
+    return kept(made, is_json)
+
+
+def kept(made, is_json, out=b""):
+    """A day's record with the first fault alone, and the number of all; with --json also packed, as it is printed. `out` is the text of a
+    process with the same record, if it has faults."""
+    short = {**made, "faults": made["faults"][:1], "count": len(made["faults"])}
+    if not is_json:
+        return short
+    if not made["faults"]:
+        out = json.dumps({key: text.for_json(value) for key, value in made.items() if key != "name"}, indent=1).encode()
+    return {**short, "printed": packed(made["name"], out.strip())}
+
+
+def packed(name, out):
+    """The lines of a day's record in the record of all days, compressed. `out` is the text of the record without the day's name."""
+    stream = zlib.compressobj(1)
+    parts = [stream.compress(f'  {{\n   "name": {json.dumps(text.for_json(name))},'.encode())]
+    for at in range(len(b"{"), len(out), PART):
+        parts.append(stream.compress(out[at : at + PART].replace(b"\n", b"\n  ")))
+    return b"".join([*parts, stream.flush()])
+
+
+def unpacked(data):
+    """The bytes of a packed record, in parts."""
+    stream = zlib.decompressobj()
+    while data:
+        yield stream.decompress(data, PART)
+        data = stream.unconsumed_tail
+    yield stream.flush()
+
+
+def printed(status, records):
+    """The record of all days, in parts: the records of the days aren't unpacked together."""
+    before, _, end = json.dumps({**record.of_days(status, records), "days": [[]]}, indent=1).encode().rpartition(b"  []")
+    for made in records:
+        yield before
+        yield from unpacked(made["printed"])
+        before = b",\n"
+    yield end + b"\n"
 
 
 def ran(pair, options, running, seconds):
@@ -188,8 +233,8 @@ def failed(pair, status, message):
 class Work:
     """The audits of all days, which threads take one by one. `records` has those that are made, in the order of the days."""
 
-    def __init__(self, pairs, options, seconds):
-        self.pairs, self.options, self.seconds, self.running = pairs, options, seconds, Running()
+    def __init__(self, pairs, options, seconds, is_json):
+        self.pairs, self.options, self.seconds, self.is_json, self.running = pairs, options, seconds, is_json, Running()
         self.records, self.places = [None] * len(pairs), iter(range(len(pairs)))
         self.lock, self.done = threading.Lock(), threading.Semaphore(0)
         self.wrong = 0  # how many of the records are of wrong days
@@ -202,7 +247,7 @@ class Work:
         """The work of a thread."""
         while (at := self.next()) is not None:
             try:
-                self.keep(at, audited(self.pairs[at], self.options, self.running, self.seconds))
+                self.keep(at, audited(self.pairs[at], self.options, self.running, self.seconds, self.is_json))
             except MemoryError:
                 pass  # it gets its record at the end
             finally:
@@ -230,9 +275,9 @@ class Work:
         self.running.end()
 
 
-def audit_all(pairs, options, jobs, bar, seconds=MORE_SECONDS):
-    """The records of all days, in their order; each may take so many seconds."""
-    work = Work(pairs, options, seconds)
+def audit_all(pairs, options, jobs, bar, seconds=MORE_SECONDS, is_json=False):
+    """As much as is kept of the records of all days, in their order; each may take so many seconds."""
+    work = Work(pairs, options, seconds, is_json)
     try:
         work.start(jobs)
         for _ in pairs:
@@ -241,7 +286,8 @@ def audit_all(pairs, options, jobs, bar, seconds=MORE_SECONDS):
     finally:
         work.end()
         bar.end()
-    return [made or failed(pair, command.FAILED, ending.words(MemoryError())) for pair, made in zip(pairs, work.records)]
+    without = ending.words(MemoryError())
+    return [made or kept(failed(pair, command.FAILED, without), is_json) for pair, made in zip(pairs, work.records)]
 
 
 def cells(made):
@@ -252,7 +298,7 @@ def cells(made):
     welfare = day.get("welfare_eur")
     numbers = [day.get(name, "") for name in ("periods", "hourly_orders", "blocks", "accepted")]
     shown = text.grouped(welfare) if welfare is not None else ""
-    ends = [day.get("refused", ""), len(faults), f"{made['seconds']:.1f}", text.safe(first, MOST_SHOWN)]
+    ends = [day.get("refused", ""), made["count"], f"{made['seconds']:.1f}", text.safe(first, MOST_SHOWN)]
     return [text.safe(made["name"]), made["verdict"], *numbers, shown, *ends]
 
 
@@ -264,7 +310,7 @@ def total(records):
         return sum((made["day"] or {}).get(name, 0) for made in records)
 
     sums = [summed(name) for name in ("hourly_orders", "blocks", "accepted")]
-    faults, seconds = sum(len(made["faults"]) for made in records), sum(made["seconds"] for made in records)
+    faults, seconds = sum(made["count"] for made in records), sum(made["seconds"] for made in records)
     return [text.counted(len(records), "day"), told, "", *sums, "", summed("refused"), faults, f"{seconds:.1f}", ""]
 
 
@@ -288,7 +334,7 @@ def status_of(records):
 
 
 def audit(args):
-    """The records of all days."""
+    """As much as is kept of the records of all days."""
     pairs = pairs_of(args.days)
     jobs = min(args.jobs or os.cpu_count() or 1, len(pairs))
-    return audit_all(pairs, options_of(args), jobs, Bar("audit", len(pairs), "days", args.quiet), seconds_of(args))
+    return audit_all(pairs, options_of(args), jobs, Bar("audit", len(pairs), "days", args.quiet), seconds_of(args), args.json)
