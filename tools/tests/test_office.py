@@ -1621,6 +1621,11 @@ class Setup(Office):
         self.assertEqual(tool("office", "serve", self.office.path, "--host", "0.0.0.0")[0], command.COMMAND_LINE)
         said = f"office: {room} isn't the folder of an office: tools/office init makes one\n"
         self.assertEqual(tool("office", "serve", room), (command.NO_INPUT, b"", said))
+        held, aside = self.office.file(folder.PARTICIPANTS), self.office.file("aside")
+        held.rename(aside)
+        said = f"office: {held} is missing: put it back\n"
+        self.assertEqual(tool("office", "serve", self.office.path), (command.NO_INPUT, b"", said))
+        aside.rename(held)
         self.assertEqual(tool("office", "revoke", self.office.path, "OIL")[0], command.NO_INPUT)
         status, out, _ = tool("office", "renew", self.office.path, "GAS")
         self.assertTrue(tokens.Register(self.office.file(folder.PARTICIPANTS)).knows("GAS", out.decode().strip()))

@@ -152,6 +152,8 @@ class Folder:
 
     def need(self):
         """Ends the tool if this isn't the folder of an office, or others may read its secrets."""
+        if self.file(KEY).is_file() and not self.file(PARTICIPANTS).is_file():
+            raise command.Stop(f"{command.shown(self.file(PARTICIPANTS))} is missing: put it back")
         if not self.file(PARTICIPANTS).is_file():
             raise command.Stop(f"{command.shown(self.path)} isn't the folder of an office: {place.as_here('tools/office init')} makes one")
         for name in (KEY, PARTICIPANTS):
