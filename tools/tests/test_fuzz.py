@@ -233,7 +233,7 @@ class Full(unittest.TestCase):
             return called("full.py", folder, "--hourly", "30", "--blocks", "5", "--commands", "90", defect=defect)
 
     def test_a_program_that_is_right(self):
-        self.assertEqual(self.full(), (0, "24 passed, 0 failed\n"))
+        self.assertEqual(self.full(), (0, "36 passed, 0 failed\n"))
 
     def test_each_defect_is_found(self):
         for defect, words in {
