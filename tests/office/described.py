@@ -17,10 +17,17 @@ WAIT_SECONDS = 20  # for the office to take requests again
 TYPES = {"string": str, "integer": int, "number": (int, float), "boolean": bool, "array": list, "object": dict}
 
 
+def resolved(described):
+    """A part of the description, or the component to which it refers."""
+    if "$ref" not in described:
+        return described
+    _, components, kind, name = described["$ref"].split("/")
+    return API[components][kind][name]
+
+
 def wrong(value, schema, at="answer"):
     """How a value breaks a schema; None if it doesn't."""
-    if "$ref" in schema:
-        return wrong(value, API["components"]["schemas"][schema["$ref"].rpartition("/")[2]], at)
+    schema = resolved(schema)
     if "oneOf" in schema:
         return None if sum(wrong(value, one, at) is None for one in schema["oneOf"]) == 1 else f"{at} is none of several"
     kind = schema.get("type")
@@ -52,7 +59,7 @@ def asked(office, counts, method, template, values, headers=None, body=None, que
     if described is None:
         counts.check(f"{about}: the status isn't described", False)
         return status, data
-    kinds = described.get("content", {})
+    kinds = resolved(described).get("content", {})
     kind = got.get("Content-Type", "").partition(";")[0]
     fault = None if kind in kinds or not kinds else f"the type is {kind}"
     if kind == "application/json" and kind in kinds:
