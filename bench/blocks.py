@@ -1,9 +1,9 @@
 #!/usr/bin/env python3
-"""The search on deep books with 24 blocks, on days of 24 and of 96 periods: 60 with realistic blocks and 3,800 hourly orders, and 28 of
-the families that are hard for a search.
+"""The search on books with 24 blocks, on days of 24 and of 96 periods: 60 with realistic blocks and 3,800 hourly orders, and 28 of
+families that are hard for a search, half of them with 500 hourly orders, half with 4,000. All of them are called deep here.
 
 The blocks are base (baseload), peaks (base, peak and night), shaped (an hourly profile), odd (one odd profile among baseload) and random (a
-random volume in each period), with limits within 5 to 1,000 cents of the mean price. The families have 500 and 4,000 hourly orders.
+random volume in each period), with limits within 5 to 1,000 cents of the mean price.
 
 `dam clear` takes turns as clearing.py says, and on the families with a plain twin of the search. The twin's bounds are by prices, as those
 of `dam` are, a selection is a set of bits in both, and neither has a limit on nodes. `dam` reads and prints more, which counts in a search

@@ -312,7 +312,7 @@ class Facts(unittest.TestCase):
         """Of each market, the tests draw as many books."""
         text = (TOP / "tests" / "rattle" / "dam_search" / "src" / "counts.rt.test").read_text()
         (books,) = re.findall(r"^const BOOKS: u64 = (\d+);$", text, re.MULTILINE)
-        markets = re.findall(r"nodes_of(?:_pieces)?\(rt\.alloc\(\), (?:[A-Z]+|larger)\)", text)
+        markets = re.findall(r"nodes_of(?:_pieces)?\(rt\.alloc\(\), (?:[A-Z]+|larger)\b", text)
         markets += re.findall(r"\(Bonds::\w+, [\d_]+\)", text)
         markets += re.findall(r"\((?:[A-Z]+|far|tied\(Bonds::\w+\)), \d+, \d+, [\d_]+\)", text)
         said = re.findall(r"few nodes of (\d+) fixed books", plain(TOP / "docs" / "TESTED.md"))
