@@ -1,6 +1,6 @@
 /* The engines of `dam` for C and C++, and for any language that calls C. A journal's text goes in, and the text of `dam` comes out.
  *
- * Each call reads the text and leaves its answer in the caller's buffer. It doesn't start threads, install signal handlers or keep state
+ * Each call reads its arguments and leaves its answer in the buffer. It doesn't start threads, install signal handlers or keep state
  * between calls, and it doesn't read or write anything else. So several threads may call at the same time, each with a buffer of its own.
  *
  * `text`: a journal in ASCII (docs/FORMATS.md). A text of more than 16,777,216 bytes isn't a journal, and gets status 1.
@@ -20,7 +20,7 @@
  *
  * `length` is the length of the whole answer in bytes; a zero byte doesn't follow it.
  *
- * Stack: 512 KiB are enough for a call. Memory: a call takes at most 8 MiB and four times the text's bytes, by malloc, and frees all
+ * Stack: 512 KiB were enough in tests. Memory: a call takes at most 8 MiB and four times the text's bytes, by malloc, and frees all
  * of it. A program that is linked with the static library, and defines rattle_alloc, rattle_realloc and rattle_dealloc, gives the
  * library its own memory instead (tests/library/refusals.c of a clone).
  *

@@ -6,7 +6,7 @@ rm -rf new.* results.txt replies.txt
 new=$(mktemp -d new.XXXXXX) || exit 10
 if [ -e day.desk ]; then
     dam-desk --journal day.desk > "$new/day.csv" && [ -s "$new/day.csv" ] || { echo "desk: $?"; exit 10; }
-    mv "$new/day.csv" .
+        mv "$new/day.csv" . || exit 10
 fi
 dam-lint day.csv  # status 1: refused commands; 7: faults
 dam replay < day.csv > "$new/replies.txt" || { echo "replay: $?"; exit 10; }
