@@ -88,6 +88,10 @@ class Day(unittest.TestCase):
             self.assertEqual(self.run_once()[:2], (10, [f"desk: {status}"]))
             self.assertNotIn("results.txt", self.names())
             self.assertEqual(Path(self.day, "day.csv").read_bytes(), AUCTION.read_bytes(), "the last journal that was read stays")
+        self.script("dam-desk", 'cat "$2"')
+        self.script("mv", 'case $1 in */day.csv) exit 1 ;; *) exec /bin/mv "$@" ;; esac')
+        self.assertEqual(self.run_once()[:2], (10, []), "an older journal isn't cleared in place of the desk's")
+        self.assertNotIn("results.txt", self.names())
 
     def test_two_runs_at_once(self):
         """The second one ends, says why, and spoils nothing of the first."""
