@@ -19,6 +19,7 @@ import draw_bound
 import draw_crates
 import draw_desk
 import draw_hour
+import draw_office
 import draw_receipt
 import draw_trust
 import images
@@ -147,6 +148,11 @@ class Hour(unittest.TestCase):
         drawn = pictures.picture(draw_hour.figure(), "svg", words_as_text=True).decode()
         for words in ("WIND: 45 MW", "executed in full", "GAS: 50 MW", "35 MW executed", "not executed", "the price: 60.00", "TOWN buys 80 MW"):
             self.assertIn(words, drawn)
+
+
+class Office(unittest.TestCase):
+    def test_the_picture_is_of_the_page(self):
+        self.assertEqual(draw_office.taken_of(), draw_office.page_sum(), "docs/draw_office.py takes the picture again")
 
 
 class Trust(unittest.TestCase):
