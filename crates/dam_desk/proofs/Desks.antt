@@ -15,7 +15,7 @@ use Rattle.dam_desk.specs.declared.desk.Desk.{Desk}
 use Rattle.dam_desk.specs.declared.fault.DeskFault.{DeskFault}
 use Rattle.dam_desk.specs.declared.fault.DeskFault.TheVariants.{File, Store as Stores, NotAJournal, Respelled, Read, Write, Memory}
 use Rattle.dam_desk.specs.inside.Intake.{HasRead}
-use Rattle.dam_desk.specs.declared.state.Intake.{Intake}
+use Rattle.dam_desk.specs.declared.intake.Intake.{Intake}
 use Rattle.dam_desk.proofs.Runs.{answers_both}
 use Rattle.dam_desk.proofs.Texts.{all_both, text_more}
 

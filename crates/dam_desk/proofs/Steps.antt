@@ -18,7 +18,7 @@ use Rattle.dam_desk.specs.declared.fault.InputLineFault.{InputLineFault}
 use Rattle.dam_desk.specs.declared.fault.InputLineFault.TheVariants.{OtherDay}
 use Rattle.dam_desk.specs.declared.reading.Said.{Said}
 use Rattle.dam_desk.specs.declared.reading.Said.TheVariants.{Day as Days, Command as Commands, Fault}
-use Rattle.dam_desk.specs.declared.state.Intake.{Intake}
+use Rattle.dam_desk.specs.declared.intake.Intake.{Intake}
 use Rattle.dam_desk.proofs.Texts.{commands_more}
 
 pub none_journal : (journal : Option Journal) → HasJournal None journal → journal ≡ None

@@ -9,9 +9,9 @@ ghost use Rattle.dam_desk.specs.Faults.{IsEndFault, SaysCount, is_failed_sync, i
 
 use crate::fault::{DeskFault, InputLineFault};
 use crate::fault_line::write_fault;
+use crate::intake::Intake;
 use crate::laws::journals_grow;
 use crate::output::write_text;
-use crate::state::Intake;
 use dam_store::Store;
 use sqlite_disk::Disk;
 use std::io::Write;

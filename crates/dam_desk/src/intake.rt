@@ -1,218 +1,49 @@
-//! The input that has come to a desk: the day, the line that has begun, and the answers to the lines of the batch.
-ghost use Rattle.std.specs.Prelude.{◌≡◌, ◌++◌, ◌∷◌, [], List, ℕ, Option, None, Some, true, false, IfOk, OnOk};
-ghost use Rattle.dam_book.specs.Book.{commands_of};
-ghost use Rattle.dam_results.specs.Written.{written};
-ghost use Rattle.dam_store.specs.FileLines.{has_byte, text_of};
-ghost use Rattle.dam_desk.specs.Answers.{fault_line};
-ghost use Rattle.dam_desk.specs.DeskJournal.{Journal, State, next};
-ghost use Rattle.dam_desk.specs.InputLines.{Says, kept_bytes};
-ghost use Rattle.dam_desk.specs.declared.reading.Said.TheVariants.{Day as Days, Command as Commands, Fault};
-ghost use Rattle.dam_desk.specs.inside.Intake.{Answered, HasRead, IsAt, IsIn, TakesLine, entered_text, periods_of, records_text};
-ghost use Rattle.dam_desk.specs.inside.TextLines.{is_ended};
+//! The intake of a desk: its state between two lines.
+ghost use Rattle.std.specs.Prelude.{◌≡◌, ◌≤◌, [], length};
+ghost use Rattle.dam_book.specs.Limits.{most_entries};
+ghost use Rattle.dam_desk.specs.inside.DeskDay.{entered_of};
 
 use crate::desk_day::Day;
-use crate::fault::InputLineFault;
-use crate::fault_line::write_fault;
-use crate::reading::{Said, read_input_line};
-use crate::state::Intake;
-use crate::text_lines::first_line;
-use dam_book::laws::runs_grow;
-use dam_book::{Command, DayLength};
-use dam_store::Batch;
-use std::alloc::AllocError;
+use crate::input_line::Line;
+use dam_book::{PackedEntry, Seed};
+use std::alloc::Global;
+
+/// The day that a desk has, the line that has begun, and the batch.
+#[derive(Drop)]
+pub(crate) struct Intake {
+    pub(crate) alloc: Global,
+    pub(crate) seed: Seed,
+    pub(crate) day: Option<Day>,
+    pub(crate) line: Line,
+    /// The number of lines that were answered.
+    pub(crate) answered: u64,
+    /// Whether the day begins in this batch.
+    pub(crate) begins: bool,
+    /// The entries of this batch.
+    pub(crate) entries: Vec<PackedEntry>,
+    /// The answers to the lines of this batch.
+    pub(crate) answers: Vec<u8>,
+    ghost few: { length entries.items ≤ entered_of day },
+    ghost room: { entered_of day ≤ most_entries },
+}
 
 impl Intake {
-    /// Begins a batch: enters the records of the lines that end in the bytes, and makes the answers to these lines.
-    pub(crate) fn enter_batch(&mut self, bytes: &[u8]) -> Result<(), AllocError>
-        ensures { (state : State) (begun : List ℕ) → IsIn self.old state begun
-            → OnOk result (HasRead self.new state (begun ++ bytes.now) []) }
+    /// Before the first line.
+    pub(crate) fn new(alloc: Global, seed: Seed, day: Option<Day>) -> Intake
+        requires { entered_of day ≤ most_entries }
+        ensures day { result.day ≡ day }
+        ensures line { result.line ≡ [] }
+        ensures answered { result.answered ≡ 0 }
     {
-        self.begins = false;
-        self.entries.clear();
-        self.answers.clear();
-        self.answer_lines(bytes)
-    }
-
-    /// Answers the lines that end in the bytes, and begins the next line with the rest.
-    fn answer_lines(&mut self, bytes: &[u8]) -> Result<(), AllocError>
-        ensures { (state : State) (given : List ℕ) → HasRead self.old state given bytes.now
-            → OnOk result (HasRead self.new state given []) }
-    {
-        let mut rest = bytes;
-        while let Some((line, after)) = first_line(rest) {
-            self.end_line(line)?;
-            rest = after;
+        Intake {
+            alloc,
+            seed,
+            day,
+            line: Line::new(alloc),
+            answered: 0,
+            begins: false,
+            entries: Vec::new(alloc),
+            answers: Vec::new(alloc),
         }
-        self.begin_line(rest)
-    }
-
-    /// Answers the line that ends with these bytes.
-    fn end_line(&mut self, piece: &[u8]) -> Result<(), AllocError>
-        ensures { (state : State) (given after : List ℕ) → has_byte 10 piece.now ≡ false
-            → HasRead self.old state given (piece.now ++ 10 ∷ after)
-            → OnOk result (HasRead self.new state given after) }
-    {
-        self.line.extend(piece)?;
-        self.answer_line()?;
-        self.line.clear();
-        Ok(())
-    }
-
-    /// Adds to the line that has begun.
-    fn begin_line(&mut self, piece: &[u8]) -> Result<(), AllocError>
-        ensures { (state : State) (given : List ℕ) → has_byte 10 piece.now ≡ false
-            → HasRead self.old state given piece.now
-            → OnOk result (HasRead self.new state given []) }
-    {
-        self.line.extend(piece)
-    }
-
-    /// Enters the record of the line that has come, if it is one, and adds the answer to it.
-    fn answer_line(&mut self) -> Result<(), AllocError>
-        ensures line { self.new.line ≡ self.old.line }
-        ensures answered { OnOk result (self.new.answered ≡ next self.old.answered) }
-        ensures step { (before : List ℕ) (journal : Option Journal) (text : List ℕ)
-            → IsAt self.old before journal → self.old.line ≡ kept_bytes text
-            → OnOk result (TakesLine self.old self.new before journal text) }
-    {
-        self.answered = self.answered.saturating_add(1);
-        let said = self.read()?;
-        self.answer(said)
-    }
-
-    /// The meaning of the line that has come.
-    fn read(&self) -> Result<Said, AllocError>
-        ensures { (text : List ℕ) → self.now.line ≡ kept_bytes text
-            → IfOk result (Says (periods_of self.now.day) text) }
-    {
-        let header: &[u8] = match &self.day {
-            Some(day) => day.header(),
-            None => &[],
-        };
-        read_input_line(self.alloc, header, self.line.bytes())
-    }
-
-    /// Enters the record, if the line that has come is one, and adds the answer to it.
-    fn answer(&mut self, said: Said) -> Result<(), AllocError>
-        ensures line { self.new.line ≡ self.old.line }
-        ensures answered { self.new.answered ≡ self.old.answered }
-        ensures step { (before : List ℕ) (journal : Option Journal) → IsAt self.old before journal
-            → OnOk result (Answered self.old self.new before journal said) }
-    {
-        match said {
-            Said::Fault(fault) => self.refuse(fault),
-            Said::Day(periods) => self.answer_day(periods),
-            Said::Command(command) => self.answer_command(&command.command()),
-        }
-    }
-
-    /// Adds the answer to a line with a fault.
-    fn refuse(&mut self, fault: InputLineFault) -> Result<(), AllocError>
-        ensures line { self.new.line ≡ self.old.line }
-        ensures answered { self.new.answered ≡ self.old.answered }
-        ensures day { self.new.day ≡ self.old.day }
-        ensures begins { self.new.begins ≡ self.old.begins }
-        ensures entries { self.new.entries.items ≡ self.old.entries.items }
-        ensures text { OnOk result (self.new.answers.items
-            ≡ self.old.answers.items ++ fault_line self.old.answered fault) }
-    {
-        write_fault(self.alloc, &mut self.answers, self.answered, fault)
-    }
-
-    /// Answers the record of a day: it begins the day, or is the same day again.
-    fn answer_day(&mut self, periods: DayLength) -> Result<(), AllocError>
-        ensures line { self.new.line ≡ self.old.line }
-        ensures answered { self.new.answered ≡ self.old.answered }
-        ensures step { (before : List ℕ) (journal : Option Journal) → IsAt self.old before journal
-            → OnOk result (Answered self.old self.new before journal (Days periods)) }
-    {
-        let Some(day) = &self.day else {
-            return self.begin(periods);
-        };
-        if day.periods() != periods {
-            return self.refuse(InputLineFault::OtherDay);
-        }
-        self.answers.extend_from_slice(day.line())
-    }
-
-    fn begin(&mut self, periods: DayLength) -> Result<(), AllocError>
-        requires { self.old.day ≡ None }
-        ensures line { self.new.line ≡ self.old.line }
-        ensures answered { self.new.answered ≡ self.old.answered }
-        ensures step { (before : List ℕ) (journal : Option Journal) → IsAt self.old before journal
-            → OnOk result (Answered self.old self.new before journal (Days periods)) }
-    {
-        let day = Day::begin(self.alloc, self.seed, periods)?;
-        self.answers.extend_from_slice(day.line())?;
-        self.begins = true;
-        self.day = Some(day);
-        Ok(())
-    }
-
-    /// Enters a command, if there is a day and room for it.
-    fn answer_command(&mut self, command: &Command) -> Result<(), AllocError>
-        ensures line { self.new.line ≡ self.old.line }
-        ensures answered { self.new.answered ≡ self.old.answered }
-        ensures step { (before : List ℕ) (journal : Option Journal) → IsAt self.old before journal
-            → OnOk result (Answered self.old self.new before journal (Commands command.now)) }
-    {
-        runs_grow();
-        let Some(day) = &mut self.day else {
-            return self.refuse(InputLineFault::NotDay);
-        };
-        if day.is_full(command) {
-            return self.refuse(InputLineFault::JournalFull);
-        }
-        let number = day.entered() + 1;
-        day.enter(number, command, &mut self.entries, &mut self.answers)
-    }
-
-    /// The records that the batch enters.
-    pub(crate) fn batch(&self) -> Result<Batch, AllocError>
-        ensures { IfOk result (λ batch. text_of batch ≡ entered_text self.now) }
-    {
-        let Some(day) = &self.day else {
-            return Batch::new(self.alloc);
-        };
-        let mut batch = Batch::new(self.alloc)?;
-        let records = day.records(self.entries.as_slice())?;
-        push_lines(&mut batch, self.records_to_enter(day, records.as_slice()))?;
-        Ok(batch)
-    }
-
-    /// The records that the batch enters, of those of the day and its commands.
-    fn records_to_enter<'a>(&self, day: &Day, records: &'a [u8]) -> &'a [u8]
-        requires { records.now
-            ≡ written day.now.periods (commands_of self.now.entries.items) }
-        ensures { result.now
-            ≡ records_text (Some day.now) self.now.begins (commands_of self.now.entries.items) }
-    {
-        if self.begins {
-            return records;
-        }
-        &records[day.header().len()..]
-    }
-}
-
-/// Adds the lines of a text to the batch. A line feed ends each.
-fn push_lines(batch: &mut Batch, text: &[u8]) -> Result<(), AllocError>
-    ensures { is_ended text.now ≡ true
-        → OnOk result (text_of batch.new ≡ text_of batch.old ++ text.now) }
-{
-    let mut rest = text;
-    while let Some((line, after)) = first_line(rest) {
-        push(batch, line)?;
-        rest = after;
-    }
-    Ok(())
-}
-
-/// Adds a line. Only memory can be refused for it: a written record has no newline and no zero byte.
-fn push(batch: &mut Batch, line: &[u8]) -> Result<(), AllocError>
-    ensures { OnOk result (batch.new ≡ batch.old ++ line.now ∷ []) }
-{
-    match batch.push(line) {
-        Ok(()) => Ok(()),
-        Err(_) => Err(AllocError),
     }
 }

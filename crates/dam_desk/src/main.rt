@@ -5,6 +5,7 @@ ghost use Rattle.std.specs.Prelude.{◌≡◌};
 ghost use Rattle.std.specs.Process.{exit_status};
 ghost use Rattle.dam_desk.specs.Faults.{fault_status};
 
+mod answering;
 mod command_line;
 mod desk;
 mod desk_day;
@@ -21,7 +22,6 @@ mod reading;
 mod reopened;
 mod run;
 mod serve;
-mod state;
 mod text_lines;
 
 use command_line::{Job, USAGE, job_of, words};

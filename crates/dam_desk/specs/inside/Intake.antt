@@ -10,7 +10,7 @@ use Rattle.dam_desk.specs.DeskJournal.{Journal, State, AreAnswers, ReadsBack, an
 use Rattle.dam_desk.specs.inside.DeskDay.{IsDayWith}
 use Rattle.dam_desk.specs.declared.desk_day.Day.{Day}
 use Rattle.dam_desk.specs.declared.reading.Said.{Said}
-use Rattle.dam_desk.specs.declared.state.Intake.{Intake}
+use Rattle.dam_desk.specs.declared.intake.Intake.{Intake}
 
 -- the periods of the day, if there is one
 abbrev pub periods_of : Option Day → Option ℕ

@@ -4,7 +4,7 @@ use Rattle.dam_book.specs.Book.{book_after, reply_to}
 use Rattle.dam_results.specs.Replies.{reply_line}
 use Rattle.dam_desk.proofs.Lists.{on_ok_all}
 use Rattle.dam_desk.proofs.Steps.{command_entered}
-use Rattle.dam_desk.proofs.state.Intake.answer_command.Goals as goal
+use Rattle.dam_desk.proofs.intake.Intake.answer_command.Goals as goal
 
 pub returns-clause-step : goal.returns-clause-step
 returns-clause-step c before journal at =

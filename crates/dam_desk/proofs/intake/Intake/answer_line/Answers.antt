@@ -3,7 +3,7 @@ use Rattle.std.proofs.lemmas.Result.{on_ok_weaker}
 use Rattle.dam_desk.specs.DeskJournal.{answer_to}
 use Rattle.dam_desk.specs.InputLines.{Says}
 use Rattle.dam_desk.proofs.Steps.{periods_same}
-use Rattle.dam_desk.proofs.state.Intake.answer_line.Goals as goal
+use Rattle.dam_desk.proofs.intake.Intake.answer_line.Goals as goal
 
 pub returns-clause-step : goal.returns-clause-step
 returns-clause-step c before journal text at line =

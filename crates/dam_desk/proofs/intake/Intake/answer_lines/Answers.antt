@@ -1,6 +1,6 @@
 use Rattle.std.proofs.Common.{subst}
 use Rattle.dam_desk.specs.inside.Intake.{HasRead}
-use Rattle.dam_desk.proofs.state.Intake.answer_lines.Goals as goal
+use Rattle.dam_desk.proofs.intake.Intake.answer_lines.Goals as goal
 
 pub loop-line-preserved : goal.loop-line-preserved
 loop-line-preserved c state given read =

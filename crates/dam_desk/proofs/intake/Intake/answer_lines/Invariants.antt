@@ -2,7 +2,7 @@
 use Rattle.std.proofs.Common.{List, ℕ, length}
 use Rattle.dam_desk.specs.DeskJournal.{State}
 use Rattle.dam_desk.specs.inside.Intake.{HasRead}
-use Rattle.dam_desk.proofs.state.Intake.answer_lines.Given as goal
+use Rattle.dam_desk.proofs.intake.Intake.answer_lines.Given as goal
 
 abbrev pub decreases-loop-line : goal.decreases-loop-line
 decreases-loop-line l = length l.rest

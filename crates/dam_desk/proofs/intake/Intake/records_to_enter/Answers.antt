@@ -6,7 +6,7 @@ use Rattle.dam_results.specs.Records.{day_row}
 use Rattle.dam_results.specs.Written.{command_line, row_line}
 use Rattle.dam_desk.specs.inside.Intake.{records_text}
 use Rattle.dam_desk.proofs.Lists.{fits_before, left_after}
-use Rattle.dam_desk.proofs.state.Intake.records_to_enter.Goals as goal
+use Rattle.dam_desk.proofs.intake.Intake.records_to_enter.Goals as goal
 
 pub slice_bounds-result-count : goal.slice_bounds-result-count
 slice_bounds-result-count c = fits_before c.header.result.now c.args.records.now (row_line (day_row c.args.day.now.periods))

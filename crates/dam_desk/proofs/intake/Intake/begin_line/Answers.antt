@@ -2,7 +2,7 @@ use Rattle.std.proofs.Common.{◌++◌, List, ℕ, sym, ap, ◌∙◌, append-ni
 use Rattle.std.proofs.lemmas.Result.{on_ok_weaker}
 use Rattle.dam_store.specs.FileLines.{text_of}
 use Rattle.dam_desk.proofs.Texts.{none_both}
-use Rattle.dam_desk.proofs.state.Intake.begin_line.Goals as goal
+use Rattle.dam_desk.proofs.intake.Intake.begin_line.Goals as goal
 
 pub returns : goal.returns
 returns c state given none read =

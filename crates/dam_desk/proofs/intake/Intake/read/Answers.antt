@@ -3,8 +3,8 @@ use Rattle.dam_desk.specs.InputLines.{record_of}
 use Rattle.dam_desk.specs.inside.Intake.{periods_of}
 use Rattle.dam_desk.specs.declared.desk_day.Day.{Day}
 use Rattle.dam_desk.proofs.AfterDay.{valid_day}
-use Rattle.dam_desk.proofs.state.Intake.read.Goals as goal
-use Rattle.dam_desk.proofs.state.Intake.read.Goals.{in-Some, in-None}
+use Rattle.dam_desk.proofs.intake.Intake.read.Goals as goal
+use Rattle.dam_desk.proofs.intake.Intake.read.Goals.{in-Some, in-None}
 
 pub returns : goal.returns
 returns c text line =

@@ -2,7 +2,7 @@
 use Rattle.std.proofs.Common.{◌++◌, [], List, ℕ, refl, ap, ◌∙◌, append-nil}
 use Rattle.dam_desk.specs.DeskJournal.{desk_journal_text}
 use Rattle.dam_desk.proofs.Steps.{nothing_yet}
-use Rattle.dam_desk.proofs.state.Intake.enter_batch.Goals as goal
+use Rattle.dam_desk.proofs.intake.Intake.enter_batch.Goals as goal
 
 pub returns : goal.returns
 returns c state begun is =
