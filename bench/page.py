@@ -37,7 +37,7 @@ SHOWN = {
 # The contents of the cells of such a table, and the names of its columns.
 CELLS = {
     "blocks": ("`dam clear` by the default plan, spread 50", "{} periods"),
-    "thin": ("`dam clear` by the default plan, 96 periods", "{} hourly orders"),
+    "thin": ("`dam clear` by the default plan, 96 periods, mixed spreads", "{} hourly orders"),
 }
 # The figures of many books together, which the page shows of any part.
 TOGETHER = r"(?:deep|all thin) books together: .*"
@@ -49,7 +49,7 @@ PICTURES = {
 UNITS = {"ns": 1e-9, "us": 1e-6, "ms": 1e-3}  # of a second
 HEAD = """# Measured figures
 
-`bench/run` runs the benchmarks, and `bench/page.py` writes this page. A time is the median of several runs. In `blocks` and `thin`, a
+`bench/run` (its head says what it needs) runs the benchmarks, and `bench/page.py` writes this page. A time is the median of several runs. In `blocks` and `thin`, a
 program that took over a second isn't run again; an office's whole day is run once. Compared programs run alternately. `A compared with B`
 is A's time, rate or memory divided by B's. The docstring of each part's script describes its method. The load is the average of the minute
 before. The baseline and the twin are [plain Rust programs](../crates/NOTES.md#words).
