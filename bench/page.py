@@ -49,10 +49,10 @@ PICTURES = {
 UNITS = {"ns": 1e-9, "us": 1e-6, "ms": 1e-3}  # of a second
 HEAD = """# Measured figures
 
-`bench/run` (its head says what it needs) runs the benchmarks, and `bench/page.py` writes this page. A time is the median of several runs. In `blocks` and `thin`, a
-program that took over a second isn't run again; an office's whole day is run once. Compared programs run alternately. `A compared with B`
-is A's time, rate or memory divided by B's. The docstring of each part's script describes its method. The load is the average of the minute
-before. The baseline and the twin are [plain Rust programs](../crates/NOTES.md#words).
+`bench/run` (its head names its needs) runs the benchmarks, and `bench/page.py` writes this page. A time is the median of several runs. In
+`blocks` and `thin`, a program that took over a second isn't run again; an office's whole day is run once. Compared programs run
+alternately. `A compared with B` is A's time, rate or memory divided by B's. The docstring of each part's script describes its method. The
+load is the average of the minute before. The baseline and the twin are [plain Rust programs](../crates/NOTES.md#words).
 
 A CSV file has every figure of a part, with its target; this page shows some, and the missed targets by kind.
 `grep MISSED bench/measured/*.csv` prints each.
