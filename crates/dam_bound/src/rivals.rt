@@ -1,4 +1,4 @@
-//! Two blocks of which one loses at any prices.
+//! Pairs of blocks of which one loses if both are accepted.
 
 ghost use Rattle.std.specs.Prelude.{◌≡◌, ◌<◌, ◌≤◌, ◌*◌, ℕ, ℤ, ◌*ℤ◌, ◌≤ℤ◌, true, false, List, Bool, length, IfSome};
 ghost use Rattle.dam_book.specs.Limits.{last_period, greatest_volume};

@@ -65,7 +65,7 @@ answer_to number None (Commands command) = fault_line number NotDay
 answer_to number (Some journal) (Commands command) = command_answer number journal command
 answer_to number journal (Fault fault) = fault_line number fault
 
--- what a desk has answered: so many lines, which made this journal
+-- the number of lines that a desk has answered, and the journal that they made
 pub record State : Type 0 where
   pub answered : ℕ
   pub journal : Option Journal

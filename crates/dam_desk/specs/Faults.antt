@@ -96,7 +96,7 @@ abbrev pub is_write : DeskFault → Bool
 is_write (Write written) = true
 is_write fault = false
 
--- the fault as one of a longer text, of which so many bytes were written before
+-- the fault as one of a longer text, of which `before` bytes were written before
 abbrev pub fault_after : ℕ → DeskFault → DeskFault
 fault_after before (Write written) = Write (min (before + written) (2 ^ 64 - 1))
 fault_after before fault = fault

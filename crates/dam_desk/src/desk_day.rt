@@ -103,7 +103,7 @@ impl Day {
         Ok(reply)
     }
 
-    /// The same, and adds the entry.
+    /// Applies the command as `apply` does, and adds its entry.
     pub(crate) fn enter(
         &mut self,
         number: u32,

@@ -1,4 +1,4 @@
-ghost use Rattle.std.specs.Prelude.{◌≡◌, ◌++◌, ◌∷◌, [], length, None, Some, IfOk};
+ghost use Rattle.std.specs.Prelude.{◌≡◌, ◌++◌, ◌∷◌, [], length, None, Some, IfOk, IsSome};
 ghost use Rattle.std.specs.Arc.{arc_value};
 ghost use Rattle.dam_book.specs.Book.{book_after, refusal};
 ghost use Rattle.dam_gate.specs.inside.Books.{AreSteps};
@@ -109,6 +109,7 @@ impl<A: Allocator + Copy> Books<A> {
             → AreSteps (entries ++ entry.now ∷ []) self.new }
         ensures before { outcome ≡ None → self.new.before
             ≡ Some (record { book = self.old.book; place = place; outcome = None }) }
+        ensures kept { IsSome outcome → self.new.before ≡ self.old.before }
     {
         if let Some(_) = outcome.refusal() {
             return;

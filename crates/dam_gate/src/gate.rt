@@ -33,7 +33,7 @@ pub enum GateFault {
     /// Memory ran out.
     #[error("out of memory")]
     Memory,
-    /// The history had gone on without the journal, or the slot of the version was taken, so the version of the command
+    /// The history has an entry that the journal lacks, or the slot of the version was taken, so the version of the command
     /// couldn't be shown. In the tests a call never leaves a gate in this state.
     #[error("no version could be shown")]
     NoVersion,

@@ -21,14 +21,14 @@ pub(crate) struct Conflicts {
     needs: [Selection; MOST_BLOCKS],
     /// For each block those that descend from it. They can't be accepted without it.
     needed_by: [Selection; MOST_BLOCKS],
-    /// For each block the others of its exclusive group, and its rivals by prices. They can't be accepted beside it.
+    /// For each block the others of its exclusive group, and its rivals by prices. They can't be accepted with it.
     excludes: [Selection; MOST_BLOCKS],
     /// Limits on the net volumes of eligible selections.
     pub(crate) limits: Limits,
 }
 
 impl Conflicts {
-    /// The conflicts of a problem's blocks. The priced problem tells which blocks are rivals, and the limits.
+    /// The conflicts of a problem's blocks. The priced problem says which blocks are rivals, and has the limits.
     pub(crate) fn of<A: Allocator, P: PricedProblem>(problem: &Problem<A>, priced: &P) -> Conflicts
         requires { P.problem priced.now ≡ without_rows problem.now }
         ensures { AreConflicts problem.now result }
@@ -54,7 +54,7 @@ impl Conflicts {
         conflicts
     }
 
-    /// Whether the block at the place can't be accepted beside those taken and without those rejected. It may be impossible
+    /// Whether the block at the place can't be accepted with those taken and without those rejected. It may be impossible
     /// even if this is `false`.
     pub(crate) fn forbids_accepting(
         &self,
@@ -71,7 +71,7 @@ impl Conflicts {
         self.needs[place].meets(rejected) || self.excludes[place].meets(taken)
     }
 
-    /// Whether links forbid rejecting the block at the place beside those taken.
+    /// Whether links forbid rejecting the block at the place if those taken are accepted.
     pub(crate) fn forbids_rejecting(&self, place: usize, taken: Selection) -> bool
         requires { place < most_blocks }
         ensures { result ≡ true → (problem : ProblemState) (selection : List Bool) (w : ℤ)
@@ -134,8 +134,8 @@ fn others_of_group(blocks: &[Block], place: usize) -> Selection
     others
 }
 
-/// Whether no eligible selection accepts the block at the one place beside that at the other, since one of them would lose
-/// at any prices. It may be `false` even then.
+/// Whether no eligible selection accepts the blocks at both places, since one of them would then lose. It may be `false`
+/// even if none does.
 fn exclude_each_other<P: PricedProblem>(priced: &P, place: usize, at: usize) -> bool
     requires place { place < length (P.problem priced.now).blocks }
     requires at { at < length (P.problem priced.now).blocks }
@@ -146,7 +146,7 @@ fn exclude_each_other<P: PricedProblem>(priced: &P, place: usize, at: usize) -> 
     priced.are_rivals(place, at) || priced.are_rivals(at, place)
 }
 
-/// The places that can't be accepted beside a block, with its rivals among the first `count` blocks added.
+/// The places that can't be accepted with a block, with its rivals among the first `count` blocks added.
 fn with_rivals<P: PricedProblem>(
     priced: &P,
     place: usize,

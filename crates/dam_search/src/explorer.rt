@@ -85,7 +85,7 @@ pub(crate) fn limit_can_bind<A: Allocator>(problem: &Problem<A>, depth: usize, n
     nodes < all_nodes(problem.block_count() - depth)
 }
 
-/// A problem, and what a walk by prices reads for the pieces of one cutting.
+/// A problem, and the input of its walks by prices for the pieces of one cutting.
 #[derive(Drop)]
 pub(crate) struct ByPrices<'a, A: Allocator, P: PricedProblem> {
     pub(crate) problem: &'a Problem<A>,

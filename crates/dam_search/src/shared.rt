@@ -11,7 +11,7 @@ use crate::words::{CLAIM, Draw, INCUMBENT, JoinIn, Offer, Read, Seat, SplitOff, 
 ///
 /// In the program [`search`](crate::search) alone makes seats, as no other crate can: it splits one
 /// for each worker off the first one, joins all of them into it after their work, and closes the words
-/// with it. Whoever makes them by hand, as a test does, owes as much: a seat that is dropped instead
+/// with it. A test that makes them by hand has the same duty: a seat that is dropped instead
 /// of joined is missing at the close, which asks for all of them. And a seat that drew past the last
 /// piece draws no more.
 ///

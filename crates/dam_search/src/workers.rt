@@ -303,7 +303,7 @@ fn search_priced<R: Threads + Sync, P: PricedProblem + Sync, T: Turnstile + Sync
 /// The search first finds a good selection, and offers its welfare before any worker starts. The cutting decides as
 /// many of the first blocks as the plan says, or all of them if there are fewer. The workers, each on a thread of its
 /// own, draw its pieces as they come free, and prune by the greatest welfare that any of them has found. If a thread
-/// can't be made, the calling one does its work. Of the faults, `Memory` comes first, then `Collected`, and then
+/// can't be made, the calling one does its work. The fault `Memory` comes first, then `Collected`, and then
 /// `Unfinished`.
 pub fn search<R: Threads + Sync, T: Turnstile + Sync>(
     rt: &R,
