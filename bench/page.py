@@ -49,10 +49,10 @@ PICTURES = {
 UNITS = {"ns": 1e-9, "us": 1e-6, "ms": 1e-3}  # of a second
 HEAD = """# Measured figures
 
-`bench/run` (its head names its needs) runs the benchmarks, and `bench/page.py` writes this page. A time is the median of several runs. In
-`blocks` and `thin`, a program that took over a second isn't run again; an office's whole day is run once. Compared programs run
-alternately. `A compared with B` is A's time, rate or memory divided by B's. The docstring of each part's script describes its method. The
-load is the average of the minute before. The baseline and the twin are [plain Rust programs](../crates/NOTES.md#words).
+`bench/run` (see its head) runs the benchmarks, and `bench/page.py` writes this page. A time is the median of several runs. In `blocks` and
+`thin`, a program that took over a second isn't run again; an office's whole day is run once. Compared programs run alternately. `A compared
+with B` is A's time, rate or memory divided by B's. The docstring of each part's script describes its method. The load is the average of the
+minute before. The baseline and the twin are [plain Rust programs](../crates/NOTES.md#words).
 
 A CSV file has every figure of a part, with its target; this page shows some, and the missed targets by kind.
 `grep MISSED bench/measured/*.csv` prints each.
@@ -154,8 +154,8 @@ def span(figures):
 
 
 def missed(rows):
-    """A row for each kind of missed target, the words after the last colon with the target itself: how many are missed of how many, their
-    figures, and which is furthest from the target."""
+    """A row for each kind of missed target, the words after the last colon with the target itself: how many are missed of how many, and how
+    many peers gave up, which holds if their seconds alone are enough; the missed figures, and which is furthest from the target."""
     kinds = collections.defaultdict(list)
     for what, figure, target, holds, _ in rows:
         book, _, kind = what.rpartition(": ")
@@ -163,8 +163,10 @@ def missed(rows):
     for (kind, target), found in kinds.items():
         wrong = [(book, figure) for book, figure, is_missed in found if is_missed]
         if wrong:
+            gave_up = sum(figure == "?" for _, figure, _ in found)
+            count = f"{len(wrong)} of {len(found)}" + (f" ({gave_up} gave up)" if gave_up else "")
             furthest, _ = (min if target.startswith("at least") else max)(wrong, key=lambda each: size(each[1]))
-            yield [kind, f"{len(wrong)} of {len(found)}", span([figure for _, figure in wrong]), target, furthest]
+            yield [kind, count, span([figure for _, figure in wrong]), target, furthest]
 
 
 def section(part):

@@ -2,9 +2,9 @@
 """The search on thin markets with 24 blocks, in which each block moves the prices, and on wide books, with a volume of each block in every
 period.
 
-The thin ones have 200, 500 and 1,500 hourly orders on days of 24 and of 96 periods, every kind of block, limits within 50 cents of the mean
-price, links and groups; ten are the hardest of a random search. Next to the wide books stand mixed ones, with baseload, peak, night and
-other spans.
+The thin ones have 200 to 1,500 hourly orders on days of 24 and of 96 periods, every kind of block, links and groups, and limits mostly
+within 50 cents of the mean price; ten are the hardest of a random search. Next to the wide books stand mixed ones, with baseload, peak,
+night and other spans.
 
 `dam clear` takes turns as clearing.py says; with HiGHS and CBC only on the wide and mixed books, which are deep.
 

@@ -1,5 +1,5 @@
 #!/usr/bin/env python3
-"""How much faster several workers are than one, on thin markets that one worker searches for about a second; and the default plan compared
+"""How much faster several workers are than one, on thin markets that one worker searches for 0.05 to 0.7 s; and the default plan compared
 with one worker, on these markets and on the families. The seconds are the search's alone.
 
 A second worker costs the start of a thread, about a tenth of a millisecond, which a search that ends within a few milliseconds doesn't
