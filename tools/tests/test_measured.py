@@ -34,12 +34,15 @@ class Measured(unittest.TestCase):
         text, total = page.PAGE.read_text(encoding="utf-8"), 0
         for part in (row[0] for row in page.read(page.KEPT / "runs.csv")):
             missed = [row for row in page.read(page.KEPT / f"{part}.csv") if row[3] == "MISSED"]
-            said = re.findall(rf"^\| {part} \| [^[|]* \| (\d+) of \d+ \| ([^|]*) \| ([^|]*) \| ([^|]*) \|$", text, re.MULTILINE)
+            said = re.findall(rf"^\| {part} \| [^[|]* \| (\d+) of \d+(?: \((\d+) gave up\))? \| ([^|]*) \| ([^|]*) \| ([^|]*) \|$", text, re.MULTILINE)
             with self.subTest(part):
                 self.assertEqual(sum(int(count) for count, *_ in said), len(missed))
+                kinds = {row[0].rpartition(": ")[2] for row in missed}
+                gave_up = [row for row in page.read(page.KEPT / f"{part}.csv") if row[1] == "?" and row[0].rpartition(": ")[2] in kinds]
+                self.assertEqual(sum(int(count or 0) for _, count, *_ in said), len(gave_up))
                 for row in missed:
-                    self.assertTrue(any(row[2] == target for _, _, target, _ in said), row)
-                for _, figures, target, worst in said:
+                    self.assertTrue(any(row[2] == target for *_, target, _ in said), row)
+                for *_, figures, target, worst in said:
                     found = [row for row in missed if row[0].startswith(worst) and row[2] == target]
                     self.assertTrue(any(row[1].split(" ")[0] in figures for row in found), worst)
             total += len(missed)
