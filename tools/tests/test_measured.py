@@ -37,8 +37,9 @@ class Measured(unittest.TestCase):
             said = re.findall(rf"^\| {part} \| [^[|]* \| (\d+) of \d+(?: \((\d+) gave up\))? \| ([^|]*) \| ([^|]*) \| ([^|]*) \|$", text, re.MULTILINE)
             with self.subTest(part):
                 self.assertEqual(sum(int(count) for count, *_ in said), len(missed))
-                kinds = {row[0].rpartition(": ")[2] for row in missed}
-                gave_up = [row for row in page.read(page.KEPT / f"{part}.csv") if row[1] == "?" and row[0].rpartition(": ")[2] in kinds]
+                kind = lambda row: (row[0].rpartition(": ")[2], row[2])
+                kinds = set(map(kind, missed))
+                gave_up = [row for row in page.read(page.KEPT / f"{part}.csv") if row[1] == "?" and kind(row) in kinds]
                 self.assertEqual(sum(int(count or 0) for _, count, *_ in said), len(gave_up))
                 for row in missed:
                     self.assertTrue(any(row[2] == target for *_, target, _ in said), row)
