@@ -207,13 +207,30 @@ class Days(unittest.TestCase):
         self.assertEqual([made["status"] for made in found], [command.FAILED, command.NO_INPUT])
         self.assertEqual([process.returncode for process in begun], [-signal.SIGKILL])
 
+    def test_a_process_that_is_left(self):
+        """Whatever ends the wait for it, it's ended too."""
+        hanging = self.folder / "hanging"
+        hanging.write_text("import time; time.sleep(600)")
+        for fault in (MemoryError, OverflowError, KeyboardInterrupt):
+            with (
+                unittest.mock.patch.object(days, "TOOL", hanging),
+                unittest.mock.patch.object(subprocess.Popen, "communicate", side_effect=fault, autospec=True) as call,
+                self.assertRaises(fault),
+            ):
+                days.ran(days.Pair("a", Path("a.csv"), None), [], engine.Running(), 1)
+            process = call.call_args_list[0].args[0]
+            self.addCleanup(process.kill)
+            self.assertEqual(process.returncode, -signal.SIGKILL)
+
     def test_how_long_a_process_may_take(self):
-        """Its search has its own limit."""
+        """Its search has its own limit. The system waits for no more than 2**31 ms."""
         args = unittest.mock.Mock(best=False, seconds=None)
         self.assertEqual(days.seconds_of(args), 600)
-        for seconds, whole in ((None, 1_200), (0, 600), (7.5, 607.5)):
+        for seconds, whole in ((None, 1_200), (0, 600), (7.5, 607.5), (3e6, days.MOST_SECONDS), (1e300, days.MOST_SECONDS)):
             args = unittest.mock.Mock(best=True, seconds=seconds)
             self.assertEqual(days.seconds_of(args), whole)
+        self.write(a=(DATA, TEXT))
+        self.assertEqual(self.audit("--best", "--seconds", "1e300", "--quiet"), (0, "", ""))
 
     def test_each_day_is_read_under_its_own_guard(self):
         """Files without an end, that are too large for the memory, or that are none; each day has its record, and the good one its verdict."""

@@ -16,6 +16,7 @@ from ..runs.engine import Running
 from ..base.progress import Bar
 
 MORE_SECONDS = 600  # that the audit of a day may take besides its search, before it is taken for one that hangs
+MOST_SECONDS = 2_000_000  # that it may take at all: the system waits for no more than 2**31 ms
 TOOL = Path(__file__).resolve().parents[2] / "audit"
 JOURNAL, RESULTS = ".csv", ".txt"
 NAME, COLUMNS = "day", ["journal", "results"]  # the columns of a manifest: the day's name, and those that it needs
@@ -135,7 +136,7 @@ def file_name(path):
 
 def seconds_of(args):
     """How long the process of a day may take."""
-    return MORE_SECONDS + (verdict.SECONDS if args.seconds is None else args.seconds) * args.best
+    return min(MORE_SECONDS + (verdict.SECONDS if args.seconds is None else args.seconds) * args.best, MOST_SECONDS)
 
 
 def audited(pair, options, running, seconds=MORE_SECONDS, is_json=False):
@@ -199,12 +200,11 @@ def ran(pair, options, running, seconds):
     seconds it is ended."""
     files = [file_name(path) for path in (pair.journal, pair.results) if path is not None]
     words = [*command.this_python(), os.fspath(TOOL), "--json", *options, "--", *files]
-    with running.started(words, stdin=subprocess.DEVNULL, stdout=subprocess.PIPE, stderr=subprocess.PIPE) as process:
+    with running.started(words, stdin=subprocess.DEVNULL, stdout=subprocess.PIPE, stderr=subprocess.PIPE) as process, process:
         try:
             out, err = process.communicate(timeout=seconds)
-        except subprocess.TimeoutExpired:
+        except BaseException:
             process.kill()
-            process.communicate()
             raise
     return process.returncode, out, err
 
