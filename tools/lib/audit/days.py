@@ -17,6 +17,7 @@ from ..base.progress import Bar
 
 MORE_SECONDS = 600  # that the audit of a day may take besides its search, before it is taken for one that hangs
 MOST_SECONDS = 2_000_000  # that it may take at all: the system waits for no more than 2**31 ms
+AWAKE = 1  # seconds after which the main thread looks for a signal that another thread got, as after SIGSTOP
 TOOL = Path(__file__).resolve().parents[2] / "audit"
 JOURNAL, RESULTS = ".csv", ".txt"
 NAME, COLUMNS = "day", ["journal", "results"]  # the columns of a manifest: the day's name, and those that it needs
@@ -281,7 +282,8 @@ def audit_all(pairs, options, jobs, bar, seconds=MORE_SECONDS, is_json=False):
     try:
         work.start(jobs)
         for _ in pairs:
-            work.done.acquire()
+            while not work.done.acquire(timeout=AWAKE):
+                pass
             bar.step(1, f"{work.wrong} wrong" if work.wrong else "")
     finally:
         work.end()
