@@ -482,8 +482,7 @@ class Book(Part):
 
     def open_calcPr(self, attributes):
         """A program that doesn't compute formulas stores any values, and lets Excel compute them once it opens the workbook."""
-        is_due = TRUTHS.get(attributes.get("fullCalcOnLoad")) == "TRUE" or TRUTHS.get(attributes.get("calcCompleted")) == "FALSE"
-        self.is_computed = self.is_computed and not is_due
+        self.is_computed = not is_due(attributes) and TRUTHS.get(attributes.get("calcCompleted")) != "FALSE"
 
     def open_sheet(self, attributes):
         if len(self.sheets) == MOST_SHEETS:
@@ -538,6 +537,11 @@ class Book(Part):
         if needed and part:
             self.package.read(part, strings)
         return strings.found
+
+
+def is_due(attributes):
+    """Whether Excel computes all formulas once it opens the workbook."""
+    return TRUTHS.get(attributes.get("fullCalcOnLoad")) == "TRUE"
 
 
 class Styles(Part):
@@ -688,7 +692,7 @@ class Sheet(Texts):
     ROOT = "worksheet"
     PLACES = {
         "": ROOT,
-        ROOT: "sheetData mergeCells extLst",
+        ROOT: "sheetData sheetCalcPr mergeCells extLst",
         "sheetData": "row*",
         "row": "c* extLst",
         "c": "f v is extLst",
@@ -698,7 +702,7 @@ class Sheet(Texts):
         "mergeCells": "mergeCell*",
     }
     BETWEEN = {ROOT: {ANY_OTHERS, *(
-        "sheetPr dimension sheetViews sheetFormatPr cols sheetCalcPr sheetProtection protectedRanges scenarios autoFilter sortState"
+        "sheetPr dimension sheetViews sheetFormatPr cols sheetProtection protectedRanges scenarios autoFilter sortState"
         " dataConsolidate customSheetViews phoneticPr conditionalFormatting dataValidations hyperlinks printOptions pageMargins pageSetup"
         " headerFooter rowBreaks colBreaks customProperties cellWatches ignoredErrors smartTags drawing legacyDrawing legacyDrawingHF"
         " drawingHF picture oleObjects controls webPublishItems tableParts").split()}}  # fmt: skip
@@ -710,6 +714,7 @@ class Sheet(Texts):
         self.rows, self.needed, self.formats = [], Numbers(), {}
         self.row = self.column = self.count_of_cells = self.size = 0
         self.cells = None  # of a row; None outside
+        self.first_formula = None  # its row and its column
         self.has_data = False
 
     def wrong(self, words):
@@ -787,6 +792,7 @@ class Sheet(Texts):
     def close_f(self):
         self.leave()
         self.formula = self.content()
+        self.first_formula = self.first_formula or (self.row, self.column)
 
     def close_c(self):
         words = self.words()
@@ -868,6 +874,12 @@ class Sheet(Texts):
             return (first + datetime.timedelta(days)).isoformat()
         except OverflowError:
             raise self.wrong(f"{serial:.15g} is no date, which its format shows") from None
+
+    def open_sheetCalcPr(self, attributes):
+        """As `Book.open_calcPr`, but after the cells."""
+        if self.first_formula and is_due(attributes):
+            (self.row, self.column), self.cells = self.first_formula, []
+            raise self.wrong("its formula was saved without its value: open the workbook in Excel, and save it")
 
     def open_mergeCell(self, attributes):
         """Of merged cells only the first has a value, so that a row could seem to have none."""
