@@ -239,5 +239,5 @@ def fill(cell, kind, value):
     elif kind == "boolean":
         cell.value = value == "yes"
     else:
-        cell.value = str(value)
+        cell.value = workbooks.escaped(str(value))
         cell.data_type = "s"

@@ -951,6 +951,11 @@ class FirstRow(Sheet):
             return set()
 
 
+def escaped(words):
+    """A text of which no part is one of Excel's escapes of characters."""
+    return re.sub("_(?=x[0-9a-fA-F]{4}_)", "_x005F_", words)
+
+
 def unescaped(words):
     """A text without Excel's escapes of characters."""
     return ESCAPE.sub(lambda found: chr(int(found[1], 16)), words) if "_x" in words else words
