@@ -139,7 +139,9 @@ class Faults(Read):
         shared = [b"<row>%s</row>" % b"".join(b"<c t='s'><v>%d</v></c>" % at for at in range(row, row + 30)) for row in range(0, 60_000, 30)]
         strings = {made.SHARED: made.wide_strings(60_000, made.WIDE * 6 + b"%d")}
         periods = b"".join(order(at, f"K{at}").replace(b"<v>8</v>", b"<v>1-100</v>") for at in range(2, 2_002))
+        formats = {"xl/styles.xml": made.one_format(30_000)}
         for data, most, more in (
+            (made.of_sheet(made.OPEN, made.numbers(made.spelled, 60_000), made.CLOSE, **formats), 9, "\nand 19,980 more\n"),
             (made.of_sheet(made.OPEN, *[cells] * 1_000, made.CLOSE), 9, "\nand 8,980 more\n"),
             (made.of_sheet(made.OPEN, *shared, made.CLOSE, **strings), 12, "\nand 19,980 more\n"),
             (made.of_sheet(made.OPEN, periods, made.CLOSE), 8, "\nand 1,956 more\n"),
@@ -188,7 +190,7 @@ class Faults(Read):
 
     def test_a_workbook_is_read_without_a_package(self):
         with mock.patch.dict("sys.modules", {"openpyxl": None}):
-            self.assertEqual(sheets.rows_of(book(row(2, ("B2", "x"))))[0][1:], [(2, ["", "x"])])
+            self.assertEqual(list(sheets.rows_of(book(row(2, ("B2", "x"))))[0])[1:], [(2, ["", "x"])])
 
     def test_names_of_elements_are_limited(self):
         cant, tail = "line 1: the Excel workbook can't be read: ", b"</row>"

@@ -369,7 +369,7 @@ class Cells(NamedTuple):
     """The cells of a table: its rows that aren't empty, each with the number of its first line; whether a comma may be the decimal point;
     and notes on what was read of the file."""
 
-    rows: object  # of a long text they are read again whenever they are gone through
+    rows: object  # of a workbook or a long text they are read again whenever they are gone through
     decimal_comma: bool
     read: list
 
@@ -390,8 +390,6 @@ def cells_of(data, most=MOST_ROWS, is_long=False):
         raise Wrong(f"this is {kind}: {kinds.ADVICE[kind]}")
     try:
         rows, decimal_comma = sheets.rows_of(data, NEEDED, read, most, is_long)
-        if isinstance(rows, list):
-            rows = [(number, cells) for number, cells in ((number, sheets.trimmed(cells)) for number, cells in rows) if cells]
         count = refuse_many_rows(rows, most)
     except sheets.Wrong as fault:
         raise Wrong(str(fault)) from None

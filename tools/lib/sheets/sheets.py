@@ -33,7 +33,7 @@ def rows_of(data, needed=(), notes=None, most=None, is_long=False):
     """The rows of a table, each with the number of its first line; and whether a comma may be the decimal point. A text is separated by
     commas, semicolons or tabs, whichever its first line has most of. Of a workbook it is the sheet `orders`, or else the first that has the
     needed columns. It isn't read further if it has more than `most` rows after its first one. Notes say which sheet was read, and that a
-    text isn't in UTF-8. The rows of a text that may be long aren't kept."""
+    text isn't in UTF-8. The rows of a workbook are kept packed, and of a text that may be long not at all."""
     notes = [] if notes is None else notes
     if not is_workbook(data):
         text = Text(data, notes, most, MANY if is_long or most is None else 1)
@@ -122,14 +122,6 @@ class Count:
                 raise Wrong(f"line {line}: the table has more than {most:,} {things} up to this line: delete those that it doesn't need")
 
 
-def trimmed(cells):
-    """The cells of a row without the empty ones at its end, which spreadsheets leave."""
-    count = len(cells)
-    while count and not cells[count - 1].strip():
-        count -= 1
-    return cells[:count]
-
-
 class Text:
     """The rows of a text that aren't empty, each with its number, in bounded memory and time: if they have more than `most` after the first,
     only one more. Whoever goes through them reads the text once more."""
@@ -149,7 +141,7 @@ class Text:
         lines, found, count = Lines(self.file(), self.delimiter), 0, Count(self.times)
         try:
             for cells in csv.reader(lines, delimiter=self.delimiter, strict=True):
-                if cells := trimmed(cells):
+                if cells := workbooks.trimmed(cells):
                     if not self.is_counted:
                         count.add(lines.number, cells)
                     found += 1
