@@ -147,7 +147,7 @@ class Days(unittest.TestCase):
         status, out, _ = self.audit(place=self.folder / "list")
         self.assertEqual([line.split()[:2] for line in out.splitlines()[1:4]], [["Monday", "right"], ["b", "right"], ["none", "unread"]])
         self.assertEqual(status, command.NO_INPUT)
-        (self.folder / "list").write_text("journal;results\na.csv;a.txt\n")
+        (self.folder / "list").write_text("\n \n;;\njournal;results\na.csv;a.txt\n")
         self.assertEqual(self.audit("--quiet", place=self.folder / "list"), (0, "", ""))
         (self.folder / "list").write_text("journal\na.csv\n")
         said = f"audit: {self.folder / 'list'} isn't a table of days: its first line should name the columns journal, results\n"

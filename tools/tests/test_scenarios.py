@@ -50,6 +50,12 @@ class Tables(unittest.TestCase):
         self.assertEqual([list(found["none"]), ("GEN", "X") in found["more"]], [[("CITY", "TOWN")], True])
         self.assertEqual(len(HELD.rows), 2)
 
+    def test_a_header_below_empty_lines(self):
+        for blank in ("", "\n\n", ",,\n\n"):
+            line = 1 + blank.count("\n")
+            with self.assertRaisesRegex(engine.Fault, f"^a.csv: line {line}: there is no column scenario$"):
+                self.read(f"{blank}what,participant,order\ncancel,GEN,UNIT\n")
+
     def test_cancels_need_no_other_columns(self):
         found, notes = self.read("scenario,what,participant,order\nnone,cancel,GEN,UNIT\n")
         self.assertEqual([list(found["none"]), notes], [[("CITY", "TOWN")], []])
