@@ -153,6 +153,17 @@ class Days(unittest.TestCase):
         said = f"audit: {self.folder / 'list'} isn't a table of days: its first line should name the columns journal, results\n"
         self.assertEqual(self.audit(place=self.folder / "list"), (command.NO_INPUT, "", said))
 
+    def test_a_manifest_with_many_columns(self):
+        """Cells that aren't used take no memory."""
+        heads = ["journal", "results", *(f"c{number}" for number in range(16_000))]
+        row = ",".join(["a.csv", "a.txt", *["x" * 9] * 16_000])
+        (self.folder / "list").write_text("\n".join([",".join(heads), *[row] * 20]))
+        self.write(a=(DATA, TEXT))
+        tracemalloc.start()
+        self.addCleanup(tracemalloc.stop)
+        self.assertEqual(len(days.pairs_of(self.folder / "list")), 20)
+        self.assertLess(tracemalloc.get_traced_memory()[1], 16 * 2**20)
+
     def test_cells_of_a_manifest_in_no_column(self):
         """A name with a comma that isn't quoted is two cells, and the files are others."""
         self.write(a=(DATA, TEXT))

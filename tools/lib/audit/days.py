@@ -44,7 +44,7 @@ def pairs_of(place):
     """The days of a folder, by name, or of a manifest, in its order. None of their files is read."""
     path = Path(place)
     try:
-        pairs = named_pairs(path) if path.is_dir() else list(listed_pairs(path))
+        pairs = named_pairs(path) if path.is_dir() else listed_pairs(path)
     except OSError as fault:
         raise command.Stop(f"{command.shown(place)} can't be read: {fault.strerror}") from None
     if not pairs:
@@ -81,19 +81,24 @@ def pair_of(name, journal, published):
 def listed_pairs(path):
     """The pairs of a manifest: a table with the columns `journal` and `results`, whose files are sought from its own folder."""
     try:
-        rows = sheets.text_rows(command.read_bytes(path))
+        rows = iter(sheets.text_rows(command.read_bytes(path)))
+        heads = [cell.strip().lower() for cell in next(rows, (0, []))[1]]
+        refuse_heads(path, heads)
+        pairs = [listed_pair(path.parent, dict(zip(heads, map(str.strip, row))), extra_cells(line, row, heads)) for line, row in rows]
     except sheets.Wrong as fault:
         raise command.Stop(f"{command.shown(path)} isn't a table of days: {fault}") from None
-    heads = [cell.strip().lower() for cell in rows[0][1]] if rows else []
+    if not pairs:
+        raise command.Stop(f"{command.shown(path)} has no days: it has no row below its header")
+    return pairs
+
+
+def refuse_heads(path, heads):
+    """Ends the audit if the header of a manifest doesn't name each column once that it needs."""
     if not set(COLUMNS) <= set(heads):
         raise command.Stop(f"{command.shown(path)} isn't a table of days: its first line should name the columns {', '.join(COLUMNS)}")
     for name in (NAME, *COLUMNS):
         if heads.count(name) > 1:
             raise command.Stop(f"{command.shown(path)} isn't a table of days: its first line names the column {name} twice")
-    if not rows[1:]:
-        raise command.Stop(f"{command.shown(path)} has no days: it has no row below its header")
-    for line, row in rows[1:]:
-        yield listed_pair(path.parent, dict(zip(heads, (cell.strip() for cell in row))), extra_cells(line, row, heads))
 
 
 def extra_cells(line, row, heads):

@@ -163,8 +163,8 @@ class Text:
 
 
 def text_rows(data):
-    """The rows of a text that aren't empty."""
-    return list(Text(data, [], None, MANY))
+    """The rows of a text that aren't empty, which aren't kept."""
+    return Text(data, [], None, MANY)
 
 
 def written(rows, decimal_comma=False):
