@@ -3,6 +3,7 @@
 import ast
 import contextlib
 import errno
+import functools
 import io
 import itertools
 import json
@@ -234,6 +235,13 @@ class Interrupted(unittest.TestCase):
             self.addCleanup(signal.signal, number, signal.signal(number, signal.SIG_DFL))  # whatever this process ignores
             found.append(self.interrupted("audit", "--json", number=number)[:2])
         self.assertEqual(found, [(int(status), b"") for status in re.findall("[0-9]+", said)])
+        self.assertIn("`tools/lint --json` prints one with the same exceptions:", page)
+        found = [self.interrupted("lint", "--json", number=number)[:2] for number in (signal.SIGHUP, signal.SIGINT, signal.SIGTERM)]
+        few = functools.partial(resource.setrlimit, resource.RLIMIT_NOFILE, (4, 4))
+        for words, limit in ((["--json", ""], None), (["--json", AUCTION], few)):
+            ran = subprocess.run([sys.executable, "-I", "-S", TOOLS / "lint", *words], capture_output=True, preexec_fn=limit)
+            found.append((ran.returncode, ran.stdout))
+        self.assertEqual([status for status, out in found if not out], [129, 130, 143, command.COMMAND_LINE, command.FAILED])
 
     def test_while_it_imports(self):
         """At its first module, then with one line: in the midst of an import that may take the exception for its own."""
