@@ -21,8 +21,8 @@ def write(path, data):
 
 
 def ready(path, data, ends):
-    """The call that puts a file in its place. It's written already, next to its place, if it isn't to be written in place; `ends` removes it
-    unless it's put."""
+    """The call that puts a file in its place. Unless it's to be written in place, it's written before, next to that, and `ends` removes it
+    if it isn't put."""
     target = end_of(str(Path(path)))
     old = stat_of(target) if target is not None else None
     if old is not None and stat.S_ISDIR(old.st_mode):
