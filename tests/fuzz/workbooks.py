@@ -475,6 +475,22 @@ def formats(count, code):
     yield b'</numFmts><cellXfs><xf numFmtId="200"/></cellXfs></styleSheet>'
 
 
+def one_format(count):
+    formats = '<xf numFmtId="2"/>' * count
+    return f'<styleSheet xmlns="{MAIN[0]}"><cellXfs>{formats}</cellXfs></styleSheet>'.encode()
+
+
+def numbers(style, count=299_000):
+    """Rows of numbers of 11 digits, each with a style by its place."""
+    cell = b"<c s='%s'><v>%d</v></c>"
+    return (b"<row>%s</row>" % b"".join(cell % (style(at), 10**10 + at) for at in range(row, row + 30)) for row in range(0, count, 30))
+
+
+def spelled(at):
+    """The number of one of 30,000 formats, with zeros before it: no two are alike."""
+    return b"%s%05d" % (b"0" * (at // 30_000), at % 30_000)
+
+
 def declared(count):
     return b"".join(b' xmlns:p%d="u"' % number for number in range(count))
 
@@ -516,7 +532,7 @@ FEW = {
     "long names of attributes": ("the name of an element has more than", lambda: of_sheet(ROOT, b"<cols>", long_names(b"<a %s=''/>"), CLOSE)),
     "long namespaces": ("the name of an element has more than", lambda: of_sheet(ROOT, b"<cols>", long_names(b"<a xmlns='%s'/>"), CLOSE)),
     "first rows": (None, lambda: of_sheets([[b"<row>", b"<c t='str'><v>%s</v></c>" % (b"x" * 32_000) * 124, b"</row>"]] * 23)),
-    "parts": ("more than 10,000 parts", lambda: archive({str(number): b"" for number in range(12_000)})),
+    "parts": ("more than 2,000 parts", lambda: archive({str(number): b"" for number in range(12_000)})),
     "a text of empty lines": ("at most 1,048,576 lines", lambda: TEXT + b"\n" * 4_900_000),
     "a text of short cells": ("more than 300,000 cells", lambda: TEXT + (b"ab;" * 16_000 + b"\n") * 100),
 }
@@ -545,6 +561,10 @@ LARGE = {
         OPEN, (b"<row><c t='s'><v>%d</v></c></row>" % row for row in range(9_999)), CLOSE, **{SHARED: strings(10_000, 500)})),
     "formatted cells": ("", lambda: of_sheet(OPEN, (
         b"<row>%s</row>" % b"".join(b"<c s='3'><v>%d.%d</v></c>" % (row, at) for at in range(30)) for row in range(9_990)), CLOSE)),
+    "numbers with one format": ("", lambda: of_sheet(OPEN, numbers(lambda at: b"0"), CLOSE, **{"xl/styles.xml": one_format(1)})),
+    "formats in many spellings": ("", lambda: of_sheet(OPEN, numbers(spelled), CLOSE, **{"xl/styles.xml": one_format(30_000)})),
+    "these, and many parts": ("", lambda: of_sheet(
+        OPEN, numbers(spelled), CLOSE, **{"xl/styles.xml": one_format(30_000), **{str(at): b"" for at in range(1_980)}})),
     "a text of empty cells": ("a row has at most 16384 cells", lambda: TEXT + (b";" * 10**6 + b"\n") * 3 + b";" * 10**6 + b"a"),
     "a text of wide characters": ("bytes of text up to this line", lambda: TEXT + (b"\xf0\x9f\x98\x80" * 30_000 + b";\n") * 41),
     "a text of spaces": ("line 2", lambda: TEXT + (b"A;K;block;buy;1;7:00%sx;5\n" % (b" " * 30_000)) * 130),

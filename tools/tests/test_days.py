@@ -147,11 +147,22 @@ class Days(unittest.TestCase):
         status, out, _ = self.audit(place=self.folder / "list")
         self.assertEqual([line.split()[:2] for line in out.splitlines()[1:4]], [["Monday", "right"], ["b", "right"], ["none", "unread"]])
         self.assertEqual(status, command.NO_INPUT)
-        (self.folder / "list").write_text("journal;results\na.csv;a.txt\n")
+        (self.folder / "list").write_text("\n \n;;\njournal;results\na.csv;a.txt\n")
         self.assertEqual(self.audit("--quiet", place=self.folder / "list"), (0, "", ""))
         (self.folder / "list").write_text("journal\na.csv\n")
         said = f"audit: {self.folder / 'list'} isn't a table of days: its first line should name the columns journal, results\n"
         self.assertEqual(self.audit(place=self.folder / "list"), (command.NO_INPUT, "", said))
+
+    def test_a_manifest_with_many_columns(self):
+        """Cells that aren't used take no memory."""
+        heads = ["journal", "results", *(f"c{number}" for number in range(16_000))]
+        row = ",".join(["a.csv", "a.txt", *["x" * 9] * 16_000])
+        (self.folder / "list").write_text("\n".join([",".join(heads), *[row] * 20]))
+        self.write(a=(DATA, TEXT))
+        tracemalloc.start()
+        self.addCleanup(tracemalloc.stop)
+        self.assertEqual(len(days.pairs_of(self.folder / "list")), 20)
+        self.assertLess(tracemalloc.get_traced_memory()[1], 16 * 2**20)
 
     def test_cells_of_a_manifest_in_no_column(self):
         """A name with a comma that isn't quoted is two cells, and the files are others."""
@@ -207,13 +218,30 @@ class Days(unittest.TestCase):
         self.assertEqual([made["status"] for made in found], [command.FAILED, command.NO_INPUT])
         self.assertEqual([process.returncode for process in begun], [-signal.SIGKILL])
 
+    def test_a_process_that_is_left(self):
+        """Whatever ends the wait for it, it's ended too."""
+        hanging = self.folder / "hanging"
+        hanging.write_text("import time; time.sleep(600)")
+        for fault in (MemoryError, OverflowError, KeyboardInterrupt):
+            with (
+                unittest.mock.patch.object(days, "TOOL", hanging),
+                unittest.mock.patch.object(subprocess.Popen, "communicate", side_effect=fault, autospec=True) as call,
+                self.assertRaises(fault),
+            ):
+                days.ran(days.Pair("a", Path("a.csv"), None), [], engine.Running(), 1)
+            process = call.call_args_list[0].args[0]
+            self.addCleanup(process.kill)
+            self.assertEqual(process.returncode, -signal.SIGKILL)
+
     def test_how_long_a_process_may_take(self):
-        """Its search has its own limit."""
+        """Its search has its own limit. The system waits for no more than 2**31 ms."""
         args = unittest.mock.Mock(best=False, seconds=None)
         self.assertEqual(days.seconds_of(args), 600)
-        for seconds, whole in ((None, 1_200), (0, 600), (7.5, 607.5)):
+        for seconds, whole in ((None, 1_200), (0, 600), (7.5, 607.5), (3e6, days.MOST_SECONDS), (1e300, days.MOST_SECONDS)):
             args = unittest.mock.Mock(best=True, seconds=seconds)
             self.assertEqual(days.seconds_of(args), whole)
+        self.write(a=(DATA, TEXT))
+        self.assertEqual(self.audit("--best", "--seconds", "1e300", "--quiet"), (0, "", ""))
 
     def test_each_day_is_read_under_its_own_guard(self):
         """Files without an end, that are too large for the memory, or that are none; each day has its record, and the good one its verdict."""

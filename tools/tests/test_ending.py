@@ -3,7 +3,9 @@
 import ast
 import contextlib
 import errno
+import functools
 import io
+import itertools
 import json
 import os
 import re
@@ -233,6 +235,13 @@ class Interrupted(unittest.TestCase):
             self.addCleanup(signal.signal, number, signal.signal(number, signal.SIG_DFL))  # whatever this process ignores
             found.append(self.interrupted("audit", "--json", number=number)[:2])
         self.assertEqual(found, [(int(status), b"") for status in re.findall("[0-9]+", said)])
+        self.assertIn("`tools/lint --json` prints one with the same exceptions:", page)
+        found = [self.interrupted("lint", "--json", number=number)[:2] for number in (signal.SIGHUP, signal.SIGINT, signal.SIGTERM)]
+        few = functools.partial(resource.setrlimit, resource.RLIMIT_NOFILE, (4, 4))
+        for words, limit in ((["--json", ""], None), (["--json", AUCTION], few)):
+            ran = subprocess.run([sys.executable, "-I", "-S", TOOLS / "lint", *words], capture_output=True, preexec_fn=limit)
+            found.append((ran.returncode, ran.stdout))
+        self.assertEqual([status for status, out in found if not out], [129, 130, 143, command.COMMAND_LINE, command.FAILED])
 
     def test_while_it_imports(self):
         """At its first module, then with one line: in the midst of an import that may take the exception for its own."""
@@ -341,13 +350,31 @@ class Interrupted(unittest.TestCase):
 
     def test_signals_after_one(self):
         """They don't stop its end, but a later one is heeded again."""
-        with mock.patch.object(ending, "heeded", []), mock.patch.object(time, "monotonic") as clock:
-            for now, is_heeded in ((100, True), (100, False), (104, False), (105, True)):
-                clock.return_value = now
-                if is_heeded:
-                    self.assertRaises(ending.Ended, ending.end, signal.SIGTERM, None)
-                else:
-                    self.assertIsNone(ending.end(signal.SIGHUP, None))
+        for first, kind in ((signal.SIGTERM, ending.Ended), (signal.SIGINT, KeyboardInterrupt)):
+            with mock.patch.object(ending, "heeded", []), mock.patch.object(time, "monotonic") as clock:
+                for now, is_heeded in ((100, True), (100, False), (104, False), (105, True)):
+                    clock.return_value = now
+                    if is_heeded:
+                        self.assertRaises(kind, ending.end, first, None)
+                    else:
+                        self.assertIsNone(ending.end(signal.SIGHUP, None))
+                        self.assertIsNone(ending.end(signal.SIGINT, None))
+
+    def test_signals_at_once(self):
+        """One of them decides, and no other is a defect of the tool. After a stop, any thread may get them."""
+        said = {signal.SIGHUP: "ended by SIGHUP", signal.SIGINT: "interrupted", signal.SIGTERM: "ended by SIGTERM"}
+        for number in said:
+            self.addCleanup(signal.signal, number, signal.signal(number, signal.SIG_DFL))  # whatever this process ignores
+        for sent in itertools.chain(itertools.combinations(said, 2), [said]):
+            with self.subTest(sent), tempfile.TemporaryDirectory() as folder:
+                tool, pids = Path(folder, "tool"), Path(folder, "pids")
+                tool.write_text(WORKER)
+                running = subprocess.Popen([sys.executable, "-B", "-c", BEGUN, tool], stderr=subprocess.PIPE, cwd=TOOLS, text=True)
+                self.assertEqual(self.children_of(running, pids, 3), 3)
+                for number in (signal.SIGSTOP, *sent, signal.SIGCONT):
+                    running.send_signal(number)
+                _, err = running.communicate(timeout=SECONDS)
+                self.assertIn((running.returncode, err), [(128 + number, f"audit: {said[number]}\n") for number in sent])
 
     def test_a_call_of_a_library_ends_at_once(self):
         """Python wouldn't see a signal until its end."""

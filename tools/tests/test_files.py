@@ -189,6 +189,27 @@ class Files(unittest.TestCase):
         self.assertEqual(tool("table", *texts, "--all", self.folder, "--json"), (0, b"", NOTE))
         self.assertTrue(own.is_symlink())
 
+    def test_tables_replace_all_files_or_none(self):
+        """A folder has the name of one, or the disk is full."""
+        texts, folder = (self.journal, self.results), self.folder / "tables"
+        self.assertEqual(tool("table", *texts, "--all", folder), (0, b"", NOTE))
+        for path in folder.iterdir():
+            path.write_bytes(b"old")
+        names, limits = sorted(folder.iterdir()), resource.getrlimit(resource.RLIMIT_FSIZE)
+        resource.setrlimit(resource.RLIMIT_FSIZE, (10_000, limits[1]))
+        try:
+            found = tool("table", *texts, "--replace", "--all", folder)
+        finally:
+            resource.setrlimit(resource.RLIMIT_FSIZE, limits)
+        said = f"{NOTE}table: {folder / 'statement.csv'} can't be written: File too large\n"
+        self.assertEqual((found, [path.read_bytes() for path in folder.iterdir()]), ((command.NO_INPUT, b"", said), [b"old"] * len(names)))
+        (folder / "figures.csv").unlink()
+        (folder / "figures.csv").mkdir()
+        said = f"{NOTE}table: {folder / 'figures.csv'} can't be written: Is a directory\n"
+        self.assertEqual(tool("table", *texts, "--replace", "--all", folder), (command.NO_INPUT, b"", said))
+        self.assertEqual({path.read_bytes() for path in folder.iterdir() if path.is_file()}, {b"old"})
+        self.assertEqual(sorted(folder.iterdir()), names)
+
     def test_tables_replace_files_if_they_are_asked_to(self):
         texts, folder = [self.journal, self.results], self.folder / "tables"
         folder.mkdir()

@@ -82,6 +82,12 @@ class Hand(unittest.TestCase):
         self.check(GOOD.replace(b"day", b'"day'), ("line 1", said))
         self.assertEqual("\n".join(told(b'"a\n' * 100)).count(said), lint.MOST_QUOTES)
 
+    def test_a_quote_that_is_not_closed_in_the_last_field(self):
+        """The program takes it, if the rest of the text is a name or nothing."""
+        self.check(b'day,24,,,,,,,\nclose,,,,,,,,"')
+        self.assertEqual(lint.faults(b"day,24,,,,,,,\n" + BLOCK + b'"G', "replay"), [])
+        self.check(b'day,24,,,,,,,\nclose,,,,,,,,"\n', ("line 2", "a quote begins a field and isn't closed on its line"))
+
     def test_a_line_with_other_separators(self):
         """It alone; its fields are read nevertheless if there are nine."""
         for mark, name in ((";", "semicolons"), ("\t", "tabs")):
@@ -234,13 +240,12 @@ class Random(unittest.TestCase):
 
 class CommandLine(unittest.TestCase):
     def test_worked_cases(self):
-        """A journal whose last quote isn't closed is valid, and the lint reports the quote."""
+        """Also a journal whose last quote isn't closed, which is valid."""
         for name, case in cases("replay").items():
             with self.subTest(name):
-                found, is_open = lint.faults(case.stdin, "replay"), name == "quoted-in-part"
-                self.assertEqual(any(not one.refusal for one in found), is_open or case.status != 0)
-                self.assertEqual(any("isn't closed" in one.words for one in found if is_open), is_open)
-                if case.status == 0 and not is_open:
+                found = lint.faults(case.stdin, "replay")
+                self.assertEqual(any(not one.refusal for one in found), case.status != 0)
+                if case.status == 0:
                     self.assertEqual(len(found), case.printed.count(b",refused,"))
 
     def test_statuses(self):

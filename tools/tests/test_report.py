@@ -275,6 +275,8 @@ class Page(unittest.TestCase):
         status, out, err = tool("report", "-", "-o", "-", "--curves", "none", "--title", "Today", data=day)
         self.assertEqual((status, err, b"<title>Today</title>" in out), (0, "", True))
         self.assertNotIn(b"Supply and demand in period", out)
+        out = tool("report", "-", "-o", "-", "--curves", "none", "--title", "a\u00a0\udcff", data=day)[1]
+        self.assertIn("<title>a\u00a0\\xff</title>".encode(), out)
         words = ["--date", "2026-11-25"] if command.has_zone("Europe/Berlin") else []
         out = tool("report", "-", "-o", "-", "--curves", "4, 3-4,3", *words, data=day)[1]
         self.assertEqual([out.count(b"<figcaption>Supply and demand in period %d" % number) for number in (3, 4, 5)], [1, 1, 0])

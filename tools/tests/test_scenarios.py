@@ -3,6 +3,7 @@
 import csv
 import functools
 import io
+import json
 import logging
 import resource
 import socket
@@ -14,11 +15,12 @@ import unittest
 import unittest.mock
 from pathlib import Path
 
-from support import AUCTION, TOOLS, journal_of, new_folder, tool
+from support import AUCTION, TOOLS, journal_of, new_folder, results_of, tool
 
-from lib.base import rules
+from lib.base import rules, text
 from lib.journal import book, journal
 from lib.runs import cleared, cluster, engine
+from lib.sheets import sheets
 from lib.tool import command
 from lib.whatif import changes, scenarios
 
@@ -47,6 +49,12 @@ class Tables(unittest.TestCase):
         self.assertEqual(found["less"]["GEN", "UNIT"], journal.Order("block", "sell", 6_000, ((1, 15),)))
         self.assertEqual([list(found["none"]), ("GEN", "X") in found["more"]], [[("CITY", "TOWN")], True])
         self.assertEqual(len(HELD.rows), 2)
+
+    def test_a_header_below_empty_lines(self):
+        for blank in ("", "\n\n", ",,\n\n"):
+            line = 1 + blank.count("\n")
+            with self.assertRaisesRegex(engine.Fault, f"^a.csv: line {line}: there is no column scenario$"):
+                self.read(f"{blank}what,participant,order\ncancel,GEN,UNIT\n")
 
     def test_cancels_need_no_other_columns(self):
         found, notes = self.read("scenario,what,participant,order\nnone,cancel,GEN,UNIT\n")
@@ -270,6 +278,30 @@ class Tool(unittest.TestCase):
         found = rows(tool("whatif", "scenarios", "--rows", "prices", *words)[1])
         self.assertEqual((len(found), found[0]["price_eur_mwh"], found[24]["change_eur_mwh"]), (72, "50.00", "-20.00"))
         self.assertEqual(tool("whatif", "scenarios", *words, "--jobs", "1")[1], out)
+
+    @unittest.skipUnless(command.has("openpyxl"), "openpyxl is missing (Debian's python3-openpyxl)")
+    def test_a_name_stays_as_it_is(self):
+        """Also a long one, and one that a workbook would show as another."""
+        names = ["x" * 200 + "1", "x" * 200 + "2", "a\u00a0b", "_x0041_", "_x005F_x0041_x0042_", "\U0001f469\u200d\U0001f527", "-1"]
+        self.table.write_text(COMMANDS + "".join(f"{name},,,,,,,,,,\n" for name in names))
+        program, printed = Path(self.folder, "program"), Path(self.folder, "results")
+        printed.write_bytes(results_of(self.journal.read_bytes(), frozenset({0})))
+        program.write_text(f"#!/bin/sh\ncat > /dev/null\ncat {printed}\n")
+        program.chmod(0o755)
+        words = "scenarios", self.journal, self.table, "--program", program
+        shown = [*names[:-1], "'-1"]  # none is a formula
+        self.assertEqual([row["scenario"] for row in rows(tool("whatif", *words)[1])], shown)
+        self.assertEqual([row["scenario"] for row in json.loads(tool("whatif", *words, "--json")[1])["rows"]], names)
+        path = Path(self.folder, "a.xlsx")
+        self.assertEqual(tool("whatif", *words, "-o", path), (0, b"", ""))
+        self.assertEqual([cells[0] for _, cells in sheets.rows_of(path.read_bytes())[0]], ["scenario", *names])
+
+    def test_characters_that_no_name_has(self):
+        """No line of a text, or no cell of a workbook, could hold them."""
+        for character in "\x1b", "\t", "\x7f", "\x85", "\ufffe":
+            self.table.write_text(f"{COMMANDS}a,,,,,,,,,,\na{character}b,,,,,,,,,,\n")
+            said = f"whatif: {self.table}: line 3, column scenario: 'a{text.escaped(character)}b' has a control character: remove it\n"
+            self.assertEqual(tool("whatif", "scenarios", "--program", "/bin/true", self.journal, self.table), (command.NO_INPUT, b"", said))
 
     def test_notes_come_before_a_fault(self):
         self.table.write_text(self.table.read_text().replace("group", "group,note"))

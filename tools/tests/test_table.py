@@ -243,6 +243,14 @@ class Orders(unittest.TestCase):
         self.assertEqual(self.wrong(header=HEADER.replace("parent", "parnt")), "line 1, column 8: 'parnt' is not a column: write parent")
         self.assertIn("'side' appears twice", self.wrong(header=HEADER.replace("kind", "side")))
         self.assertIn("there is no column kind", self.wrong(header=HEADER.replace("kind,", "")))
+        for blank, line in (("\n", 2), ("\n \r\n", 3), (",,,\n", 2)):
+            header = f"{blank}{HEADER}"
+            for empty, other in (("", ","), ("\n\n", ";"), ("\n", "\t")):
+                read = f"{empty}{header}".replace("parent", "parnt").replace(",", other)
+                said = f"line {line + len(empty)}, column 8: 'parnt' is not a column: write parent"
+                self.assertEqual(self.wrong(header=read), said)
+            self.assertIn(f"line {line}: there is no column kind", self.wrong(header=header.replace("kind,", "")))
+            self.assertIn(f"line {line}, column 4: the column 'side' appears twice", self.wrong(header=header.replace("kind", "side")))
         self.assertIn("the table is empty", self.wrong(header=""))
         self.assertIn("line 2: it has 10 cells, but the header has 9", self.wrong(BLOCK + ",1"))
         with self.assertRaises(order_table.Wrong) as fault:

@@ -139,7 +139,9 @@ class Faults(Read):
         shared = [b"<row>%s</row>" % b"".join(b"<c t='s'><v>%d</v></c>" % at for at in range(row, row + 30)) for row in range(0, 60_000, 30)]
         strings = {made.SHARED: made.wide_strings(60_000, made.WIDE * 6 + b"%d")}
         periods = b"".join(order(at, f"K{at}").replace(b"<v>8</v>", b"<v>1-100</v>") for at in range(2, 2_002))
+        formats = {"xl/styles.xml": made.one_format(30_000)}
         for data, most, more in (
+            (made.of_sheet(made.OPEN, made.numbers(made.spelled, 60_000), made.CLOSE, **formats), 9, "\nand 19,980 more\n"),
             (made.of_sheet(made.OPEN, *[cells] * 1_000, made.CLOSE), 9, "\nand 8,980 more\n"),
             (made.of_sheet(made.OPEN, *shared, made.CLOSE, **strings), 12, "\nand 19,980 more\n"),
             (made.of_sheet(made.OPEN, periods, made.CLOSE), 8, "\nand 1,956 more\n"),
@@ -188,7 +190,7 @@ class Faults(Read):
 
     def test_a_workbook_is_read_without_a_package(self):
         with mock.patch.dict("sys.modules", {"openpyxl": None}):
-            self.assertEqual(sheets.rows_of(book(row(2, ("B2", "x"))))[0][1:], [(2, ["", "x"])])
+            self.assertEqual(list(sheets.rows_of(book(row(2, ("B2", "x"))))[0])[1:], [(2, ["", "x"])])
 
     def test_names_of_elements_are_limited(self):
         cant, tail = "line 1: the Excel workbook can't be read: ", b"</row>"
@@ -262,6 +264,7 @@ class Places(Read):
             (end, end + b"<m:A " + mc + b"><sheetData/></m:A>", "sheet 'orders': an element 'sheetData' stands in 'other A'"),
             (end, end + b"<cols><mergeCells/></cols>", "sheet 'orders': an element 'mergeCells' stands in 'cols'"),
             (end, end + b"<sheetData/>", "sheet 'orders': two elements 'sheetData' stand in 'worksheet'"),
+            (end, end + b"<sheetCalcPr/><sheetCalcPr/>", "sheet 'orders': two elements 'sheetCalcPr' stand in 'worksheet'"),
             (end, end + b"<extLst/><cols/>", "sheet 'orders': an element 'cols' stands after the extensions of 'worksheet'"),
             (end, end + b"<extLst/><mergeCells/>", "sheet 'orders': an element 'mergeCells' of 'worksheet' stands after 'extLst', "
                                                    "but should stand before it"),
@@ -382,6 +385,25 @@ class Unlike(unittest.TestCase):
         for attributes in ("", 'calcCompleted="1"', 'fullCalcOnLoad="0"'):
             found, _ = self.read(self.computed(attributes), I="<c t='str'><f>A1</f><v>G</v></c>", H="<c t='str'><f>A1</f><v></v></c>")
             self.assertEqual((found.order.group, found.order.parent), ("G", ""))
+
+    def test_a_sheet_without_its_values(self):
+        """It says so after its cells, of which none may then have a formula."""
+        price = b'<c r="E2" t="str"><v>1</v></c>'
+        for cell, due, refused in (
+            (b'<c r="E2"><f>5*4</f><v>0.1</v></c>', b' fullCalcOnLoad="1"', True),
+            (b'<c r="E2" t="str"><f>5*4</f><v></v></c>', b' fullCalcOnLoad="true"', True),
+            (price, b' fullCalcOnLoad="1"', False),
+            (b'<c r="E2"><f>5*4</f><v>0.1</v></c>', b"", False),
+        ):
+            close = made.CLOSE.replace(b"</sheetData>", b"</sheetData><sheetCalcPr%s/>" % due)
+            data = made.of_sheet(made.OPEN, order(2, "K1").replace(price, cell), order(3, "K2"), close)
+            with self.subTest(cell, due=due):
+                if refused:
+                    said = "^sheet 'orders', cell E2: its formula was saved without its value: open the workbook in Excel, and save it$"
+                    with self.assertRaisesRegex(sheets.Wrong, said):
+                        sheets.rows_of(data)
+                else:
+                    self.assertEqual(len(order_table.read_tables([("", data)], 24).submits), 2)
 
     def test_a_heading_without_its_value(self):
         heads = made.OPEN.replace(b"<is><t>group</t></is>", b"<f>A1</f>").replace(b"<c t='inlineStr'><f>", b"<c><f>")

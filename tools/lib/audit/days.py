@@ -16,6 +16,8 @@ from ..runs.engine import Running
 from ..base.progress import Bar
 
 MORE_SECONDS = 600  # that the audit of a day may take besides its search, before it is taken for one that hangs
+MOST_SECONDS = 2_000_000  # that it may take at all: the system waits for no more than 2**31 ms
+AWAKE = 1  # seconds after which the main thread looks for a signal that another thread got, as after SIGSTOP
 TOOL = Path(__file__).resolve().parents[2] / "audit"
 JOURNAL, RESULTS = ".csv", ".txt"
 NAME, COLUMNS = "day", ["journal", "results"]  # the columns of a manifest: the day's name, and those that it needs
@@ -42,7 +44,7 @@ def pairs_of(place):
     """The days of a folder, by name, or of a manifest, in its order. None of their files is read."""
     path = Path(place)
     try:
-        pairs = named_pairs(path) if path.is_dir() else list(listed_pairs(path))
+        pairs = named_pairs(path) if path.is_dir() else listed_pairs(path)
     except OSError as fault:
         raise command.Stop(f"{command.shown(place)} can't be read: {fault.strerror}") from None
     if not pairs:
@@ -79,19 +81,24 @@ def pair_of(name, journal, published):
 def listed_pairs(path):
     """The pairs of a manifest: a table with the columns `journal` and `results`, whose files are sought from its own folder."""
     try:
-        rows = sheets.text_rows(command.read_bytes(path))
+        rows = iter(sheets.text_rows(command.read_bytes(path)))
+        heads = [cell.strip().lower() for cell in next(rows, (0, []))[1]]
+        refuse_heads(path, heads)
+        pairs = [listed_pair(path.parent, dict(zip(heads, map(str.strip, row))), extra_cells(line, row, heads)) for line, row in rows]
     except sheets.Wrong as fault:
         raise command.Stop(f"{command.shown(path)} isn't a table of days: {fault}") from None
-    heads = [cell.strip().lower() for cell in rows[0][1]] if rows else []
+    if not pairs:
+        raise command.Stop(f"{command.shown(path)} has no days: it has no row below its header")
+    return pairs
+
+
+def refuse_heads(path, heads):
+    """Ends the audit if the header of a manifest doesn't name each column once that it needs."""
     if not set(COLUMNS) <= set(heads):
         raise command.Stop(f"{command.shown(path)} isn't a table of days: its first line should name the columns {', '.join(COLUMNS)}")
     for name in (NAME, *COLUMNS):
         if heads.count(name) > 1:
             raise command.Stop(f"{command.shown(path)} isn't a table of days: its first line names the column {name} twice")
-    if not rows[1:]:
-        raise command.Stop(f"{command.shown(path)} has no days: it has no row below its header")
-    for line, row in rows[1:]:
-        yield listed_pair(path.parent, dict(zip(heads, (cell.strip() for cell in row))), extra_cells(line, row, heads))
 
 
 def extra_cells(line, row, heads):
@@ -135,7 +142,7 @@ def file_name(path):
 
 def seconds_of(args):
     """How long the process of a day may take."""
-    return MORE_SECONDS + (verdict.SECONDS if args.seconds is None else args.seconds) * args.best
+    return min(MORE_SECONDS + (verdict.SECONDS if args.seconds is None else args.seconds) * args.best, MOST_SECONDS)
 
 
 def audited(pair, options, running, seconds=MORE_SECONDS, is_json=False):
@@ -199,12 +206,11 @@ def ran(pair, options, running, seconds):
     seconds it is ended."""
     files = [file_name(path) for path in (pair.journal, pair.results) if path is not None]
     words = [*command.this_python(), os.fspath(TOOL), "--json", *options, "--", *files]
-    with running.started(words, stdin=subprocess.DEVNULL, stdout=subprocess.PIPE, stderr=subprocess.PIPE) as process:
+    with running.started(words, stdin=subprocess.DEVNULL, stdout=subprocess.PIPE, stderr=subprocess.PIPE) as process, process:
         try:
             out, err = process.communicate(timeout=seconds)
-        except subprocess.TimeoutExpired:
+        except BaseException:
             process.kill()
-            process.communicate()
             raise
     return process.returncode, out, err
 
@@ -281,7 +287,8 @@ def audit_all(pairs, options, jobs, bar, seconds=MORE_SECONDS, is_json=False):
     try:
         work.start(jobs)
         for _ in pairs:
-            work.done.acquire()
+            while not work.done.acquire(timeout=AWAKE):
+                pass
             bar.step(1, f"{work.wrong} wrong" if work.wrong else "")
     finally:
         work.end()

@@ -19,7 +19,7 @@ FAILED = 5
 OF_SIGNALS = 128  # what shells add to the number of a signal that ends a process
 INTERRUPTED = OF_SIGNALS + signal.SIGINT
 ENDING = signal.SIGTERM, signal.SIGHUP  # besides Ctrl-C
-PAUSE = 5  # seconds after such a signal in which others aren't heeded: they would stop the end
+PAUSE = 5  # seconds after a signal, or Ctrl-C, in which others aren't heeded: they would stop the end
 AGAIN = 0.01  # seconds until a signal whose exception was lost is raised again
 
 # The messages of the system's loader, of Python's threads and of code in C if there is no memory for them.
@@ -124,7 +124,7 @@ def stop(*_):
 def heed():
     """From now on Ctrl-C and the signals that end a process are exceptions, unless the one that started it ignores them."""
     if signal.getsignal(signal.SIGINT) == stop:
-        signal.signal(signal.SIGINT, signal.default_int_handler)
+        signal.signal(signal.SIGINT, end)
     for number in ENDING:
         if signal.getsignal(number) == signal.SIG_DFL:
             signal.signal(number, end)
@@ -147,11 +147,11 @@ def raise_lost(*_):
 
 
 def end(number, _):
-    """A signal that ends the tool came."""
+    """Ctrl-C or a signal that ends the tool came."""
     now = time.monotonic()
     if not heeded or now - heeded[0] >= PAUSE:
         heeded[:] = [now]
-        raise Ended(number)
+        raise KeyboardInterrupt if number == signal.SIGINT else Ended(number)
 
 
 def forget():

@@ -2,6 +2,7 @@
 
 import contextlib
 import errno
+import functools
 import os
 import secrets
 import stat
@@ -15,19 +16,41 @@ MOST_LINKS = 40  # that Linux follows
 
 def write(path, data):
     """Writes a file. A device, a pipe, and a file that can't be replaced are written in place."""
+    with contextlib.ExitStack() as ends:
+        ready(path, data, ends)()
+
+
+def ready(path, data, ends):
+    """The call that puts a file in its place. Unless it's to be written in place, it's written before, next to that, and `ends` removes it
+    if it isn't put."""
     target = end_of(str(Path(path)))
     old = stat_of(target) if target is not None else None
+    if old is not None and stat.S_ISDIR(old.st_mode):
+        raise IsADirectoryError(errno.EISDIR, os.strerror(errno.EISDIR))
     if target is None or old is not None and not stat.S_ISREG(old.st_mode):
-        Path(path).write_bytes(data)
-        return
+        return functools.partial(Path(path).write_bytes, data)
     if old is not None:
         os.close(os.open(target, os.O_WRONLY))  # a file that can't be written isn't replaced
+    in_place = functools.partial(write_in_place, target, data)
     try:
-        replace(target, old, data)
+        rename = replace(target, old, data, ends)
     except OSError as fault:
-        if old is None or fault.errno not in FIXED:
-            raise
-        write_in_place(target, data)
+        return or_else(in_place, old, fault)
+
+    def put():
+        try:
+            rename()
+        except OSError as fault:
+            or_else(in_place, old, fault)()
+
+    return put
+
+
+def or_else(in_place, old, fault):
+    """The call that writes over an old file, if it is the one that can't be replaced."""
+    if old is None or fault.errno not in FIXED:
+        raise fault
+    return in_place
 
 
 def write_in_place(target, data):
@@ -65,22 +88,23 @@ def stat_of(path):
         return None
 
 
-def replace(target, old, data):
-    """Writes a new file next to the target, and then gives it the target's name."""
+def replace(target, old, data, ends):
+    """Writes a new file next to the target. The call that gives it the target's name; `ends` removes it if that isn't called."""
     made = os.path.join(os.path.dirname(target), f".dam-{secrets.token_hex(8)}")
     number = os.open(made, os.O_WRONLY | os.O_CREAT | os.O_EXCL | os.O_CLOEXEC, 0o666)
-    try:
-        with open(number, "wb") as file:
-            if old is not None:
-                take_rights(number, target, old)
-            file.write(data)
-            file.flush()
-            os.fsync(number)
-        os.rename(made, target)
-    except BaseException:
-        with contextlib.suppress(OSError):
-            os.unlink(made)
-        raise
+    ends.callback(remove, made)
+    with open(number, "wb") as file:
+        if old is not None:
+            take_rights(number, target, old)
+        file.write(data)
+        file.flush()
+        os.fsync(number)
+    return functools.partial(os.rename, made, target)
+
+
+def remove(path):
+    with contextlib.suppress(OSError):
+        os.unlink(path)
 
 
 def take_rights(number, target, old):

@@ -30,6 +30,15 @@ LINE = re.compile(rb"[^\r\n]+")
 BYTE_ORDER_MARKS = {b"\xef\xbb\xbf": "utf-8-sig", b"\xff\xfe": "utf-16", b"\xfe\xff": "utf-16"}
 
 
+def is_journal(data):
+    """Whether the program takes a text."""
+    try:
+        journal.read_journal(data)
+    except journal.Fault:
+        return False
+    return True
+
+
 class Found(NamedTuple):
     line: int
     field: str  # its name, or nothing if the whole record or text is meant
@@ -128,10 +137,11 @@ class Lint:
         return b","
 
     def closed_quotes(self, data, comma):
-        """The text without the quotes that aren't closed on their line, after which no line could be told from another."""
-        for _ in range(MOST_QUOTES):
+        """The text without the quotes that aren't closed on their line, after which no line could be told from another. The last field of a
+        journal may have such a quote."""
+        for number in range(MOST_QUOTES):
             at = text.open_quote(data, comma)
-            if at is None:
+            if at is None or not number and is_journal(data):
                 break
             line = text.count_lines(data, 0, at) + 1
             self.tell(line, "a quote begins a field and isn't closed on its line: remove it, or close it")

@@ -21,7 +21,7 @@ class Columns:
         self.table = order_table.table_of("", found, self.needed(found.rest()), (*needed, WHAT))
         for name in needed:
             if name not in self.places:
-                raise order_table.Wrong(f"line 1: there is no column {name}")
+                raise order_table.Wrong(f"line {found.header()[0]}: there is no column {name}")
 
     def needed(self, rows):
         """The columns of orders that the commands of the rows need; all of them if there are none."""
@@ -52,7 +52,7 @@ class Columns:
 
 def header_of(found):
     """The names of a table's columns, by its cells."""
-    return [cell.strip().lower() for cell in found.header()]
+    return [cell.strip().lower() for cell in found.header()[1]]
 
 
 def is_command_table(found):

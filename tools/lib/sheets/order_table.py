@@ -45,7 +45,7 @@ class Wrong(Exception):
     """A fault of a cell, or of a table."""
 
 
-def columns_of(header, needed, further):
+def columns_of(line, header, needed, further):
     """Where each column stands, and notes on those that aren't used; if not, all that is wrong with the columns, a line each. Those that
     are needed have to be there; the further ones are used, and read by others."""
     names = [cell.strip().lower() for cell in header]
@@ -53,22 +53,22 @@ def columns_of(header, needed, further):
     places, wrong, notes = {}, [], []
     for at, (name, cell) in enumerate(zip(names, header), 1):
         if name in places or name in further and names.index(name) < at - 1:
-            wrong.append(f"line 1, column {at}: the column {text.quoted(name)} appears twice")
+            wrong.append(f"line {line}, column {at}: the column {text.quoted(name)} appears twice")
         elif isinstance(cell, workbooks.Uncomputed):
-            wrong.append(f"line 1, column {at}: {unlike(cell)}")
+            wrong.append(f"line {line}, column {at}: {unlike(cell)}")
         elif name in ORDER + RESULT:
             places[name] = at - 1
         elif name in further or WHAT in further and name in REPLY:
             continue
         elif alike := meant_by(name, missing, needed):
-            wrong.append(f"line 1, column {at}: {text.quoted(cell)} is not a column: write {alike[0]}")
+            wrong.append(f"line {line}, column {at}: {text.quoted(cell)} is not a column: write {alike[0]}")
         elif name and name not in further:
             notes.append(f"the column {text.quoted(cell)} isn't used")
     lacking = [name for name in missing if name in needed]
     if lacking:
-        wrong.append(f"line 1: there is no column {', '.join(lacking)}; the columns are {', '.join([*further, *ORDER])}")
+        wrong.append(f"line {line}: there is no column {', '.join(lacking)}; the columns are {', '.join([*further, *ORDER])}")
     if wrong:
-        raise Wrong("\n".join([*wrong, *(f"line 1: {note}" for note in notes)] if lacking else wrong))
+        raise Wrong("\n".join([*wrong, *(f"line {line}: {note}" for note in notes)] if lacking else wrong))
     return places, notes
 
 
@@ -335,7 +335,7 @@ class Below:
     """The rows of a table below its header, without those that repeat it."""
 
     def __init__(self, found):
-        self.found, self.header = found, found.header()
+        self.found, self.header = found, found.header()[1]
 
     def __iter__(self):
         return (row for row in self.found.rest() if row[1] != self.header)
@@ -369,12 +369,13 @@ class Cells(NamedTuple):
     """The cells of a table: its rows that aren't empty, each with the number of its first line; whether a comma may be the decimal point;
     and notes on what was read of the file."""
 
-    rows: object  # of a long text they are read again whenever they are gone through
+    rows: object  # of a workbook or a long text they are read again whenever they are gone through
     decimal_comma: bool
     read: list
 
     def header(self):
-        return next(iter(self.rows))[1]
+        """The first row, with its line."""
+        return next(iter(self.rows))
 
     def rest(self):
         """The rows after the first one."""
@@ -390,8 +391,6 @@ def cells_of(data, most=MOST_ROWS, is_long=False):
         raise Wrong(f"this is {kind}: {kinds.ADVICE[kind]}")
     try:
         rows, decimal_comma = sheets.rows_of(data, NEEDED, read, most, is_long)
-        if isinstance(rows, list):
-            rows = [(number, cells) for number, cells in ((number, sheets.trimmed(cells)) for number, cells in rows) if cells]
         count = refuse_many_rows(rows, most)
     except sheets.Wrong as fault:
         raise Wrong(str(fault)) from None
@@ -412,11 +411,11 @@ def refuse_many_rows(rows, most):
 
 def table_of(name, found, needed=NEEDED, further=()):
     """A table of orders by its cells, of which the header has been read; or one that needs other columns, and has further ones."""
-    header, read = found.header(), found.read
+    (line, header), read = found.header(), found.read
     if WHAT not in further:
         refuse_commands(header, found.rest())
     try:
-        places, notes = columns_of(header, needed, further)
+        places, notes = columns_of(line, header, needed, further)
         refuse_unnamed(header, found.rest())
     except Wrong as fault:
         raise Wrong("\n".join([str(fault), *read])) from None

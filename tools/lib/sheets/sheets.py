@@ -2,7 +2,9 @@
 
 import codecs
 import csv
+import functools
 import io
+import itertools
 import os
 import re
 
@@ -12,6 +14,7 @@ XLSX = b"PK\x03\x04"  # the first bytes of a workbook
 PART, LONGEST_ROW = 1 << 20, 1 << 20  # bytes that are decoded at once, and characters of a row of a text
 MOST_LINES = workbooks.LAST_ROW  # of a text
 MANY = 10  # how many times the cells and the text of a workbook a text may have if its rows aren't limited
+WORD = re.compile(r"[^\s,;\"]")  # a character that no empty row has
 PREFERRED = "orders"  # the sheet that is read if there are several
 # The marks by which a program takes a cell for a formula, also the wide ones. In some languages a comma, a semicolon or a tab in a cell
 # begins another one.
@@ -31,9 +34,9 @@ def is_workbook(data):
 
 def rows_of(data, needed=(), notes=None, most=None, is_long=False):
     """The rows of a table, each with the number of its first line; and whether a comma may be the decimal point. A text is separated by
-    commas, semicolons or tabs, whichever its first line has most of. Of a workbook it is the sheet `orders`, or else the first that has the
+    commas, semicolons or tabs, whichever its header has most of. Of a workbook it is the sheet `orders`, or else the first that has the
     needed columns. It isn't read further if it has more than `most` rows after its first one. Notes say which sheet was read, and that a
-    text isn't in UTF-8. The rows of a text that may be long aren't kept."""
+    text isn't in UTF-8. The rows of a workbook are kept packed, and of a text that may be long not at all."""
     notes = [] if notes is None else notes
     if not is_workbook(data):
         text = Text(data, notes, most, MANY if is_long or most is None else 1)
@@ -122,14 +125,6 @@ class Count:
                 raise Wrong(f"line {line}: the table has more than {most:,} {things} up to this line: delete those that it doesn't need")
 
 
-def trimmed(cells):
-    """The cells of a row without the empty ones at its end, which spreadsheets leave."""
-    count = len(cells)
-    while count and not cells[count - 1].strip():
-        count -= 1
-    return cells[:count]
-
-
 class Text:
     """The rows of a text that aren't empty, each with its number, in bounded memory and time: if they have more than `most` after the first,
     only one more. Whoever goes through them reads the text once more."""
@@ -138,18 +133,23 @@ class Text:
         """`times`: how many times the cells and the text of a workbook it may have."""
         self.data, self.most, self.times = data, most, times
         self.encoding = encoding_of(data, notes)
-        self.delimiter = max(",;\t", key=self.file().readline(LONGEST_ROW).count)
+        self.delimiter = max(",;\t", key=self.first_line().count)
         self.has_decimal_comma = self.delimiter != ","
         self.is_counted = False  # once it was read to its end, it keeps to the limits
 
     def file(self):
         return io.TextIOWrapper(io.BytesIO(self.data), self.encoding, "replace" if self.encoding == "utf-16" else "strict", newline="")
 
+    def first_line(self):
+        """The header: the first line that isn't empty."""
+        lines = iter(functools.partial(self.file().readline, LONGEST_ROW), "")
+        return next(filter(WORD.search, itertools.islice(lines, MOST_LINES)), "")
+
     def __iter__(self):
         lines, found, count = Lines(self.file(), self.delimiter), 0, Count(self.times)
         try:
             for cells in csv.reader(lines, delimiter=self.delimiter, strict=True):
-                if cells := trimmed(cells):
+                if cells := workbooks.trimmed(cells):
                     if not self.is_counted:
                         count.add(lines.number, cells)
                     found += 1
@@ -163,8 +163,8 @@ class Text:
 
 
 def text_rows(data):
-    """The rows of a text that aren't empty."""
-    return list(Text(data, [], None, MANY))
+    """The rows of a text that aren't empty, which aren't kept."""
+    return Text(data, [], None, MANY)
 
 
 def written(rows, decimal_comma=False):
@@ -239,5 +239,5 @@ def fill(cell, kind, value):
     elif kind == "boolean":
         cell.value = value == "yes"
     else:
-        cell.value = str(value)
+        cell.value = workbooks.escaped(str(value))
         cell.data_type = "s"

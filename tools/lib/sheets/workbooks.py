@@ -21,7 +21,7 @@ from xml.parsers import expat
 from ..base import text
 
 # A workbook that isn't larger than a table of orders needs keeps to these limits.
-MOST_PARTS = 10_000  # files in it
+MOST_PARTS = 2_000  # files in it
 MOST_UNPACKED = 96 * 2**20  # bytes of the parts that are read
 MOST_ELEMENTS = 1_500_000  # in these parts
 MOST_CELLS = 300_000  # of a table; an empty cell counts if one after it in its row has a value
@@ -482,8 +482,7 @@ class Book(Part):
 
     def open_calcPr(self, attributes):
         """A program that doesn't compute formulas stores any values, and lets Excel compute them once it opens the workbook."""
-        is_due = TRUTHS.get(attributes.get("fullCalcOnLoad")) == "TRUE" or TRUTHS.get(attributes.get("calcCompleted")) == "FALSE"
-        self.is_computed = self.is_computed and not is_due
+        self.is_computed = not is_due(attributes) and TRUTHS.get(attributes.get("calcCompleted")) != "FALSE"
 
     def open_sheet(self, attributes):
         if len(self.sheets) == MOST_SHEETS:
@@ -538,6 +537,11 @@ class Book(Part):
         if needed and part:
             self.package.read(part, strings)
         return strings.found
+
+
+def is_due(attributes):
+    """Whether Excel computes all formulas once it opens the workbook."""
+    return TRUTHS.get(attributes.get("fullCalcOnLoad")) == "TRUE"
 
 
 class Styles(Part):
@@ -644,7 +648,7 @@ class Kept:
         self.numbers, self.ends, self.data = array.array("I"), array.array("I"), bytearray()
 
     def add(self, number, words):
-        self.data += words.encode()
+        self.data += words.encode(errors="surrogatepass")
         self.numbers.append(number)
         self.ends.append(len(self.data))
 
@@ -654,6 +658,29 @@ class Kept:
         if at == len(self.numbers) or self.numbers[at] != number:
             return None
         return self.data[self.ends[at - 1] if at else 0 : self.ends[at]].decode()
+
+
+# The kinds of cells: before each cell of a packed row stands a half of a character, which no text has, and says its kind.
+CELLS = str, int, StyledString, Uncomputed, Date, Formatted, Styled, Shortened, Truth
+HALVES = {kind: chr(0xD800 + at) for at, kind in enumerate(CELLS)}
+PACKED = re.compile("([\ud800-\udfff])([^\ud800-\udfff]*)")
+
+
+class Rows(Kept):
+    """Rows of cells by their numbers, packed: a cell of its own takes some 100 bytes. Whoever goes through them unpacks each once more."""
+
+    def __len__(self):
+        return len(self.numbers)
+
+    def __iter__(self):
+        begin = 0
+        for number, end in zip(self.numbers, self.ends):
+            cells = PACKED.findall(self.data[begin:end].decode(errors="surrogatepass"))
+            yield number, [CELLS[ord(half) - 0xD800](words) for half, words in cells]
+            begin = end
+
+    def add(self, number, cells):
+        super().add(number, "".join([f"{HALVES[type(cell)]}{cell}" for cell in cells]))
 
 
 class Strings(Texts):
@@ -688,7 +715,7 @@ class Sheet(Texts):
     ROOT = "worksheet"
     PLACES = {
         "": ROOT,
-        ROOT: "sheetData mergeCells extLst",
+        ROOT: "sheetData sheetCalcPr mergeCells extLst",
         "sheetData": "row*",
         "row": "c* extLst",
         "c": "f v is extLst",
@@ -698,7 +725,7 @@ class Sheet(Texts):
         "mergeCells": "mergeCell*",
     }
     BETWEEN = {ROOT: {ANY_OTHERS, *(
-        "sheetPr dimension sheetViews sheetFormatPr cols sheetCalcPr sheetProtection protectedRanges scenarios autoFilter sortState"
+        "sheetPr dimension sheetViews sheetFormatPr cols sheetProtection protectedRanges scenarios autoFilter sortState"
         " dataConsolidate customSheetViews phoneticPr conditionalFormatting dataValidations hyperlinks printOptions pageMargins pageSetup"
         " headerFooter rowBreaks colBreaks customProperties cellWatches ignoredErrors smartTags drawing legacyDrawing legacyDrawingHF"
         " drawingHF picture oleObjects controls webPublishItems tableParts").split()}}  # fmt: skip
@@ -707,9 +734,10 @@ class Sheet(Texts):
         super().__init__()
         self.place, self.part, self.book = f"sheet {text.quoted(name)}", part, book
         self.last = None if most is None else most + 1  # how many rows it may have
-        self.rows, self.needed, self.formats = [], Numbers(), {}
+        self.rows, self.needed = Rows(), Numbers()
         self.row = self.column = self.count_of_cells = self.size = 0
         self.cells = None  # of a row; None outside
+        self.first_formula = None  # its row and its column
         self.has_data = False
 
     def wrong(self, words):
@@ -738,7 +766,7 @@ class Sheet(Texts):
             if len(self.rows) == self.last:
                 self.column = 0
                 raise self.wrong(f"a table has at most {self.last - 1:,} rows after its first")
-            self.rows.append((self.row, self.cells))
+            self.rows.add(self.row, self.cells)
         self.column, self.cells = 0, None
 
     def open_c(self, attributes):
@@ -787,6 +815,7 @@ class Sheet(Texts):
     def close_f(self):
         self.leave()
         self.formula = self.content()
+        self.first_formula = self.first_formula or (self.row, self.column)
 
     def close_c(self):
         words = self.words()
@@ -840,9 +869,7 @@ class Sheet(Texts):
         """A number with the digits that Excel shows, or the date that it stands for."""
         if not NUMBER.fullmatch(value) or not math.isfinite(float(value)):
             raise self.wrong(f"{text.quoted(value)} isn't a number")
-        if self.style not in self.formats:
-            self.formats[self.style] = self.format()
-        made = self.formats[self.style]
+        made = self.format()
         if made is Date:
             return Date(self.date(float(value)))
         return made(int(value) if WHOLE.fullmatch(value) else digits_of(float(value)))
@@ -869,6 +896,12 @@ class Sheet(Texts):
         except OverflowError:
             raise self.wrong(f"{serial:.15g} is no date, which its format shows") from None
 
+    def open_sheetCalcPr(self, attributes):
+        """As `Book.open_calcPr`, but after the cells."""
+        if self.first_formula and is_due(attributes):
+            (self.row, self.column), self.cells = self.first_formula, []
+            raise self.wrong("its formula was saved without its value: open the workbook in Excel, and save it")
+
     def open_mergeCell(self, attributes):
         """Of merged cells only the first has a value, so that a row could seem to have none."""
         ref = attributes.get("ref", "")
@@ -880,16 +913,17 @@ class Sheet(Texts):
         width = max(len(cells) for _, cells in self.rows) if self.width is None else self.width
         self.width = width
         (top, bottom), left = sorted((int(found[2]), int(found[4]))), min(number_of(found[1]), number_of(found[3]))
-        is_apart = bottom < self.rows[0][0] or top > self.rows[-1][0] or left > width
+        is_apart = bottom < self.rows.numbers[0] or top > self.rows.numbers[-1] or left > width
         if not is_apart and (found[1], found[2]) != (found[3], found[4]):
             raise self.wrong(f"the cells {ref} are merged, but each row of a table has its own")
 
     width = None  # of the widest row, once it is needed
 
     def whole(self, strings):
-        """The rows, with their shared strings."""
+        """The rows that aren't empty, with their shared strings."""
         if not self.has_data:
             raise self.wrong("it has no table of cells")
+        rows = Rows()
         for self.row, self.cells in self.rows:
             for at, cell in enumerate(self.cells):
                 if isinstance(cell, int):
@@ -899,7 +933,9 @@ class Sheet(Texts):
                         raise self.wrong(f"it has no string '{cell}'")
                     self.cells[at] = Styled(words) if isinstance(cell, StyledString) else words
                     self.add_text(words)
-        return self.rows
+            if cells := trimmed(self.cells):
+                rows.add(self.row, cells)
+        return rows
 
 
 class Enough(Exception):
@@ -937,6 +973,19 @@ class FirstRow(Sheet):
             return {cell.strip().lower() for _, cells in self.whole(strings) for cell in cells} & set(self.sought)
         except Wrong:
             return set()
+
+
+def trimmed(cells):
+    """The cells of a row without the empty ones at its end, which spreadsheets leave."""
+    count = len(cells)
+    while count and not cells[count - 1].strip():
+        count -= 1
+    return cells[:count]
+
+
+def escaped(words):
+    """A text of which no part is one of Excel's escapes of characters."""
+    return re.sub("_(?=x[0-9a-fA-F]{4}_)", "_x005F_", words)
 
 
 def unescaped(words):

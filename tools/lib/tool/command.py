@@ -237,13 +237,26 @@ def write_bytes(tool, path, data):
     """Writes a file that is whole, and at a terminal says so; or standard output if the path is `-`."""
     if path == "-":
         write_output(data)
-        return
+    else:
+        write_files(tool, {path: data})
+
+
+def write_files(tool, files):
+    """Writes files by their paths. None is put in its place before each is whole."""
+    with contextlib.ExitStack() as ends:
+        puts = {path: to_write(path, replacing.ready, path, data, ends) for path, data in files.items()}
+        for path, put in puts.items():
+            to_write(path, put)
+            if sys.stderr.isatty():
+                tell(tool, f"{shown(path)} was written")
+
+
+def to_write(path, call, *words):
+    """The result of a call for a file that is written."""
     try:
-        replacing.write(path, data)
+        return call(*words)
     except OSError as fault:
         raise Stop(f"{shown(path)} can't be written: {fault.strerror}") from None
-    if sys.stderr.isatty():
-        tell(tool, f"{shown(path)} was written")
 
 
 def is_same(path, other):

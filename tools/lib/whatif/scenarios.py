@@ -4,6 +4,7 @@ limits and volumes. And the tables of scenarios: the requested values of each, a
 import functools
 import hashlib
 import itertools
+import re
 from fractions import Fraction
 from typing import NamedTuple
 
@@ -15,6 +16,7 @@ from ..sheets.command_table import Columns
 from ..runs.engine import Fault
 
 SCENARIO = "scenario"
+CONTROL = re.compile("[\0-\x1f\x7f-\x9f\ufffe\uffff]")  # in no name: a line of a text, or a cell of a workbook, couldn't hold it
 MOST_ROWS = 50_000  # of a table, after the first one: a longer one can be parted, since no scenario depends on another
 # What is said of a block over all scenarios. For each part of its surpluses, in per cent, there is one more column.
 BLOCK = ["participant", "order", "price_eur_mwh", "scenarios", "accepted", "share", "mean_eur"]
@@ -128,6 +130,9 @@ class Table:
             first = next(rows)
             if not scenario:
                 raise Fault(f"{self.name}: line {first[0]}, column {SCENARIO}: it should name the scenario")
+            if CONTROL.search(scenario):
+                words = f"{text.quoted(scenario)} has a control character: remove it"
+                raise Fault(f"{self.name}: line {first[0]}, column {SCENARIO}: {words}")
             if scenario in seen:
                 words = f"line {first[0]}: there is a scenario {text.quoted(scenario)} in line {seen[scenario]}"
                 raise Fault(f"{self.name}: {words}: the lines of a scenario stand together, and no two have one name")

@@ -396,7 +396,7 @@ def scenario_rows(args, held, given, count, over):
             scenario = waiting.popleft()
             if over is None:
                 day = day_of(f"scenario {scenario.name}", scenario.rows(), held.periods, printed)
-                yield from make(text.safe(scenario.name), before, day, asked_of(args))
+                yield from make(scenario.name, before, day, asked_of(args))
             else:
                 over.add(printed_of(f"scenario {scenario.name}", printed))
 
