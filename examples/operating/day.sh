@@ -5,8 +5,8 @@ flock -n 9 || { echo "$1: another run has the lock" >&2; exit 75; }
 rm -rf new.* results.txt replies.txt
 new=$(mktemp -d new.XXXXXX) || exit 10
 if [ -e day.desk ]; then
-    dam-desk --journal day.desk > "$new/day.csv" && [ -s "$new/day.csv" ] || { echo "desk: $?"; exit 10; }
-        mv "$new/day.csv" . || exit 10
+    dam-desk --journal day.desk > "$new/day.csv" || { echo "desk: $?"; exit 10; }
+    [ -s "$new/day.csv" ] && mv "$new/day.csv" . || { echo "no journal"; exit 10; }
 fi
 dam-lint day.csv  # status 1: refused commands; 7: faults
 dam replay < day.csv > "$new/replies.txt" || { echo "replay: $?"; exit 10; }

@@ -1875,11 +1875,12 @@ class Setup(Office):
             with self.office.held():
                 pass
             tokens.Register(self.office.file(folder.PARTICIPANTS)).add(["GAS"])
+            operate.request(self.office.days()[later], folder.CLOSE_NOW)
         owner = os.stat(self.office.path)
         self.assertEqual({call.args[1:] for call in chown.call_args_list}, {(owner.st_uid, owner.st_gid)})
         given = [call.args[0] for call in chown.call_args_list]
         made, locks = [Path(path) for path in given if not isinstance(path, int)], [path for path in given if isinstance(path, int)]
-        self.assertEqual(sorted(path.name.partition("-")[0] for path in made), [".new", folder.SALTS, folder.TERMS])
+        self.assertEqual(sorted(path.name.partition("-")[0] for path in made), [".new", "close", folder.SALTS, folder.TERMS])
         self.assertEqual(len(locks), 2)  # of the office, and of its participants
 
     def test_a_program_that_cant_be_run_is_seen_at_the_start(self):

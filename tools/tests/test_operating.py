@@ -83,14 +83,14 @@ class Day(unittest.TestCase):
         status, out, _ = self.run_once()
         self.assertEqual((status, self.names()), (0, ["day.csv", "day.desk", "replies.txt", "results.txt"]), out)
         self.assertEqual(Path(self.day, "day.csv").read_bytes(), AUCTION.read_bytes())
-        for line, status in (("exit 4", 4), ("echo day,24; exit 4", 4), ("exit 0", 1)):
+        for line, words in (("exit 4", "desk: 4"), ("echo day,24; exit 4", "desk: 4"), ("exit 0", "no journal")):
             self.script("dam-desk", line)
-            self.assertEqual(self.run_once()[:2], (10, [f"desk: {status}"]))
+            self.assertEqual(self.run_once()[:2], (10, [words]))
             self.assertNotIn("results.txt", self.names())
             self.assertEqual(Path(self.day, "day.csv").read_bytes(), AUCTION.read_bytes(), "the last journal that was read stays")
         self.script("dam-desk", 'cat "$2"')
         self.script("mv", 'case $1 in */day.csv) exit 1 ;; *) exec /bin/mv "$@" ;; esac')
-        self.assertEqual(self.run_once()[:2], (10, []), "an older journal isn't cleared in place of the desk's")
+        self.assertEqual(self.run_once()[:2], (10, ["no journal"]), "an older journal isn't cleared in place of the desk's")
         self.assertNotIn("results.txt", self.names())
 
     def test_two_runs_at_once(self):

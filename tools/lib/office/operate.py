@@ -85,6 +85,7 @@ def request(files, name):
     """Leaves a request of the operator, which stays."""
     if not files.has(name):
         folder.put(files.file(name), b"")
+        folder.give(files.file(name), files.path)
 
 
 def close(office, day, files):
