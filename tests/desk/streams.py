@@ -288,11 +288,14 @@ def in_mid_load(counts, desk, dam):
 
 
 def many_at_once(counts, desk, given):
-    """Of several desks that are started at once on a new file, one has it, and the others say so."""
+    """Of several desks that are started at once on a new file, one has it, and the others say so. Its input ends once they have ended: a
+    desk that is still to open the file would have it after the first."""
     file = desk.folder() / "day.desk"
     pipes = {"stdin": subprocess.PIPE, "stdout": subprocess.PIPE, "stderr": subprocess.PIPE}
     started = [subprocess.Popen([*desk.words, str(file)], **pipes) for _ in range(8)]
-    time.sleep(0.1)
+    until = time.monotonic() + device.SECONDS
+    while sum(process.poll() is None for process in started) > 1 and time.monotonic() < until:
+        time.sleep(0.01)
     printed = [process.communicate(b"".join(given.batches)) for process in started]
     ends = sorted((process.returncode, *texts) for process, texts in zip(started, printed))
     right = [(0, given.journal.printed(len(given.journal)), b""), *[(4, b"", IN_USE)] * 7]

@@ -18,6 +18,7 @@ import itertools
 import re
 import shutil
 import subprocess
+from typing import NamedTuple
 
 from again import REFUSALS
 from preload import Program, Refusal  # by which `lib` is found
@@ -28,6 +29,9 @@ TIMES = 3  # names that collide take less than 3 times the instructions of other
 CANCEL_TIMES = 2  # cancels take less than twice the instructions of others
 AGAIN = 2_990  # the orders that are cancelled, each with a submit after it, so that all fit a journal of 10,000 records
 MOST_TIMES = 3  # a run on a full book takes less than three times the instructions that were counted
+SEARCH_TIMES = 1.5  # and as many for a search by relaxed welfares, most of whose time goes to finding places among many steps
+UNFINISHED = 3  # the status of a search that came to its limit on nodes
+REFUSED = 500  # the commands that are refused, each after an accepted one
 SECONDS = 1_200  # for a run of some seconds, on a machine that has much else to do
 DRAWN = Refusal("random")
 FIXED = Refusal("random", first=1, error=errno.ENOSYS)
@@ -39,12 +43,12 @@ LOOKS = 49.7  # millions of instructions of the calls of `dam_refusals` up to a 
 COUNTED = re.compile(r"I +refs: +([\d,]+)")
 
 
-def instructions(program, words, data, refusal):
-    """How many instructions a run takes, which must succeed."""
+def instructions(program, words, data, refusal, status=0):
+    """How many instructions a run takes, which must end with this status."""
     log = program.counts().with_suffix(".valgrind")
     count = [shutil.which("valgrind"), "--tool=cachegrind", "--cache-sim=no", "--cachegrind-out-file=/dev/null", f"--log-file={log}"]
     printed, _ = program.run(words, data, refusal, seconds=SECONDS, under=count)
-    if printed.status:
+    if printed.status != status:
         raise ValueError(f"{words} under valgrind: status {printed.status}, {printed.stderr[:80]!r}")
     return int(COUNTED.search(log.read_text())[1].replace(",", ""))
 
@@ -148,6 +152,18 @@ def full_journal():
     return records + [f"cancel,{code},N-{at},,,,,,\n" for at, code in zip(range(left), codes())]
 
 
+def refused_commands():
+    """A full book, and by turns an amend and a submit that is refused because its order is there."""
+    begin = [*book(24)]
+    amends = [f"amend,{code},N-{at},,,{4_000 + at},{1 + at % 24}:7,,\n" for at, code in zip(range(REFUSED), codes())]
+    return begin + by_turns(amends, begin)
+
+
+def crowded():
+    """A full book whose hourly orders are all in one period."""
+    return [*book(1, blocks=0), *book(24, orders=0)]
+
+
 def long_amends():
     """Amends of a block in each period of the longest day."""
     periods = rules.GREATEST_PERIOD
@@ -156,33 +172,47 @@ def long_amends():
         yield f"amend,A,K-1,,,{cents},{volumes(periods, lambda period: period + cents)},,\n"
 
 
+class Work(NamedTuple):
+    """A run: the day's periods, the records, the words, the millions of instructions that were counted, how many times as many are too
+    many, and the status."""
+
+    periods: int
+    records: list
+    words: list
+    millions: float
+    times: float = MOST_TIMES
+    status: int = 0
+
+
 def works():
-    """Runs: the day's periods, the records, the words, and the millions of instructions that were counted."""
+    """Each run, by its name."""
     clear, day = ["clear", "--workers", "1"], ["day", "--workers", "1"]
-    limited = [*clear, "--cut", "0", "--nodes", "8000"]
+    limited = [*clear, "--cut", "0", "--nodes"]
     return {
-        "replay of a full journal": (24, full_journal(), ["replay"], 30.1),
-        "clear of a full book": (24, book(24), clear, 18.5),
-        "clear of a full book of quarter-hours": (96, book(96), clear, 24.2),
-        "clear of 12 blocks within 8,000 nodes": (24, book(24, orders=480, blocks=12), limited, 60.9),
-        "day of a full journal": (24, full_journal(), day, 96.5),
-        "day of amends of 100 volumes": (rules.GREATEST_PERIOD, long_amends(), day, 60.8),
+        "replay of a full journal": Work(24, full_journal(), ["replay"], 30.1),
+        "clear of a full book": Work(24, book(24), clear, 18.5),
+        "clear of a full book of quarter-hours": Work(96, book(96), clear, 24.2),
+        "clear of 12 blocks within 8,000 nodes": Work(24, book(24, orders=480, blocks=12), [*limited, "8000"], 60.9),
+        "clear of a crowded period up to 2,000 nodes": Work(24, crowded(), [*limited, "2000"], 83.1, SEARCH_TIMES, UNFINISHED),
+        "day of a full journal": Work(24, full_journal(), day, 96.5),
+        "day of a full book and refused commands": Work(24, refused_commands(), day, 54.3),
+        "day of amends of 100 volumes": Work(rules.GREATEST_PERIOD, long_amends(), day, 60.8),
     }
 
 
-def compare(runs, about, count, millions):
+def compare(runs, about, count, millions, times):
     """Compares the instructions of a run with the millions that were counted before."""
     took = f"{about}: {count / 1e6:.1f} million instructions"
     print(took, flush=True)
-    runs.check(f"{took}, more than {MOST_TIMES} times {millions} million", count < MOST_TIMES * millions * 1e6)
+    runs.check(f"{took}, more than {times} times {millions} million", count < times * millions * 1e6)
 
 
 def full(runs):
     """Counts the instructions of runs on full books, and of a journal that is filled at a gate."""
     tried = works()
-    asked = [(words, journal(records, words[0] != "day", periods)) for periods, records, words, _ in tried.values()]
-    counts = runs.pool.map(lambda it: instructions(runs.program, *it, DRAWN), asked)
-    for (about, (*_, millions)), count in zip(tried.items(), counts):
-        compare(runs, about, count, millions)
+    asked = [(it.words, journal(it.records, it.words[0] != "day", it.periods), DRAWN, it.status) for it in tried.values()]
+    counts = runs.pool.map(lambda it: instructions(runs.program, *it), asked)
+    for (about, work), count in zip(tried.items(), counts):
+        compare(runs, about, count, work.millions, work.times)
     looks = instructions(Program(REFUSALS, runs.program.room), ["full"], b"", DRAWN)
-    compare(runs, "calls up to a full journal, each with a look after it", looks, LOOKS)
+    compare(runs, "calls up to a full journal, each with a look after it", looks, LOOKS, MOST_TIMES)

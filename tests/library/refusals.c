@@ -1,17 +1,20 @@
 /* refusals replay|clear FILE: calls the library with memory that is counted. First with each request for memory refused in turn: the
  * status is 4, the answer is the line that says that memory ran out, and every block is given back. Then 10,000 times, and no block is
- * left. The last line is 'N passed, M failed'. */
+ * left. The blocks of a small day, such as examples/first-day.csv, never have more than MOST_HELD bytes at once: the program holds 15 KB.
+ * The last line is 'N passed, M failed'. */
 #include "dam.h"
 
+#include <malloc.h>
 #include <stdbool.h>
 #include <stdio.h>
 #include <stdlib.h>
 #include <string.h>
 
-enum { MOST_TEXT = 1 << 20, ROOM = 1 << 20, CALLS = 10000 };
+enum { MOST_TEXT = 1 << 20, ROOM = 1 << 20, CALLS = 10000, MOST_HELD = 1 << 17 };
 
 static long left = -1; /* requests until one is refused; none if it is negative */
 static long asked, live;
+static size_t held, most_held; /* bytes of blocks, now and at most */
 
 struct tried {
     bool ok;
@@ -27,21 +30,38 @@ static bool is_refused(void) {
     return left >= 0 && left-- == 0;
 }
 
+/* Counts a new block, if there is one. */
+static void hold(void *at) {
+    held += malloc_usable_size(at);
+    most_held = held > most_held ? held : most_held;
+}
+
 struct tried rattle_alloc(size_t size, size_t align) {
     if (is_refused()) {
         return tried(NULL);
     }
     live++;
-    return tried(malloc(size != 0 ? size : align));
+    void *at = malloc(size != 0 ? size : align);
+    hold(at);
+    return tried(at);
 }
 
+/* A block that is resized may move, and so counts twice until then. */
 struct tried rattle_realloc(void *at, size_t kept, size_t size, size_t align) {
     (void)kept;
-    return is_refused() ? tried(NULL) : tried(realloc(at, size != 0 ? size : align));
+    if (is_refused()) {
+        return tried(NULL);
+    }
+    size_t before = malloc_usable_size(at);
+    void *resized = realloc(at, size != 0 ? size : align);
+    hold(resized);
+    held -= resized != NULL ? before : 0;
+    return tried(resized);
 }
 
 void rattle_dealloc(void *at) {
     live--;
+    held -= malloc_usable_size(at);
     free(at);
 }
 
@@ -86,6 +106,12 @@ int main(int count, char **words) {
     }
     passed += is_right;
     failed += !is_right;
+    is_right = most_held != 0 && most_held <= MOST_HELD;
+    passed += is_right;
+    failed += !is_right;
+    if (!is_right) {
+        printf("%zu bytes were held at once, at most %d expected\n", most_held, MOST_HELD);
+    }
     printf("%ld passed, %ld failed\n", passed, failed);
     return failed != 0;
 }
