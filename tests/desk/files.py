@@ -1,5 +1,6 @@
 """Files that aren't a desk's, full journals, hostile lines, and lines that are cut: a named fault, and nothing is changed."""
 
+import contextlib
 import os
 import random
 import resource
@@ -25,6 +26,7 @@ NO_LINES = b"file: its lines aren't a journal: "
 NOBODY = 65_534
 NO_TEXT = os.fsdecode(b"\xff")  # a word that isn't UTF-8
 BATCH = 65_536  # bytes of a read
+READS = 70_000  # more than 16 bits count
 LENGTHS = [round(1.5**power) for power in range(1, 29)]  # of lines, up to one that is too long
 MEMORY = 256 << 20  # bytes of addresses, for the longest inputs
 USAGE = b"command line\nUsage: dam-desk "
@@ -87,6 +89,7 @@ def run(counts, desk, dam, whole):
     files.full()
     files.half_a_line()
     files.long_batches()
+    files.many_reads()
     files.hostile_lines(whole)
     print(f"files: {counts.passed + counts.failed - before} checks; {time.monotonic() - begun:.1f} s", flush=True)
 
@@ -313,6 +316,21 @@ class Files:
         again = self.desk.run(folder / "day.desk")
         outputs = sum(event.kind == OUTPUT for event in again.events)
         self.counts.check(f"{outputs} writes of {len(again.stdout)} bytes at an opening", outputs == 1 and len(again.stdout) > BATCH)
+
+    def many_reads(self):
+        """A desk reads as long as there is input: each line is sent once the one before is answered."""
+        words = [*self.desk.words, str(desk_file(self.desk.folder(), lines(DAY)))]
+        with subprocess.Popen(words, stdin=subprocess.PIPE, stdout=subprocess.PIPE) as desk:
+            given, answered, number = desk.stdin.fileno(), desk.stdout.fileno(), 0
+            is_right = os.read(answered, BATCH) == b"day,24\n"
+            while is_right and number < READS:
+                number += 1
+                with contextlib.suppress(BrokenPipeError):
+                    os.write(given, b"A\n")
+                is_right = os.read(answered, BATCH) == b"fault,%d,FieldCount\n" % number
+            self.counts.check(f"line {number} of as many reads is answered", is_right)
+            rest, _ = desk.communicate()
+            self.counts.check(f"a desk ends after {number} reads: status {desk.returncode}", (desk.returncode, rest) == (0, b""))
 
     def hostile_lines(self, whole):
         """16 MB of lines that aren't records, in little memory."""
