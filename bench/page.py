@@ -43,16 +43,16 @@ CELLS = {
 TOGETHER = r"(?:deep|all thin) books together: .*"
 PICTURES = {
     "growth": "The nodes are the twin's. A node stands for all selections with its decisions. The further a family lies below the dashed\n"
-    "line, the more its bound saves.\n\n"
+    "line, the more is left out.\n\n"
     "![Nodes of each family by the number of blocks, compared with 2^n](growth.svg)\n"
 }
 UNITS = {"ns": 1e-9, "us": 1e-6, "ms": 1e-3}  # of a second
 HEAD = """# Measured figures
 
-`bench/run` (see its head) runs the benchmarks, and `bench/page.py` writes this page. A time is the median of several runs. In `blocks` and
-`thin`, a program that took over a second isn't run again; an office's whole day is run once. Compared programs run alternately. `A compared
-with B` is A's time, rate or memory divided by B's. The docstring of each part's script describes its method. The load is the average of the
-minute before. The baseline and the twin are [plain Rust programs](../crates/NOTES.md#words).
+`bench/run` runs the benchmarks, and `bench/page.py` writes this page. A time is the median of several runs. In `blocks` and `thin`, a
+program that took over a second isn't run again; an office's whole day is run once. Compared programs run alternately. `A compared with B`
+is A's time, rate or memory divided by B's. The docstring of each part's script describes its method. The load is the average of the minute
+before. The baseline and the twin are [plain Rust programs](../crates/NOTES.md#words).
 
 A CSV file has every figure of a part, with its target; this page shows some, and the missed targets by kind.
 `grep MISSED bench/measured/*.csv` prints each.
@@ -164,7 +164,7 @@ def missed(rows):
         wrong = [(book, figure) for book, figure, is_missed in found if is_missed]
         if wrong:
             gave_up = sum(figure == "?" for _, figure, _ in found)
-            count = f"{len(wrong)} of {len(found)}" + (f" ({gave_up} gave up)" if gave_up else "")
+            count = f"{len(wrong)} of {len(found)}" + (f" ({gave_up} gave up: met)" if gave_up else "")
             furthest, _ = (min if target.startswith("at least") else max)(wrong, key=lambda each: size(each[1]))
             yield [kind, count, span([figure for _, figure in wrong]), target, furthest]
 

@@ -34,12 +34,12 @@ class Measured(unittest.TestCase):
         text, total = page.PAGE.read_text(encoding="utf-8"), 0
         for part in (row[0] for row in page.read(page.KEPT / "runs.csv")):
             missed = [row for row in page.read(page.KEPT / f"{part}.csv") if row[3] == "MISSED"]
-            said = re.findall(rf"^\| {part} \| [^[|]* \| (\d+) of \d+(?: \((\d+) gave up\))? \| ([^|]*) \| ([^|]*) \| ([^|]*) \|$", text, re.MULTILINE)
+            said = re.findall(rf"^\| {part} \| [^[|]* \| (\d+) of \d+(?: \((\d+) gave up: met\))? \| ([^|]*) \| ([^|]*) \| ([^|]*) \|$", text, re.MULTILINE)
             with self.subTest(part):
                 self.assertEqual(sum(int(count) for count, *_ in said), len(missed))
                 kind = lambda row: (row[0].rpartition(": ")[2], row[2])
                 kinds = set(map(kind, missed))
-                gave_up = [row for row in page.read(page.KEPT / f"{part}.csv") if row[1] == "?" and kind(row) in kinds]
+                gave_up = [row for row in page.read(page.KEPT / f"{part}.csv") if row[1] == "?" and row[3] == "holds" and kind(row) in kinds]
                 self.assertEqual(sum(int(count or 0) for _, count, *_ in said), len(gave_up))
                 for row in missed:
                     self.assertTrue(any(row[2] == target for *_, target, _ in said), row)
