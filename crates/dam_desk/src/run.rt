@@ -1,7 +1,8 @@
 //! The run of a desk, from its disk before to its disk after.
 ghost use Rattle.std.specs.Prelude.{◌≡◌, ◌⊎◌, true, not, IsTrue, IfOk, IfErr, OnOk, OnErr};
 ghost use Rattle.dam_desk.specs.Desk.{IsUnopened};
-ghost use Rattle.dam_desk.specs.Faults.{IsEndFault, is_failed_sync, is_read};
+ghost use Rattle.dam_desk.specs.Faults.{IsEndFault, is_failed_sync, is_read, of_file};
+ghost use Rattle.dam_store.specs.declared.fault.FileFault.{FileFault};
 ghost use Rattle.dam_desk.specs.DeskRun.{EndsAnswered, EndsSafe, EndsServed, EndsUnopened};
 
 use crate::fault::DeskFault;
@@ -97,6 +98,7 @@ pub(crate) fn serve_file<S: Start, R: Read, W: Write>(
     ensures usable { IfOk result (λ ended. IfErr ended.done (λ why.
         ⟦<FileFrom<S> as Disk>⟧.is_usable ended.disk ≡ not (is_failed_sync why))) }
     ensures unopened { OnErr result (writer.new ≡ writer.old) }
+    ensures cause { IfErr result (λ why. (fault : FileFault) × (why ≡ of_file fault)) }
 {
     let disk = open_file(rt, path, start)?;
     Ok(run(rt.alloc(), Seed::drawn(rt), disk, reader, writer))
