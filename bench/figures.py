@@ -139,7 +139,7 @@ def at_most(what, value, target, shown=seconds, detail=""):
 
 
 def times(value, digits=2):
-    """A multiple, with at least so many digits that aren't 0."""
+    """A multiple, with at least this number of digits that aren't 0."""
     return f"{value:.{digits}g} x" if value < 0.1 else f"{value:.{digits}f} x" if value < 100 else f"{value:,.0f} x"
 
 

@@ -159,7 +159,7 @@ THIN = [
 ]
 # One of equal limits, so that a search looks for a sum of volumes, and one that took more than 30 s while bounds came from tables.
 THIN += [book("odd", 0, 2, 4, 500), book("base", 20, 6, 4, 1_500)]
-# The thin markets that took a search longest, of 2,575 that were drawn at random: for so many orders, by spread and seed.
+# The thin markets that took a search longest, of 2,575 that were drawn at random: by number of orders, spread and seed.
 ODD = {1_000: [(0, 249)], 800: [(0, 285)], 300: [(0, 242)]}
 RANDOM = {500: [(200, 686), (5, 30), (5, 284), (50, 347), (0, 109), (5, 752)], 800: [(300, 1)]}
 HARDEST = [book(kind, *drawn, 4, orders) for kind, found in (("odd", ODD), ("random", RANDOM)) for orders, each in found.items() for drawn in each]

@@ -50,7 +50,7 @@ class Day:
         return sum(map(self.curve, periods)) / len(periods)
 
     def blocks(self, count, hours, sizes, above, side):
-        """Blocks over a span of so many hours, with one volume; `above` draws by how much the limit is above the mean price."""
+        """Blocks over a span of this number of hours, with one volume; `above` draws by how much the limit is above the mean price."""
         for number in range(count):
             periods, size = self.span(*hours), self.rng.randint(*sizes)
             price = round(self.mean_price(periods) + above())

@@ -201,7 +201,7 @@ def limited(desk, given, bytes_, stdout=subprocess.PIPE):
 
 
 def cut_off(desk, given, bytes_):
-    """A run whose answers go to a file that has room for so many bytes, the answers there, and the desk's file."""
+    """A run whose answers go to a file that has room for this number of bytes, the answers there, and the desk's file."""
     with open(desk.folder() / "answers", "w+b") as answers:
         answers.seek(LONGEST - bytes_)
         ran, file = limited(desk, given, LONGEST, answers)

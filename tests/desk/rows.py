@@ -1,4 +1,4 @@
-"""rows.py ROOM [--all] [PART..]: runs the parts of the tests of a desk, on ROOM/dam-desk."""
+"""rows.py ROOM [--all | --count] [PART..]: runs the parts of the tests of a desk, on ROOM/dam-desk."""
 
 import os
 import resource
@@ -13,13 +13,15 @@ import files
 import kills
 import names
 import refused
+import shape_costs
 import stand_ins
 import streams
 from device import Desk
 from journals import Dam
 from shared.counts import Counts
 
-PARTS = {"stand_ins": stand_ins, "crashes": crashes, "kills": kills, "refused": refused, "files": files, "streams": streams, "names": names}
+PARTS = {"stand_ins": stand_ins, "crashes": crashes, "kills": kills, "refused": refused, "files": files, "streams": streams, "names": names,
+         "shapes": shape_costs}  # fmt: skip
 
 
 def processor_time():
@@ -30,11 +32,13 @@ def processor_time():
 def main():
     room, *words = sys.argv[1:]
     whole = "--all" in words
-    chosen = [word for word in words if word != "--all"]
+    chosen = [word for word in words if word not in ("--all", "--count")]
     if not set(chosen) <= set(PARTS):
         sys.exit(f"the parts are {', '.join(PARTS)}")
     counts, dam = Counts(), Dam(os.environ["DAM"])
     desk = Desk([Path(room) / "dam-desk"], room)
+    if "--count" in words:
+        return shape_costs.count(desk)
     for name in chosen or PARTS:
         begun = time.monotonic(), processor_time()
         PARTS[name].run(counts, desk, dam, whole)

@@ -319,7 +319,7 @@ def wrong_place(rng, content):
 
 @in_sheet
 def behind_the_cells(rng, content):
-    """A row behind the table of cells, or beside it."""
+    """A row behind the table of cells, or next to it."""
     row = '<row r="1048576"><c r="A1048576"><v>1</v></c></row>'
     around = rng.choice(["", "sheetPr", "x", "extLst", "sheetData"])
     row = f"<{around}>{row}</{around}>" if around else row

@@ -1,4 +1,4 @@
-"""rows.py ROOM PROGRAM [--all]: runs the program on examples with each of its calls refused in turn, by ROOM/refuse.so."""
+"""rows.py ROOM PROGRAM [--all | --count]: runs the program on examples with each of its calls refused in turn, by ROOM/refuse.so."""
 
 import errno
 import os
@@ -16,6 +16,7 @@ import again
 import costs
 import judge
 import peaks
+import shapes
 from preload import EVERY, LEFT, SECONDS, Program, Refusal
 from shared import cases
 from shared.counts import Counts
@@ -367,9 +368,11 @@ def copies(runs):
 
 def main():
     room, program, *rest = sys.argv[1:]
-    if rest not in ([], ["--all"]):
-        sys.exit("usage: tests/hostile/run PROGRAM [--all]")
+    if rest not in ([], ["--all"], ["--count"]):
+        sys.exit("usage: tests/hostile/run PROGRAM [--all | --count]")
     runs = Runs(Program(program, room), rest == ["--all"])
+    if rest == ["--count"]:
+        return shapes.write(shapes.COUNTED, shapes.costs_of(runs))
     runs.run_rows("memory refused once in the worked cases", worked_rows())
     runs.run_rows("memory refused from one call on in the worked cases", worked_rows_without_memory())
     runs.run_rows("memory refused in days and other runs", memory_rows())
@@ -390,8 +393,9 @@ def main():
         costs.names(runs)
         costs.cancels(runs)
         costs.full(runs)
+        shapes.compare(runs, shapes.COUNTED, shapes.costs_of(runs))
     else:
-        runs.leave_out("names that collide, many cancels, and full books: valgrind, which counts instructions, is missing", 3)
+        runs.leave_out("names that collide, many cancels, full books, and shapes: valgrind, which counts instructions, is missing", 4)
     return runs.end()
 
 

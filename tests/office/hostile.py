@@ -39,7 +39,7 @@ def request(method, path, headers=(), body=b""):
 
 
 def wide_headers(size):
-    """Headers with which a request for the days has a head of so many bytes."""
+    """Headers with which a request for the days has a head of this number of bytes."""
     headers = []
     while (left := size - len(request("GET", "/days", headers)) - len("X: \r\n")) > 3_000:
         headers.append(f"X: {'a' * 2_900}")

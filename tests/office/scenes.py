@@ -280,7 +280,7 @@ def whole_day(args, counts):
 
 
 def other_answers(office, size):
-    """The answers of an office that starts, until it is ready, which aren't those of a closed day with so many entries."""
+    """The answers of an office that starts, until it is ready, which aren't those of a closed day with this number of entries."""
     who, is_ready = office.who[0], False
     while not is_ready:
         is_ready = office.is_ready()

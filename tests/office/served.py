@@ -26,7 +26,7 @@ TOOL = [sys.executable, "-I", "-B", str(TOP / "tools" / "office")]
 
 
 def day_of(periods):
-    """A day of so many periods."""
+    """A day of this number of periods."""
     return CLOCKS_CHANGE.get(periods, DAY)
 
 

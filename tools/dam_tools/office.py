@@ -153,7 +153,7 @@ class Office(Calls):
         return self.ask(Asked("GET", self.own(day, "receipts")))
 
     def head(self, day: str, since: int | None = None) -> bytes:
-        """The newest signed head, or the proof that it goes on from the head of so many entries."""
+        """The newest signed head, or the proof that it goes on from the head of this number of entries."""
         return self.ask(Asked("GET", f"/days/{day}/head" + ("" if since is None else f"?since={since}")))
 
     def table(self, day: str, data: bytes) -> list[str]:

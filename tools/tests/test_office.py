@@ -1257,7 +1257,7 @@ class RequestHeads(unittest.IsolatedAsyncioTestCase):
         return made
 
     def head(self, size, end="\r\n", last="\r\n"):
-        """A head of so many bytes."""
+        """A head of this number of bytes."""
         lines = ["GET /days HTTP/1.1", "Host: x"]
         while (left := size - len(end.join([*lines, "X: "]) + end + last)) > 3_000:
             lines.append(f"X: {'a' * 2_900}")

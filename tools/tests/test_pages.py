@@ -23,7 +23,8 @@ WIDEST = 140  # columns of a line that isn't of a table
 # The files with comments, which are as wide at most.
 COMMENTED = ["check", "dam", "bench/run", "library/build", "library/dam.h", "library/heap.c"]
 COMMENTS = ["crates/*/src/**/*.rt", "crates/*/specs/**/*.antt", "crates/*/proofs/**/*.antt", "tests/**/*.test", "tests/**/*.py", "tests/*/run"]
-COMMENTS += ["tests/run-*", "tools/*", "tools/**/*.py", "tools/tests/*.sh", "tools/lib/**/*.js", "bench/*.py", "docs/*.py", "package/*.py"]
+COMMENTS += ["tests/run-*", "tools/*", "tools/**/*.py", "tools/tests/*.sh", "tools/lib/**/*.js", "bench/*.py", "bench/measures/**/*.bench"]
+COMMENTS += ["docs/*.py", "package/*.py"]
 COMMENT = re.compile(r"\s*(#|//|--|/\*| \* )")
 # The words for which the house rule of English has others, apart from the table of that rule.
 OTHER_WORDS = re.compile(r"\b(anew|beside|dear|so many|want of|whoever)\b", re.IGNORECASE)
@@ -79,6 +80,18 @@ FILES = re.compile(r"^\| File of `src/` \| Contents \|\n\|---\|---\|\n((?:\|.*\n
 EXAMPLE = re.compile(r"^```text\n(day,24\nwelfare.*?)^```$", re.MULTILINE | re.DOTALL)
 
 
+def commented_files():
+    files = [path for path in map(TOP.joinpath, COMMENTED) if path.is_file()]
+    return files + [path for pattern in COMMENTS for path in sorted(TOP.glob(pattern)) if path.is_file() and "out" not in path.parts]
+
+
+def comments(path):
+    """The lines of a file's comments, and of its strings of several lines if it is in Python."""
+    text = path.read_text(errors="replace")
+    strings = re.findall(r'"""(.*?)"""', text, re.DOTALL) if path.suffix == ".py" or text.startswith("#!/usr/bin/env python3") else []
+    return [line for line in text.splitlines() if COMMENT.match(line)] + [line for string in strings for line in string.splitlines()]
+
+
 def sections(page):
     """The names that the section of each file has on the page of definitions."""
     found = re.findall(r"^## `(\w+)/specs/(\w+)\.antt`\n(.*?)(?=^## |\Z)", page, re.M | re.S)
@@ -86,7 +99,7 @@ def sections(page):
 
 
 def rows_of_words(page):
-    """Each row of so many words in a sentence or cell of a page."""
+    """Each row of `IN_A_ROW` words in a sentence or cell of a page."""
     for part in re.sub(r"\]\([^)]*\)", "", prose(page)).replace("`", "").split("|"):
         words = re.findall(r"[\w'.:/-]+", part)
         for at in range(len(words) - IN_A_ROW + 1):
@@ -123,8 +136,7 @@ class Pages(unittest.TestCase):
 
     def test_lines_of_comments_are_not_too_wide(self):
         self.assertIn(f"Lines of comments and pages have at most {WIDEST} columns", (TOP / "docs" / "CONTRIBUTING.md").read_text())
-        files = [path for path in map(TOP.joinpath, COMMENTED) if path.is_file()]
-        files += [path for pattern in COMMENTS for path in sorted(TOP.glob(pattern)) if path.is_file() and "out" not in path.parts]
+        files = commented_files()
         self.assertGreater(len(files), 500)
         for path in files:
             for number, line in enumerate(path.read_text(errors="replace").splitlines(), 1):
@@ -158,6 +170,11 @@ class Pages(unittest.TestCase):
                 if not (page.name == "CONTRIBUTING.md" and line.lstrip().startswith("|")):
                     with self.subTest(page=page.name, line=line[:40]):
                         self.assertIsNone(OTHER_WORDS.search(line))
+
+    def test_words_of_the_house_rule_in_comments(self):
+        for path in commented_files():
+            with self.subTest(path=str(path.relative_to(TOP))):
+                self.assertEqual([line for line in comments(path) if OTHER_WORDS.search(line)], [])
 
     def test_what_is_not_a_noun(self):
         """In sentences, 'what' only asks; headings, tables, quotes and the pages with examples of the rule are left out."""

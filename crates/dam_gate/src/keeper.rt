@@ -46,7 +46,7 @@ impl From<AllocError> for KeeperFault {
 #[derive(Clone, Copy, PartialEq, Eq, Debug, Error)]
 pub enum BeginFault {
     /// No delivery day has that number of periods.
-    #[error("no delivery day has so many periods")]
+    #[error("no delivery day has this number of periods")]
     BadDay,
     /// Memory ran out.
     #[error("out of memory")]

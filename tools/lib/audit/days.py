@@ -202,8 +202,8 @@ def printed(status, records):
 
 
 def ran(pair, options, running, seconds):
-    """The status of the process of a day, its output and its lines on standard error. Until it ends, it is among the `running`; after so many
-    seconds it is ended."""
+    """The status of the process of a day, its output and its lines on standard error. Until it ends, it is among the `running`; after
+    this number of seconds it is ended."""
     files = [file_name(path) for path in (pair.journal, pair.results) if path is not None]
     words = [*command.this_python(), os.fspath(TOOL), "--json", *options, "--", *files]
     with running.started(words, stdin=subprocess.DEVNULL, stdout=subprocess.PIPE, stderr=subprocess.PIPE) as process, process:
@@ -282,7 +282,7 @@ class Work:
 
 
 def audit_all(pairs, options, jobs, bar, seconds=MORE_SECONDS, is_json=False):
-    """As much as is kept of the records of all days, in their order; each may take so many seconds."""
+    """As much as is kept of the records of all days, in their order; each may take this number of seconds."""
     work = Work(pairs, options, seconds, is_json)
     try:
         work.start(jobs)

@@ -16,7 +16,7 @@ from ..base.progress import Progress
 from ..base.record import ENCODING, FAILED, RIGHT, UNDECIDED, UNREAD, WRONG
 from ..base.rules import VERSION
 
-# Of each status, the verdict.
+# The verdict for each status.
 OF_STATUS = {
     command.DONE: RIGHT,
     command.DIFFERS: WRONG,
@@ -189,7 +189,8 @@ class Audit:
         return how
 
     def check_sent(self, read, reasons, closed, proof):
-        """Compares a participant's sent commands with the journal. Of a command that the journal lacks, `proof` says what receipts show."""
+        """Compares a participant's sent commands with the journal. If the journal lacks a command, `proof` says what
+        receipts show."""
         options = self.options
         self.checked.append("commands sent")
         published = sent.published_of(read, reasons, options.participant)

@@ -99,7 +99,7 @@ class Bar(Line):
         self.done = 0
 
     def step(self, steps=1, words=""):
-        """So many more steps are done."""
+        """This number of further steps is done."""
         self.done += steps
         now = time.monotonic()
         if self.told and now - self.begun >= self.MOMENT and now - self.last >= self.PAUSE:

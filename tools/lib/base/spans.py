@@ -12,7 +12,7 @@ def dashed(words):
 
 
 def read(words, greatest, separators=";", periods=None):
-    """The periods of a text, in its order; a ValueError says the right form of the text, for a day of so many periods if they are
+    """The periods of a text, in its order; a ValueError says the right form of the text, for a day of this number of periods if they are
     known."""
     numbers = []
     parts = [part for part in re.split(rf"[{separators}\s]+", words) if part]

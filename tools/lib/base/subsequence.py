@@ -18,8 +18,8 @@ def in_order(one, other, look=lambda: None):
 
 
 def longest(one, other, look):
-    """The same by bit vectors: after so many entries of `other`, bit `at` of a row is 0 if the length of a longest common subsequence with
-    the beginning of `one` grows at this place."""
+    """The same by bit vectors: after each number of entries of `other`, bit `at` of a row is 0 if the length of a longest common subsequence
+    with the beginning of `one` grows at this place."""
     bits, every = {}, (1 << len(one)) - 1
     for at, entry in enumerate(one):
         bits[entry] = bits.get(entry, 0) | 1 << at

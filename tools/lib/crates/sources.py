@@ -1,7 +1,7 @@
 """The sources that a program or the library for C is built of, and the record of each build.
 
 The record stands next to the file that was built, as NAME.json. It has the SHA-256 of the file and that of the sources of each crate, and
-names the kit. By it tools/package knows that a file was built of the present sources, regardless of the dates. Whoever builds takes the
+names the kit. By it tools/package knows that a file was built of the present sources, regardless of the dates. A builder takes the
 sums before, and the record is written only if they are the same afterwards.
 
     python3 tools/lib/crates/sources.py CRATE                  prints the sums of a crate's sources

@@ -40,8 +40,8 @@ class Clock:
 
 @dataclasses.dataclass(eq=False)
 class Waiting:
-    """Commands of one request. `first` is the participant's number of the first one. `is_right` tells whether its token is still the
-    participant's. The close has no participant."""
+    """Commands of one request. `first` is the number that the participant gave the first one. `is_right` tells whether its token is still
+    the participant's. The close has no participant."""
 
     who: str
     first: int

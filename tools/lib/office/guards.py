@@ -116,7 +116,7 @@ class Handler(web_protocol.RequestHandler):
         count = self._request_count - before  # of requests that have come
         for place in range(len(self._messages) - count, len(self._messages)):
             message, self.payload = self._messages[place]
-            # no route takes a body in chunks, which is dear to read, or another protocol; and a head ends at a known end
+            # no route takes a body in chunks, which is expensive to read, or another protocol; and a head ends at a known end
             odd = getattr(message, "chunked", False) or getattr(message, "upgrade", False) or getattr(message, "method", "") == "CONNECT"
             self.is_deaf = self.is_deaf or odd or self.head_tail != b""
             self.head_bytes, self.length = 0, length_of(message)
@@ -191,7 +191,7 @@ class Server(web.Server):
 
 
 class Listener:
-    """Accepts connections, at most so many at a time. One counts from the moment that it is accepted, before its TLS handshake."""
+    """Accepts connections, at most this number at a time. One counts from the moment that it is accepted, before its TLS handshake."""
 
     def __init__(self, server, listening, tls, counts):
         self.server, self.socket, self.tls, self.counts = server, listening, tls, counts

@@ -77,7 +77,7 @@ class Ledger:
         return entry, found.record, found.reply
 
     def entries(self, who, since=0):
-        """All of them, or those after so many, each with its own number first."""
+        """All of them, or those after this number, each with its own number first."""
         return [(number, *self.entry(who, number)) for number in range(since + 1, self.count(who) + 1)]
 
     def orders(self, who):

@@ -14,7 +14,7 @@ from . import folder
 
 BYTES = 32
 DIGEST = re.compile(r"[0-9a-f]{64}")
-NOBODY = hashlib.sha256(secrets.token_bytes(BYTES)).hexdigest()  # of no token that anyone has
+NOBODY = hashlib.sha256(secrets.token_bytes(BYTES)).hexdigest()  # the digest of a random token, which nobody has
 
 
 def made(who):

@@ -64,7 +64,7 @@ DAY = r"/days/{day:[0-9A-Za-z._-]{1,32}}"
 OWN = r"/{who:[A-Z]{1,8}}"
 NUMBER = r"/{number:[1-9][0-9]{0,4}}"
 PARTS = {"/": ("office.html", "text/html"), "/office.css": ("office.css", "text/css"), "/office.js": ("office.js", "text/javascript")}
-# That the page checks before it sends an order, or tells.
+# The numbers that the page checks an order by before it sends it, or shows.
 RULES = "LEAST_PRICE", "GREATEST_PRICE", "GREATEST_VOLUME", "LONGEST_NAME", "MOST_HOURLY", "MOST_BLOCKS"
 OPENAPI = Path(__file__).with_name("openapi.json")
 
@@ -392,15 +392,15 @@ class Web:
         return web.json_response({**self.shown(gate), "begins": [clock.begins(periods, number) for number in range(1, periods + 1)]})
 
     def unstopped(self, request):
-        """The day of a request. A stopped one shows nothing: its journal may be another than that of earlier heads, or a file isn't as it
-        was made."""
+        """The day of a request. A stopped day shows nothing: its journal may differ from the one that earlier heads sign, or a file may
+        have changed."""
         gate = self.gate(request)
         if gate.fault:
             raise Refused("Unavailable", STOPPED_WORDS)
         return gate
 
     async def head(self, request):
-        """The newest head; with `since` the proof that it goes on from the head of so many entries."""
+        """The newest head; with `since` the proof that it goes on from the head of this number of entries."""
         gate = self.unstopped(request)
         self.need_known(gate)
         ledger = gate.ledger

@@ -127,7 +127,7 @@ class Count:
 
 class Text:
     """The rows of a text that aren't empty, each with its number, in bounded memory and time: if they have more than `most` after the first,
-    only one more. Whoever goes through them reads the text once more."""
+    only one more. A caller that goes through them again reads the text again."""
 
     def __init__(self, data, notes, most, times):
         """`times`: how many times the cells and the text of a workbook it may have."""

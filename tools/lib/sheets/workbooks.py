@@ -667,7 +667,8 @@ PACKED = re.compile("([\ud800-\udfff])([^\ud800-\udfff]*)")
 
 
 class Rows(Kept):
-    """Rows of cells by their numbers, packed: a cell of its own takes some 100 bytes. Whoever goes through them unpacks each once more."""
+    """Rows of cells by their numbers, packed: a cell of its own takes some 100 bytes. A caller that goes through them again unpacks each
+    again."""
 
     def __len__(self):
         return len(self.numbers)

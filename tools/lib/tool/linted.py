@@ -8,7 +8,7 @@ from ..base.progress import Bar
 from ..base.rules import VERSION
 
 RIGHT, REFUSED, FAULTY, UNREAD, FAILED = "right", "refused", "faulty", "unread", "failed"
-# Of each status, the verdict.
+# The verdict for each status.
 OF_STATUS = {command.DONE: RIGHT, command.DIFFERS: REFUSED, command.FAULTY: FAULTY, command.NO_INPUT: UNREAD, command.FAILED: FAILED}
 
 

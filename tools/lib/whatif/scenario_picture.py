@@ -32,4 +32,4 @@ def draw(axes, over, key):
     if found:
         middle = f"{MEDIAN}: {quantile(sorted(found), 50):,.2f} EUR"
         axes.axvline(quantile(sorted(found), 50), color=pictures.COLOURS["ink"], linewidth=1, linestyle="--", label=middle)
-        axes.legend(loc="lower right", bbox_to_anchor=(1, 1), borderaxespad=0, fontsize=8, frameon=False)  # beside the title
+        axes.legend(loc="lower right", bbox_to_anchor=(1, 1), borderaxespad=0, fontsize=8, frameon=False)  # next to the title

@@ -101,8 +101,8 @@ class Sampler:
 
 
 class Table:
-    """The scenarios of a table: each is the book with the commands of its lines, which stand together. None is kept: whoever goes through them
-    reads the table once more. An error of the table is a fault."""
+    """The scenarios of a table: each is the book with the commands of its lines, which stand together. None is kept: a caller
+    that goes through them again reads the table again. An error of the table is a fault."""
 
     def __init__(self, name, data, held):
         self.name, self.held = name, held
@@ -266,7 +266,7 @@ class Distribution:
 
 
 def quantile(found, part):
-    """The number of a sorted list that so many per cent of it are at most; None of an empty list."""
+    """The number of a sorted list that this per cent of it are at most; None of an empty list."""
     return found[max(-(-len(found) * part // 100) - 1, 0)] if found else None
 
 

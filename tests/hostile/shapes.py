@@ -1,0 +1,240 @@
+"""What journals of each shape cost: the instructions and the most bytes of a run, compared with those that were counted before.
+
+A body that does some work once more for each command, order, period or node, or keeps a copy of something, costs more on the shapes that
+it does so on. So there is a journal for each command and each refusal, on short and long days, with short and long names, and with volumes
+in one period or in each; one for each length of a day; books with all kinds of blocks and bonds in all kinds of markets; and a text in each
+form. A run costs less than `TIMES` the cost in `counted.csv`. `run PROGRAM --count` counts all of them again: look at each row that grew.
+
+The seed of the maps is the fixed one, and one participant enters the commands of a day, so that a run always costs the same."""
+
+import csv
+import itertools
+import random
+import subprocess
+import sys
+from pathlib import Path
+from typing import NamedTuple
+
+from costs import UNFINISHED, FIXED, instructions, journal, volumes
+from preload import Refusal  # by which `lib` is found
+from lib.base import rules
+
+sys.path.append(str(Path(__file__).resolve().parents[1] / "fuzz"))
+
+import full
+
+TOP = Path(__file__).resolve().parents[2]
+COUNTED = Path(__file__).with_name("counted.csv")
+TIMES = 1.25
+ROOM = 16 << 10  # bytes that a run may hold beyond
+HOURS, BLOCKS = 100, rules.MOST_BLOCKS - 4  # of a book before the commands that are counted
+COMMANDS = 400
+SEARCHED = full.Size(480, 14, 1_000)
+KINDS = ["base", "peaks", "shaped", "odd", "random", "mixed", "wide"]
+FAMILIES = ["market", "paradox", "spread", "nearties", "links", "groups", "ties"]
+
+
+class Shape(NamedTuple):
+    """A day's number of periods, the participant, the names, and the volumes of blocks and amends."""
+
+    periods: int
+    who: str
+    name: str  # with a number in it
+    is_wide: bool
+
+    def named(self, number):
+        return self.name % number
+
+    def volumes(self, volume=7):
+        return volumes(self.periods if self.is_wide else 1, lambda period: volume + period % 3)
+
+    def hour(self, number, cents=5_000, name=None):
+        side, period = ("buy", "sell")[number % 2], 1 + number % self.periods
+        return f"submit,{self.who},{name or self.named(number)},hour,{side},{cents + number % 50},{period}:{5 + number % 9},,\n"
+
+    def block(self, number, cents=4_900, name=None, parent="", group="", volumes=None):
+        side = ("sell", "buy")[number % 2]
+        found = name or self.named(9_000 + number)
+        return f"submit,{self.who},{found},block,{side},{cents + number % 200},{volumes or self.volumes()},{parent},{group}\n"
+
+    def amend(self, name, cents, volumes):
+        return f"amend,{self.who},{name},,,{cents},{volumes},,\n"
+
+    def cancel(self, name):
+        return f"cancel,{self.who},{name},,,,,,\n"
+
+    def first(self):
+        """The submits of a book: hourly orders, and blocks, of which every second one is a child of the one before, in one group."""
+        yield from (self.hour(number) for number in range(HOURS))
+        for number in range(BLOCKS):
+            parent = self.named(9_000 + number - 1) if number % 2 else ""
+            yield self.block(number, parent=parent, group="G" if number % 2 else "")
+
+
+SHORT, LONG = Shape(24, "A", "%X", False), Shape(100, "PARTICIP", "NAME-%07d", True)
+OTHERS = [Shape(periods, "BRAVO", "N-%d", periods % 2 == 0) for periods in rules.DAYS if periods not in (24, 100)]
+
+
+def commands(shape):
+    """Yields a name and an endless list of commands for each kind of accepted command, and each reason for a refusal but those of a full
+    book and of one that is closed."""
+    hours, blocks, one = range(HOURS), range(BLOCKS), "1:9"
+    hour, free = shape.named(0), shape.named(9_000 + BLOCKS + 1)
+    beyond = f"{rules.GREATEST_PERIOD}:1"
+    yield "hourly orders", (shape.hour(number) for number in itertools.count(1_000))
+    yield "hourly orders amended", (
+        shape.amend(shape.named(at % HOURS), at, f"{1 + at % shape.periods}:{1 + at % 99}") for at in itertools.count()
+    )
+    yield "hourly orders cancelled and submitted", (
+        line for at in itertools.cycle(hours) for line in (shape.cancel(shape.named(at)), shape.hour(at))
+    )
+    yield "blocks amended", (shape.amend(shape.named(9_000 + at), 4_000 + at, shape.volumes(at + 1)) for at in itertools.cycle(blocks))
+    yield "blocks submitted and cancelled", (
+        line
+        for at in itertools.count()
+        for line in (shape.block(at, name=free, parent=shape.named(9_000 + at % BLOCKS), group="G"), shape.cancel(free))
+    )
+    if shape.periods < rules.GREATEST_PERIOD:
+        yield "PeriodOutOfDay", itertools.cycle(
+            [
+                shape.block(0, name=free, volumes=beyond),
+                shape.amend(hour, 1, beyond),
+                f"submit,{shape.who},{free},hour,buy,1,{beyond},,\n",
+            ]
+        )
+    yield "NameTaken", itertools.cycle([shape.hour(1, name=hour), shape.block(1, name=shape.named(9_001))])
+    yield "UnknownOrder", itertools.cycle([shape.amend(free, 1, shape.volumes()), shape.cancel(free)])
+    yield "WrongShape", itertools.cycle([shape.amend(hour, 1, volumes(shape.periods if shape.is_wide else 2, lambda period: period))])
+    yield "UnknownParent", itertools.cycle([shape.block(1, name=free, parent=shape.named(8_000), group="G")])
+    yield "ParentNotBlock", itertools.cycle([shape.block(1, name=free, parent=hour)])
+    yield "HasChildren", itertools.cycle([shape.cancel(shape.named(9_000 + at)) for at in blocks if at % 2 == 0])
+    yield "a command of each kind", itertools.cycle(
+        [shape.amend(hour, 1, one), shape.amend(shape.named(9_000), 1, shape.volumes()), shape.hour(0, name=free), shape.cancel(free)]
+    )
+
+
+class Run(NamedTuple):
+    words: list
+    data: bytes
+    status: int = 0
+
+
+ALONE = ["--workers", "1", "--cut", "0"]
+REPLAY, CLEAR, DAY = ["replay"], ["clear", *ALONE], ["day", *ALONE]
+
+
+def entered(shape, records, is_closed=True):
+    """A journal as `dam replay` and as `dam day` take it."""
+    records = list(records)
+    yield Run(REPLAY, journal(records, is_closed, shape.periods))
+    yield Run(DAY, journal(records, False, shape.periods))
+
+
+def days():
+    """Yields the runs on commands of each kind."""
+    for shape in (SHORT, LONG):
+        first = list(shape.first())
+        for about, records in commands(shape):
+            for run in entered(shape, [*first, *itertools.islice(records, COMMANDS)]):
+                yield f"{run.words[0]} {shape.periods}: {about}", run
+        refused = itertools.cycle([shape.hour(0), first[-1], shape.amend("X", 1, shape.volumes()), shape.cancel("X")])
+        closed = [*first[:-1], "close,,,,,,,,\n", *itertools.islice(refused, COMMANDS)]
+        yield f"replay {shape.periods}: Closed", Run(REPLAY, journal(closed, True, shape.periods))
+    for shape in OTHERS:
+        *_, (about, records) = commands(shape)
+        for run in entered(shape, [*shape.first(), *itertools.islice(records, COMMANDS)]):
+            yield f"{run.words[0]} {shape.periods}: {about}", run
+
+
+def full_books():
+    """Yields the runs on full books that refuse orders."""
+    for shape in (SHORT, LONG):
+        hours = [shape.hour(number) for number in range(rules.MOST_HOURLY)]
+        refused = [shape.hour(5_000 + number) for number in range(COMMANDS)]
+        blocks = [shape.block(number) for number in range(rules.MOST_BLOCKS + COMMANDS)]
+        for about, records in [("HourlyFull", hours + refused), ("BlocksFull", blocks)]:
+            yield f"replay {shape.periods}: {about}", Run(REPLAY, journal(records, True, shape.periods))
+
+
+def searches():
+    """Yields the runs on a book of each length of a day in each market, without a limit that the search comes to, and some with one."""
+    for number, (market, periods) in enumerate(itertools.product(full.MARKETS, rules.DAYS)):
+        bonds, is_flat = full.BONDS[(number + number // 6) % 4], number % 2 == 0
+        drawn = full.Drawn(random.Random(f"shapes {market} {periods}"), periods, market, SEARCHED, is_flat, bonds)
+        data, about = drawn.text(), f"{market} {periods}, {bonds}"
+        yield f"clear: {about}", Run(CLEAR, data)
+        if number % 5 == 0:
+            yield f"clear, limited: {about}", Run([*CLEAR, "--nodes", "500"], data, UNFINISHED)
+            yield f"clear by pieces: {about}", Run(["clear", "--workers", "1", "--cut", "8"], data)
+
+
+def made(script, *words):
+    """A closed book that a script of the bench prints."""
+    words = [sys.executable, TOP / "bench" / script, *map(str, words)]
+    return subprocess.run(words, stdout=subprocess.PIPE, check=True).stdout
+
+
+def blocks():
+    """Yields the runs on blocks as users have them, in markets with few orders for a period, and on families of books that are hard."""
+    for number, (kind, parts) in enumerate(itertools.product(KINDS, (1, 4))):
+        bonds = full.BONDS[(number + number // 2) % 4]
+        yield f"clear: {kind}, {24 * parts} periods, {bonds}", Run(CLEAR, made("make_blocks.py", kind, 50, 1, parts, 12, 400, bonds))
+    for family in FAMILIES:
+        yield f"clear: {family}", Run(CLEAR, made("make_family.py", family, 400, 12))
+
+
+def texts():
+    """Yields the runs on a text in each form, and on one with a fault in its last record."""
+    for shape in (SHORT, LONG):
+        text = journal(list(shape.first()), True, shape.periods)
+        fields = [line.split(b",") for line in text.splitlines()]
+        forms = {
+            "CR LF": text.replace(b"\n", b"\r\n"),
+            "in quotes": b"".join(b",".join(b'"%b"' % field for field in line) + b"\n" for line in fields),
+            "empty lines": text.replace(b"\n", b"\n\n\n"),
+        }
+        for about, data in forms.items():
+            yield f"replay {shape.periods}: {about}", Run(REPLAY, data)
+        yield f"replay {shape.periods}: a fault", Run(REPLAY, text[:-1] + b",\n", 1)
+
+
+def every():
+    return dict(itertools.chain(days(), full_books(), searches(), blocks(), texts()))
+
+
+def cost(program, run):
+    """The instructions of a run, and the most bytes that it holds."""
+    printed, peak = program.run(run.words, run.data, Refusal("peak"))
+    if printed.status != run.status:
+        raise ValueError(f"{run.words}: status {printed.status}, {printed.stderr[:80]!r}")
+    found = instructions(program, run.words, run.data, FIXED, run.status)
+    program.given(run.data).unlink(missing_ok=True)
+    return found, peak
+
+
+def costs_of(runs):
+    """Yields the name of each run, its instructions and its bytes."""
+    tried = every()
+    for about, found in zip(tried, runs.pool.map(lambda run: cost(runs.program, run), tried.values())):
+        yield about, *found
+
+
+def write(path, rows):
+    with open(path, "w", newline="") as file:
+        table = csv.writer(file, lineterminator="\n")
+        table.writerow(["run", "instructions", "bytes"])
+        table.writerows(rows)
+
+
+def compare(counts, path, rows):
+    """Compares the costs of runs with those of a table, which has each of the runs and no other."""
+    with open(path, newline="") as file:
+        counted = {row["run"]: (int(row["instructions"]), int(row["bytes"])) for row in csv.DictReader(file)}
+    most = [0, 0]
+    for about, took, held in rows:
+        then, held_then = counted.pop(about)
+        counts.check(f"{about}: {took:,} instructions, {TIMES} times {then:,} or more", took < TIMES * then)
+        counts.check(f"{about}: {held:,} bytes were held, {TIMES} times {held_then:,} or more", held < TIMES * held_then + ROOM)
+        most = [max(most[0], took / then), max(most[1], held / held_then)]
+    counts.check(f"runs that were counted, and aren't there: {[*counted]}", not counted)
+    print("shapes: at most {:.2f} times the instructions that were counted, and {:.2f} times the bytes".format(*most), flush=True)
