@@ -1,8 +1,9 @@
--- Who gives a command, and whether it is a small one.
-use Rattle.std.specs.Prelude.{ℕ, Bool, true, false, List, [], ◌∷◌, Option, None, Some}
+-- Who gives a command, whether a journal has room for it, and whether it is a small one.
+use Rattle.std.specs.Prelude.{ℕ, ◌-◌, Bool, true, false, nat_le, List, [], ◌∷◌, Option, None, Some, is_some, if◌then◌else◌}
 use Rattle.dam_book.specs.declared.command.Command.{Command}
 use Rattle.dam_book.specs.declared.command.Command.TheVariants.{Submit, Amend, Cancel, Close}
 use Rattle.dam_book.specs.declared.order.Order.TheVariants.{Hour, Block}
+use Rattle.dam_book.specs.Limits.{most_entries}
 
 -- who gives the command; a close has no participant
 abbrev pub giver : Command → Option (List ℕ)
@@ -10,6 +11,10 @@ giver (Submit who name order) = Some who
 giver (Amend who name price volumes) = Some who
 giver (Cancel who name) = Some who
 giver Close = None
+
+-- whether a journal of `held` entries has no room for the command: the last entry is kept for a close
+abbrev pub is_journal_full : ℕ → Command → Bool
+is_journal_full held c = nat_le (if is_some (giver c) then most_entries - 1 else most_entries) held
 
 -- whether the command has at most one volume: a submit of an hourly order, an amend of one period, a cancel or a close
 abbrev pub is_small : Command → Bool

@@ -55,7 +55,7 @@ impl Outcome {
     }
 
     // The place in the book's map, gaps counted, at which the order was found.
-    pub(crate) fn place(&self) -> usize {
+    pub(crate) fn map_place(&self) -> usize {
         self.place
     }
 }

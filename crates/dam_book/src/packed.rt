@@ -70,19 +70,19 @@ impl<A: Allocator> PackedCommand<A> {
                 who,
                 name,
                 order: Order::Hour(order),
-            } => hour(who, name, order),
+            } => hour_form(who, name, order),
             Command::Amend {
                 who,
                 name,
                 price,
                 volumes,
             } => match volumes.pairs() {
-                [(period, volume)] => amend(who, name, *price, *period, *volume),
-                _ => whole(alloc, command)?,
+                [(period, volume)] => amend_form(who, name, *price, *period, *volume),
+                _ => whole_form(alloc, command)?,
             },
-            Command::Cancel { who, name } => cancel(who, name),
+            Command::Cancel { who, name } => cancel_form(who, name),
             Command::Close => Form::Close,
-            Command::Submit { .. } => whole(alloc, command)?,
+            Command::Submit { .. } => whole_form(alloc, command)?,
         };
         Ok(PackedCommand { form })
     }
@@ -181,7 +181,7 @@ impl<A: Allocator> PackedCommand<A> {
     }
 }
 
-fn hour<A: Allocator>(who: &Participant, name: &Name, order: &HourOrder) -> Form<A>
+fn hour_form<A: Allocator>(who: &Participant, name: &Name, order: &HourOrder) -> Form<A>
     ensures { command_of result ≡ Command.Submit who.now name.now (Order.Hour order.now) }
 {
     Form::Hour {
@@ -191,7 +191,7 @@ fn hour<A: Allocator>(who: &Participant, name: &Name, order: &HourOrder) -> Form
     }
 }
 
-fn amend<A: Allocator>(
+fn amend_form<A: Allocator>(
     who: &Participant,
     name: &Name,
     price: Price,
@@ -210,7 +210,7 @@ fn amend<A: Allocator>(
     }
 }
 
-fn cancel<A: Allocator>(who: &Participant, name: &Name) -> Form<A>
+fn cancel_form<A: Allocator>(who: &Participant, name: &Name) -> Form<A>
     ensures { command_of result ≡ Command.Cancel who.now name.now }
 {
     Form::Cancel {
@@ -219,7 +219,7 @@ fn cancel<A: Allocator>(who: &Participant, name: &Name) -> Form<A>
     }
 }
 
-fn whole<A: Allocator>(alloc: A, command: &Command) -> Result<Form<A>, AllocError>
+fn whole_form<A: Allocator>(alloc: A, command: &Command) -> Result<Form<A>, AllocError>
     ensures { IfOk result (λ form. command_of form ≡ command.now) }
 {
     match Arc::new(alloc, command.copy()) {
@@ -233,15 +233,15 @@ impl<A: Allocator + Copy> Clone for PackedCommand<A> {
 
     fn clone(&self) -> Result<PackedCommand<A>, AllocError> {
         let form = match &self.form {
-            Form::Hour { who, name, order } => hour(who, name, order),
+            Form::Hour { who, name, order } => hour_form(who, name, order),
             Form::Amend {
                 who,
                 name,
                 price,
                 period,
                 volume,
-            } => amend(who, name, *price, *period, *volume),
-            Form::Cancel { who, name } => cancel(who, name),
+            } => amend_form(who, name, *price, *period, *volume),
+            Form::Cancel { who, name } => cancel_form(who, name),
             Form::Close => Form::Close,
             Form::Whole(command) => Form::Whole(Arc::try_clone(command)?),
         };

@@ -183,7 +183,7 @@ impl<A: Allocator + Copy> Book<A> {
         ensures { result ≡ is_hourly_full self.now command.now }
     {
         match command {
-            Command::Submit { order, .. } => order.is_hour() && self.hourly() >= MOST_HOURLY,
+            Command::Submit { order, .. } => order.is_hour() && self.hourly_count() >= MOST_HOURLY,
             Command::Amend { .. } | Command::Cancel { .. } | Command::Close => false,
         }
     }
@@ -192,7 +192,7 @@ impl<A: Allocator + Copy> Book<A> {
         ensures { result ≡ is_blocks_full self.now command.now }
     {
         match command {
-            Command::Submit { order, .. } => order.is_block() && self.blocks() >= MOST_BLOCKS,
+            Command::Submit { order, .. } => order.is_block() && self.block_count() >= MOST_BLOCKS,
             Command::Amend { .. } | Command::Cancel { .. } | Command::Close => false,
         }
     }

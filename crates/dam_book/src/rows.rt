@@ -84,9 +84,9 @@ fn key_bytes(who: &Participant, name: &Name) -> [u8; HASHED]
     ensures { result ≡ key_bytes (who.now, name.now) }
 {
     let mut bytes = [0; HASHED];
-    bytes[..LONGEST_PARTICIPANT].copy_from_slice(who.with_zeros());
+    bytes[..LONGEST_PARTICIPANT].copy_from_slice(who.as_padded_bytes());
     bytes[LONGEST_PARTICIPANT..LONGEST_PARTICIPANT + LONGEST_NAME].copy_from_slice(
-        name.with_zeros(),
+        name.as_padded_bytes(),
     );
     bytes
 }
@@ -136,7 +136,7 @@ fn row_label(who: &Participant, name: &Name) -> Label
 
 // Replaces the removed row's label, in the gap at this place, by a filler: the last place in the map takes the place
 // of the one that is removed, and so no other moves. An `Err` leaves the places.
-fn fill_gap<A: Allocator>(
+fn relabel_gap<A: Allocator>(
     places: &mut Places<A>,
     place: usize,
     row: &Label,
@@ -161,8 +161,8 @@ fn fill_gap<A: Allocator>(
     Ok(())
 }
 
-// Frees the label of a row that is about to go last, if a gap still has it.
-fn free_label<A: Allocator>(
+// Makes the label of a row free for it to go last, by relabelling the gap that still has it.
+fn release_label<A: Allocator>(
     places: &mut Places<A>,
     gaps: usize,
     row: &Label,
@@ -184,10 +184,10 @@ fn free_label<A: Allocator>(
     let Some((place, _, _)) = places.get_full(row) else {
         return Ok(());
     };
-    fill_gap(places, place, row)
+    relabel_gap(places, place, row)
 }
 
-// The label's place: near this place, or else found by a look-up.
+// The label's place: `near` if the label stands there, or else found by a look-up.
 fn place_of<A: Allocator>(places: &Places<A>, near: usize, row: &Label) -> Option<usize>
     ensures found { IfSome result (λ place. IsLabelledAt row.now places.now.entries place) }
     ensures absent { IfNone result (lookup (same_label row.now) places.now.entries ≡ None) }
@@ -318,14 +318,14 @@ impl<A: Allocator + Copy> Rows<A> {
     pub(crate) fn find(&self, who: &Participant, name: &Name) -> Option<&Order>
         ensures { option_copied result ≡ lookup (same_key (who.now, name.now)) self.now }
     {
-        let Some((_, order)) = self.find_at(who, name) else {
+        let Some((_, order)) = self.find_with_place(who, name) else {
             return None;
         };
         Some(order)
     }
 
     // The order under the key, with its place among the rows and the gaps.
-    pub(crate) fn find_at(&self, who: &Participant, name: &Name) -> Option<(usize, &Order)>
+    pub(crate) fn find_with_place(&self, who: &Participant, name: &Name) -> Option<(usize, &Order)>
         ensures { option_map (λ r. r.1.now) result
             ≡ lookup (same_key (who.now, name.now)) self.now }
     {
@@ -375,12 +375,12 @@ impl<A: Allocator + Copy> Rows<A> {
     {
         let boxed = BoxedOrder::of(*self.places.allocator(), order)?;
         let row = row_label(who, name);
-        free_label(&mut self.places, self.gaps, &row)?;
+        release_label(&mut self.places, self.gaps, &row)?;
         self.places.insert(row, Some(boxed))?;
         Ok(())
     }
 
-    // Changes the order under the key at its place, which is quicker if it stands near this one.
+    // Changes the order under the key at its place, which is quicker if the place is `near`.
     pub(crate) fn amend(
         &mut self,
         near: usize,
@@ -412,13 +412,13 @@ impl<A: Allocator + Copy> Rows<A> {
         let places = self.places.len();
         self.gaps += 1;
         if self.gaps > places - self.gaps {
-            self.squeeze();
+            self.remove_gaps();
         }
         Some(order)
     }
 
     // Removes the gaps, which takes no memory.
-    pub(crate) fn squeeze(&mut self)
+    pub(crate) fn remove_gaps(&mut self)
         ensures { self.new ≡ self.old }
     {
         if self.gaps > 0 {

@@ -17,7 +17,7 @@ pub struct DamAnswer {
 
 /// Copies as much of the text as there is room for, and leaves the rest of the buffer. Returns the length of the whole
 /// text.
-fn put(text: &[u8], buffer: &mut [u8]) -> usize
+fn copy_to_buffer(text: &[u8], buffer: &mut [u8]) -> usize
     ensures { HoldsText buffer.old buffer.new result text.now }
 {
     let count = text.len().min(buffer.len());
@@ -26,7 +26,7 @@ fn put(text: &[u8], buffer: &mut [u8]) -> usize
 }
 
 /// The answer of a text, or of a fault, whose line needs no memory.
-pub(crate) fn answer(made: Result<Vec<u8>, RunFault>, buffer: &mut [u8]) -> DamAnswer
+pub(crate) fn write_answer(made: Result<Vec<u8>, RunFault>, buffer: &mut [u8]) -> DamAnswer
     ensures { MatchResult made
         (λ text. (result.status ≡ 0)
         × HoldsText buffer.old buffer.new result.length text.items)
@@ -36,11 +36,11 @@ pub(crate) fn answer(made: Result<Vec<u8>, RunFault>, buffer: &mut [u8]) -> DamA
     match made {
         Ok(text) => DamAnswer {
             status: 0,
-            length: put(&text, buffer),
+            length: copy_to_buffer(&text, buffer),
         },
         Err(fault) => DamAnswer {
             status: status(&fault),
-            length: put(short_line(&fault).as_str().as_bytes(), buffer),
+            length: copy_to_buffer(short_line(&fault).as_str().as_bytes(), buffer),
         },
     }
 }

@@ -9,7 +9,7 @@
 #![tactic(auto)]
 
 mod answer;
-mod given;
+mod secret;
 
 ghost use Rattle.dam_results.specs.Journal.{IsMadeFrom};
 ghost use Rattle.dam_results.specs.Replies.{AreReplies};
@@ -18,10 +18,10 @@ ghost use Rattle.dam_engines.specs.Clear.{AreResultsWithin, IsClearFault, terms_
 ghost use Rattle.dam_c.specs.Answer.{IsReturned};
 
 pub use answer::DamAnswer;
-use answer::answer;
+use answer::write_answer;
 use dam_book::Seed;
 use dam_engines::{clear_text_alone, replies_of};
-use given::drawn_from;
+use secret::seed_from_secret;
 use std::alloc::Global;
 
 /// The output of `dam replay` for the text. The book hashes names with the public fixed seed.
@@ -30,7 +30,7 @@ pub extern "C" fn dam_replay(alloc: Global, text: &[u8], buffer: &mut [u8]) -> D
     ensures { IsReturned (IsMadeFrom AreReplies text.now) (IsTextFault text.now)
         result buffer.old buffer.new }
 {
-    answer(replies_of(alloc, Seed::fixed(), text), buffer)
+    write_answer(replies_of(alloc, Seed::fixed(), text), buffer)
 }
 
 /// The same, but the book hashes names with a seed that is drawn from the caller's secret, at least 16 random bytes.
@@ -44,7 +44,7 @@ pub extern "C" fn dam_replay_seeded(
     ensures { IsReturned (IsMadeFrom AreReplies text.now) (IsTextFault text.now)
         result buffer.old buffer.new }
 {
-    answer(replies_of(alloc, drawn_from(secret), text), buffer)
+    write_answer(replies_of(alloc, seed_from_secret(secret), text), buffer)
 }
 
 /// The output of `dam clear` for the text. The search visits at most `nodes` nodes. Before the nodes, a first selection
@@ -56,7 +56,7 @@ pub extern "C" fn dam_clear(alloc: Global, text: &[u8], nodes: u32, buffer: &mut
         (IsRunFault (IsClearFault (terms_alone nodes)) text.now)
         result buffer.old buffer.new }
 {
-    answer(clear_text_alone(alloc, Seed::fixed(), text, nodes), buffer)
+    write_answer(clear_text_alone(alloc, Seed::fixed(), text, nodes), buffer)
 }
 
 /// The same, but the book hashes names with a seed that is drawn from the caller's secret, at least 16 random bytes.
@@ -72,8 +72,8 @@ pub extern "C" fn dam_clear_seeded(
         (IsRunFault (IsClearFault (terms_alone nodes)) text.now)
         result buffer.old buffer.new }
 {
-    answer(
-        clear_text_alone(alloc, drawn_from(secret), text, nodes),
+    write_answer(
+        clear_text_alone(alloc, seed_from_secret(secret), text, nodes),
         buffer,
     )
 }

@@ -12,7 +12,7 @@ use Rattle.dam_results.specs.Replies.{day_line, entry_line}
 use Rattle.dam_results.specs.Written.{journal_text, written}
 use Rattle.dam_desk.specs.DeskJournal.{Journal, State, AreAnswers, AreAnswersToEntered, ReadsBack, answer_to, day_of, enters, journal_after_line, next, desk_replies_text, state_after}
 use Rattle.dam_desk.specs.InputLines.{Says}
-use Rattle.dam_desk.specs.Room.{is_desk_full}
+use Rattle.dam_book.specs.Command.{is_journal_full}
 use Rattle.dam_desk.specs.declared.reading.Said.{Said}
 use Rattle.dam_desk.specs.declared.reading.Said.TheVariants.{Day as Days, Command as Commands, Fault}
 use Rattle.dam_desk.proofs.Texts.{all_snoc}
@@ -29,22 +29,22 @@ lines_snoc [] e = append-nil (entry_line e)
 lines_snoc (x ∷ es) e = ap (λ (t : List ℕ). entry_line x ++ t) (lines_snoc es e)
     ∙ sym (append_assoc (entry_line x) (flat_map entry_line es) (entry_line e))
 
-command_grows : EntriesGrow → (number : ℕ) (j : Journal) (command : Command) → is_desk_full (length j.commands) command ≡ false
+command_grows : EntriesGrow → (number : ℕ) (j : Journal) (command : Command) → is_journal_full (length j.commands) command ≡ false
     → desk_replies_text (journal_after_line (Some j) (Commands command)) ≡ desk_replies_text (Some j) ++ answer_to number (Some j) (Commands command)
 command_grows grow number j command room =
     let entry : Entry = record { number = length j.commands + 1; command = command; reply = reply_to (run j.periods j.commands) command } in
     let entries = entries_of j.periods j.commands in
-    ap (λ (o : Journal). desk_replies_text (Some o)) (cond-false (is_desk_full (length j.commands) command) j (with_one j command) room)
+    ap (λ (o : Journal). desk_replies_text (Some o)) (cond-false (is_journal_full (length j.commands) command) j (with_one j command) room)
     ∙ ap (λ (es : List Entry). day_line j.periods ++ flat_map entry_line es) (grow j.periods j.commands command)
     ∙ ap (λ (t : List ℕ). day_line j.periods ++ t) (lines_snoc entries entry)
     ∙ sym (append_assoc (day_line j.periods) (flat_map entry_line entries) (entry_line entry))
-    ∙ ap (λ (t : List ℕ). desk_replies_text (Some j) ++ t) (sym (cond-false (is_desk_full (length j.commands) command) _ (entry_line entry) room))
+    ∙ ap (λ (t : List ℕ). desk_replies_text (Some j) ++ t) (sym (cond-false (is_journal_full (length j.commands) command) _ (entry_line entry) room))
 
 command_step : EntriesGrow → (number : ℕ) (j : Journal) (command : Command)
     → (journal_after_line (Some j) (Commands command) ≡ Some j)
     ⊎ (desk_replies_text (journal_after_line (Some j) (Commands command)) ≡ desk_replies_text (Some j) ++ answer_to number (Some j) (Commands command))
-command_step grow number j command = elim (cases_Bool (is_desk_full (length j.commands) command)) [
-  | inl full ↦ inl (ap Some (cond-true (is_desk_full (length j.commands) command) j (with_one j command) full))
+command_step grow number j command = elim (cases_Bool (is_journal_full (length j.commands) command)) [
+  | inl full ↦ inl (ap Some (cond-true (is_journal_full (length j.commands) command) j (with_one j command) full))
   | inr room ↦ inr (command_grows grow number j command room)
 ]
 
@@ -65,7 +65,7 @@ reply_of number journal said = if enters journal said then answer_to number jour
 command_reply : EntriesGrow → (number : ℕ) (j : Journal) (command : Command)
     → desk_replies_text (journal_after_line (Some j) (Commands command)) ≡ desk_replies_text (Some j) ++ reply_of number (Some j) (Commands command)
 command_reply grow number j command =
-    let full = is_desk_full (length j.commands) command in
+    let full = is_journal_full (length j.commands) command in
     let answer = answer_to number (Some j) (Commands command) in
     elim (cases_Bool full) [
       | inl is ↦ ap (λ (o : Journal). desk_replies_text (Some o)) (cond-true full j (with_one j command) is)
@@ -122,7 +122,7 @@ reads_from of read periods cs day valid few =
 below : (held : ℕ) → held < most_entries - 1 → held + 1 ≤ most_entries
 below held less = omega (arith, less)
 
-room_for : (held : ℕ) (command : Command) → is_desk_full held command ≡ false → held + 1 ≤ most_entries
+room_for : (held : ℕ) (command : Command) → is_journal_full held command ≡ false → held + 1 ≤ most_entries
 room_for held (Submit who name order) room = below held (leb-false (most_entries - 1) held room)
 room_for held (Amend who name price volumes) room = below held (leb-false (most_entries - 1) held room)
 room_for held (Cancel who name) room = below held (leb-false (most_entries - 1) held room)
@@ -130,12 +130,12 @@ room_for held Close room = let less : held < most_entries = leb-false most_entri
 
 reads_command : EntriesAreOf → WrittenRead → (j : Journal) (command : Command) → ReadsBack (Some j) → IsCommand command
     → ReadsBack (journal_after_line (Some j) (Commands command))
-reads_command of read j command reads valid = elim (cases_Bool (is_desk_full (length j.commands) command)) [
-  | inl full ↦ subst (λ (o : Journal). ReadsBack (Some o)) (sym (cond-true (is_desk_full (length j.commands) command) j (with_one j command) full)) reads
+reads_command of read j command reads valid = elim (cases_Bool (is_journal_full (length j.commands) command)) [
+  | inl full ↦ subst (λ (o : Journal). ReadsBack (Some o)) (sym (cond-true (is_journal_full (length j.commands) command) j (with_one j command) full)) reads
   | inr room ↦
       let few : length (j.commands ++ command ∷ []) ≤ most_entries =
       subst (λ (n : ℕ). n ≤ most_entries) (sym (length-append j.commands (command ∷ []))) (room_for (length j.commands) command room) in
-      subst (λ (o : Journal). ReadsBack (Some o)) (sym (cond-false (is_desk_full (length j.commands) command) j (with_one j command) room))
+      subst (λ (o : Journal). ReadsBack (Some o)) (sym (cond-false (is_journal_full (length j.commands) command) j (with_one j command) room))
       (reads_from of read j.periods (j.commands ++ command ∷ []) reads.records.day
       (all_snoc IsCommand j.commands command reads.records.valid valid) few)
 ]

@@ -10,7 +10,7 @@ use Rattle.dam_results.specs.Replies.{day_line, reply_line}
 use Rattle.dam_results.specs.Written.{command_line, row_line, written}
 use Rattle.dam_desk.specs.Answers.{fault_line}
 use Rattle.dam_desk.specs.DeskJournal.{Journal, answer_to, day_of, desk_journal_text, journal_after_line}
-use Rattle.dam_desk.specs.Room.{is_desk_full}
+use Rattle.dam_book.specs.Command.{is_journal_full}
 use Rattle.dam_desk.specs.inside.DeskDay.{IsDayWith}
 use Rattle.dam_desk.specs.inside.Intake.{Answered, HasJournal, IsAt, entered_text, periods_of, records_text}
 use Rattle.dam_desk.specs.declared.desk_day.Day.{Day}
@@ -131,7 +131,7 @@ records_more old new false commands more same = commands_more commands more
 
 -- a command that is entered, and the day before and after it
 pub record Enters (old new : Day) (command : Command) : Type 0 where
-  pub room : is_desk_full old.entered command ≡ false
+  pub room : is_journal_full old.entered command ≡ false
   pub periods : new.periods ≡ old.periods
   pub book : (cs : List Command) → old.book ≡ run old.periods cs → new.book ≡ run old.periods (cs ++ command ∷ [])
   pub entered : new.entered ≡ old.entered + 1
@@ -145,13 +145,13 @@ command_entered old new before journal day later command at was now enters begin
     let of = some_journal day journal (subst (λ (d : Option Day). HasJournal d journal) was at.day) in
     let j = of.of in
     let more : Journal = record { periods = j.periods; commands = j.commands ++ command ∷ [] } in
-    let room : is_desk_full (length j.commands) command ≡ false = ap (λ (n : ℕ). is_desk_full n command) (sym of.has.entered) ∙ enters.room in
+    let room : is_journal_full (length j.commands) command ≡ false = ap (λ (n : ℕ). is_journal_full n command) (sym of.has.entered) ∙ enters.room in
     let after : journal_after_line journal (Commands command) ≡ Some more =
     ap (λ (o : Option Journal). journal_after_line o (Commands command)) of.is
-    ∙ ap Some (cond-false (is_desk_full (length j.commands) command) j more room) in
+    ∙ ap Some (cond-false (is_journal_full (length j.commands) command) j more room) in
     let answer : answer_to old.answered journal (Commands command) ≡ reply_line (day.entered + 1) (reply_to day.book command) =
     ap (λ (o : Option Journal). answer_to old.answered o (Commands command)) of.is
-    ∙ cond-false (is_desk_full (length j.commands) command) _ _ room
+    ∙ cond-false (is_journal_full (length j.commands) command) _ _ room
     ∙ ap (λ (n : ℕ). reply_line (n + 1) (reply_to (run j.periods j.commands) command)) (sym of.has.entered)
     ∙ ap (λ b. reply_line (day.entered + 1) (reply_to b command)) (sym of.has.book) in
     let old_text : before ++ records_text (Some day) old.begins (commands_of old.entries.items) ≡ written j.periods j.commands =

@@ -8,7 +8,7 @@ use Rattle.dam_results.specs.Written.{written}
 use Rattle.dam_store.specs.FileLines.{HaveNoNewline, has_byte, text_of, StandsFor}
 use Rattle.dam_desk.specs.Answers.{fault_line}
 use Rattle.dam_desk.specs.InputLines.{Says}
-use Rattle.dam_desk.specs.Room.{is_desk_full}
+use Rattle.dam_book.specs.Command.{is_journal_full}
 use Rattle.dam_desk.specs.declared.fault.InputLineFault.TheVariants.{OtherDay, JournalFull, NotDay}
 use Rattle.dam_desk.specs.declared.reading.Said.{Said}
 use Rattle.dam_desk.specs.declared.reading.Said.TheVariants.{Day, Command as Commands, Fault}
@@ -41,7 +41,7 @@ desk_replies_text (Some journal) = replies_to journal.periods journal.commands
 -- the journal with one more command, if it has room for it
 abbrev pub with_command : Journal → Command → Journal
 with_command journal command =
-    if is_desk_full (length journal.commands) command then journal
+    if is_journal_full (length journal.commands) command then journal
     else record { periods = journal.periods; commands = journal.commands ++ command ∷ [] }
 
 -- the journal after a line that says this
@@ -53,7 +53,7 @@ journal_after_line journal said = journal
 -- the answer to a command of this journal, given in the line of this number
 abbrev pub command_answer : ℕ → Journal → Command → List ℕ
 command_answer number journal command =
-    if is_desk_full (length journal.commands) command then fault_line number JournalFull
+    if is_journal_full (length journal.commands) command then fault_line number JournalFull
     else reply_line (length journal.commands + 1) (reply_to (run journal.periods journal.commands) command)
 
 -- the answer to the line of this number, which says this in this journal
@@ -89,7 +89,7 @@ AreAnswers state (line ∷ lines) text last =
 -- a line that says this enters something
 abbrev pub enters : Option Journal → Said → Bool
 enters None (Day periods) = true
-enters (Some journal) (Commands command) = not (is_desk_full (length journal.commands) command)
+enters (Some journal) (Commands command) = not (is_journal_full (length journal.commands) command)
 enters journal said = false
 
 -- the text has, of the answers to these lines, those to the lines that enter something

@@ -1,5 +1,4 @@
 pub mod Limits
-pub mod Room
 pub mod InputLines
 pub mod Answers
 pub mod DeskJournal

@@ -5,7 +5,7 @@ ghost use Rattle.dam_book.specs.Limits.{most_entries};
 ghost use Rattle.dam_results.specs.Replies.{day_line, reply_line};
 ghost use Rattle.dam_results.specs.Records.{day_row};
 ghost use Rattle.dam_results.specs.Written.{row_line, written};
-ghost use Rattle.dam_desk.specs.Room.{is_desk_full};
+ghost use Rattle.dam_book.specs.Command.{is_journal_full};
 
 use dam_book::{Book, Command, DayLength, MOST_ENTRIES, PackedCommand, PackedEntry, Reply, Seed};
 use dam_results::{packed_journal_text, replies_text, write_reply_line};
@@ -71,7 +71,7 @@ impl Day {
 
     /// Whether no command like this can be entered any more. The last entry is kept for a close.
     pub(crate) fn is_full(&self, command: &Command) -> bool
-        ensures value { result ≡ is_desk_full self.now.entered command.now }
+        ensures value { result ≡ is_journal_full self.now.entered command.now }
         ensures room { result ≡ false → self.now.entered + 1 ≤ most_entries }
     {
         let held = self.entered as usize;

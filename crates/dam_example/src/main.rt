@@ -13,7 +13,7 @@ use clearing::{clear, clear_text};
 use dam_book::Side;
 use dam_results::Results;
 use day::hold_day;
-use orders::hourly;
+use orders::hourly_submit;
 
 /// A wind farm and a gas plant, whose block runs in both periods or not at all, and a city.
 const JOURNAL: &[u8] = b"day,24,,,,,,,
@@ -31,8 +31,8 @@ fn main(rt: HostRuntime) -> Result<()> {
     let alloc = rt.alloc();
     print_results(&rt, &clear_text(&rt, alloc, JOURNAL)?)?;
 
-    let offer = hourly(b"NORD", b"WIND-8", Side::Sell, 1_200, 450).context("an order")?;
-    let bid = hourly(b"STAD", b"BASE-8", Side::Buy, 9_500, 400).context("an order")?;
+    let offer = hourly_submit(b"NORD", b"WIND-8", Side::Sell, 1_200, 450).context("an order")?;
+    let bid = hourly_submit(b"STAD", b"BASE-8", Side::Buy, 9_500, 400).context("an order")?;
     let day = hold_day(&rt, alloc, &[offer, bid])?;
     let journal = day.settled.journal();
     println!(rt; "{} entries", journal.entries().len())?;

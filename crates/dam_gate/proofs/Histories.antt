@@ -8,7 +8,8 @@ use Rattle.dam_book.specs.declared.reason.Reason.{Reason}
 use Rattle.dam_book.specs.Book.{BookState, empty_book, carried_out, refusal, book_after, reply_to, run, run_from, commands_of}
 use Rattle.dam_book.specs.Book.{IsLegalFrom}
 use Rattle.dam_book.specs.Limits.{most_entries}
-use Rattle.dam_gate.specs.Journal.{JournalState, IsHistory, IsJournal, FoundRoom, next_entry, journal_after, is_full}
+use Rattle.dam_gate.specs.Journal.{JournalState, IsHistory, IsJournal, FoundRoom, next_entry, journal_after}
+use Rattle.dam_book.specs.Command.{is_journal_full}
 use Rattle.std.proofs.lemmas.Bool.{leb-false}
 
 carried_out-periods : (b : BookState) (c : Command) → (carried_out b c).periods ≡ b.periods
@@ -34,25 +35,25 @@ IsLegalFrom-snoc n b [] e legal number reply = (omega (arith, number), reply, tt
 IsLegalFrom-snoc n b (x ∷ es) e legal number reply =
     (legal.0, legal.1, IsLegalFrom-snoc (suc n) (book_after b x.command) es e legal.2 (omega (arith, number)) reply)
 
-FoundRoom-snoc : (held : ℕ) (es : List Entry) (e : Entry) → FoundRoom held es → is_full (held + length es) e.command ≡ false
+FoundRoom-snoc : (held : ℕ) (es : List Entry) (e : Entry) → FoundRoom held es → is_journal_full (held + length es) e.command ≡ false
     → FoundRoom held (es ++ e ∷ [])
 FoundRoom-snoc held [] e found room = (
   let same : held + 0 ≡ held = omega arith in
-      subst (λ (n : ℕ). is_full n e.command ≡ false) same room,
+      subst (λ (n : ℕ). is_journal_full n e.command ≡ false) same room,
   tt,
 )
 FoundRoom-snoc held (x ∷ es) e found room =
     let same : held + suc (length es) ≡ suc held + length es = omega arith in
-    (found.0, FoundRoom-snoc (suc held) es e found.1 (subst (λ (n : ℕ). is_full n e.command ≡ false) same room))
+    (found.0, FoundRoom-snoc (suc held) es e found.1 (subst (λ (n : ℕ). is_journal_full n e.command ≡ false) same room))
 
-pub room_left : (held : ℕ) (c : Command) → is_full held c ≡ false → held < most_entries
+pub room_left : (held : ℕ) (c : Command) → is_journal_full held c ≡ false → held < most_entries
 room_left held (Submit who name order) left = omega (arith, leb-false (most_entries - 1) held left)
 room_left held (Amend who name price volumes) left = omega (arith, leb-false (most_entries - 1) held left)
 room_left held (Cancel who name) left = omega (arith, leb-false (most_entries - 1) held left)
 room_left held Close left = leb-false most_entries held left
 
 -- the journal's entries with the entry of one command more, for which there is room
-pub history-after : (j : JournalState) (c : Command) → IsJournal j → is_full (length j.entries) c ≡ false
+pub history-after : (j : JournalState) (c : Command) → IsJournal j → is_journal_full (length j.entries) c ≡ false
     → IsHistory j.book.periods (j.entries ++ next_entry j c ∷ [])
 history-after j c is room =
     let e = next_entry j c in
@@ -63,10 +64,10 @@ history-after j c is room =
       few = omega (arith, length-append j.entries (e ∷ []), room_left (length j.entries) c room);
       room =
           FoundRoom-snoc 0 j.entries e is.history.room
-          (let same : length j.entries ≡ 0 + length j.entries = omega arith in subst (λ (n : ℕ). is_full n c ≡ false) same room);
+          (let same : length j.entries ≡ 0 + length j.entries = omega arith in subst (λ (n : ℕ). is_journal_full n c ≡ false) same room);
     }
 
-pub journal_after_is : (j : JournalState) (c : Command) → IsJournal j → is_full (length j.entries) c ≡ false → IsJournal (journal_after j c)
+pub journal_after_is : (j : JournalState) (c : Command) → IsJournal j → is_journal_full (length j.entries) c ≡ false → IsJournal (journal_after j c)
 journal_after_is j c is room =
     let same = book_after-periods j.book c in
     let all = j.entries ++ next_entry j c ∷ [] in

@@ -4,7 +4,7 @@ use Rattle.std.proofs.Common.{[], ◌∷◌, ◌++◌, arith}
 use Rattle.dam_book.specs.declared.command.Entry.{Entry}
 use Rattle.std.proofs.lemmas.List.{take_more}
 use Rattle.std.proofs.lemmas.Grind.{flat_map-append}
-use Rattle.dam_gate.specs.Journal.{is_full}
+use Rattle.dam_book.specs.Command.{is_journal_full}
 use Rattle.dam_gate.specs.Pass.{PassState, AreInOrder, AreOwn, is_own}
 use Rattle.dam_gate.specs.Settled.{receipts_of}
 
@@ -18,7 +18,7 @@ AreInOrder-seen low seen more [] ordered later = omega (arith, ordered, later)
 AreInOrder-seen low seen more (x ∷ es) ordered later = (ordered.0, AreInOrder-seen x.number seen more es ordered.1 later)
 
 pub AreOwn-snoc : (holder : Option (List ℕ)) (es : List Entry) (e : Entry) → AreOwn holder es → is_own holder e.command ≡ true
-    → is_full (e.number - 1) e.command ≡ false
+    → is_journal_full (e.number - 1) e.command ≡ false
     → AreOwn holder (es ++ e ∷ [])
 AreOwn-snoc holder [] e own mine room = (mine, room, tt)
 AreOwn-snoc holder (x ∷ es) e own mine room = (own.0, own.1, AreOwn-snoc holder es e own.2 mine room)

@@ -12,7 +12,8 @@ use Rattle.dam_gate.specs.declared.keeper.KeeperFault.TheVariants.{JournalFull a
 use Rattle.dam_gate.specs.declared.gate.GateFault.{GateFault}
 use Rattle.dam_gate.specs.declared.gate.GateFault.TheVariants.{NotYours, JournalFull, Memory, NoVersion}
 use Rattle.dam_gate.specs.declared.pass.Look.{Look}
-use Rattle.dam_gate.specs.Journal.{IsHistory, is_full}
+use Rattle.dam_gate.specs.Journal.{IsHistory}
+use Rattle.dam_book.specs.Command.{is_journal_full}
 use Rattle.dam_gate.specs.Pass.{PassState, Knowledge, after_call, is_own}
 
 -- the faults that may be answered in place of a keeper or a gate of a day with this number of
@@ -23,8 +24,8 @@ IsBeginFault periods BeginMemory = is_day periods ≡ true
 
 -- the faults that a journal of `held` entries may answer to the command in place of its entry
 abbrev pub IsKeeperFault : ℕ → Command → KeeperFault → Type 0
-IsKeeperFault held c (KeeperFull n) = (n ≡ held) × (is_full held c ≡ true)
-IsKeeperFault held c KeeperMemory = is_full held c ≡ false
+IsKeeperFault held c (KeeperFull n) = (n ≡ held) × (is_journal_full held c ≡ true)
+IsKeeperFault held c KeeperMemory = is_journal_full held c ≡ false
 
 -- the gate's fault for one of its keeper
 abbrev pub gate_fault_of : KeeperFault → GateFault
@@ -37,7 +38,7 @@ gate_fault_of KeeperMemory = Memory
 -- answer
 abbrev pub IsGateFault : PassState → Command → GateFault → Type 0
 IsGateFault p c NotYours = is_own p.holder c ≡ false
-IsGateFault p c (JournalFull held) = (is_own p.holder c ≡ true) × (held ≤ most_entries) × (is_full held c ≡ true)
+IsGateFault p c (JournalFull held) = (is_own p.holder c ≡ true) × (held ≤ most_entries) × (is_journal_full held c ≡ true)
 IsGateFault p c Memory = is_own p.holder c ≡ true
 IsGateFault p c NoVersion = is_own p.holder c ≡ true
 

@@ -1,19 +1,15 @@
 -- A journal: the commands that reached the book, in one order, each with its reply, and the book that they made.
-use Rattle.std.specs.Prelude.{◌≡◌, ℕ, suc, ◌+◌, ◌-◌, ◌≤◌, Bool, true, false, nat_le, List, [], ◌∷◌, ◌++◌, length, is_some, if◌then◌else◌}
+use Rattle.std.specs.Prelude.{◌≡◌, ℕ, suc, ◌+◌, ◌≤◌, Bool, true, false, List, [], ◌∷◌, ◌++◌, length}
 use Rattle.dam_book.specs.Book.{BookState, empty_book, is_day, reply_to, book_after, run, commands_of, IsLegalHistory}
 use Rattle.dam_book.specs.declared.command.Command.{Command}
-use Rattle.dam_book.specs.Command.{giver}
+use Rattle.dam_book.specs.Command.{is_journal_full}
 use Rattle.dam_book.specs.declared.command.Entry.{Entry}
 use Rattle.dam_book.specs.Limits.{most_entries}
-
--- whether a journal of `held` entries has no room for the command: the last entry is kept for a close
-abbrev pub is_full : ℕ → Command → Bool
-is_full held c = nat_le (if is_some (giver c) then most_entries - 1 else most_entries) held
 
 -- each of the entries found room in a journal of those before it, of which `held` come before these
 abbrev pub FoundRoom : ℕ → List Entry → Type 0
 FoundRoom held [] = Unit {0}
-FoundRoom held (e ∷ es) = (is_full held e.command ≡ false) × FoundRoom (suc held) es
+FoundRoom held (e ∷ es) = (is_journal_full held e.command ≡ false) × FoundRoom (suc held) es
 
 -- a history that a journal of a delivery day may hold: a legal history, no longer than a journal may be, in which an
 -- entry of the greatest number is a close

@@ -3,7 +3,8 @@ use Rattle.std.specs.Prelude.{◌≡◌, ℕ, ◌<◌, false, length}
 use Rattle.dam_book.specs.Book.{BookState, book_after}
 use Rattle.dam_book.specs.declared.command.Command.{Command}
 use Rattle.dam_book.specs.declared.command.Entry.{Entry}
-use Rattle.dam_gate.specs.Journal.{JournalState, is_full, next_entry}
+use Rattle.dam_gate.specs.Journal.{JournalState, next_entry}
+use Rattle.dam_book.specs.Command.{is_journal_full}
 
 -- the journal, and for how many entries more there is room
 pub record KeeperState : Type 0 where
@@ -19,5 +20,5 @@ pub record ReadyState : Type 0 where
 pub record IsReadyFor (k : KeeperState) (c : Command) (r : ReadyState) : Type 0 where
   pub entry : r.entry ≡ next_entry k.journal c
   pub book : r.book ≡ book_after k.journal.book c
-  pub left : is_full (length k.journal.entries) c ≡ false
+  pub left : is_journal_full (length k.journal.entries) c ≡ false
   pub room : 0 < k.room

@@ -4,7 +4,7 @@ use Rattle.dam_book.specs.Name.{same_text}
 use Rattle.dam_book.specs.declared.command.Command.{Command}
 use Rattle.dam_book.specs.Command.{giver}
 use Rattle.dam_book.specs.declared.command.Entry.{Entry}
-use Rattle.dam_gate.specs.Journal.{is_full}
+use Rattle.dam_book.specs.Command.{is_journal_full}
 
 -- the operator's pass has no participant
 pub record PassState : Type 0 where
@@ -40,7 +40,7 @@ AreInOrder low seen (e ∷ es) = (low < e.number) × AreInOrder e.number seen es
 abbrev pub AreOwn : Option (List ℕ) → List Entry → Type 0
 AreOwn holder [] = Unit {0}
 AreOwn holder (e ∷ es) =
-    (is_own holder e.command ≡ true) × (is_full (e.number - 1) e.command ≡ false) × AreOwn holder es
+    (is_own holder e.command ≡ true) × (is_journal_full (e.number - 1) e.command ≡ false) × AreOwn holder es
 
 -- the invariant of a pass: the numbers of its receipts increase, and are at most the number that it has seen; each is
 -- for a command that its holder may give and that found room

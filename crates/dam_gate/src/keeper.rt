@@ -3,7 +3,8 @@ ghost use Rattle.std.specs.Option.{option_copied};
 ghost use Rattle.std.specs.Arc.{arc_value};
 ghost use Rattle.dam_book.specs.Book.{book_after, is_day, refusal};
 ghost use Rattle.dam_book.specs.Limits.{most_entries};
-ghost use Rattle.dam_gate.specs.Journal.{IsJournal, empty_journal, is_full, journal_after, next_entry};
+ghost use Rattle.dam_gate.specs.Journal.{IsJournal, empty_journal, journal_after, next_entry};
+ghost use Rattle.dam_book.specs.Command.{is_journal_full};
 ghost use Rattle.dam_gate.specs.Keeper.{IsReadyFor};
 ghost use Rattle.dam_gate.specs.Gate.{IsBeginFault, IsKeeperFault};
 
@@ -168,7 +169,7 @@ impl<A: Allocator + Copy> Keeper<A> {
     pub(crate) fn pack(&self, command: &Command) -> Result<PackedCommand<A>, KeeperFault>
         ensures packed { IfOk result (λ packed. packed ≡ command.now) }
         ensures not_full { OnOk result
-            (is_full (length self.now.journal.entries) command.now ≡ false) }
+            (is_journal_full (length self.now.journal.entries) command.now ≡ false) }
         ensures fault { IfErr result
             (IsKeeperFault (length self.now.journal.entries) command.now) }
     {
@@ -184,7 +185,7 @@ impl<A: Allocator + Copy> Keeper<A> {
         &mut self,
         command: &PackedCommand<A>,
     ) -> Result<Ready<A>, AllocError>
-        requires { is_full (length self.old.journal.entries) command.now ≡ false }
+        requires { is_journal_full (length self.old.journal.entries) command.now ≡ false }
         ensures ready { IfOk result (IsReadyFor self.new command.now) }
         ensures journal { self.new.journal ≡ self.old.journal }
         ensures room { self.old.room ≤ self.new.room }
@@ -202,7 +203,7 @@ impl<A: Allocator + Copy> Keeper<A> {
         command: &Command,
     ) -> Result<Ready<A>, AllocError>
         requires packed { packed ≡ command.now }
-        requires not_full { is_full (length self.old.journal.entries) command.now ≡ false }
+        requires not_full { is_journal_full (length self.old.journal.entries) command.now ≡ false }
         ensures ready { IfOk result (IsReadyFor self.new command.now) }
         ensures journal { self.new.journal ≡ self.old.journal }
         ensures room { self.old.room ≤ self.new.room }
@@ -277,7 +278,7 @@ impl<A: Allocator + Copy> Keeper<A> {
         ensures entry { IfOk result (λ entry. entry ≡ next_entry self.old.journal command) }
         ensures step { OnOk result (self.new.journal ≡ journal_after self.old.journal command) }
         ensures not_full { OnOk result
-            (is_full (length self.old.journal.entries) command ≡ false) }
+            (is_journal_full (length self.old.journal.entries) command ≡ false) }
         ensures err { OnErr result (self.new.journal ≡ self.old.journal) }
         ensures fault { IfErr result (IsKeeperFault (length self.old.journal.entries) command) }
     {

@@ -2,7 +2,8 @@ ghost use Rattle.std.specs.Prelude.{◌≡◌, ◌⊎◌, ◌<◌, ◌≤◌, �
 ghost use mathlib.Core.List.{IsPrefix};
 ghost use Rattle.dam_book.specs.Limits.{most_entries};
 ghost use Rattle.dam_gate.specs.Gate.{IsKeeperFault};
-ghost use Rattle.dam_gate.specs.Journal.{IsJournal, empty_journal, is_full, journal_after, next_entry};
+ghost use Rattle.dam_gate.specs.Journal.{IsJournal, empty_journal, journal_after, next_entry};
+ghost use Rattle.dam_book.specs.Command.{is_journal_full};
 ghost use Rattle.dam_gate.specs.Pass.{knowing_nothing};
 ghost use Rattle.dam_gate.specs.inside.Locked.{IsPassFault, entry_of};
 ghost use Rattle.dam_gate.specs.inside.Shown.{IsAtMostNext, IsNext, IsNoteOf, slot_name};
@@ -238,7 +239,7 @@ impl<J: GateName, R: Wait + Drop> Locked<J, R> {
     pub(crate) fn pack(&self, command: &Command) -> Result<PackedCommand, KeeperFault>
         ensures packed { IfOk result (λ packed. packed ≡ command.now) }
         ensures not_full { OnOk result
-            (is_full (length self.now.journal.entries) command.now ≡ false) }
+            (is_journal_full (length self.now.journal.entries) command.now ≡ false) }
         ensures fault { IfErr result
             (IsKeeperFault (length self.now.journal.entries) command.now) }
         ensures few { length self.now.journal.entries ≤ most_entries }
@@ -314,7 +315,7 @@ impl<J: GateName, R: Wait + Drop> Locked<J, R> {
         part: &mut LedgerPart<Answered<J>>,
         command: &PackedCommand,
     ) -> Result<((u32, Reply), History<J>), GateFault>
-        requires not_full { is_full (length self.old.journal.entries) command.now ≡ false }
+        requires not_full { is_journal_full (length self.old.journal.entries) command.now ≡ false }
         requires part { 0 < part.old.parts }
         ensures entry { IfOk result (λ r.
             entry_of command.now r.0 ≡ next_entry self.old.journal command.now) }

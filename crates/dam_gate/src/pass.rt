@@ -1,7 +1,8 @@
 ghost use Rattle.std.specs.Prelude.{◌≡◌, ◌<◌, ◌≤◌, ◌⊎◌, [], true, false, length, IfOk, IfErr, IfSome, OnOk, OnErr, OnSome, IfNone};
 ghost use Rattle.std.specs.Option.{option_copied};
 ghost use mathlib.Core.List.{IsPrefix};
-ghost use Rattle.dam_gate.specs.Journal.{is_full, journal_after, next_entry};
+ghost use Rattle.dam_gate.specs.Journal.{journal_after, next_entry};
+ghost use Rattle.dam_book.specs.Command.{is_journal_full};
 ghost use Rattle.dam_gate.specs.Pass.{IsKnowledge, after_learning, after_look, is_own, knowing_nothing, same_giver};
 ghost use Rattle.dam_gate.specs.Gate.{BeginsWithAll, IsCalled, IsLook};
 ghost use Rattle.dam_gate.specs.inside.Locked.{entry_of};
@@ -219,7 +220,7 @@ impl<J: GateName> Pass<J> {
         command: &PackedCommand,
     ) -> Result<(u32, Reply), GateFault>
         requires own { is_own self.old.account.holder command.now ≡ true }
-        requires not_full { is_full (length locked.old.journal.entries) command.now ≡ false }
+        requires not_full { is_journal_full (length locked.old.journal.entries) command.now ≡ false }
         ensures entry { IfOk result (λ answer.
             entry_of command.now answer ≡ next_entry locked.old.journal command.now) }
         ensures journal { OnOk result

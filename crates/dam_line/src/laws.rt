@@ -16,7 +16,7 @@ pub fn exactness()
 /// If `clap` takes the words of a subcommand that has a plan, then its matches give each option a number in the option's range: the
 /// number of the words, or the default. So [`read_line`](crate::read_line) never puts a default in the place of a number that
 /// the words give.
-pub fn ranges()
+pub fn numbers_are_in_range()
     ensures { (words : List Text) (found : Text × List Row) (option : OptionTerms)
         → fault_of program words ≡ [] → subcommand_of program words ≡ Some found
         → HasPlan found.0 → IsOption option → IsInItsRange option found.1 }

@@ -50,7 +50,7 @@ pub fn read_line<'a, S: AsStr>(alloc: Global, words: &'a [S]) -> Result<Job, Lin
     };
     let matches = match command.try_get_matches_from(words) {
         Ok(matches) => matches,
-        Err(error) => return Err(refusal(error.kind(), error.to_string(alloc))),
+        Err(error) => return Err(fault_of_error(error.kind(), error.to_string(alloc))),
     };
     let Some((name, options)) = matches.subcommand() else {
         unreachable!();
@@ -59,7 +59,7 @@ pub fn read_line<'a, S: AsStr>(alloc: Global, words: &'a [S]) -> Result<Job, Lin
 }
 
 /// The fault for an error of `clap`, by its kind and its text.
-fn refusal(kind: ErrorKind, text: Result<String, AllocError>) -> LineFault
+fn fault_of_error(kind: ErrorKind, text: Result<String, AllocError>) -> LineFault
     ensures { IsRefusal kind text result }
 {
     match (kind, text) {

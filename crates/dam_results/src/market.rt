@@ -65,7 +65,7 @@ pub fn hourly_orders_are_executed()
 /// the line of the block is missing.
 ///
 /// A book that keeps `IsBook` has no block whose parent is missing, so this is of a block without children:
-/// without it, the book keeps `IsBook` (`dam_book::laws::an_order_less`).
+/// without it, the book keeps `IsBook` (`dam_book::laws::a_book_without_a_childless_order_is_a_book`).
 pub fn a_rejected_block_withdrawn()
     ensures published { (book other : BookState) (place : ℕ) (welfare : ℕ)
         (periods : List PeriodResult) (rows : List RowResult) (who name : List ℕ) (surplus : ℤ)

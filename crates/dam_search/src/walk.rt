@@ -365,22 +365,10 @@ pub(crate) fn explore_by_prices<A: Allocator, P: PricedProblem, I: Incumbent>(
     use_invariant(problem);
     let taken = Selection::choice(depth, piece);
     if !admissible(problem, taken) {
-        return PieceAnswer {
-            piece,
-            best: None,
-            read: 0,
-            visited: 0,
-            done: true,
-        };
+        return PieceAnswer::nothing(piece);
     }
     let Some(room) = room_of_piece(&conflicts.limits, taken, depth) else {
-        return PieceAnswer {
-            piece,
-            best: None,
-            read: 0,
-            visited: 0,
-            done: true,
-        };
+        return PieceAnswer::nothing(piece);
     };
     let mut bound = PriceBound::empty();
     let most = bound_of_piece(priced, taken, order, depth, &mut bound);

@@ -1,4 +1,4 @@
--- `is_due` at a call: the state that it takes, and the state that it leaves. Assumes `Logic`.
+-- `count_down_to_refusal` at a call: the state that it takes, and the state that it leaves. Assumes `Logic`.
 use Rattle.std.proofs.Common.{◌≡◌, ℕ, Bool, List, [], ◌∷◌, refl, ap}
 use seplogic.Ra.Ura.{Ura}
 use mir.Val.{Val, vbool, vptr}
@@ -16,7 +16,7 @@ use denote.Steps.{nothing, only}
 use denote.Triple.Spec.{triple_of}
 use denote.Triple.Statement.{Contract}
 use Rattle.std.specs.contracts.cell.Cell.{the_row}
-use Rattle.limited_alloc.specs.contracts.is_due as f
+use Rattle.limited_alloc.specs.contracts.count_down_to_refusal as f
 
 module _ {M : Type 1} {𝓤 : Ura M} (𝓛 : Logic 𝓤) (at_mem : Memory → SProp 𝓤) (run : Routine → Fun 𝓤) where
   open 𝓛 use {H, A}

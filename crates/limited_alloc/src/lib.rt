@@ -37,7 +37,7 @@ impl<B: Allocator> RefusesNth<B> {
 }
 
 // Counts an allocation, and says whether it is the one to refuse.
-fn is_due(left: &Cell<u64>) -> bool {
+fn count_down_to_refusal(left: &Cell<u64>) -> bool {
     let count = left.get();
     left.set(count.saturating_sub(1));
     count == 1
@@ -47,7 +47,7 @@ unsafe impl<B: Allocator> Allocator for RefusesNth<B> {
     ghost dealloc_token = { λ heap ty ptr. B.dealloc_token heap.inner ty ptr };
 
     fn allocate(&self, size: usize, align: usize) -> Result<*mut u8, AllocError> {
-        if is_due(&self.left) {
+        if count_down_to_refusal(&self.left) {
             return Err(AllocError);
         }
         self.inner.allocate(size, align)

@@ -27,8 +27,8 @@ returns-in-Err-clause-refused g c =
     let words = map g.S.AsStr.text c.args.words.now in
     let app : app_of c.in-Ok.command ≡ program = c.in-Ok.ensures in
     let kinds = c.in-Err.ensures.kinds (ap is_simple_and_free app ∙ is_free-program) in
-    fault_by words (kind_of c.in-Err.error) _ c.refusal.result
-    (subst (λ kind. IsRefusal kind c.to_string.result c.refusal.result) c.kind.ensures c.refusal.ensures)
+    fault_by words (kind_of c.in-Err.error) _ c.fault_of_error.result
+    (subst (λ kind. IsRefusal kind c.to_string.result c.fault_of_error.result) c.kind.ensures c.fault_of_error.ensures)
     (subst (λ a. HasKind (fault_of a words) c.in-Err.error) app kinds)
 
 -- the subcommand that was met is the one of the definition

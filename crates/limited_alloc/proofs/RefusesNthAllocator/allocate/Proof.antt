@@ -38,8 +38,8 @@ use Rattle.std.proofs.alloc.Shapes.{after}
 use Rattle.std.proofs.raw_atomic.Walks.{proved}
 use Rattle.limited_alloc.proofs.Handle.{number, IsLayout, args, handle, inner_at, left_at}
 use Rattle.limited_alloc.proofs.Due.{Due, at_due, Due-goes, Due-gives}
-use Rattle.limited_alloc.proofs.is_due.Symbol as due_symbol
-use Rattle.limited_alloc.proofs.is_due.Met.{met as due_met}
+use Rattle.limited_alloc.proofs.count_down_to_refusal.Symbol as due_symbol
+use Rattle.limited_alloc.proofs.count_down_to_refusal.Met.{met as due_met}
 use Rattle.limited_alloc.specs.contracts.RefusesNth.{the_row}
 use Rattle.limited_alloc.specs.contracts.RefusesNthAllocator.allocate as f
 use Rattle.limited_alloc.proofs.RefusesNthAllocator.allocate.Statement.{statement}
@@ -125,7 +125,7 @@ module _ (B : Al) {M : Type 1} {𝓤 : Ura M} (𝓛 : Logic 𝓤) (at_mem : Memo
           -- [the count; the token of κ₁; the inner handle; the other tokens]
           enter ! C Λ (here B) (Walk.args entry) _ $
           alloc_all ! (λ l. pass_all ! refl ((tt, tt), ((tt, record { fits = n_fits }), ((tt, record { fits = a_fits }), tt))) $
-          -- `if is_due(&self.left)`
+          -- `if count_down_to_refusal(&self.left)`
           sets ! (addr ! (through ! refl (fld ! refl (stop !)))) refl (tt, tt) $
           use2 𝓛 (raw (Asks.pre (at_due 𝓛 at_mem run κ₁ q₁ left))) (Due-goes 𝓛 at_mem run κ₁ q₁ left) $
           calls_at ! fm Asks asks (at_due 𝓛 at_mem run κ₁ q₁ left) (and_then ! (get ! refl) (no_more !)) (λ u.
@@ -133,7 +133,7 @@ module _ (B : Al) {M : Type 1} {𝓤 : Ura M} (𝓛 : Logic 𝓤) (at_mem : Memo
           (Due-gives 𝓛 at_mem run κ₁ q₁ left u) $ await ! tt $ pick ! (λ due. learn ! (λ told.
           lands_as ! told refl (tt, tt) $ first ! $ branches ! (get ! refl)
           -- `return Err(AllocError)`
-          (λ is_due. sets ! (agg ! (no_more !)) refl (tt, tt) $
+          (λ count_down_to_refusal. sets ! (agg ! (no_more !)) refl (tt, tt) $
           sets ! (agg ! (and_then ! (lit ! tt) (and_then ! (get ! refl) (no_more !)))) refl (Answer-typed false 0 0) $
           returns_within ! (Walk.post entry) refl (look_at ! 0 refl) $ free_all ! refl $ keep ! (0 ∷ 2 ∷ []) $ by ! refused)
           -- `self.inner.allocate(size, align)`
@@ -166,4 +166,4 @@ allocate_spec 𝓤 𝓛 𝓜 𝓡 wired row laws g d drops met _ =
     (λ κs. ((λ r vs s. s.0), (uint_Tells w64, (uint_Tells w64, tt))))
     (λ κs qs bounds a τ are.
     walk B 𝓛 𝓜.mem 𝓡.returns κs.0 κs.1.0 qs.0 qs.1.0 bounds.0 a.0 a.1.0 a.1.1.0 τ 𝓣.C 𝓣.Λ (framed 𝓤 𝓛.H 𝓜 𝓣)
-    (due_met 𝓤 𝓛 𝓜 𝓡 (code.calls-limited_alloc::is_due 𝓡.env wired)) (met.allocate drops) are.1.0.1 are.1.1.0.1)
+    (due_met 𝓤 𝓛 𝓜 𝓡 (code.calls-limited_alloc::count_down_to_refusal 𝓡.env wired)) (met.allocate drops) are.1.0.1 are.1.1.0.1)

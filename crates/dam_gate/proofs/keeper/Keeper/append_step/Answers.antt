@@ -2,7 +2,8 @@
 use Rattle.std.proofs.Common.{◌≡◌, false, length, sym, ap, ◌∙◌}
 use Rattle.dam_book.specs.Book.{refusal, reply_to}
 use Rattle.dam_book.specs.declared.command.Entry.{Entry}
-use Rattle.dam_gate.specs.Journal.{JournalState, is_full, next_entry}
+use Rattle.dam_gate.specs.Journal.{JournalState, next_entry}
+use Rattle.dam_book.specs.Command.{is_journal_full}
 use Rattle.dam_gate.specs.Keeper.{KeeperState, ReadyState}
 use Rattle.dam_gate.proofs.Histories.{book_after-periods, journal_after_is}
 use Rattle.dam_gate.proofs.Steps.{same_reason}
@@ -15,8 +16,8 @@ invariant_of-self g c =
     let entry : c.ready.inside.entry ≡ next_entry j command =
     ap (λ (r : ReadyState). r.entry) c.ready.view_is ∙ (c.requires.entry
     ∙ ap (λ (k : KeeperState). next_entry k.journal command) (sym c.self.view_is)) in
-    let left : is_full (length j.entries) command ≡ false =
-    ap (λ (k : KeeperState). is_full (length k.journal.entries) command) c.self.view_is ∙ c.requires.left in
+    let left : is_journal_full (length j.entries) command ≡ false =
+    ap (λ (k : KeeperState). is_journal_full (length k.journal.entries) command) c.self.view_is ∙ c.requires.left in
     let held : length j.entries ≡ c.len-held.result =
     ap (λ (k : KeeperState). length k.journal.entries) c.self.view_is ∙ sym c.len-held.ensures.value in (
       rw (c.push_reserved.ensures.items, c.follow.ensures.book, entry) (journal_after_is j command c.self.invariant.0 left),

@@ -3,7 +3,8 @@ use Rattle.std.proofs.Common.{◌≡◌, ℕ, false, length, Result, Ok, Err, On
 use Rattle.dam_book.specs.Book.{BookState, book_after}
 use Rattle.dam_book.specs.declared.command.Entry.{Entry}
 use Rattle.dam_book.specs.declared.command.Reply.{Reply}
-use Rattle.dam_gate.specs.Journal.{JournalState, is_full, journal_after, next_entry}
+use Rattle.dam_gate.specs.Journal.{JournalState, journal_after, next_entry}
+use Rattle.dam_book.specs.Command.{is_journal_full}
 use Rattle.dam_gate.specs.inside.Locked.{LockedState, entry_of}
 use Rattle.dam_gate.proofs.Histories.{book_after-periods, journal_after_is}
 use Rattle.dam_gate.proofs.locked.Locked.journal_and_publish.Goals as goal
@@ -17,7 +18,7 @@ extend_history-requires-clause-journal g c =
     let entry : c.in_ok-ready.ready.entry ≡ next_entry j command = ready.entry ∙ ap (λ (x : JournalState). next_entry x command) same in
     let book : c.in_ok-ready.ready.book ≡ book_after j.book command = ready.book
     ∙ ap (λ (x : JournalState). book_after x.book command) same in
-    let left : is_full (length j.entries) command ≡ false = ap (λ (x : JournalState). is_full (length x.entries) command) (sym same)
+    let left : is_journal_full (length j.entries) command ≡ false = ap (λ (x : JournalState). is_journal_full (length x.entries) command) (sym same)
     ∙ ready.left in
     rw (c.self.invariant.0, entry, book) (journal_after_is j command c.len-held.ensures.valid left)
 

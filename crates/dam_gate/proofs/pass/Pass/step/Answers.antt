@@ -2,7 +2,8 @@
 use Rattle.std.proofs.Common.{◌≡◌, ◌-◌, ◌++◌, ◌∷◌, [], ℕ, true, false, length, refl, sym, ap, subst, ◌∙◌, arith, length-append}
 use mathlib.Core.List.{IsPrefix}
 use Rattle.dam_book.specs.declared.command.Entry.{Entry}
-use Rattle.dam_gate.specs.Journal.{IsHistory, is_full, next_entry}
+use Rattle.dam_gate.specs.Journal.{IsHistory, next_entry}
+use Rattle.dam_book.specs.Command.{is_journal_full}
 use Rattle.dam_gate.specs.Pass.{Knowledge, AreInOrder, is_own}
 use Rattle.dam_gate.specs.inside.Locked.{entry_of}
 use Rattle.dam_gate.proofs.Beginnings.{prefix_length}
@@ -23,7 +24,7 @@ invariant_of-self-2 g c =
     let before : e.number - 1 ≡ length held = omega (arith, number) in
     let mine : is_own holder e.command ≡ true =
     ap (λ (k : Knowledge). is_own k.account.holder c.args.command.now) c.self.view_is ∙ c.requires.own in
-    let room : is_full (e.number - 1) e.command ≡ false = ap (λ (n : ℕ). is_full n c.args.command.now) before ∙ c.requires.not_full in
+    let room : is_journal_full (e.number - 1) e.command ≡ false = ap (λ (n : ℕ). is_journal_full n c.args.command.now) before ∙ c.requires.not_full in
     let earlier = prefix_length c.self.inside.history held c.in_ok-answer.ensures.seen in
     let copied : c.in_ok-packed.packed ≡ c.args.command.now = c.in_ok-packed.ensures.cases in
     rw (c.push_reserved.ensures.items, c.reserve.ensures.items, c.new.ensures, copied)

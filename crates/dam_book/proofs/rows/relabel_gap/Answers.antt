@@ -4,7 +4,7 @@ use Rattle.indexmap.specs.IndexMap.{Updates}
 use Rattle.indexmap.proofs.CallerLemmas.{insert_entry-new}
 use Rattle.dam_book.specs.inside.Gaps.{Label, Place, same_label}
 use Rattle.dam_book.proofs.FillFacts.{refilled, at_gap, filler_absent, if_some}
-use Rattle.dam_book.proofs.rows.fill_gap.Goals as goal
+use Rattle.dam_book.proofs.rows.relabel_gap.Goals as goal
 
 pub returns-clause-rows : goal.returns-clause-rows
 returns-clause-rows g c =

@@ -4,9 +4,9 @@ use std::random::RandomSource;
 
 /// Random bytes that a caller gave, in place of the system's, for which a static library can't ask.
 #[derive(Drop)]
-struct Given<'a>(&'a [u8]);
+struct SecretBytes<'a>(&'a [u8]);
 
-impl RandomSource for Given<'_> {
+impl RandomSource for SecretBytes<'_> {
     fn fill_bytes(&self, buf: &mut [u8]) -> io::Result<()> {
         let count = buf.len().min(self.0.len());
         buf[..count].copy_from_slice(&self.0[..count]);
@@ -15,6 +15,6 @@ impl RandomSource for Given<'_> {
 }
 
 /// A seed that is drawn from these bytes: from the first 16, and zeros for those that are missing.
-pub(crate) fn drawn_from(secret: &[u8]) -> Seed {
-    Seed::drawn(&Given(secret))
+pub(crate) fn seed_from_secret(secret: &[u8]) -> Seed {
+    Seed::drawn(&SecretBytes(secret))
 }

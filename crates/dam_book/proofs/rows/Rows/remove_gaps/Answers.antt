@@ -3,7 +3,7 @@ use Rattle.std.proofs.Common.{List, is_some, sym, ap, ◌∙◌, subst, rules}
 use Rattle.std.proofs.lemmas.Map.Made.{filter_same_pairs}
 use Rattle.dam_book.specs.inside.Gaps.{Place, held, gap_count, AreNumbered}
 use Rattle.dam_book.proofs.GapFacts.{held-filtered, numbered-filtered}
-use Rattle.dam_book.proofs.rows.Rows.squeeze.Goals as goal
+use Rattle.dam_book.proofs.rows.Rows.remove_gaps.Goals as goal
 
 pub invariant_of-self : goal.invariant_of-self
 invariant_of-self g c =

@@ -1,6 +1,6 @@
 -- A row is found as its place is.
 use Rattle.dam_book.proofs.GapFacts.{found_at, absent_at, gap_at}
-use Rattle.dam_book.proofs.rows.Rows.find_at.Goals as goal
+use Rattle.dam_book.proofs.rows.Rows.find_with_place.Goals as goal
 
 pub returns-in_default : goal.returns-in_default
 returns-in_default g c =
