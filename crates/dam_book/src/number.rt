@@ -34,7 +34,7 @@ fn has_leading_zero(text: &[u8]) -> bool
     matches!(text, [b'0', _, ..])
 }
 
-// The number of at most nine digits whose text in decimal the bytes are.
+// The number of at most nine digits that has this text in decimal; `None` if there is none.
 pub(crate) fn read_number(text: &[u8]) -> Option<u32>
     ensures { MatchOption result
         ((n : ℕ) → n < 10 ^ 9 → text.now ≢ decimal n)
@@ -52,7 +52,7 @@ pub(crate) fn read_number(text: &[u8]) -> Option<u32>
     value_of(text)
 }
 
-// The number of at most nine digits whose text in decimal, after a dash if it is below zero, the bytes are.
+// The same with a sign: a number below zero has a dash before its digits.
 pub(crate) fn read_signed(text: &[u8]) -> Option<i32>
     ensures { MatchOption result
         ((z : ℤ) → IsShort z → text.now ≢ signed_decimal z)

@@ -158,11 +158,11 @@ impl<'a, R: Wait + Eprint + Clock> Turnstile for Progress<'a, R> {
 }
 
 impl<'a, R: Wait + Eprint + Clock> Watch for Progress<'a, R> {
-    fn refused(&self, commands: u32) {
+    fn commands_refused(&self, commands: u32) {
         self.state.lock(self.rt).count.refused = commands;
     }
 
-    fn begin(&self, pieces: u32) {
+    fn search_begins(&self, pieces: u32) {
         let mut state = self.state.lock(self.rt);
         state.count.begin(pieces);
         if self.is_shown {
@@ -170,7 +170,7 @@ impl<'a, R: Wait + Eprint + Clock> Watch for Progress<'a, R> {
         }
     }
 
-    fn end(&self) {
+    fn search_ends(&self) {
         let mut state = self.state.lock(self.rt);
         if state.is_written {
             let _ = eprint!(self.rt; "{CLEAR}");

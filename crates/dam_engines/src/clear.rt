@@ -65,14 +65,14 @@ fn clear_text<H: Threads + Sync, T: Watch + Sync>(
         IsMadeFrom (AreResultsWithin plan) text.items results.items) }
     ensures fault { IfErr result (IsRunFault (IsClearFault plan) text.items) }
 {
-    let run = run_journal(alloc, seed, text.as_slice())?;
+    let run = run_of_journal(alloc, seed, text.as_slice())?;
     drop(text);
-    watch.refused(run.refused);
+    watch.commands_refused(run.commands_refused);
     clear_book(rt, alloc, &run.book, plan, watch)
 }
 
 /// The run of a journal's text. The text may have been cut after the first byte too many.
-fn run_journal(alloc: Global, seed: Seed, text: &[u8]) -> Result<Run, RunFault>
+fn run_of_journal(alloc: Global, seed: Seed, text: &[u8]) -> Result<Run, RunFault>
     ensures done { IfOk result (λ found. (periods : ℕ) × (commands : List Command)
         × ReadsAs text.now periods commands × (found.book ≡ run periods commands)) }
     ensures fault { IfErr result (IsTextFault text.now) }
@@ -94,9 +94,9 @@ pub fn clear_book<H: Threads + Sync, T: Watch + Sync>(
 {
     published_results_are_clearings();
     let problem = Problem::of_book(alloc, book)?;
-    watch.begin(1 << plan.depth(problem.block_count()));
+    watch.search_begins(1 << plan.depth(problem.block_count()));
     let best = search(rt, alloc, &problem, plan, watch);
-    watch.end();
+    watch.search_ends();
     let published = results(alloc, &problem, best?)?;
     Ok(results_text(alloc, &published)?)
 }

@@ -77,7 +77,7 @@ fn day_text<H: Threads + Wait + Sync, T: Watch + Sync, U: Turnstile + Sync>(
     let journal = read_packed_journal(alloc, text.as_slice())?;
     drop(text);
     let commands = journal.commands.as_slice();
-    day_of_commands(
+    day_text_of_commands(
         rt,
         alloc,
         seed,
@@ -90,7 +90,7 @@ fn day_text<H: Threads + Wait + Sync, T: Watch + Sync, U: Turnstile + Sync>(
 }
 
 /// The printed text of a day of the commands.
-fn day_of_commands<H: Threads + Wait + Sync, T: Watch + Sync, U: Turnstile + Sync>(
+fn day_text_of_commands<H: Threads + Wait + Sync, T: Watch + Sync, U: Turnstile + Sync>(
     rt: &H,
     alloc: Global,
     seed: Seed,
@@ -103,13 +103,13 @@ fn day_of_commands<H: Threads + Wait + Sync, T: Watch + Sync, U: Turnstile + Syn
     ensures done { IfOk result (λ day. IsDayText plan periods commands.now day.items) }
     ensures fault { IfErr result (IsCommandsFault plan periods commands.now) }
 {
-    let settled = settled_day(rt, alloc, seed, periods, commands, entrance)?;
-    print_day(rt, alloc, settled.journal(), plan, watch)
+    let settled = enter_and_settle(rt, alloc, seed, periods, commands, entrance)?;
+    cleared_day_text(rt, alloc, settled.journal(), plan, watch)
 }
 
 /// The settled journal of a day of the commands. A command's place is counted from 0, a record's number
 /// from 1, and the first record is the day.
-fn settled_day<H: Threads + Wait + Sync, U: Turnstile + Sync>(
+fn enter_and_settle<H: Threads + Wait + Sync, U: Turnstile + Sync>(
     rt: &H,
     alloc: Global,
     seed: Seed,
@@ -135,7 +135,7 @@ fn settled_day<H: Threads + Wait + Sync, U: Turnstile + Sync>(
 }
 
 /// The written journal, the line `results`, and the results text of the journal's book.
-fn print_day<H: Threads + Sync, T: Watch + Sync>(
+fn cleared_day_text<H: Threads + Sync, T: Watch + Sync>(
     rt: &H,
     alloc: Global,
     journal: &Journal,

@@ -3,7 +3,7 @@
 ghost use Rattle.std.specs.Prelude.{◌≡◌, ◌++◌, codes, IfOk};
 ghost use Rattle.dam_engines.specs.Fault.{fault_status, fault_text, run_fault_of};
 
-use crate::fixed_line::text_of;
+use crate::fixed_line::fault_text;
 use dam_blocks::ProblemFault;
 use dam_gate::Mismatch;
 use dam_results::JournalFault;
@@ -49,7 +49,7 @@ impl fmt::Display for RunFault {
     ghost output = { λ fault. Some (fault_text fault) };
 
     fn fmt<W: fmt::Write>(&self, f: &mut fmt::Formatter<W>) -> fmt::Result {
-        f.write_str(text_of(self).as_str())
+        f.write_str(fault_text(self).as_str())
     }
 }
 

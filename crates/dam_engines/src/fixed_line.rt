@@ -12,7 +12,7 @@ use itoa::Buffer;
 const ROOM: usize = 96;
 
 /// Adds the words and the number.
-fn add(line: &mut ArrayString<ROOM>, words: &str, number: u64)
+fn push_with_number(line: &mut ArrayString<ROOM>, words: &str, number: u64)
     requires { length line.old.bytes + length words.now ≤ 76 }
     ensures text { line.new.bytes ≡ line.old.bytes ++ (words.now ++ decimal number) }
     ensures short { length line.new.bytes ≤ length line.old.bytes + length words.now + 20 }
@@ -22,7 +22,7 @@ fn add(line: &mut ArrayString<ROOM>, words: &str, number: u64)
 }
 
 /// These words.
-fn worded(words: &str) -> ArrayString<ROOM>
+fn line_of_words(words: &str) -> ArrayString<ROOM>
     requires { length words.now ≤ 40 }
     ensures text { result.bytes ≡ words.now }
 {
@@ -32,63 +32,63 @@ fn worded(words: &str) -> ArrayString<ROOM>
 }
 
 /// These words and this number.
-fn numbered(words: &str, number: u64) -> ArrayString<ROOM>
+fn line_with_number(words: &str, number: u64) -> ArrayString<ROOM>
     requires { length words.now ≤ 40 }
     ensures text { result.bytes ≡ words.now ++ decimal number }
     ensures short { length result.bytes ≤ length words.now + 20 }
 {
     let mut line = ArrayString::new();
-    add(&mut line, words, number);
+    push_with_number(&mut line, words, number);
     line
 }
 
 /// The text of a bad field.
-fn bad_field(at: usize, field: usize) -> ArrayString<ROOM>
+fn bad_field_line(at: usize, field: usize) -> ArrayString<ROOM>
     ensures text { result.bytes ≡ codes "input: BadField in record "
         ++ (decimal at ++ (codes " field " ++ decimal field)) }
     ensures short { length result.bytes ≤ 80 }
 {
-    let mut line = numbered("input: BadField in record ", at as u64);
-    add(&mut line, " field ", field as u64);
+    let mut line = line_with_number("input: BadField in record ", at as u64);
+    push_with_number(&mut line, " field ", field as u64);
     line
 }
 
 /// The text of a search that didn't finish.
-fn unfinished(piece: u32, visited: u32) -> ArrayString<ROOM>
+fn unfinished_line(piece: u32, visited: u32) -> ArrayString<ROOM>
     ensures text { result.bytes ≡ codes "unfinished: piece "
         ++ (decimal piece ++ (codes " after " ++ (decimal visited ++ codes " nodes"))) }
     ensures short { length result.bytes ≤ 80 }
 {
-    let mut line = numbered("unfinished: piece ", u64::from(piece));
-    add(&mut line, " after ", u64::from(visited));
+    let mut line = line_with_number("unfinished: piece ", u64::from(piece));
+    push_with_number(&mut line, " after ", u64::from(visited));
     line.push_str(" nodes");
     line
 }
 
 /// The text of a failed write.
-fn cut_off(written: usize) -> ArrayString<ROOM>
+fn failed_write_line(written: usize) -> ArrayString<ROOM>
     ensures text { result.bytes
         ≡ codes "device: write after " ++ (decimal written ++ codes " bytes") }
     ensures short { length result.bytes ≤ 80 }
 {
-    let mut line = numbered("device: write after ", written as u64);
+    let mut line = line_with_number("device: write after ", written as u64);
     line.push_str(" bytes");
     line
 }
 
 /// The text of a fault of the input.
-fn input_line(fault: JournalFault) -> ArrayString<ROOM>
+fn input_fault_line(fault: JournalFault) -> ArrayString<ROOM>
     ensures text { result.bytes ≡ input_text fault }
     ensures short { length result.bytes ≤ 80 }
 {
     match fault {
-        JournalFault::TooLong => worded("input: TooLong"),
-        JournalFault::NotAscii(offset) => numbered("input: NotAscii at ", offset as u64),
-        JournalFault::TooManyRecords => worded("input: TooManyRecords"),
-        JournalFault::NotDay => worded("input: NotDay"),
-        JournalFault::FieldCount(record) => numbered("input: FieldCount in record ", record as u64),
-        JournalFault::BadField(record, field) => bad_field(record, field),
-        JournalFault::Memory => worded("memory"),
+        JournalFault::TooLong => line_of_words("input: TooLong"),
+        JournalFault::NotAscii(offset) => line_with_number("input: NotAscii at ", offset as u64),
+        JournalFault::TooManyRecords => line_of_words("input: TooManyRecords"),
+        JournalFault::NotDay => line_of_words("input: NotDay"),
+        JournalFault::FieldCount(record) => line_with_number("input: FieldCount in record ", record as u64),
+        JournalFault::BadField(record, field) => bad_field_line(record, field),
+        JournalFault::Memory => line_of_words("memory"),
     }
 }
 
@@ -98,34 +98,34 @@ fn mismatch_line(why: Mismatch) -> ArrayString<ROOM>
     ensures short { length result.bytes ≤ 80 }
 {
     match why {
-        Mismatch::StillOpen => worded("mismatch: StillOpen"),
-        Mismatch::Missing(number) => numbered("mismatch: Missing ", u64::from(number)),
-        Mismatch::Doubled(number) => numbered("mismatch: Doubled ", u64::from(number)),
-        Mismatch::Differs(number) => numbered("mismatch: Differs ", u64::from(number)),
-        Mismatch::Extra(number) => numbered("mismatch: Extra ", u64::from(number)),
-        Mismatch::Memory => worded("memory"),
+        Mismatch::StillOpen => line_of_words("mismatch: StillOpen"),
+        Mismatch::Missing(number) => line_with_number("mismatch: Missing ", u64::from(number)),
+        Mismatch::Doubled(number) => line_with_number("mismatch: Doubled ", u64::from(number)),
+        Mismatch::Differs(number) => line_with_number("mismatch: Differs ", u64::from(number)),
+        Mismatch::Extra(number) => line_with_number("mismatch: Extra ", u64::from(number)),
+        Mismatch::Memory => line_of_words("memory"),
     }
 }
 
 /// The text of a fault.
-pub(crate) fn text_of(fault: &RunFault) -> ArrayString<ROOM>
+pub(crate) fn fault_text(fault: &RunFault) -> ArrayString<ROOM>
     ensures text { result.bytes ≡ fault_text fault.now }
     ensures short { length result.bytes ≤ 80 }
 {
     match *fault {
-        RunFault::Read => worded("device: read"),
-        RunFault::Input(fault) => input_line(fault),
-        RunFault::TooManyCommands => worded("input: TooManyCommands"),
-        RunFault::CloseGiven(record) => numbered("input: CloseGiven in record ", record as u64),
+        RunFault::Read => line_of_words("device: read"),
+        RunFault::Input(fault) => input_fault_line(fault),
+        RunFault::TooManyCommands => line_of_words("input: TooManyCommands"),
+        RunFault::CloseGiven(record) => line_with_number("input: CloseGiven in record ", record as u64),
         RunFault::TooManyParticipants(record) => {
-            numbered("input: TooManyParticipants in record ", record as u64)
+            line_with_number("input: TooManyParticipants in record ", record as u64)
         }
-        RunFault::StillOpen => worded("input: StillOpen"),
+        RunFault::StillOpen => line_of_words("input: StillOpen"),
         RunFault::Mismatch(why) => mismatch_line(why),
-        RunFault::Unfinished { piece, visited } => unfinished(piece, visited),
-        RunFault::Collected { piece } => numbered("mismatch: Collected ", u64::from(piece)),
-        RunFault::Memory => worded("memory"),
-        RunFault::Write { written } => cut_off(written),
+        RunFault::Unfinished { piece, visited } => unfinished_line(piece, visited),
+        RunFault::Collected { piece } => line_with_number("mismatch: Collected ", u64::from(piece)),
+        RunFault::Memory => line_of_words("memory"),
+        RunFault::Write { written } => failed_write_line(written),
     }
 }
 
@@ -133,7 +133,7 @@ pub(crate) fn text_of(fault: &RunFault) -> ArrayString<ROOM>
 pub fn short_line(fault: &RunFault) -> ArrayString<ROOM>
     ensures { result.bytes ≡ fault_text fault.now ++ codes "\n" }
 {
-    let mut line = text_of(fault);
+    let mut line = fault_text(fault);
     line.push_str("\n");
     line
 }

@@ -40,7 +40,7 @@ pub(crate) fn acts_for(holder: &Option<Participant>, giver: Option<&Participant>
 }
 
 /// A copy of the holder.
-pub(crate) fn copy_of(holder: &Option<Participant>) -> Option<Participant>
+pub(crate) fn copy_holder(holder: &Option<Participant>) -> Option<Participant>
     ensures { result ≡ holder.now }
 {
     match holder {
@@ -65,7 +65,7 @@ impl Account {
     pub fn holder(&self) -> Option<Participant>
         ensures { result ≡ self.now.holder }
     {
-        copy_of(&self.holder)
+        copy_holder(&self.holder)
     }
 
     /// The number of entries of the journal that it had seen.

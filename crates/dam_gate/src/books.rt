@@ -68,7 +68,7 @@ impl<A: Allocator + Copy> Books<A> {
     }
 
     /// An equal book that isn't shared: the one before it, if nobody shares that any more, or else a copy.
-    pub(crate) fn unshared_book(
+    pub(crate) fn take_unshared_book(
         &mut self,
         entries: &[PackedEntry<A>],
     ) -> Result<Book<A>, AllocError>
@@ -95,7 +95,7 @@ impl<A: Allocator + Copy> Books<A> {
 
     /// Goes on to the book after the entry's command, if the command changed it. The entry is the next of the journal,
     /// at this place.
-    pub(crate) fn follow(
+    pub(crate) fn advance(
         &mut self,
         book: Arc<Book<A>, A>,
         entry: &PackedEntry<A>,

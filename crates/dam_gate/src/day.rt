@@ -103,7 +103,7 @@ impl From<GateFault> for DayFault {
 }
 
 /// Enters the commands at these places in their order, up to the first that is refused.
-fn enter<J: GateName, H: Wait + Drop>(
+fn enter_commands<J: GateName, H: Wait + Drop>(
     rt: &impl Wait,
     gate: &Gate<J, H>,
     pass: &mut Pass<J>,
@@ -135,7 +135,7 @@ fn enter_through_turnstile<J: GateName, H: Wait + Drop, T: Turnstile>(
     ensures { Enters (commands_at commands.now places.now) pass.old.account pass.new.account }
 {
     turnstile.before(participant);
-    enter(rt, gate, pass, commands, places);
+    enter_commands(rt, gate, pass, commands, places);
     turnstile.after(participant);
 }
 
@@ -185,7 +185,7 @@ fn is_one_of(participants: &[Participant], who: &Participant) -> bool
 }
 
 /// Takes the giver of the command at this place among the participants.
-fn take_giver(
+fn add_giver(
     participants: &mut Vec<Participant>,
     command: &PackedCommand,
     place: usize,
@@ -222,7 +222,7 @@ fn givers(alloc: Global, commands: &[PackedCommand]) -> Result<Vec<Participant>,
     }
     let mut participants = Vec::new(alloc);
     for (place, command) in commands.iter().enumerate() {
-        take_giver(&mut participants, command, place)?;
+        add_giver(&mut participants, command, place)?;
     }
     Ok(participants)
 }
@@ -238,7 +238,7 @@ fn pass_for<J: GateName, H: Wait + Drop>(
     ensures err { IfErr result (λ fault. fault ≡ DayFault.Memory) }
 {
     let mut pass = gate.pass(rt, who.copy())?;
-    pass.make_room(receipts)?;
+    pass.reserve_receipts(receipts)?;
     Ok(pass)
 }
 
@@ -297,7 +297,7 @@ fn accounts_of<J: GateName>(
 }
 
 /// The passes through which all commands were entered, one for each participant.
-fn enter_day<J: GateName + Send + Sync, R: Threads + Wait + Sync, T: Turnstile + Sync>(
+fn enter_before_close<J: GateName + Send + Sync, R: Threads + Wait + Sync, T: Turnstile + Sync>(
     rt: &R,
     alloc: Global,
     gate: &Gate<J, &R>,
@@ -318,7 +318,7 @@ fn enter_day<J: GateName + Send + Sync, R: Threads + Wait + Sync, T: Turnstile +
     let shares = shares.as_slice();
     let mut passes = passes_for(rt, alloc, gate, participants, shares)?;
     // So that a journal which grows isn't copied.
-    gate.make_room(rt, commands.len() + 1)?;
+    gate.reserve_entries(rt, commands.len() + 1)?;
     enter_all(rt, gate, turnstile, &mut passes, commands, shares);
     if !have_all_entered(&passes, shares) {
         return Err(DayFault::Memory);
@@ -330,7 +330,7 @@ fn enter_day<J: GateName + Send + Sync, R: Threads + Wait + Sync, T: Turnstile +
 ///
 /// The operator first learns all that the participants have seen, and closes when they have left the gate. So its close
 /// is the journal's last entry, and the journal has all theirs. Their parts of the count show that it has no other.
-fn run_at_gate<J: GateName + Send + Sync, R: Threads + Wait + Sync, T: Turnstile + Sync>(
+fn run_at_own_gate<J: GateName + Send + Sync, R: Threads + Wait + Sync, T: Turnstile + Sync>(
     rt: &R,
     alloc: Global,
     opening: Opening,
@@ -351,18 +351,18 @@ fn run_at_gate<J: GateName + Send + Sync, R: Threads + Wait + Sync, T: Turnstile
     ensures err { IfErr result (λ fault. fault ≡ DayFault.Memory) }
 {
     let gate = Gate::<J, &R>::for_day(rt, alloc, opening, periods, seed)?;
-    let passes = enter_day(rt, alloc, &gate, turnstile, participants, commands)?;
+    let passes = enter_before_close(rt, alloc, &gate, turnstile, participants, commands)?;
     let mut operator = gate.operator(rt)?;
     learn_from_all(&mut operator, &passes);
-    let closed = gate.close(&mut operator)?;
+    let closed = gate.close_into_locked(&mut operator)?;
     let (passes, mut parts) = accounts_of(alloc, passes, operator)?;
     let journal = closed.into_audited_journal(&mut parts);
-    let settled = settle_day(alloc, journal, &passes)?;
+    let settled = settle_journal(alloc, journal, &passes)?;
     Ok(SettledDay { settled, passes })
 }
 
 /// The journal settled with the passes.
-fn settle_day(alloc: Global, journal: Journal, passes: &[Account]) -> Result<Settled, DayFault>
+fn settle_journal(alloc: Global, journal: Journal, passes: &[Account]) -> Result<Settled, DayFault>
     ensures journal { IfOk result (λ settled. settled ≡ journal) }
     ensures account { IfOk result (λ settled. IsWholeAccount settled passes.now) }
     ensures why { IfErr result (IsUnsettled journal passes.now) }
@@ -379,7 +379,7 @@ fn settle_day(alloc: Global, journal: Journal, passes: &[Account]) -> Result<Set
 }
 
 /// The commands, packed.
-fn pack(alloc: Global, commands: &[Command]) -> Result<Vec<PackedCommand>, AllocError>
+fn pack_commands(alloc: Global, commands: &[Command]) -> Result<Vec<PackedCommand>, AllocError>
     ensures { IfOk result (λ packed. packed.items ≡ commands.now) }
 {
     let mut packed = Vec::with_capacity(alloc, commands.len())?;
@@ -409,7 +409,7 @@ pub fn run_commands<R: Threads + Wait + Sync, T: Turnstile + Sync>(
     if commands.len() >= MOST_ENTRIES {
         return Err(DayFault::TooManyCommands);
     }
-    let packed = pack(alloc, commands)?;
+    let packed = pack_commands(alloc, commands)?;
     run_packed(rt, alloc, periods, seed, &packed, turnstile)
 }
 
@@ -427,7 +427,7 @@ pub fn run_packed<R: Threads + Wait + Sync, T: Turnstile + Sync>(
 {
     let participants = givers(alloc, commands)?;
     let opening = Opening::with_passes(periods.get(), participants.len() as u8 + 1);
-    run_at_gate::<Brand, R, T>(
+    run_at_own_gate::<Brand, R, T>(
         rt,
         alloc,
         opening,

@@ -151,14 +151,14 @@ impl<J: GateName, R: Wait + Drop> Gate<J, R> {
     pub fn pass(&self, rt: &impl Wait, who: Participant) -> Result<Pass<J>, PassFault>
         ensures { IfOk result (λ pass. pass ≡ knowing_nothing (Some who)) }
     {
-        self.locked.lock(rt).pass(Some(who))
+        self.locked.lock(rt).issue_pass(Some(who))
     }
 
     /// A pass for the operator, who alone closes.
     pub fn operator(&self, rt: &impl Wait) -> Result<Pass<J>, PassFault>
         ensures { IfOk result (λ pass. pass ≡ knowing_nothing None) }
     {
-        self.locked.lock(rt).pass(None)
+        self.locked.lock(rt).issue_pass(None)
     }
 
     /// Gives the command to the book, and journals it with the reply, even if the book refuses it. The pass gets the
@@ -181,7 +181,7 @@ impl<J: GateName, R: Wait + Drop> Gate<J, R> {
             return Err(GateFault::NotYours);
         }
         let mut locked = self.locked.lock(rt);
-        let packed = locked.pack(&command)?;
+        let packed = locked.pack_unless_full(&command)?;
         let (number, reply) = pass.step(&mut locked, &packed)?;
         Ok(Entry {
             number,
@@ -215,19 +215,19 @@ impl<J: GateName, R: Wait + Drop> Gate<J, R> {
     }
 
     /// Makes room in the journal for this number of further entries.
-    pub(crate) fn make_room(&self, rt: &impl Wait, entries: usize) -> Result<(), AllocError> {
-        self.locked.lock(rt).make_room(entries)
+    pub(crate) fn reserve_entries(&self, rt: &impl Wait, entries: usize) -> Result<(), AllocError> {
+        self.locked.lock(rt).reserve_entries(entries)
     }
 
     /// The state under the lock after the operator has closed, when nobody else uses the gate any more.
-    pub(crate) fn close(self, operator: &mut Pass<J>) -> Result<Locked<J, R>, GateFault>
+    pub(crate) fn close_into_locked(self, operator: &mut Pass<J>) -> Result<Locked<J, R>, GateFault>
         requires { operator.old.account.holder ≡ None }
         ensures { IfOk result (λ locked.
             IsClosedByOperator operator.old operator.new.account locked.journal) }
     {
         let mut locked = self.locked.into_inner();
         let _held = locked.len(); // for the proof: the invariant of a journal
-        let close = locked.pack(&Command::Close)?;
+        let close = locked.pack_unless_full(&Command::Close)?;
         let _answer = operator.step(&mut locked, &close)?;
         let _receipts = operator.receipts(); // for the proof: the invariant of a pass
         Ok(locked)

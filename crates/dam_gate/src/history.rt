@@ -150,7 +150,7 @@ impl Opening {
     }
 
     /// The count of the entries under a name, and the empty history.
-    pub(crate) fn named<J: GateName>(self) -> Named<J>
+    pub(crate) fn into_named<J: GateName>(self) -> NamedOpening<J>
         requires { self ≡ J.opening }
         ensures start { result.start ≡ [] }
         ensures none { result.answered.total ≡ 0 }
@@ -164,7 +164,7 @@ impl Opening {
             ..
         } = self;
         let (answered, rest) = blank.open::<Answered<J>>();
-        Named {
+        NamedOpening {
             count: EntryCount {
                 word,
                 of: PhantomData,
@@ -183,7 +183,7 @@ impl Opening {
 /// An opening under its name: the word that counts the entries, the empty history, and the ledger of the entries with all
 /// its parts, of which each pass gets one.
 #[derive(Drop)]
-pub(crate) struct Named<J: GateName> {
+pub(crate) struct NamedOpening<J: GateName> {
     pub(crate) count: EntryCount<J>,
     pub(crate) start: History<J>,
     pub(crate) answered: LedgerTotal<Answered<J>>,
@@ -237,7 +237,7 @@ impl<J: GateName> History<J> {
     }
 
     /// Whether the other is a prefix of it: it is unless it is longer.
-    pub(crate) fn begins_with(&self, other: &History<J>) -> bool
+    pub(crate) fn starts_with(&self, other: &History<J>) -> bool
         ensures { result ≡ true → IsPrefix other.now self.now }
     {
         let mut both = self.seen.again();
@@ -267,7 +267,7 @@ impl<J: GateName> History<J> {
 impl<J: GateName> EntryCount<J> {
     /// The history with the entry added, if the gate's history is just this one. Everything seen and learnt is a prefix
     /// of it. `None` if the gate's history is another.
-    pub(crate) fn add(
+    pub(crate) fn add_entry(
         &self,
         history: &History<J>,
         seen: &History<J>,

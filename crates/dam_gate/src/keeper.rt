@@ -161,12 +161,12 @@ impl<A: Allocator + Copy> Keeper<A> {
         ensures fault { IfErr result
             (IsKeeperFault (length self.old.journal.entries) command.now) }
     {
-        let packed = self.pack(command)?;
+        let packed = self.pack_unless_full(command)?;
         Ok(self.prepare(packed, command)?)
     }
 
     /// Packs the command for its entry, unless the journal is full for it.
-    pub(crate) fn pack(&self, command: &Command) -> Result<PackedCommand<A>, KeeperFault>
+    pub(crate) fn pack_unless_full(&self, command: &Command) -> Result<PackedCommand<A>, KeeperFault>
         ensures packed { IfOk result (λ packed. packed ≡ command.now) }
         ensures not_full { OnOk result
             (is_journal_full (length self.now.journal.entries) command.now ≡ false) }
@@ -233,7 +233,7 @@ impl<A: Allocator + Copy> Keeper<A> {
         if let Some(_) = outcome.refusal() {
             return self.books.share_book();
         }
-        let mut book = self.books.unshared_book(&self.entries)?;
+        let mut book = self.books.take_unshared_book(&self.entries)?;
         let _done = book.carry_out(command, outcome)?;
         match Arc::new(*self.entries.allocator(), book) {
             Ok(book) => Ok(book),
@@ -250,12 +250,12 @@ impl<A: Allocator + Copy> Keeper<A> {
         ensures room { self.old.room ≡ self.new.room + 1 }
     {
         let entry = ready.entry().entry();
-        self.append_step(ready);
+        self.append_ready(ready);
         entry
     }
 
     /// Appends the step's entry to the journal, and takes over its book, as `put` does.
-    pub(crate) fn append_step(&mut self, ready: Ready<A>)
+    pub(crate) fn append_ready(&mut self, ready: Ready<A>)
         requires { IsReadyFor self.old ready.entry.command ready }
         ensures step { self.new.journal ≡ journal_after self.old.journal ready.entry.command }
         ensures day { self.new.journal.book.periods ≡ self.old.journal.book.periods }
@@ -267,7 +267,7 @@ impl<A: Allocator + Copy> Keeper<A> {
             outcome,
         } = ready;
         let held = self.len();
-        self.books.follow(book, &entry, held as usize, outcome);
+        self.books.advance(book, &entry, held as usize, outcome);
         self.entries.push_reserved(entry);
     }
 
@@ -319,7 +319,7 @@ impl<A: Allocator + Copy> Keeper<A> {
     }
 
     /// Makes room for this number of further entries.
-    pub(crate) fn make_room(&mut self, entries: usize) -> Result<(), AllocError>
+    pub(crate) fn reserve_entries(&mut self, entries: usize) -> Result<(), AllocError>
         ensures room { OnOk result (entries ≤ self.new.room) }
         ensures kept { self.old.room ≤ self.new.room }
         ensures journal { self.new.journal ≡ self.old.journal }

@@ -10,11 +10,11 @@ ghost use Rattle.dam_gate.specs.inside.Shown.{IsAtMostNext, IsNext, IsNoteOf, sl
 ghost use Rattle.left_right.specs.Handles.{pending, published};
 
 use crate::gate::{GateFault, PassFault};
-use crate::history::{Answered, EntryCount, GateName, History, Named, Opening};
+use crate::history::{Answered, EntryCount, GateName, History, NamedOpening, Opening};
 use crate::keeper::{Journal, Keeper, KeeperFault, Ready};
 use crate::limits::MOST_PASSES;
 use crate::pass::{FIRST_RECEIPTS, Pass};
-use crate::version::{NextShown, Shown, Slot, Version, filled};
+use crate::version::{NextShown, Shown, Slot, Version, filled_slot};
 use dam_book::{Command, DayLength, PackedCommand, Participant, Reply, Seed};
 use left_right::{Absorb, WriteHandle};
 use once_cell::race::{Note as CellNote, OnceBox};
@@ -111,7 +111,7 @@ fn writer_from<J: GateName, R: Wait + Drop>(
 
 /// A slot for the next version: the one that a refused call left at the writer, or else a new one, which is empty. The
 /// writer shows it next.
-fn next_slot<J: GateName, R: Wait + Drop>(
+fn stage_next_slot<J: GateName, R: Wait + Drop>(
     alloc: Global,
     writer: &mut WriteHandle<Shown<J>, NextShown<J>, R>,
     next: &mut Option<Slot<J>>,
@@ -154,7 +154,7 @@ fn release_earlier_version<J: GateName, R: Wait + Drop>(
 ///
 /// The next version takes the place of the present one in its box, because no memory may be refused once the history
 /// has gone on.
-fn extend_history<J: GateName>(
+fn extend_history_and_fill<J: GateName>(
     count: &EntryCount<J>,
     history: &History<J>,
     seen: &History<J>,
@@ -175,7 +175,7 @@ fn extend_history<J: GateName>(
         (fault ≡ GateFault.Memory) ⊎ (fault ≡ GateFault.NoVersion)) }
 {
     let book = ready.share_book()?;
-    let Some(after) = count.add(history, seen, learnt, ready.entry()) else {
+    let Some(after) = count.add_entry(history, seen, learnt, ready.entry()) else {
         return Err(GateFault::NoVersion);
     };
     *version = Version::new(book, after.copy());
@@ -202,13 +202,13 @@ impl<J: GateName, R: Wait + Drop> Locked<J, R> {
     {
         let keeper = Keeper::for_day(alloc, periods, seed)?;
         let most = opening.passes();
-        let Named {
+        let NamedOpening {
             count,
             start,
             answered,
             rest,
         } = opening.named::<J>();
-        let (slot, shown) = filled(alloc, version_of(alloc, &keeper, &start)?)?;
+        let (slot, shown) = filled_slot(alloc, version_of(alloc, &keeper, &start)?)?;
         let writer = writer_from(rt, alloc, &slot)?;
         Ok(Locked {
             alloc,
@@ -236,7 +236,7 @@ impl<J: GateName, R: Wait + Drop> Locked<J, R> {
     }
 
     /// The command as its entry will have it, if the journal isn't full for it.
-    pub(crate) fn pack(&self, command: &Command) -> Result<PackedCommand, KeeperFault>
+    pub(crate) fn pack_unless_full(&self, command: &Command) -> Result<PackedCommand, KeeperFault>
         ensures packed { IfOk result (λ packed. packed ≡ command.now) }
         ensures not_full { OnOk result
             (is_journal_full (length self.now.journal.entries) command.now ≡ false) }
@@ -245,14 +245,14 @@ impl<J: GateName, R: Wait + Drop> Locked<J, R> {
         ensures few { length self.now.journal.entries ≤ most_entries }
     {
         let _held = self.keeper.len(); // for the proof: the invariant of a journal
-        self.keeper.pack(command)
+        self.keeper.pack_unless_full(command)
     }
 
     /// Makes room in the journal for this number of further entries.
-    pub(crate) fn make_room(&mut self, entries: usize) -> Result<(), AllocError>
+    pub(crate) fn reserve_entries(&mut self, entries: usize) -> Result<(), AllocError>
         ensures { self.new ≡ self.old }
     {
-        self.keeper.make_room(entries)
+        self.keeper.reserve_entries(entries)
     }
 
     /// The journal. After those who look have finished, versions aren't shown any more.
@@ -283,7 +283,7 @@ impl<J: GateName, R: Wait + Drop> Locked<J, R> {
     }
 
     /// A pass that has seen nothing.
-    pub(crate) fn pass(&mut self, holder: Option<Participant>) -> Result<Pass<J>, PassFault>
+    pub(crate) fn issue_pass(&mut self, holder: Option<Participant>) -> Result<Pass<J>, PassFault>
         ensures pass { IfOk result (λ pass. pass ≡ knowing_nothing holder) }
         ensures left { OnOk result (self.old.passes < J.opening.passes) }
         ensures count { OnOk result (self.new.passes ≡ self.old.passes + 1) }
@@ -336,8 +336,8 @@ impl<J: GateName, R: Wait + Drop> Locked<J, R> {
         let _held = self.keeper.len(); // for the proof: the invariant of a journal
         let ready = self.keeper.ready_packed(command)?;
         let version = version_of(self.alloc, &self.keeper, &self.history)?;
-        let slot = next_slot(self.alloc, &mut self.writer, &mut self.next)?;
-        let (after, shown) = extend_history(
+        let slot = stage_next_slot(self.alloc, &mut self.writer, &mut self.next)?;
+        let (after, shown) = extend_history_and_fill(
             &self.count,
             &self.history,
             seen,
@@ -354,7 +354,7 @@ impl<J: GateName, R: Wait + Drop> Locked<J, R> {
         self.shown = shown;
         let entry = ready.entry();
         let answer = (entry.number(), entry.reply());
-        self.keeper.append_step(ready);
+        self.keeper.append_ready(ready);
         self.answered.add(part, 1);
         self.history = after.copy();
         Ok((answer, after))

@@ -7,7 +7,7 @@ ghost use Rattle.dam_gate.specs.Pass.{IsKnowledge, after_learning, after_look, i
 ghost use Rattle.dam_gate.specs.Gate.{BeginsWithAll, IsCalled, IsLook};
 ghost use Rattle.dam_gate.specs.inside.Locked.{entry_of};
 
-use crate::account::{Account, acts_for, copy_of};
+use crate::account::{Account, acts_for, copy_holder};
 use crate::gate::GateFault;
 use crate::history::{Answered, GateName, History};
 use crate::locked::Locked;
@@ -36,7 +36,7 @@ impl<J: GateName> Model for Note<J> {
 
 impl<J: GateName> Note<J> {
     /// One of the two histories is a prefix of the other.
-    pub(crate) fn one_history(&self, other: &Note<J>)
+    pub(crate) fn notes_have_one_history(&self, other: &Note<J>)
         ensures { (IsPrefix self.now other.now) ⊎ (IsPrefix other.now self.now) }
     {
         // for the proof: both are prefixes of the gate's one history
@@ -125,7 +125,7 @@ impl<J: GateName> Pass<J> {
     pub fn holder(&self) -> Option<Participant>
         ensures { result ≡ self.now.account.holder }
     {
-        copy_of(&self.holder)
+        copy_holder(&self.holder)
     }
 
     /// The number of entries of the journal that it has seen.
@@ -166,7 +166,7 @@ impl<J: GateName> Pass<J> {
         let guard = self.reader.enter()?;
         let version = guard.slot.get()?;
         let shown = version.history();
-        if !shown.begins_with(&self.history) || !shown.begins_with(&self.learnt) {
+        if !shown.starts_with(&self.history) || !shown.starts_with(&self.learnt) {
             return None;
         }
         let look = Look {
@@ -196,7 +196,7 @@ impl<J: GateName> Pass<J> {
     }
 
     /// One of the two seen histories is a prefix of the other.
-    pub(crate) fn one_history(&self, other: &Pass<J>)
+    pub(crate) fn passes_have_one_history(&self, other: &Pass<J>)
         ensures { (IsPrefix self.now.history other.now.history)
             ⊎ (IsPrefix other.now.history self.now.history) }
     {
@@ -205,7 +205,7 @@ impl<J: GateName> Pass<J> {
     }
 
     /// Makes room for this number of further receipts.
-    pub(crate) fn make_room(&mut self, receipts: usize) -> Result<(), AllocError>
+    pub(crate) fn reserve_receipts(&mut self, receipts: usize) -> Result<(), AllocError>
         ensures { self.new ≡ self.old }
     {
         self.receipts.reserve(receipts)

@@ -94,7 +94,7 @@ pub fn settle<A: Allocator + Copy, B: Allocator>(
             journal,
         });
     }
-    match compare(alloc, &journal, passes) {
+    match first_mismatch(alloc, &journal, passes) {
         Ok(None) => {
             let settled = Settled { journal };
             whole_account(&settled, passes);
@@ -109,7 +109,7 @@ pub fn settle<A: Allocator + Copy, B: Allocator>(
 }
 
 /// The least faulty number of the receipts, with its fault.
-fn compare<A: Allocator + Copy, B: Allocator>(
+fn first_mismatch<A: Allocator + Copy, B: Allocator>(
     alloc: B,
     journal: &Journal<A>,
     passes: &[Account],

@@ -55,7 +55,7 @@ pub(crate) fn share_of(shares: &[Share], at: usize) -> &[usize]
 }
 
 /// As many shares without a place.
-fn no_places(alloc: Global, count: usize) -> Result<Vec<Share>, AllocError>
+fn empty_shares(alloc: Global, count: usize) -> Result<Vec<Share>, AllocError>
     ensures { IfOk result (λ shares. shares.items ≡ replicate count []) }
 {
     let mut shares = Vec::with_capacity(alloc, count)?;
@@ -112,7 +112,7 @@ pub(crate) fn shares_of(
     ensures { IfOk result (λ shares.
         AreShares commands.now commands.now participants.now shares.items) }
 {
-    let mut shares = no_places(alloc, participants.len())?;
+    let mut shares = empty_shares(alloc, participants.len())?;
     for (place, command) in commands.iter().enumerate() {
         add_place(&mut shares, participants, command, place)?;
     }

@@ -59,7 +59,7 @@ impl<J: GateName> Version<J> {
 pub(crate) type Slot<J> = Arc<OnceBox<Version<J>>, Global>;
 
 /// A slot with the version in it, and the note of its cell that shows it.
-pub(crate) fn filled<J: GateName>(
+pub(crate) fn filled_slot<J: GateName>(
     alloc: Global,
     version: Box<Version<J>>,
 ) -> Result<(Slot<J>, CellNote<Version<J>>), AllocError>

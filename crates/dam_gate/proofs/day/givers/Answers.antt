@@ -18,14 +18,14 @@ loop-place-preserved c =
     let i = c.loop-place.place in
     let item = c.index-commands-place.result in
     let participants = c.loop-place.participants.items in
-    let who = c.in_ok-take_giver.ensures.giver.who in
-    let gives = c.in_ok-take_giver.ensures.giver.gives in
-    let items = c.in_ok-take_giver.ensures.giver.after_is in
+    let who = c.in_ok-add_giver.ensures.giver.who in
+    let gives = c.in_ok-add_giver.ensures.giver.gives in
+    let items = c.in_ok-add_giver.ensures.giver.after_is in
     let inside : i < length cs = c.loop-place-test.true in
     let taken : take (i + 1) cs ≡ take i cs ++ item ∷ [] = take_more cs i item inside
     ∙ ap (λ (d : Command). take i cs ++ d ∷ []) (sym c.index-commands-place.is) in
     record {
-      few = c.in_ok-take_giver.ensures.few;
+      few = c.in_ok-add_giver.ensures.few;
       givers = rw (items, taken) (givers-more participants who item (take i cs) gives c.loop-place.invariant.givers);
       order = rw (items, taken) (order-more participants who item (take i cs) gives c.loop-place.invariant.order);
       no_close = rw taken (no_close-more item who (take i cs) gives c.loop-place.invariant.no_close);
@@ -59,13 +59,13 @@ returns-clause-taken c =
     }
 
 -- the first command that isn't taken decides
-pub returns-in_err-take_giver-clause-fault : goal.returns-in_err-take_giver-clause-fault
-returns-in_err-take_giver-clause-fault c =
+pub returns-in_err-add_giver-clause-fault : goal.returns-in_err-add_giver-clause-fault
+returns-in_err-add_giver-clause-fault c =
     let cs = c.args.commands.now in
     let i = c.loop-place.place in
     let item = c.index-commands-place.result in
     let participants = c.loop-place.participants.items in
-    let fault = c.in_err-take_giver.field-0.0 in
+    let fault = c.in_err-add_giver.field-0.0 in
     let few : length cs < most_entries = search rules in
     let inside : i < length cs = c.loop-place-test.true in
     let next : take (i + 1) cs ≡ take i cs ++ item ∷ [] = take_more cs i item inside
@@ -79,4 +79,4 @@ returns-in_err-take_giver-clause-fault c =
     } in
     passed_on (IsDayFault cs) c.from_residual.result fault c.from_residual.ensures.1
     (refused-at cs i participants item fault few inside at next taken c.loop-place.invariant.order
-    c.in_err-take_giver.ensures.refused)
+    c.in_err-add_giver.ensures.refused)

@@ -14,4 +14,4 @@ returns-in-Some-clause-book g c =
 
 -- the book that is changed is another, and the keeper's stays
 pub returns-clause-same : goal.returns-clause-same
-returns-clause-same g c = rw c.unshared_book.ensures.same c.self.view_is
+returns-clause-same g c = rw c.take_unshared_book.ensures.same c.self.view_is

@@ -9,8 +9,8 @@ use Rattle.dam_gate.specs.inside.Locked.{LockedState, entry_of}
 use Rattle.dam_gate.proofs.Histories.{book_after-periods, journal_after_is}
 use Rattle.dam_gate.proofs.locked.Locked.journal_and_publish.Goals as goal
 
-pub extend_history-requires-clause-journal : goal.extend_history-requires-clause-journal
-extend_history-requires-clause-journal g c =
+pub extend_history_and_fill-requires-clause-journal : goal.extend_history_and_fill-requires-clause-journal
+extend_history_and_fill-requires-clause-journal g c =
     let j : JournalState = c.self.inside.keeper.journal in
     let command = c.args.command.now in
     let ready = c.in_ok-ready.ensures.ready in
@@ -22,8 +22,8 @@ extend_history-requires-clause-journal g c =
     ∙ ready.left in
     rw (c.self.invariant.0, entry, book) (journal_after_is j command c.len-held.ensures.valid left)
 
-pub extend_history-requires-clause-day : goal.extend_history-requires-clause-day
-extend_history-requires-clause-day g c =
+pub extend_history_and_fill-requires-clause-day : goal.extend_history_and_fill-requires-clause-day
+extend_history_and_fill-requires-clause-day g c =
     let j : JournalState = c.self.inside.keeper.journal in
     let command = c.args.command.now in
     let book : c.in_ok-ready.ready.book ≡ book_after j.book command =
@@ -52,7 +52,7 @@ returns-clause-history g c =
 
 pub returns-clause-journal : goal.returns-clause-journal
 returns-clause-journal g c =
-    c.append_step.ensures.step
+    c.append_ready.ensures.step
     ∙ ap₂ journal_after (c.ready_packed.ensures.journal ∙ ap (λ (d : LockedState). d.journal) c.self.view_is)
     (ap (λ (e : Entry). e.command) c.in_ok-ready.ensures.ready.entry)
 

@@ -10,7 +10,7 @@ use Rattle.dam_gate.proofs.pass.Pass.look.Goals as goal
 pub invariant_of-self-2 : goal.invariant_of-self-2
 invariant_of-self-2 g c =
     let shown = c.history-shown.result.now in
-    let longer = prefix_length c.self.inside.history shown (c.begins_with.ensures c.if-not-begins_with.false) in
+    let longer = prefix_length c.self.inside.history shown (c.starts_with.ensures c.if-not-starts_with.false) in
     record {
       account = record {
         in_order = AreInOrder-seen 0 (length c.self.inside.history)
@@ -21,14 +21,14 @@ invariant_of-self-2 g c =
       seen = refl;
       stand = subst (λ (es : List Entry). StandIn es c.self.inside.receipts.items) (sym c.copy.ensures)
           (stand-longer c.self.inside.history shown c.self.inside.receipts.items
-          (c.begins_with.ensures c.if-not-begins_with.false) c.self.invariant.stand);
+          (c.starts_with.ensures c.if-not-starts_with.false) c.self.invariant.stand);
     }
 
 pub returns-clause-begins : goal.returns-clause-begins
 returns-clause-begins g c =
     rw (← c.self.view_is, c.copy.ensures) (record {
-      seen = c.begins_with.ensures c.if-not-begins_with.false;
-      learnt = c.begins_with-else-not-begins_with.ensures c.if-not-begins_with-2.false;
+      seen = c.starts_with.ensures c.if-not-starts_with.false;
+      learnt = c.starts_with-else-not-starts_with.ensures c.if-not-starts_with-2.false;
     })
 
 pub returns-clause-pass : goal.returns-clause-pass

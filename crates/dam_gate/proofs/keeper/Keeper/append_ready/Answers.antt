@@ -7,7 +7,7 @@ use Rattle.dam_book.specs.Command.{is_journal_full}
 use Rattle.dam_gate.specs.Keeper.{KeeperState, ReadyState}
 use Rattle.dam_gate.proofs.Histories.{book_after-periods, journal_after_is}
 use Rattle.dam_gate.proofs.Steps.{same_reason}
-use Rattle.dam_gate.proofs.keeper.Keeper.append_step.Goals as goal
+use Rattle.dam_gate.proofs.keeper.Keeper.append_ready.Goals as goal
 
 pub invariant_of-self : goal.invariant_of-self
 invariant_of-self g c =
@@ -20,8 +20,8 @@ invariant_of-self g c =
     ap (λ (k : KeeperState). is_journal_full (length k.journal.entries) command) c.self.view_is ∙ c.requires.left in
     let held : length j.entries ≡ c.len-held.result =
     ap (λ (k : KeeperState). length k.journal.entries) c.self.view_is ∙ sym c.len-held.ensures.value in (
-      rw (c.push_reserved.ensures.items, c.follow.ensures.book, entry) (journal_after_is j command c.self.invariant.0 left),
-      rw (c.push_reserved.ensures.items) (c.follow.ensures.steps c.self.inside.entries.items held c.self.invariant.1),
+      rw (c.push_reserved.ensures.items, c.advance.ensures.book, entry) (journal_after_is j command c.self.invariant.0 left),
+      rw (c.push_reserved.ensures.items) (c.advance.ensures.steps c.self.inside.entries.items held c.self.invariant.1),
     )
 
 pub returns-clause-day : goal.returns-clause-day
@@ -31,11 +31,11 @@ returns-clause-day g c =
     let entry : c.ready.inside.entry ≡ next_entry j command =
     ap (λ (r : ReadyState). r.entry) c.ready.view_is ∙ (c.requires.entry
     ∙ ap (λ (k : KeeperState). next_entry k.journal command) (sym c.self.view_is)) in
-    rw (c.follow.ensures.book, entry) (book_after-periods j.book command ∙ ap (λ (k : KeeperState). k.journal.book.periods) c.self.view_is)
+    rw (c.advance.ensures.book, entry) (book_after-periods j.book command ∙ ap (λ (k : KeeperState). k.journal.book.periods) c.self.view_is)
 
 -- the entry's reply is of the decision
-pub follow-requires-clause-outcome : goal.follow-requires-clause-outcome
-follow-requires-clause-outcome g c =
+pub advance-requires-clause-outcome : goal.advance-requires-clause-outcome
+advance-requires-clause-outcome g c =
     let b = c.self.inside.books.book in
     let command = c.args.ready.entry.command in
     let entry = ap (λ (r : ReadyState). r.entry) c.ready.view_is in

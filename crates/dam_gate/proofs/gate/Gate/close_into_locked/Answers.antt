@@ -5,7 +5,7 @@ use Rattle.dam_book.specs.declared.command.Command.TheVariants.{Close}
 use Rattle.dam_book.specs.declared.command.Entry.{Entry}
 use Rattle.dam_gate.specs.Journal.{JournalState, journal_after, next_entry}
 use Rattle.dam_gate.specs.Pass.{Knowledge, with_receipt}
-use Rattle.dam_gate.proofs.gate.Gate.close.Goals as goal
+use Rattle.dam_gate.proofs.gate.Gate.close_into_locked.Goals as goal
 
 pub returns : goal.returns
 returns g c =

@@ -13,7 +13,7 @@ use Rattle.dam_gate.specs.declared.day.DayFault.{DayFault}
 use Rattle.dam_gate.specs.declared.day.DayFault.TheVariants.{Memory}
 use Rattle.dam_gate.proofs.Days.{accounts, day_run, passed_on}
 use Rattle.dam_gate.proofs.Settling.{counted, held_by}
-use Rattle.dam_gate.proofs.day.run_at_gate.Goals as goal
+use Rattle.dam_gate.proofs.day.run_at_own_gate.Goals as goal
 
 pub returns-clause-day : goal.returns-clause-day
 returns-clause-day g c =
@@ -21,7 +21,7 @@ returns-clause-day g c =
     let participants = c.args.participants.now in
     let ks : List Knowledge = c.in_ok-passes.passes.items in
     let before : Knowledge = c.learn_from_all.new.pass in
-    let op : PassState = c.close.new.operator.account in
+    let op : PassState = c.close_into_locked.new.operator.account in
     let j = c.into_audited_journal-journal.result in
     let passes = c.in_ok-passes-2.passes.items in
     let closed : IsClosedByOperator before op j = subst (IsClosedByOperator before op) (sym c.into_audited_journal-journal.ensures.value) c.in_ok-closed.ensures in
@@ -61,7 +61,7 @@ returns-in_err-settled-clause-err g c =
     let participants = c.args.participants.now in
     let ks : List Knowledge = c.in_ok-passes.passes.items in
     let before : Knowledge = c.learn_from_all.new.pass in
-    let op : PassState = c.close.new.operator.account in
+    let op : PassState = c.close_into_locked.new.operator.account in
     let j = c.into_audited_journal-journal.result in
     let passes = c.in_ok-passes-2.passes.items in
     let closed : IsClosedByOperator before op j = subst (IsClosedByOperator before op) (sym c.into_audited_journal-journal.ensures.value) c.in_ok-closed.ensures in

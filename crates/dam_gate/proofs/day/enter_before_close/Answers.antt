@@ -5,7 +5,7 @@ use Rattle.std.proofs.lemmas.List.{length-map}
 use Rattle.dam_gate.specs.Pass.{Knowledge, IsKnowledge, holders}
 use Rattle.dam_gate.specs.inside.Entering.{AreServed, AreShares, HasAll, commands_at, share_at}
 use Rattle.dam_gate.proofs.Days.{accounts, accounts-all, accounts-enter, held-all, new-accounts, served-all}
-use Rattle.dam_gate.proofs.day.enter_day.Goals as goal
+use Rattle.dam_gate.proofs.day.enter_before_close.Goals as goal
 
 pub returns-clause-ok : goal.returns-clause-ok
 returns-clause-ok g c =

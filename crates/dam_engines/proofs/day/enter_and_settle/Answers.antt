@@ -3,7 +3,7 @@ use Rattle.std.proofs.Common.{arith, subst}
 use Rattle.std.proofs.lemmas.Option.{slice_get_within}
 use Rattle.dam_book.specs.declared.command.Command.TheVariants.{Close}
 use Rattle.dam_gate.specs.Day.{IsDayFault}
-use Rattle.dam_engines.proofs.day.settled_day.Goals as goal
+use Rattle.dam_engines.proofs.day.enter_and_settle.Goals as goal
 
 pub overflow_add-result : goal.overflow_add-result
 overflow_add-result g c =

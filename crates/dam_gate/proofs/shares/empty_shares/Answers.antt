@@ -1,7 +1,7 @@
 -- One more has none either.
 use Rattle.std.proofs.Common.{◌≡◌, ◌++◌, ◌∷◌, [], ℕ, List, replicate, ap, ap₂, ◌∙◌, arith}
 use Rattle.std.proofs.lemmas.List.{replicate_more}
-use Rattle.dam_gate.proofs.shares.no_places.Goals as goal
+use Rattle.dam_gate.proofs.shares.empty_shares.Goals as goal
 
 pub loop-preserved : goal.loop-preserved
 loop-preserved c =

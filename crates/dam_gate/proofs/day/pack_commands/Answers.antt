@@ -2,7 +2,7 @@
 use Rattle.std.proofs.Common.{◌++◌, ◌∷◌, [], List, ap₂, ◌∙◌}
 use Rattle.std.proofs.lemmas.List.{take_more}
 use Rattle.dam_book.specs.declared.command.Command.{Command}
-use Rattle.dam_gate.proofs.day.pack.Goals as goal
+use Rattle.dam_gate.proofs.day.pack_commands.Goals as goal
 
 pub loop-command-preserved : goal.loop-command-preserved
 loop-command-preserved c =

@@ -2,7 +2,7 @@
 use Rattle.std.proofs.Common.{rules}
 use Rattle.std.specs.Arc.{arc_value}
 use Rattle.dam_gate.proofs.Steps.{AreSteps-more, AreSteps-next}
-use Rattle.dam_gate.proofs.books.Books.follow.Goals as goal
+use Rattle.dam_gate.proofs.books.Books.advance.Goals as goal
 
 pub returns-in-Some-clause-steps : goal.returns-in-Some-clause-steps
 returns-in-Some-clause-steps g c = λ entries at steps. AreSteps-more entries c.args.entry.now c.args.self.now steps

@@ -4,7 +4,7 @@ use Rattle.std.proofs.Common.{◌≤◌, ap, subst, arith, length, List}
 use mathlib.Core.List.{IsPrefix}
 use Rattle.dam_book.specs.declared.command.Entry.{Entry}
 use Rattle.dam_gate.proofs.Beginnings.{prefix_shorter}
-use Rattle.dam_gate.proofs.history.History.begins_with.Goals as goal
+use Rattle.dam_gate.proofs.history.History.starts_with.Goals as goal
 
 pub returns : goal.returns
 returns g c is =
