@@ -71,7 +71,7 @@ fn clear_text<H: Threads + Sync, T: Watch + Sync>(
     clear_book(rt, alloc, &run.book, plan, watch)
 }
 
-/// The run of a journal's text. The text may have been cut after the first byte too many.
+/// Runs the journal of a text. A text that is too long may have been cut after the first byte too many.
 fn run_of_journal(alloc: Global, seed: Seed, text: &[u8]) -> Result<Run, RunFault>
     ensures done { IfOk result (λ found. (periods : ℕ) × (commands : List Command)
         × ReadsAs text.now periods commands × (found.book ≡ run periods commands)) }

@@ -89,7 +89,7 @@ fn day_text<H: Threads + Wait + Sync, T: Watch + Sync, U: Turnstile + Sync>(
     )
 }
 
-/// The printed text of a day of the commands.
+/// Runs a day of the commands at a gate, clears its book, and returns the text to print.
 fn day_text_of_commands<H: Threads + Wait + Sync, T: Watch + Sync, U: Turnstile + Sync>(
     rt: &H,
     alloc: Global,
@@ -107,7 +107,7 @@ fn day_text_of_commands<H: Threads + Wait + Sync, T: Watch + Sync, U: Turnstile 
     cleared_day_text(rt, alloc, settled.journal(), plan, watch)
 }
 
-/// The settled journal of a day of the commands. A command's place is counted from 0, a record's number
+/// Runs a day of the commands at a gate. A command's place is counted from 0, a record's number
 /// from 1, and the first record is the day.
 fn enter_and_settle<H: Threads + Wait + Sync, U: Turnstile + Sync>(
     rt: &H,
@@ -134,7 +134,7 @@ fn enter_and_settle<H: Threads + Wait + Sync, U: Turnstile + Sync>(
     }
 }
 
-/// The written journal, the line `results`, and the results text of the journal's book.
+/// Clears the journal's book, and returns the written journal, the line `results`, and the results text.
 fn cleared_day_text<H: Threads + Sync, T: Watch + Sync>(
     rt: &H,
     alloc: Global,

@@ -21,7 +21,7 @@ fn push_with_number(line: &mut ArrayString<ROOM>, words: &str, number: u64)
     line.push_str(Buffer::new().format(number));
 }
 
-/// These words.
+/// A line of these words.
 fn line_of_words(words: &str) -> ArrayString<ROOM>
     requires { length words.now ≤ 40 }
     ensures text { result.bytes ≡ words.now }
@@ -31,7 +31,7 @@ fn line_of_words(words: &str) -> ArrayString<ROOM>
     line
 }
 
-/// These words and this number.
+/// A line of these words and the number.
 fn line_with_number(words: &str, number: u64) -> ArrayString<ROOM>
     requires { length words.now ≤ 40 }
     ensures text { result.bytes ≡ words.now ++ decimal number }

@@ -184,7 +184,7 @@ fn is_one_of(participants: &[Participant], who: &Participant) -> bool
     participants.iter().any(|other| *who == *other)
 }
 
-/// Takes the giver of the command at this place among the participants.
+/// Adds the participant who gives the command at this place, unless it is among the participants.
 fn add_giver(
     participants: &mut Vec<Participant>,
     command: &PackedCommand,

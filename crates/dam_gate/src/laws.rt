@@ -51,7 +51,7 @@ pub fn limits()
     ensures most_participants_is { most_participants ≡ 8 }
 {}
 
-// The invariant of a pass holds for these.
+// Each account satisfies the invariant of a pass.
 fn are_passes(passes: &[Account])
     ensures { All IsPass passes.now }
 {

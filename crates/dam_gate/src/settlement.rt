@@ -108,7 +108,7 @@ pub fn settle<A: Allocator + Copy, B: Allocator>(
     }
 }
 
-/// The least faulty number of the receipts, with its fault.
+/// The mismatch at the least faulty number, if there is one.
 fn first_mismatch<A: Allocator + Copy, B: Allocator>(
     alloc: B,
     journal: &Journal<A>,

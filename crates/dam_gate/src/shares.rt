@@ -54,7 +54,7 @@ pub(crate) fn share_of(shares: &[Share], at: usize) -> &[usize]
     }
 }
 
-/// As many shares without a place.
+/// `count` shares without a place.
 fn empty_shares(alloc: Global, count: usize) -> Result<Vec<Share>, AllocError>
     ensures { IfOk result (λ shares. shares.items ≡ replicate count []) }
 {

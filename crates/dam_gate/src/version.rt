@@ -58,7 +58,7 @@ impl<J: GateName> Version<J> {
 /// The slot in which looks find a version. A call makes an empty one, and puts its version there later.
 pub(crate) type Slot<J> = Arc<OnceBox<Version<J>>, Global>;
 
-/// A slot with the version in it, and the note of its cell that shows it.
+/// A new slot with the version in it, and the note of the slot's cell, which shows that it is there.
 pub(crate) fn filled_slot<J: GateName>(
     alloc: Global,
     version: Box<Version<J>>,
