@@ -7,7 +7,7 @@ use crate::classes::{BLOCKS, Bound, Classes};
 use crate::problem::among;
 
 /// How many places must be left for a node to get prices of its own.
-const EXAMINED: usize = 10;
+const LEAST_LEFT_TO_REPRICE: usize = 10;
 
 #[derive(Clone, Copy)]
 pub struct Best {
@@ -24,21 +24,21 @@ impl Best {
 }
 
 /// The selection, if it is eligible and has a greater welfare than `best`.
-fn greater(classes: &Classes, bound: &Bound, best: Best, accepted: u32) -> Option<Best> {
+fn better_eligible(classes: &Classes, bound: &Bound, best: Best, accepted: u32) -> Option<Best> {
     let welfare = classes.welfare(accepted, bound, best.welfare + 1)?;
     (classes.problem.admits_all(accepted) && !classes.loses(accepted)).then_some(Best { accepted, welfare })
 }
 
 /// The best of the selections that one turned decision makes, from the place on, or else `best`.
 fn best_turn(classes: &Classes, bound: &Bound, best: Best, base: u32, from: usize) -> Best {
-    (from..classes.problem.blocks.len()).fold(best, |best, place| greater(classes, bound, best, base ^ 1 << place).unwrap_or(best))
+    (from..classes.problem.blocks.len()).fold(best, |best, place| better_eligible(classes, bound, best, base ^ 1 << place).unwrap_or(best))
 }
 
 /// From the empty selection, repeats the turn that gains most or, if none gains, the best pair of turns.
 fn first_selection(classes: &Classes) -> Best {
     let mut bound = Bound::empty();
     let places: Vec<usize> = (0..classes.problem.blocks.len()).collect();
-    classes.bound_by_prices(0, &places, &mut bound);
+    classes.write_price_bound(0, &places, &mut bound);
     let welfare = classes.welfare(0, &bound, i64::MIN / 2).expect("nothing accepted balances");
     let mut best = Best { accepted: 0, welfare };
     loop {
@@ -128,17 +128,17 @@ impl Walk<'_> {
         if self.passes(node) {
             return;
         }
-        if node.left.len() < EXAMINED {
+        if node.left.len() < LEAST_LEFT_TO_REPRICE {
             self.branch(node, bound);
         } else {
-            self.examine(node, bound);
+            self.explore_repriced(node, bound);
         }
     }
 
     #[inline(never)]
-    fn examine(&mut self, node: Node, bound: &Bound) {
+    fn explore_repriced(&mut self, node: Node, bound: &Bound) {
         let mut own = Bound::empty();
-        self.classes.bound_by_prices(node.taken, node.left, &mut own);
+        self.classes.write_price_bound(node.taken, node.left, &mut own);
         let most = own.most(node.taken, node.left);
         if most >= node.bound {
             self.branch(node, bound);
@@ -182,7 +182,7 @@ impl Walk<'_> {
         let taken = (0..depth).filter(|place| number >> (depth - 1 - place) & 1 == 0).fold(0, |taken, place| taken | 1 << place);
         if self.classes.problem.admits_all(taken) {
             let mut bound = Bound::empty();
-            self.classes.bound_by_prices(taken, order, &mut bound);
+            self.classes.write_price_bound(taken, order, &mut bound);
             let rejected = ((1 << depth) - 1) & !taken;
             self.visit(Node { taken, rejected, left: order, bound: bound.most(taken, order) }, &bound);
         }

@@ -122,7 +122,7 @@ def family_surplus(book, row, printed):
     return surplus(row, printed) + sum(family_surplus(book, child, printed) for child in book.children(row))
 
 
-def fair_in_a_period(market, book, _):
+def a_period_is_fair(market, book, _):
     printed = market.results(book)
     seen = {}
     for row in book.hourly:
@@ -163,7 +163,7 @@ def book_row(book, row):
     return next(other for other in book.rows if other.key == row.key)
 
 
-def a_rejected_block_that_asks_for_worse(market, book, rng):
+def a_worse_limit_keeps_a_rejection(market, book, rng):
     printed = market.results(book)
     for row in book.blocks:
         limit = books.worse_limit(rng, row.order)
@@ -173,7 +173,7 @@ def a_rejected_block_that_asks_for_worse(market, book, rng):
                 yield f"block {row.name} is rejected, and with the worse limit {limit} the results are others"
 
 
-def the_better_of_two_blocks(market, book, rng):
+def the_better_of_two_blocks_goes_first(market, book, rng):
     """Of the book, and of it with one more block that is like one of the others, with another limit."""
     more = [book.with_one_more(rng)] if book.blocks and len(book.blocks) < rules.MOST_BLOCKS else []
     for other in (book, *more):
@@ -186,7 +186,7 @@ def the_better_of_two_blocks(market, book, rng):
                     yield f"block {worse.name} is accepted, and {better.name}, which is better, isn't"
 
 
-def a_rejected_block_withdrawn(market, book, _):
+def a_rejected_block_withdrawn_changes_nothing(market, book, _):
     printed = market.results(book)
     for row in book.blocks:
         if not printed.accepts(row) and not book.children(row):
@@ -194,7 +194,7 @@ def a_rejected_block_withdrawn(market, book, _):
                 yield f"block {row.name} is rejected, and without it the results are others"
 
 
-def a_block_more(market, book, rng):
+def a_block_more_never_lowers_welfare(market, book, rng):
     """Each block without children is one more than the others; and one like another, with another limit, comes at the end."""
     printed = market.results(book)
     for row in book.blocks:
@@ -205,7 +205,7 @@ def a_block_more(market, book, rng):
             yield "with a block more at the end the welfare is less"
 
 
-def book_order_of_hourly_orders(market, book, rng):
+def book_order_of_hourly_orders_decides_only_ties(market, book, rng):
     printed, other = market.results(book), market.results(book.hourly_shuffled(rng))
     if (other.welfare, other.prices, other.volumes, other.accepted(book)) != (
         printed.welfare,
@@ -216,7 +216,7 @@ def book_order_of_hourly_orders(market, book, rng):
         yield "with the hourly orders in another order the results are others"
 
 
-def book_order_of_blocks(market, book, rng):
+def book_order_of_blocks_decides_only_ties(market, book, rng):
     printed, other = market.results(book), market.results(book.blocks_shuffled(rng))
     if other.welfare != printed.welfare:
         yield "with the blocks in another order the welfare is another"
@@ -228,13 +228,13 @@ LAWS = [
     welfare_is_shared_out,
     money_balances,
     nobody_loses,
-    fair_in_a_period,
+    a_period_is_fair,
     a_better_limit_keeps_a_block,
     there_is_a_worst_limit,
-    a_rejected_block_that_asks_for_worse,
-    the_better_of_two_blocks,
-    a_rejected_block_withdrawn,
-    a_block_more,
-    book_order_of_hourly_orders,
-    book_order_of_blocks,
+    a_worse_limit_keeps_a_rejection,
+    the_better_of_two_blocks_goes_first,
+    a_rejected_block_withdrawn_changes_nothing,
+    a_block_more_never_lowers_welfare,
+    book_order_of_hourly_orders_decides_only_ties,
+    book_order_of_blocks_decides_only_ties,
 ]

@@ -64,14 +64,14 @@ class Laws(unittest.TestCase):
         breaking = right._replace(orders={UNIT.key: (True, 20_000), start.key: (False, 40_000), TOWN.key: 20})
         keys = (UNIT.key, start.key, ("GEN", "MORE"), ("GAS", "MORE"))
         others = right._replace(orders={key: (True, 0) for key in keys})
-        self.check(laws.the_better_of_two_blocks, [right, others], [breaking, others], book)
+        self.check(laws.the_better_of_two_blocks_goes_first, [right, others], [breaking, others], book)
 
     def test_fair_in_a_period(self):
         two = Book(1, (UNIT, TOWN, MILL))
         first = RIGHT._replace(orders={**RIGHT.orders, MILL.key: 0})
-        self.check(laws.fair_in_a_period, [first], [first._replace(orders={**first.orders, TOWN.key: 0, MILL.key: 20})], two)
-        self.check(laws.fair_in_a_period, [RIGHT], [RIGHT._replace(prices=[4_999], orders={**RIGHT.orders, TOWN.key: 19})])
-        self.check(laws.fair_in_a_period, [RIGHT], [RIGHT._replace(prices=[5_001])])
+        self.check(laws.a_period_is_fair, [first], [first._replace(orders={**first.orders, TOWN.key: 0, MILL.key: 20})], two)
+        self.check(laws.a_period_is_fair, [RIGHT], [RIGHT._replace(prices=[4_999], orders={**RIGHT.orders, TOWN.key: 19})])
+        self.check(laws.a_period_is_fair, [RIGHT], [RIGHT._replace(prices=[5_001])])
 
     def test_a_better_limit_keeps_a_block(self):
         self.check(laws.a_better_limit_keeps_a_block, [RIGHT, RIGHT], [RIGHT, NOTHING])
@@ -84,17 +84,17 @@ class Laws(unittest.TestCase):
         self.assertEqual(list(laws.there_is_a_worst_limit(Best(None, True), BOOK, random.Random(1))), [])
         self.assertNotEqual(list(laws.there_is_a_worst_limit(Best(None, False), BOOK, random.Random(1))), [])
 
-    def test_a_rejected_block_that_asks_for_worse(self):
+    def test_a_worse_limit_keeps_a_rejection(self):
         other = NOTHING._replace(orders={**NOTHING.orders, UNIT.key: (False, 10_000)})
-        self.check(laws.a_rejected_block_that_asks_for_worse, [NOTHING, other], [NOTHING, RIGHT])
-        self.check(laws.a_rejected_block_that_asks_for_worse, [NOTHING, other], [NOTHING, other._replace(prices=[4_999])])
+        self.check(laws.a_worse_limit_keeps_a_rejection, [NOTHING, other], [NOTHING, RIGHT])
+        self.check(laws.a_worse_limit_keeps_a_rejection, [NOTHING, other], [NOTHING, other._replace(prices=[4_999])])
 
-    def test_a_rejected_block_withdrawn(self):
+    def test_a_rejected_block_withdrawn_changes_nothing(self):
         alone = NOTHING.lines_but(UNIT.key)
-        self.check(laws.a_rejected_block_withdrawn, [NOTHING, alone], [NOTHING, alone._replace(prices=[0])])
-        self.check(laws.a_rejected_block_withdrawn, [NOTHING, alone], [NOTHING, alone._replace(orders={TOWN.key: 1})])
+        self.check(laws.a_rejected_block_withdrawn_changes_nothing, [NOTHING, alone], [NOTHING, alone._replace(prices=[0])])
+        self.check(laws.a_rejected_block_withdrawn_changes_nothing, [NOTHING, alone], [NOTHING, alone._replace(orders={TOWN.key: 1})])
 
-    def test_a_block_more(self):
+    def test_a_block_more_never_lowers_welfare(self):
         class Sized:
             """A market in which the welfare depends on the number of blocks alone."""
 
@@ -105,7 +105,7 @@ class Laws(unittest.TestCase):
                 return RIGHT._replace(welfare=self.welfares[len(book.blocks)])
 
         for welfares, is_kept in (((0, 0, 5), True), ((1, 0, 5), False), ((0, 5, 0), False)):
-            found = list(laws.a_block_more(Sized(*welfares), BOOK, random.Random(1)))
+            found = list(laws.a_block_more_never_lowers_welfare(Sized(*welfares), BOOK, random.Random(1)))
             self.assertEqual(found == [], is_kept)
 
     def test_book_order(self):
@@ -113,10 +113,10 @@ class Laws(unittest.TestCase):
         given = RIGHT._replace(orders={**RIGHT.orders, MILL.key: 0, START.key: (False, 0)})
         turned = RIGHT._replace(orders={**given.orders, TOWN.key: 0, MILL.key: 20})
         other = given._replace(orders={**given.orders, UNIT.key: (False, 0), START.key: (True, 0)})
-        self.check(laws.book_order_of_hourly_orders, [given, turned], [given, turned._replace(prices=[4_500])], hourly)
-        self.check(laws.book_order_of_hourly_orders, [given, turned], [given, other], hourly)
-        self.check(laws.book_order_of_blocks, [given, other], [given, other._replace(welfare=1)], hourly)
-        self.check(laws.book_order_of_blocks, [given, given], [given, turned], hourly)
+        self.check(laws.book_order_of_hourly_orders_decides_only_ties, [given, turned], [given, turned._replace(prices=[4_500])], hourly)
+        self.check(laws.book_order_of_hourly_orders_decides_only_ties, [given, turned], [given, other], hourly)
+        self.check(laws.book_order_of_blocks_decides_only_ties, [given, other], [given, other._replace(welfare=1)], hourly)
+        self.check(laws.book_order_of_blocks_decides_only_ties, [given, given], [given, turned], hourly)
 
 
 class Books(unittest.TestCase):

@@ -12,7 +12,7 @@ use Rattle.dam_book.specs.Terms.{BlockTerms}
 use Rattle.dam_hour.specs.declared.step.Step.{Step}
 use Rattle.dam_blocks.specs.declared.problem.Block.{Block}
 use Rattle.dam_blocks.specs.Problem.{ProblemState, IsProblem, IsParent}
-use Rattle.dam_blocks.specs.Selection.{accepts, over_accepted, net_volume_of, value_of, are_of_one_group, accepted_of_group}
+use Rattle.dam_blocks.specs.Selection.{accepts, over_accepted, net_volume_of, value_in, are_of_one_group, accepted_of_group}
 use Rattle.dam_blocks.specs.Selection.{IsAllowed, IsAdmissible}
 use Rattle.dam_blocks.specs.Family.{descends, accepted_where, accepted_descendants, IsChildAt, Descends, Child, OfChild}
 use Rattle.dam_blocks.specs.Eligible.{ArePrices, surplus_of, surplus_at, HasNoLoss, welfare_from, IsEligible}
@@ -344,7 +344,7 @@ counterpart problem other xs w is_one is_other change e =
           no_loss = counterpart_no_loss problem other xs ys e.prices two again room m e.admissible e.no_loss;
           welfare_is = ap (λ (hours : List (List Step)). welfare_from other.blocks ys 1 hours) change.hours
               ∙ sym (welfare_transfer problem.blocks other.blocks xs ys 1 problem.hours (λ t. m.sum (net_volume_of t))
-              (λ t. m.sum (value_of t)))
+              (λ t. m.sum (value_in t)))
               ∙ e.welfare_is;
         };
       },

@@ -8,8 +8,8 @@ use Rattle.dam_hour.specs.Execution.{AreInRange, IsWithinOffers}
 use Rattle.dam_hour.specs.Price.{AreEnds, price_between}
 use Rattle.dam_hour.specs.Best.{IsBest, welfare_of, greatest_welfare}
 use Rattle.dam_blocks.specs.declared.problem.Block.{Block}
-use Rattle.dam_blocks.specs.Problem.{ProblemState, AreHours}
-use Rattle.dam_blocks.specs.Selection.{accepts, empty_selection, net_volume_of, net_volume, block_value, IsAdmissible}
+use Rattle.dam_blocks.specs.Problem.{ProblemState, AreHoursInRange}
+use Rattle.dam_blocks.specs.Selection.{accepts, empty_selection, net_volume_of, net_volume, accepted_value, IsAdmissible}
 use Rattle.dam_blocks.specs.Eligible.{ArePrices, added, period_welfare, welfare_from, IsEligible}
 use Rattle.dam_blocks.proofs.Sums.{over_accepted-replicate}
 use Rattle.dam_blocks.proofs.Choices.{accepts-replicate}
@@ -55,7 +55,7 @@ both x y u v e f = rw (e, f)
 raised : (x : Option ℤ) (k g : ℤ) → x ≡ Some g → option_map (λ w. w +ℤ k) x ≡ Some (g +ℤ k)
 raised x k g e = rw e
 
-pub cleared : ExistenceLaws → (blocks : List Block) (sel : List Bool) (t : ℕ) (hours : List (List Step)) → AreHours hours
+pub cleared : ExistenceLaws → (blocks : List Block) (sel : List Bool) (t : ℕ) (hours : List (List Step)) → AreHoursInRange hours
     → AreWithin blocks sel t hours
     → Cleared blocks sel t hours
 cleared laws blocks sel t [] are within = record { prices = []; are_prices = tt; welfare = pos 0; welfare_is = refl }
@@ -67,14 +67,14 @@ cleared laws blocks sel t (ss ∷ hours) are within =
     record {
       prices = price_between ends.0 ends.1 ∷ rest.prices;
       are_prices = (record { low = ends.0; high = ends.1; ends = ends.2; between = refl }, rest.are_prices);
-      welfare = (welfare_of ss best.0 +ℤ block_value blocks sel t) +ℤ rest.welfare;
+      welfare = (welfare_of ss best.0 +ℤ accepted_value blocks sel t) +ℤ rest.welfare;
       welfare_is = both (period_welfare blocks sel t ss) (welfare_from blocks sel (suc t) hours)
-          (welfare_of ss best.0 +ℤ block_value blocks sel t) rest.welfare
-          (raised (greatest_welfare ss net) (block_value blocks sel t) (welfare_of ss best.0) (laws.welfare ss net best.0 best.1))
+          (welfare_of ss best.0 +ℤ accepted_value blocks sel t) rest.welfare
+          (raised (greatest_welfare ss net) (accepted_value blocks sel t) (welfare_of ss best.0) (laws.welfare ss net best.0 best.1))
           rest.welfare_is;
     }
 
-pub empty_eligible : ExistenceLaws → (problem : ProblemState) → AreHours problem.hours → (w : ℤ) × IsEligible problem empty_selection w
+pub empty_eligible : ExistenceLaws → (problem : ProblemState) → AreHoursInRange problem.hours → (w : ℤ) × IsEligible problem empty_selection w
 empty_eligible laws problem are =
     let day = cleared laws problem.blocks empty_selection 1 problem.hours are (empty_within problem.blocks 1 problem.hours) in (
       day.welfare,

@@ -21,7 +21,7 @@ use Rattle.dam_hour.specs.Execution.{AreInRange}
 use Rattle.dam_blocks.specs.declared.problem.Block.{Block}
 use Rattle.dam_blocks.specs.declared.problem.ProblemRow.{ProblemRow}
 use Rattle.dam_blocks.specs.Problem.{ProblemState, step_in, steps_in, hours_from, block_under, blocks_in, place_after, rows_after}
-use Rattle.dam_blocks.specs.Problem.{problem_of, hourly_orders, AreHours, AreBlocks, HasParentBefore, StandsAt, IsProblem}
+use Rattle.dam_blocks.specs.Problem.{problem_of, hourly_orders, AreHoursInRange, AreBlocks, HasParentBefore, StandsAt, IsProblem}
 use Rattle.dam_blocks.specs.inside.Making.{hourly_step}
 
 -- the block of a row
@@ -54,7 +54,7 @@ steps_in_range : (t periods : ℕ) (rows : List Row) → AreRows periods rows �
 steps_in_range t periods [] are = tt
 steps_in_range t periods (r ∷ rs) are = in_range_option t r.1 (steps_in t rs) are.0.order (steps_in_range t periods rs are.1)
 
-hours_in_range : (t n periods : ℕ) (rows : List Row) → AreRows periods rows → AreHours (hours_from t n rows)
+hours_in_range : (t n periods : ℕ) (rows : List Row) → AreRows periods rows → AreHoursInRange (hours_from t n rows)
 hours_in_range t zero periods rows are = tt
 hours_in_range t (suc n) periods rows are = (steps_in_range t periods rows are, hours_in_range (suc t) n periods rows are)
 

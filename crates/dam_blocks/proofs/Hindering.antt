@@ -9,7 +9,7 @@ use Rattle.dam_blocks.specs.declared.hindrances.Hindrances.{Hindrances}
 use Rattle.dam_blocks.specs.Problem.{IsParent}
 use Rattle.dam_blocks.specs.Family.{names}
 use Rattle.dam_blocks.specs.Selection.{accepts, are_of_one_group, accepted_of_group, IsAllowed}
-use Rattle.dam_blocks.specs.inside.Hindrances.{places_where, group_of, accepted_among, AreHindrances}
+use Rattle.dam_blocks.specs.inside.Hindrances.{places_where, group_members, count_accepted, AreHindrances}
 use Rattle.dam_blocks.proofs.Descending.{named}
 use Rattle.dam_blocks.proofs.GroupCounts.{count_none}
 use Rattle.dam_blocks.proofs.RowByRow.{drop_at}
@@ -77,9 +77,9 @@ all_more blocks xs x last before i own e = elim (pushed_at xs x i own e) [
 ]
 
 -- ---- how many of them are accepted
-among_at_most : (sel : List Bool) (places : List ℕ) → accepted_among sel places ≤ length places
+among_at_most : (sel : List Bool) (places : List ℕ) → count_accepted sel places ≤ length places
 among_at_most sel [] = omega arith
-among_at_most sel (j ∷ places) = one_at_most (accepts sel j) (accepted_among sel places) (length places) (among_at_most sel places)
+among_at_most sel (j ∷ places) = one_at_most (accepts sel j) (count_accepted sel places) (length places) (among_at_most sel places)
   where
     one_at_most : (x : Bool) (m n : ℕ) → m ≤ n → cond x 1 0 + m ≤ suc n
     one_at_most true m n l = omega (arith, l)
@@ -91,17 +91,17 @@ first_too true m n l e = (refl, omega (arith, e))
 first_too false m n l e = absurd (omega (arith, l, e))
 
 rest_too : (test : Bool) (sel : List Bool) (at : ℕ) (rest : List ℕ)
-    → accepted_among sel (cond test (at ∷ rest) rest) ≡ length (cond test (at ∷ rest) rest) → accepted_among sel rest ≡ length rest
-rest_too true sel at rest e = (first_too (accepts sel at) (accepted_among sel rest) (length rest) (among_at_most sel rest) e).1
+    → count_accepted sel (cond test (at ∷ rest) rest) ≡ length (cond test (at ∷ rest) rest) → count_accepted sel rest ≡ length rest
+rest_too true sel at rest e = (first_too (accepts sel at) (count_accepted sel rest) (length rest) (among_at_most sel rest) e).1
 rest_too false sel at rest e = e
 
 this_too : (test : Bool) (sel : List Bool) (at : ℕ) (rest : List ℕ) → test ≡ true
-    → accepted_among sel (cond test (at ∷ rest) rest) ≡ length (cond test (at ∷ rest) rest) → accepts sel at ≡ true
-this_too true sel at rest is e = (first_too (accepts sel at) (accepted_among sel rest) (length rest) (among_at_most sel rest) e).0
+    → count_accepted sel (cond test (at ∷ rest) rest) ≡ length (cond test (at ∷ rest) rest) → accepts sel at ≡ true
+this_too true sel at rest is e = (first_too (accepts sel at) (count_accepted sel rest) (length rest) (among_at_most sel rest) e).0
 this_too false sel at rest is e = absurd (cc)
 
 each_accepted : (test : Block → Bool) (bs : List Block) (at : ℕ) (sel : List Bool)
-    → accepted_among sel (places_where test at bs) ≡ length (places_where test at bs)
+    → count_accepted sel (places_where test at bs) ≡ length (places_where test at bs)
     → (j : ℕ) (b : Block) → slice_get bs j ≡ Some b → test b ≡ true → accepts sel (at + j) ≡ true
 each_accepted test [] at sel e j b stands is = absurd (cc)
 each_accepted test (c ∷ bs) at sel e zero b stands is =
@@ -112,15 +112,15 @@ each_accepted test (c ∷ bs) at sel e (suc j) b stands is =
     ap (λ (n : ℕ). accepts sel n) (let same_place : at + suc j ≡ (at + 1) + j = omega arith in same_place)
     ∙ each_accepted test bs (at + 1) sel (rest_too (test c) sel at (places_where test (at + 1) bs) e) j b stands is
 
-one_counted : (test x : Bool) (sel : List Bool) (at : ℕ) (rest : List ℕ) (n : ℕ) → accepts sel at ≡ x → accepted_among sel rest ≡ n
-    → accepted_among sel (cond test (at ∷ rest) rest) ≡ cond x (cond test 1 0) 0 + n
+one_counted : (test x : Bool) (sel : List Bool) (at : ℕ) (rest : List ℕ) (n : ℕ) → accepts sel at ≡ x → count_accepted sel rest ≡ n
+    → count_accepted sel (cond test (at ∷ rest) rest) ≡ cond x (cond test 1 0) 0 + n
 one_counted true true sel at rest n e r = ap₂ (λ (y : Bool) (m : ℕ). cond y 1 0 + m) e r
 one_counted true false sel at rest n e r = ap₂ (λ (y : Bool) (m : ℕ). cond y 1 0 + m) e r
 one_counted false true sel at rest n e r = omega (arith, r)
 one_counted false false sel at rest n e r = omega (arith, r)
 
 one_of_all : (test : Bool) (sel : List Bool) (at : ℕ) (rest : List ℕ) → (test ≡ true → accepts sel at ≡ true)
-    → accepted_among sel rest ≡ length rest → accepted_among sel (cond test (at ∷ rest) rest) ≡ length (cond test (at ∷ rest) rest)
+    → count_accepted sel rest ≡ length rest → count_accepted sel (cond test (at ∷ rest) rest) ≡ length (cond test (at ∷ rest) rest)
 one_of_all true sel at rest e r =
     let one = ap₂ (λ (y : Bool) (m : ℕ). cond y 1 0 + m) (e refl) r in
     omega (arith, one)
@@ -128,7 +128,7 @@ one_of_all false sel at rest e r = r
 
 all_accepted : (test : Block → Bool) (bs : List Block) (at : ℕ) (sel : List Bool)
     → ((j : ℕ) (b : Block) → slice_get bs j ≡ Some b → test b ≡ true → accepts sel (at + j) ≡ true)
-    → accepted_among sel (places_where test at bs) ≡ length (places_where test at bs)
+    → count_accepted sel (places_where test at bs) ≡ length (places_where test at bs)
 all_accepted test [] at sel h = refl
 all_accepted test (c ∷ bs) at sel h =
     one_of_all (test c) sel at (places_where test (at + 1) bs)
@@ -146,7 +146,7 @@ here : (at : ℕ) (sel : List Bool) (x : Bool) → accepts sel (at + 0) ≡ x �
 here at sel x e = ap (λ (n : ℕ). accepts sel n) (let same_place : at ≡ at + 0 = omega arith in same_place) ∙ e
 
 counted : (g : Block) (bs : List Block) (at : ℕ) (sel xs : List Bool) → ((k : ℕ) → accepts sel (at + k) ≡ accepts xs k)
-    → accepted_among sel (places_where (λ b. are_of_one_group g b) at bs) ≡ accepted_of_group g bs xs
+    → count_accepted sel (places_where (λ b. are_of_one_group g b) at bs) ≡ accepted_of_group g bs xs
 counted g [] at sel xs h = refl
 counted g (c ∷ bs) at sel [] h =
     one_counted (are_of_one_group g c) false sel at (places_where (λ b. are_of_one_group g b) (at + 1) bs) (accepted_of_group g bs [])
@@ -170,43 +170,43 @@ counted g (c ∷ bs) at sel (false ∷ xs) h =
 from_first : (sel : List Bool) (k : ℕ) → accepts sel (0 + k) ≡ accepts sel k
 from_first sel k = ap (λ (n : ℕ). accepts sel n) (let same_place : 0 + k ≡ k = omega arith in same_place)
 
-counted_group : (g : Block) (bs : List Block) (sel : List Bool) → accepted_among sel (group_of g bs) ≡ accepted_of_group g bs sel
+counted_group : (g : Block) (bs : List Block) (sel : List Bool) → count_accepted sel (group_members g bs) ≡ accepted_of_group g bs sel
 counted_group g bs sel = counted g bs 0 sel sel (from_first sel)
 
 -- ---- their effect
 pub allowed_by : (blocks : List Block) (sel : List Bool) (i : ℕ) (own : Hindrances) (parents group : List ℕ) → AreHindrances blocks i own
-    → parents ≡ own.parents.items → group ≡ own.group.items → accepted_among sel parents ≡ length parents
-    → accepted_among sel group ≤ most_of_group → IsAllowed blocks sel i
+    → parents ≡ own.parents.items → group ≡ own.group.items → count_accepted sel parents ≡ length parents
+    → count_accepted sel group ≤ most_of_group → IsAllowed blocks sel i
 allowed_by blocks sel i own parents group is e f all few =
     let counts = counted_group is.block blocks sel in
-    let place = ap (λ (xs : List ℕ). accepted_among sel xs) (f ∙ is.are.group) in
+    let place = ap (λ (xs : List ℕ). count_accepted sel xs) (f ∙ is.are.group) in
     record {
       block = is.block;
       stands = is.stands;
       parent = λ j other at p.
           sym (from_first sel j)
           ∙ each_accepted (λ b. names b is.block) blocks 0 sel
-          (subst (λ (xs : List ℕ). accepted_among sel xs ≡ length xs) (e ∙ is.are.parents) all) j other at ((named other is.block).1 p);
+          (subst (λ (xs : List ℕ). count_accepted sel xs ≡ length xs) (e ∙ is.are.parents) all) j other at ((named other is.block).1 p);
       group = omega (arith, few, counts, place);
     }
 
 pub parents_accepted : (blocks : List Block) (sel : List Bool) (i : ℕ) (own : Hindrances) (parents : List ℕ) → AreHindrances blocks i own
-    → parents ≡ own.parents.items → IsAllowed blocks sel i → accepted_among sel parents ≡ length parents
+    → parents ≡ own.parents.items → IsAllowed blocks sel i → count_accepted sel parents ≡ length parents
 parents_accepted blocks sel i own parents is e allowed =
     let stands = is.stands in let here = allowed.stands in
     let same : is.block ≡ allowed.block = cc in
-    subst (λ (xs : List ℕ). accepted_among sel xs ≡ length xs) (sym (e ∙ is.are.parents))
+    subst (λ (xs : List ℕ). count_accepted sel xs ≡ length xs) (sym (e ∙ is.are.parents))
     (all_accepted (λ b. names b is.block) blocks 0 sel (λ j other at n.
     from_first sel j
     ∙ allowed.parent j other at (subst (λ (b : Block). IsParent other b) same ((named other is.block).0 n))))
 
 pub group_within : (blocks : List Block) (sel : List Bool) (i : ℕ) (own : Hindrances) (group : List ℕ) → AreHindrances blocks i own
-    → group ≡ own.group.items → IsAllowed blocks sel i → accepted_among sel group ≤ most_of_group
+    → group ≡ own.group.items → IsAllowed blocks sel i → count_accepted sel group ≤ most_of_group
 group_within blocks sel i own group is f allowed =
     let stands = is.stands in let here = allowed.stands in
     let same : allowed.block ≡ is.block = cc in
     let most = allowed.group in
     let counts = counted_group is.block blocks sel in
-    let place = ap (λ (xs : List ℕ). accepted_among sel xs) (f ∙ is.are.group) in
+    let place = ap (λ (xs : List ℕ). count_accepted sel xs) (f ∙ is.are.group) in
     let number = ap (λ (b : Block). accepted_of_group b blocks sel) same in
     omega (arith, most, counts, place, number)

@@ -8,7 +8,7 @@ use Rattle.dam_hour.specs.Price.{AreEnds}
 use Rattle.dam_hour.specs.Best.{greatest_welfare}
 use Rattle.dam_blocks.specs.declared.problem.Block.{Block}
 use Rattle.dam_blocks.specs.Problem.{ProblemState}
-use Rattle.dam_blocks.specs.Selection.{net_volume, block_value, IsAdmissible}
+use Rattle.dam_blocks.specs.Selection.{net_volume, accepted_value, IsAdmissible}
 use Rattle.dam_blocks.specs.Eligible.{ArePrices, HasNoLoss, added, welfare_from, IsEligible}
 use Rattle.dam_blocks.specs.Result.{IsResult}
 use Rattle.dam_blocks.specs.Changes.{AreReordered, IsReordered}
@@ -47,7 +47,7 @@ welfare_too laws blocks sel t [] (ts ∷ others) is = absurd is
 welfare_too laws blocks sel t (ss ∷ hours) [] is = absurd is
 welfare_too laws blocks sel t (ss ∷ hours) (ts ∷ others) is =
     ap₂ (λ (x y : Option ℤ). added x y)
-    (ap (λ (x : Option ℤ). option_map (λ w. w +ℤ block_value blocks sel t) x) (laws.welfare ss ts (net_volume blocks sel t) is.0))
+    (ap (λ (x : Option ℤ). option_map (λ w. w +ℤ accepted_value blocks sel t) x) (laws.welfare ss ts (net_volume blocks sel t) is.0))
     (welfare_too laws blocks sel (suc t) hours others is.1)
 
 turned : (problem other : ProblemState) → IsReordered problem other → IsReordered other problem

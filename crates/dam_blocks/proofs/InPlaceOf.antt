@@ -16,7 +16,7 @@ use Rattle.dam_hour.specs.Price.{IsBetter}
 use Rattle.dam_hour.specs.Best.{signed, greatest_welfare}
 use Rattle.dam_blocks.specs.declared.problem.Block.{Block}
 use Rattle.dam_blocks.specs.Problem.{ProblemState, IsParent, IsBlock, AreBlocks, IsProblem}
-use Rattle.dam_blocks.specs.Selection.{accepts, volume_in, over_accepted, net_volume_of, value_of, net_volume, block_value, IsAllowed, IsAdmissible}
+use Rattle.dam_blocks.specs.Selection.{accepts, volume_in, over_accepted, net_volume_of, value_in, net_volume, accepted_value, IsAllowed, IsAdmissible}
 use Rattle.dam_blocks.specs.Family.{descends, accepted_descendants, IsChildAt, Descends, Child, OfChild}
 use Rattle.dam_blocks.specs.Eligible.{surplus_of, surplus_at, family_surplus, HasNoLoss, added, period_welfare, welfare_from, IsEligible}
 use Rattle.dam_blocks.specs.Result.{IsResult}
@@ -171,18 +171,18 @@ raise d t [] = pos 0
 raise d t (ss ∷ hours) = d t +ℤ raise d (suc t) hours
 
 welfare_raised : (bs : List Block) (xs ys : List Bool) (d : ℕ → ℤ) (t : ℕ) (hours : List (List Step)) (v : ℤ)
-    → ((s : ℕ) → net_volume bs xs s ≡ net_volume bs ys s) → ((s : ℕ) → block_value bs ys s ≡ block_value bs xs s +ℤ d s)
+    → ((s : ℕ) → net_volume bs xs s ≡ net_volume bs ys s) → ((s : ℕ) → accepted_value bs ys s ≡ accepted_value bs xs s +ℤ d s)
     → welfare_from bs xs t hours ≡ Some v → welfare_from bs ys t hours ≡ Some (v +ℤ raise d t hours)
 welfare_raised bs xs ys d t [] v net value e = e ∙ ap (λ (z : ℤ). Some z) (omega (arith, ints))
 welfare_raised bs xs ys d t (ss ∷ hours) v net value e =
     let parts = added_some (period_welfare bs xs t ss) (welfare_from bs xs (suc t) hours) v e in
-    let found = raised_some (greatest_welfare ss (net_volume bs xs t)) (block_value bs xs t) parts.0 parts.2 in
+    let found = raised_some (greatest_welfare ss (net_volume bs xs t)) (accepted_value bs xs t) parts.0 parts.2 in
     let rest = welfare_raised bs xs ys d (suc t) hours parts.1 net value parts.3 in
-    let own : period_welfare bs ys t ss ≡ Some (found.0 +ℤ block_value bs ys t) =
-    ap (λ (n : ℤ). option_map (λ w. w +ℤ block_value bs ys t) (greatest_welfare ss n)) (sym (net t))
-    ∙ ap (λ (o : Option ℤ). option_map (λ w. w +ℤ block_value bs ys t) o) found.1 in
+    let own : period_welfare bs ys t ss ≡ Some (found.0 +ℤ accepted_value bs ys t) =
+    ap (λ (n : ℤ). option_map (λ w. w +ℤ accepted_value bs ys t) (greatest_welfare ss n)) (sym (net t))
+    ∙ ap (λ (o : Option ℤ). option_map (λ w. w +ℤ accepted_value bs ys t) o) found.1 in
     let here = value t in let first = found.2 in let sum = parts.4 in
-    let whole : (found.0 +ℤ block_value bs ys t) +ℤ (parts.1 +ℤ raise d (suc t) hours) ≡ v +ℤ raise d t (ss ∷ hours) =
+    let whole : (found.0 +ℤ accepted_value bs ys t) +ℤ (parts.1 +ℤ raise d (suc t) hours) ≡ v +ℤ raise d t (ss ∷ hours) =
     omega (arith, ints, here, first, sum) in
     ap₂ (λ (x y : Option ℤ). added x y) own rest ∙ ap (λ (z : ℤ). Some z) whole
 
@@ -240,11 +240,11 @@ value_above Buy old new x h l = times_above old new x h l
 value_above Sell old new x h l = let m = times_above new old x h l in omega (arith, ints, m)
 
 abbrev difference : Block → Block → ℕ → ℤ
-difference b c t = value_of t b.order -ℤ value_of t c.order
+difference b c t = value_in t b.order -ℤ value_in t c.order
 
 value_alike : (b c : Block) (t : ℕ) → b.order ≡ (with_limit c b.order.price).order
-    → value_of t b.order ≡ signed c.order.side (b.order.price *ℤ pos (volume_in c.order.volumes t))
-value_alike b c t alike = ap (λ (o : BlockTerms). value_of t o) alike
+    → value_in t b.order ≡ signed c.order.side (b.order.price *ℤ pos (volume_in c.order.volumes t))
+value_alike b c t alike = ap (λ (o : BlockTerms). value_in t o) alike
 
 more_welfare : (problem : ProblemState) (i j : ℕ) (b c : Block) (xs : List Bool) (v : ℤ) → AreTwo problem i j b c → AreDecided xs i j
     → welfare_from problem.blocks xs 1 problem.hours ≡ Some v
@@ -262,7 +262,7 @@ more_welfare problem i j b c xs v two d e =
     let raised = raise_above (difference b c) 1 some.0 problem.hours each least (omega (arith, most)) (omega (arith, ints, same, above)) in (
       v +ℤ raise (difference b c) 1 problem.hours,
       welfare_raised problem.blocks xs (exchanged xs i j) (difference b c) 1 problem.hours v (λ s. same_net problem i j b c xs s two d)
-          (λ s. (let sum = sum_exchanged problem i j b c xs (value_of s) two d in omega (arith, ints, sum))) e,
+          (λ s. (let sum = sum_exchanged problem i j b c xs (value_in s) two d in omega (arith, ints, sum))) e,
       omega (arith, ints, raised),
     )
 

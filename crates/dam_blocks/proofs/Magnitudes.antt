@@ -15,8 +15,8 @@ use Rattle.dam_hour.specs.declared.step.Step.{Step}
 use Rattle.dam_hour.specs.Execution.{AreInRange, IsExecution, Balances}
 use Rattle.dam_hour.specs.Best.{signed, welfare_of, greatest_welfare}
 use Rattle.dam_blocks.specs.declared.problem.Block.{Block}
-use Rattle.dam_blocks.specs.Problem.{ProblemState, hourly_orders, AreHours, AreBlocks, IsProblem}
-use Rattle.dam_blocks.specs.Selection.{volume_in, value_of, net_volume, block_value}
+use Rattle.dam_blocks.specs.Problem.{ProblemState, hourly_orders, AreHoursInRange, AreBlocks, IsProblem}
+use Rattle.dam_blocks.specs.Selection.{volume_in, value_in, net_volume, accepted_value}
 use Rattle.dam_blocks.specs.Eligible.{period_welfare, welfare_from, selection_welfare}
 use Rattle.dam_blocks.specs.Magnitude.{IsWithin, greatest_block_value_in_period, greatest_selection_welfare}
 use Rattle.dam_blocks.proofs.WelfareAtLeastZero.{added_some, raised_some}
@@ -58,14 +58,14 @@ volume_small [] t are = omega arith
 volume_small (p ∷ ps) t are =
     elim (p.0 == t) as (λ b. cond b p.1 (volume_in ps t) ≤ greatest_volume) [ true ↦ are.1.at_most | false ↦ volume_small ps t are.2 ]
 
-pub value_within : (t : ℕ) (o : BlockTerms) → IsBlockOrder o → IsWithin greatest_value (value_of t o)
+pub value_within : (t : ℕ) (o : BlockTerms) → IsBlockOrder o → IsWithin greatest_value (value_in t o)
 value_within t o is =
     let own = price_times o.price (volume_in o.volumes t) is.price (volume_small o.volumes t is.volumes.ranges) in
     let w = signed_within o.side (o.price *ℤ pos (volume_in o.volumes t)) greatest_value own.0 own.1 in
     record { at_least = w.0; at_most = w.1 }
 
 block_value_within : (periods t : ℕ) (bs : List Block) (sel : List Bool) → AreBlocks periods bs
-    → IsWithin (length bs * greatest_value) (block_value bs sel t)
+    → IsWithin (length bs * greatest_value) (accepted_value bs sel t)
 block_value_within periods t [] sel are = record { at_least = omega (arith, ints); at_most = omega (arith, ints) }
 block_value_within periods t (b ∷ bs) [] are = record { at_least = omega (arith, ints); at_most = omega (arith, ints) }
 block_value_within periods t (b ∷ bs) (true ∷ sel) are =
@@ -87,7 +87,7 @@ period_size : Reached → (periods t : ℕ) (blocks : List Block) (sel : List Bo
     → length blocks ≤ most_blocks → AreInRange ss
     → period_welfare blocks sel t ss ≡ Some u → IsWithin (length ss * greatest_value + greatest_block_value_in_period) u
 period_size laws periods t blocks sel ss u are few range e =
-    let parts = raised_some (greatest_welfare ss (net_volume blocks sel t)) (block_value blocks sel t) u e in
+    let parts = raised_some (greatest_welfare ss (net_volume blocks sel t)) (accepted_value blocks sel t) u e in
     let best = laws.reached ss (net_volume blocks sel t) parts.0 parts.1 in
     let hourly = welfare_within ss best.0 range best.1 in
     let value = block_value_within periods t blocks sel are in
@@ -95,7 +95,7 @@ period_size laws periods t blocks sel ss u are few range e =
     record { at_least = omega (arith, ints, hourly.0, l, is, sum, few); at_most = omega (arith, ints, hourly.1, h, is, sum, few) }
 
 periods_size : Reached → (periods t : ℕ) (blocks : List Block) (sel : List Bool) (hours : List (List Step)) (w : ℤ)
-    → AreBlocks periods blocks → length blocks ≤ most_blocks → AreHours hours
+    → AreBlocks periods blocks → length blocks ≤ most_blocks → AreHoursInRange hours
     → welfare_from blocks sel t hours ≡ Some w
     → IsWithin (hourly_orders hours * greatest_value + length hours * greatest_block_value_in_period) w
 periods_size laws periods t blocks sel [] w are few ranges e =

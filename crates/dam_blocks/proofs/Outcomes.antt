@@ -3,7 +3,7 @@ use Rattle.std.proofs.Common.{◌≡◌, ℕ, suc, ℤ, Bool, List, [], ◌∷�
 use Rattle.dam_hour.specs.declared.step.Step.{Step}
 use Rattle.dam_hour.specs.Best.{IsBest}
 use Rattle.dam_blocks.specs.declared.problem.Block.{Block}
-use Rattle.dam_blocks.specs.Problem.{ProblemState, AreHours, IsProblem}
+use Rattle.dam_blocks.specs.Problem.{ProblemState, AreHoursInRange, IsProblem}
 use Rattle.dam_blocks.specs.Selection.{net_volume}
 use Rattle.dam_blocks.specs.Eligible.{IsEligible}
 use Rattle.dam_blocks.specs.Market.{AreBestExecutions, IsOutcome}
@@ -11,7 +11,7 @@ use Rattle.dam_blocks.proofs.EmptySelection.{ExistenceLaws, AreWithin}
 use Rattle.dam_blocks.proofs.ResultExists.{BalanceLaw, within_from_prices}
 use Rattle.dam_blocks.proofs.PricesUnique.{prices_unique}
 
-best_executions : ExistenceLaws → (blocks : List Block) (sel : List Bool) (t : ℕ) (hours : List (List Step)) → AreHours hours
+best_executions : ExistenceLaws → (blocks : List Block) (sel : List Bool) (t : ℕ) (hours : List (List Step)) → AreHoursInRange hours
     → AreWithin blocks sel t hours → (executions : List (List ℕ)) × AreBestExecutions blocks sel t hours executions
 best_executions laws blocks sel t [] are within = ([], tt)
 best_executions laws blocks sel t (ss ∷ hours) are within =

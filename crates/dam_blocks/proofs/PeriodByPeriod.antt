@@ -15,15 +15,15 @@ use Rattle.dam_hour.specs.Execution.{AreInRange, IsBalanced, IsUnbalanced}
 use Rattle.dam_hour.specs.Price.{AreEnds}
 use Rattle.dam_hour.specs.Best.{greatest_welfare, AreBestTotals}
 use Rattle.dam_blocks.specs.declared.problem.Block.{Block}
-use Rattle.dam_blocks.specs.Problem.{ProblemState, AreHours, hourly_orders}
+use Rattle.dam_blocks.specs.Problem.{ProblemState, AreHoursInRange, hourly_orders}
 use Rattle.dam_blocks.specs.Magnitude.{greatest_block_value_in_period}
-use Rattle.dam_blocks.specs.Selection.{net_volume, block_value}
+use Rattle.dam_blocks.specs.Selection.{net_volume, accepted_value}
 use Rattle.dam_blocks.specs.Eligible.{IsClearingPrice, ArePrices, added, period_welfare, welfare_from}
 use Rattle.dam_blocks.specs.Score.{IsFirstUnbalanced}
 use Rattle.dam_blocks.proofs.Magnitudes.{welfare_within}
 
 -- ---- one period
-pub hour_at : (hours : List (List Step)) (i most : ℕ) (ss : List Step) → AreHours hours → hourly_orders hours ≤ most
+pub hour_at : (hours : List (List Step)) (i most : ℕ) (ss : List Step) → AreHoursInRange hours → hourly_orders hours ≤ most
     → slice_get hours i ≡ Some ss
     → AreInRange ss × (length ss ≤ most)
 hour_at [] i most ss are few e = absurd (cc)
@@ -32,7 +32,7 @@ hour_at (hour ∷ hours) zero most ss are few e =
     (subst (λ (h : List Step). AreInRange h) same are.0, omega (arith, few, ap length same))
 hour_at (hour ∷ hours) (suc i) most ss are few e = hour_at hours i most ss are.1 (omega (arith, few)) e
 
-period_within : (hours : List (List Step)) (i : ℕ) (ss : List Step) (net : ℤ) (bought sold : ℕ) (w : ℤ) → AreHours hours
+period_within : (hours : List (List Step)) (i : ℕ) (ss : List Step) (net : ℤ) (bought sold : ℕ) (w : ℤ) → AreHoursInRange hours
     → hourly_orders hours ≤ most_hourly
     → slice_get hours i ≡ Some ss → AreBestTotals ss net bought sold w
     → (neg_ℤ (pos (most_hourly * greatest_value)) ≤ℤ w) × (w ≤ℤ pos (most_hourly * greatest_value))
@@ -44,7 +44,7 @@ period_within hours i ss net bought sold w are few at t =
 
 -- the same for a period of the list that the code reads
 pub period_read : (hours hours' : List (List Step)) (i : ℕ) (ss : List Step) (net : ℤ) (bought sold : ℕ) (w : ℤ) → hours' ≡ hours
-    → AreHours hours → hourly_orders hours ≤ most_hourly → slice_get hours' i ≡ Some ss → AreBestTotals ss net bought sold w
+    → AreHoursInRange hours → hourly_orders hours ≤ most_hourly → slice_get hours' i ≡ Some ss → AreBestTotals ss net bought sold w
     → (neg_ℤ (pos (most_hourly * greatest_value)) ≤ℤ w) × (w ≤ℤ pos (most_hourly * greatest_value))
 period_read hours hours' i ss net bought sold w same are few at totals =
     period_within hours i ss net bought sold w are few (ap (λ (hs : List (List Step)). slice_get hs i) (sym same) ∙ at) totals
@@ -93,7 +93,7 @@ pub cleared_more : (blocks : List Block) (sel : List Bool) (hours : List (List S
     (net low high p g value after : ℤ)
     → slice_get hours place ≡ Some ss → place < last_period → t ≡ place + 1 → net ≡ net_volume blocks sel t → AreEnds ss net low high
     → IsClearingPrice ss net p
-    → greatest_welfare ss net ≡ Some g → value ≡ block_value blocks sel t → neg_ℤ (pos (most_hourly * greatest_value)) ≤ℤ g
+    → greatest_welfare ss net ≡ Some g → value ≡ accepted_value blocks sel t → neg_ℤ (pos (most_hourly * greatest_value)) ≤ℤ g
     → g ≤ℤ pos (most_hourly * greatest_value)
     → neg_ℤ (pos greatest_block_value_in_period) ≤ℤ value → value ≤ℤ pos greatest_block_value_in_period → after ≡ welfare +ℤ (g +ℤ value)
     → IsClearedSoFar blocks sel hours place welfare prices → IsClearedSoFar blocks sel hours (place + 1) after (set prices place p)
@@ -101,11 +101,11 @@ cleared_more blocks sel hours place t welfare prices ss net low high p g value a
     vl vh e so_far =
     let one : suc place ≡ place + 1 = omega arith in
     let net_here : net ≡ net_volume blocks sel (place + 1) = net_is ∙ ap (λ (n : ℕ). net_volume blocks sel n) period in
-    let value_here : value ≡ block_value blocks sel (place + 1) = value_is ∙ ap (λ (n : ℕ). block_value blocks sel n) period in
+    let value_here : value ≡ accepted_value blocks sel (place + 1) = value_is ∙ ap (λ (n : ℕ). accepted_value blocks sel n) period in
     let great_here : greatest_welfare ss (net_volume blocks sel (place + 1)) ≡ Some g =
     ap (λ (z : ℤ). greatest_welfare ss z) (sym net_here) ∙ great in
     let here : period_welfare blocks sel (place + 1) ss ≡ Some (g +ℤ value) =
-    raised_is (greatest_welfare ss (net_volume blocks sel (place + 1))) (block_value blocks sel (place + 1)) g great_here
+    raised_is (greatest_welfare ss (net_volume blocks sel (place + 1))) (accepted_value blocks sel (place + 1)) g great_here
     ∙ ap (λ (z : ℤ). Some (g +ℤ z)) (sym value_here) in
     let rest = welfare_from blocks sel ((place + 1) + 1) (drop (place + 1) hours) in
     let unfolded : welfare_from blocks sel (place + 1) (drop place hours) ≡ added (Some (g +ℤ value)) rest =

@@ -5,10 +5,10 @@ use Rattle.dam_book.specs.Limits.{most_hourly}
 use Rattle.dam_hour.specs.declared.step.Step.{Step}
 use Rattle.dam_hour.specs.Execution.{IsHour}
 use Rattle.dam_blocks.specs.declared.problem.Block.{Block}
-use Rattle.dam_blocks.specs.Problem.{hourly_orders, AreHours, IsBlock, AreBlocks}
+use Rattle.dam_blocks.specs.Problem.{hourly_orders, AreHoursInRange, IsBlock, AreBlocks}
 use Rattle.dam_blocks.proofs.PeriodByPeriod.{hour_at}
 
-pub hour_is : (hours : List (List Step)) (i : ℕ) (hour : List Step) → slice_get hours i ≡ Some hour → AreHours hours
+pub hour_is : (hours : List (List Step)) (i : ℕ) (hour : List Step) → slice_get hours i ≡ Some hour → AreHoursInRange hours
     → hourly_orders hours ≤ most_hourly → IsHour hour
 hour_is hours i hour e are few =
     let at = hour_at hours i most_hourly hour are few e in

@@ -16,7 +16,7 @@ use Rattle.dam_hour.specs.Price.{IsBetter, IsWorse}
 use Rattle.dam_hour.specs.Best.{signed, greatest_welfare}
 use Rattle.dam_blocks.specs.declared.problem.Block.{Block}
 use Rattle.dam_blocks.specs.Problem.{ProblemState, IsParent}
-use Rattle.dam_blocks.specs.Selection.{accepts, volume_in, over_accepted, net_volume_of, value_of, net_volume, block_value, are_of_one_group}
+use Rattle.dam_blocks.specs.Selection.{accepts, volume_in, over_accepted, net_volume_of, value_in, net_volume, accepted_value, are_of_one_group}
 use Rattle.dam_blocks.specs.Selection.{accepted_of_group, IsAdmissible}
 use Rattle.dam_blocks.specs.Family.{names, parent_among, parent_place, leads_to, descends, accepted_descendants}
 use Rattle.dam_blocks.specs.Eligible.{ArePrices, surplus_from, surplus_of, surplus_at, family_surplus, HasNoLoss, added, period_welfare}
@@ -307,16 +307,16 @@ added_there : (x y : Option ℤ) (u v : ℤ) → x ≡ Some u → y ≡ Some v �
 added_there x y u v e f = ap₂ (λ (a b : Option ℤ). added a b) e f
 
 welfare_raised : (bs cs : List Block) (sel : List Bool) (t : ℕ) (hours : List (List Step)) (v : ℤ)
-    → ((s : ℕ) → net_volume bs sel s ≡ net_volume cs sel s) → ((s : ℕ) → block_value bs sel s ≤ℤ block_value cs sel s)
+    → ((s : ℕ) → net_volume bs sel s ≡ net_volume cs sel s) → ((s : ℕ) → accepted_value bs sel s ≤ℤ accepted_value cs sel s)
     → welfare_from bs sel t hours ≡ Some v → (w : ℤ) × (welfare_from cs sel t hours ≡ Some w) × (v ≤ℤ w)
 welfare_raised bs cs sel t [] v net value e = (v, e, omega (arith, ints))
 welfare_raised bs cs sel t (ss ∷ hours) v net value e =
     let parts = added_some (period_welfare bs sel t ss) (welfare_from bs sel (suc t) hours) v e in
-    let here = raised_option (greatest_welfare ss (net_volume bs sel t)) (block_value bs sel t) (block_value cs sel t) parts.0 (value t)
+    let here = raised_option (greatest_welfare ss (net_volume bs sel t)) (accepted_value bs sel t) (accepted_value cs sel t) parts.0 (value t)
     parts.2 in
     let rest = welfare_raised bs cs sel (suc t) hours parts.1 net value parts.3 in
     let own : period_welfare cs sel t ss ≡ Some here.0 =
-    ap (λ (n : ℤ). option_map (λ w. w +ℤ block_value cs sel t) (greatest_welfare ss n)) (sym (net t)) ∙ here.1 in
+    ap (λ (n : ℤ). option_map (λ w. w +ℤ accepted_value cs sel t) (greatest_welfare ss n)) (sym (net t)) ∙ here.1 in
     let first = here.2 in let second = rest.2 in let sum = parts.4 in (
       here.0 +ℤ rest.0,
       added_there (period_welfare cs sel t ss) (welfare_from cs sel (suc t) hours) here.0 rest.0 own rest.1,
@@ -421,7 +421,7 @@ eligible_without problem other i b limit sel v w off is = record {
       (ap (λ (hours : List (List Step)). welfare_from (repriced problem.blocks i limit) sel 1 hours) w.hours
       ∙ sym (welfare_transfer problem.blocks (repriced problem.blocks i limit) sel sel 1 problem.hours
       (λ t. sym (same_net problem.blocks sel i limit t))
-      (λ t. sym (same_sum_without (value_of t) problem.blocks sel i b limit w.stands off)))
+      (λ t. sym (same_sum_without (value_in t) problem.blocks sel i b limit w.stands off)))
       ∙ is.welfare_is);
 }
 
@@ -432,7 +432,7 @@ eligible_raised : (problem other : ProblemState) (i : ℕ) (b : Block) (limit : 
 eligible_raised problem other i b limit sel v w better is =
     let more = welfare_raised problem.blocks (repriced problem.blocks i limit) sel 1 problem.hours v
     (λ t. sym (same_net problem.blocks sel i limit t))
-    (λ t. sum_raised (value_of t) problem.blocks sel i b limit w.stands
+    (λ t. sum_raised (value_in t) problem.blocks sel i b limit w.stands
     (value_raised b.order.side b.order.price limit (volume_in b.order.volumes t) better)) is.welfare_is in (
       more.0,
       record {

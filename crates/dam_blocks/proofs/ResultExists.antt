@@ -8,7 +8,7 @@ use Rattle.dam_hour.specs.declared.step.Step.{Step}
 use Rattle.dam_hour.specs.Execution.{IsExecution, offered_volume, Balances, IsWithinOffers}
 use Rattle.std.proofs.Math.Decide.{map_dec}
 use Rattle.dam_blocks.specs.declared.problem.Block.{Block}
-use Rattle.dam_blocks.specs.Problem.{ProblemState, AreHours, IsProblem}
+use Rattle.dam_blocks.specs.Problem.{ProblemState, AreHoursInRange, IsProblem}
 use Rattle.dam_blocks.specs.Selection.{accepts, padded, empty_selection, choice, net_volume, IsAdmissible}
 use Rattle.dam_blocks.specs.Eligible.{ArePrices, family_surplus, HasNoLoss, IsEligible}
 use Rattle.dam_blocks.specs.Result.{RanksAtOrBelow, IsResult}
@@ -81,7 +81,7 @@ decided_cleared problem sel long admissible day = map_dec {A = HasNoLoss problem
     (prices_unique problem.blocks sel 1 problem.hours e.1.prices day.prices e.1.are_prices day.are_prices) e.1.no_loss)
     (decided_no_loss problem.blocks sel day.prices)
 
-pub decided_eligible : ExistenceLaws → BalanceLaw → (problem : ProblemState) (sel : List Bool) → AreHours problem.hours
+pub decided_eligible : ExistenceLaws → BalanceLaw → (problem : ProblemState) (sel : List Bool) → AreHoursInRange problem.hours
     → length sel ≡ most_blocks
     → Dec (IsAnEligible problem sel)
 decided_eligible laws law problem sel are long = elim (decided_admissible problem.blocks sel) [

@@ -10,7 +10,7 @@ use Rattle.dam_hour.specs.Execution.{volume_on, Balances}
 use Rattle.dam_hour.specs.Best.{signed, IsBest, welfare_of, execution_surplus, greatest_welfare}
 use Rattle.dam_blocks.specs.declared.problem.Block.{Block}
 use Rattle.dam_blocks.specs.Problem.{ProblemState}
-use Rattle.dam_blocks.specs.Selection.{over_accepted, volume_in, net_volume_of, net_volume, block_value}
+use Rattle.dam_blocks.specs.Selection.{over_accepted, volume_in, net_volume_of, net_volume, accepted_value}
 use Rattle.dam_blocks.specs.Eligible.{ArePrices, surplus_in, surplus_from, added, period_welfare, welfare_from, selection_welfare}
 use Rattle.dam_blocks.specs.Market.{AreBestExecutions, block_volume_of, traded, money_from, hourly_surplus, accepted_surplus}
 use Rattle.dam_blocks.proofs.Sums.{over_accepted-plus, over_accepted-same, over_accepted-zero, accepted_surplus as value_and_price}
@@ -41,13 +41,13 @@ shared_from laws blocks sel t (ss ∷ hours) (p ∷ prices) [] long are = absurd
 shared_from laws blocks sel t (ss ∷ hours) (p ∷ prices) (xs ∷ executions) long are =
     let net = net_volume blocks sel t in
     let rest = shared_from laws blocks sel (suc t) hours prices executions (omega (arith, long)) are.1 in
-    let here : period_welfare blocks sel t ss ≡ Some (welfare_of ss xs +ℤ block_value blocks sel t) =
-    raised_to (greatest_welfare ss net) (block_value blocks sel t) (welfare_of ss xs) (welfare_of ss xs +ℤ block_value blocks sel t)
+    let here : period_welfare blocks sel t ss ≡ Some (welfare_of ss xs +ℤ accepted_value blocks sel t) =
+    raised_to (greatest_welfare ss net) (accepted_value blocks sel t) (welfare_of ss xs) (welfare_of ss xs +ℤ accepted_value blocks sel t)
     (laws.best ss net xs are.0) refl in
     let split = laws.welfare p net ss xs are.0.balance in
     let value = value_and_price blocks sel t p in
     let parts = over_accepted-plus (surplus_in t p) (surplus_from (suc t) prices) blocks sel in
-    both_there (period_welfare blocks sel t ss) (welfare_from blocks sel (suc t) hours) (welfare_of ss xs +ℤ block_value blocks sel t)
+    both_there (period_welfare blocks sel t ss) (welfare_from blocks sel (suc t) hours) (welfare_of ss xs +ℤ accepted_value blocks sel t)
     (hourly_surplus prices hours executions +ℤ over_accepted (surplus_from (suc t) prices) blocks sel)
     (hourly_surplus (p ∷ prices) (ss ∷ hours) (xs ∷ executions) +ℤ over_accepted (surplus_from t (p ∷ prices)) blocks sel)
     here rest (omega (arith, ints, split, value, parts))

@@ -5,7 +5,7 @@ use Rattle.std.specs.Option.{option_map}
 use Rattle.dam_hour.specs.declared.step.Step.{Step}
 use Rattle.dam_hour.specs.Best.{IsBest, greatest_welfare}
 use Rattle.dam_blocks.specs.declared.problem.Block.{Block}
-use Rattle.dam_blocks.specs.Selection.{net_volume, block_value}
+use Rattle.dam_blocks.specs.Selection.{net_volume, accepted_value}
 use Rattle.dam_blocks.specs.Eligible.{IsClearingPrice, ArePrices, added, welfare_from}
 use Rattle.dam_blocks.specs.Market.{AreBestExecutions}
 
@@ -27,7 +27,7 @@ executions_transfer bs cs xs ys t (ss ∷ hours) (v ∷ executions) net are =
     (subst (λ (z : ℤ). IsBest ss z v) (net t) are.0, executions_transfer bs cs xs ys (suc t) hours executions net are.1)
 
 pub welfare_transfer : (bs cs : List Block) (xs ys : List Bool) (t : ℕ) (hours : List (List Step))
-    → ((s : ℕ) → net_volume bs xs s ≡ net_volume cs ys s) → ((s : ℕ) → block_value bs xs s ≡ block_value cs ys s)
+    → ((s : ℕ) → net_volume bs xs s ≡ net_volume cs ys s) → ((s : ℕ) → accepted_value bs xs s ≡ accepted_value cs ys s)
     → welfare_from bs xs t hours ≡ welfare_from cs ys t hours
 welfare_transfer bs cs xs ys t [] net value = refl
 welfare_transfer bs cs xs ys t (ss ∷ hours) net value =

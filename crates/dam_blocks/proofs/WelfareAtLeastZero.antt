@@ -16,7 +16,7 @@ use Rattle.dam_blocks.specs.declared.problem.Block.{Block}
 use Rattle.dam_book.specs.Name.{same_text}
 use Rattle.dam_book.specs.Order.{is_parent}
 use Rattle.dam_blocks.specs.Problem.{ProblemState, IsProblem, IsParent}
-use Rattle.dam_blocks.specs.Selection.{over_accepted, net_volume, block_value, IsAdmissible}
+use Rattle.dam_blocks.specs.Selection.{over_accepted, net_volume, accepted_value, IsAdmissible}
 use Rattle.dam_blocks.specs.Family.{names, parent_among, parent_place}
 use Rattle.dam_blocks.specs.Eligible.{IsClearingPrice, ArePrices, surplus_in, surplus_from, added, period_welfare, welfare_from, IsEligible}
 use Rattle.dam_blocks.proofs.Sums.{over_accepted-plus, over_accepted-zero, accepted_surplus}
@@ -62,7 +62,7 @@ gains_from laws blocks sel t [] (p ∷ prices) w are e = absurd are
 gains_from laws blocks sel t (ss ∷ hours) [] w are e = absurd are
 gains_from laws blocks sel t (ss ∷ hours) (p ∷ prices) w are e =
     let parts = added_some (period_welfare blocks sel t ss) (welfare_from blocks sel (suc t) hours) w e in
-    let hour = raised_some (greatest_welfare ss (net_volume blocks sel t)) (block_value blocks sel t) parts.0 parts.2 in
+    let hour = raised_some (greatest_welfare ss (net_volume blocks sel t)) (accepted_value blocks sel t) parts.0 parts.2 in
     let rest = gains_from laws blocks sel (suc t) hours prices parts.1 are.1 parts.3 in
     let least = hour_at_least laws ss (net_volume blocks sel t) p hour.0 are.0 hour.1 in
     let here = accepted_surplus blocks sel t p in

@@ -12,7 +12,7 @@ use Rattle.dam_book.specs.Limits.{most_blocks, most_of_group}
 use Rattle.dam_hour.specs.declared.step.Step.{Step}
 use Rattle.dam_blocks.specs.declared.problem.Block.{Block}
 use Rattle.dam_blocks.specs.Problem.{ProblemState, IsProblem, IsParent}
-use Rattle.dam_blocks.specs.Selection.{accepts, over_accepted, net_volume_of, value_of, net_volume, are_of_one_group, accepted_of_group}
+use Rattle.dam_blocks.specs.Selection.{accepts, over_accepted, net_volume_of, value_in, net_volume, are_of_one_group, accepted_of_group}
 use Rattle.dam_blocks.specs.Selection.{IsAllowed, IsAdmissible}
 use Rattle.dam_blocks.specs.Family.{descends, accepted_descendants, IsChildAt, Descends, Child, OfChild}
 use Rattle.dam_blocks.specs.Eligible.{ArePrices, surplus_of, family_surplus, HasNoLoss, welfare_from, selection_welfare, IsEligible}
@@ -360,7 +360,7 @@ same_welfare : (whole rest : ProblemState) (i : ℕ) (gone : Block) (zs : List B
     → selection_welfare whole (insert zs i false) ≡ selection_welfare rest (zs ++ false ∷ [])
 same_welfare whole rest i gone zs w =
     welfare_transfer whole.blocks rest.blocks (insert zs i false) (zs ++ false ∷ []) 1 whole.hours
-    (λ t. same_net whole rest i gone zs t w) (λ t. over_rest_of whole rest i gone (value_of t) zs w)
+    (λ t. same_net whole rest i gone zs t w) (λ t. over_rest_of whole rest i gone (value_in t) zs w)
     ∙ ap (λ (hours : List (List Step)). welfare_from rest.blocks (zs ++ false ∷ []) 1 hours) (sym w.hours)
 
 padded_length : (zs : List Bool) (i : ℕ) → length (insert zs i false) ≡ length (zs ++ false ∷ [])

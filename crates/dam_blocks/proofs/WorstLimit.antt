@@ -12,7 +12,7 @@ use Rattle.dam_book.specs.declared.order.Side.TheVariants.{Buy, Sell}
 use Rattle.dam_hour.specs.Limits.{price_span}
 use Rattle.dam_hour.specs.Price.{IsBetter, IsWorse}
 use Rattle.dam_blocks.specs.declared.problem.Block.{Block}
-use Rattle.dam_blocks.specs.Problem.{ProblemState, AreHours, IsProblem}
+use Rattle.dam_blocks.specs.Problem.{ProblemState, AreHoursInRange, IsProblem}
 use Rattle.dam_blocks.specs.Selection.{accepts, choice, padded}
 use Rattle.dam_blocks.specs.Result.{IsResult}
 use Rattle.dam_blocks.specs.Changes.{with_limit, with_limit_at, IsWithLimit, IsAcceptedAt, IsRejectedAt, IsNeverAccepted, IsWorstLimit}
@@ -22,7 +22,7 @@ use Rattle.dam_blocks.proofs.Choices.{all_tried}
 use Rattle.dam_blocks.proofs.Repricing.{kept}
 
 -- ---- there is a result at each limit
-result_found : ExistenceLaws → BalanceLaw → (problem : ProblemState) → AreHours problem.hours → length problem.blocks ≤ most_blocks
+result_found : ExistenceLaws → BalanceLaw → (problem : ProblemState) → AreHoursInRange problem.hours → length problem.blocks ≤ most_blocks
     → (sel : List Bool) × (w : ℤ) × IsResult problem sel w
 result_found laws law problem are few =
     let count = length problem.blocks in

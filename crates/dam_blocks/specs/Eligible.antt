@@ -9,7 +9,7 @@ use Rattle.dam_hour.specs.Best.{signed, greatest_welfare}
 use Rattle.dam_hour.specs.declared.step.Step.{Step}
 use Rattle.dam_blocks.specs.declared.problem.Block.{Block}
 use Rattle.dam_blocks.specs.Problem.{ProblemState}
-use Rattle.dam_blocks.specs.Selection.{accepts, volume_in, over_accepted, net_volume, block_value, IsAdmissible}
+use Rattle.dam_blocks.specs.Selection.{accepts, volume_in, over_accepted, net_volume, accepted_value, IsAdmissible}
 use Rattle.dam_blocks.specs.Family.{accepted_descendants}
 
 -- the price of a period at a net volume
@@ -66,7 +66,7 @@ added _ _ = None
 -- execution balances
 abbrev pub period_welfare : List Block → List Bool → ℕ → List Step → Option ℤ
 period_welfare blocks selection t steps =
-    option_map (λ w. w +ℤ block_value blocks selection t) (greatest_welfare steps (net_volume blocks selection t))
+    option_map (λ w. w +ℤ accepted_value blocks selection t) (greatest_welfare steps (net_volume blocks selection t))
 
 -- the welfares of the periods from t on, summed; None if some period has none
 abbrev pub welfare_from : List Block → List Bool → ℕ → List (List Step) → Option ℤ

@@ -40,7 +40,7 @@ abbrev pub accepted_descendants : List Block → List Bool → ℕ → List Bool
 accepted_descendants blocks selection i = accepted_where (descends blocks i) 0 selection
 
 -- the block at place j is a child of the one at place i: in a problem exactly if `parent_place` gives i for j (the law
--- `families` of the crate)
+-- `descent_follows_parents` of the crate)
 pub record IsChildAt (blocks : List Block) (i j : ℕ) : Type 0 where
   pub parent : Block
   pub child : Block

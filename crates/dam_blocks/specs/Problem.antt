@@ -74,9 +74,9 @@ hourly_orders [] = 0
 hourly_orders (steps ∷ hours) = length steps + hourly_orders hours
 
 -- each period's limits and volumes are in range
-abbrev pub AreHours : List (List Step) → Type 0
-AreHours [] = Unit {0}
-AreHours (steps ∷ hours) = AreInRange steps × AreHours hours
+abbrev pub AreHoursInRange : List (List Step) → Type 0
+AreHoursInRange [] = Unit {0}
+AreHoursInRange (steps ∷ hours) = AreInRange steps × AreHoursInRange hours
 
 -- the block's names and parts are within their limits, and its periods are the day's
 pub record IsBlock (periods : ℕ) (b : Block) : Type 0 where
@@ -118,7 +118,7 @@ pub record IsProblem (p : ProblemState) : Type 0 where
   pub is_closed : book.closed ≡ true
   pub is_of_book : p ≡ problem_of book
   pub day : is_day (length p.hours) ≡ true
-  pub hours : AreHours p.hours
+  pub hours : AreHoursInRange p.hours
   pub few_hourly : hourly_orders p.hours ≤ most_hourly
   pub blocks : AreBlocks (length p.hours) p.blocks
   pub few_blocks : length p.blocks ≤ most_blocks

@@ -56,8 +56,8 @@ bought_volume_of t o = pos (volume_on Buy o.side (volume_in o.volumes t))
 
 -- limit times volume in a period of a block that buys, and the same with the other sign of one that
 -- sells
-abbrev pub value_of : ℕ → BlockTerms → ℤ
-value_of t o = signed o.side (o.price *ℤ pos (volume_in o.volumes t))
+abbrev pub value_in : ℕ → BlockTerms → ℤ
+value_in t o = signed o.side (o.price *ℤ pos (volume_in o.volumes t))
 
 -- the accepted sell blocks' volume in a period less the accepted buy blocks'
 abbrev pub net_volume : List Block → List Bool → ℕ → ℤ
@@ -68,8 +68,8 @@ abbrev pub bought_volume : List Block → List Bool → ℕ → ℤ
 bought_volume blocks selection t = over_accepted (bought_volume_of t) blocks selection
 
 -- the accepted buy blocks' limit times volume in a period less the accepted sell blocks'
-abbrev pub block_value : List Block → List Bool → ℕ → ℤ
-block_value blocks selection t = over_accepted (value_of t) blocks selection
+abbrev pub accepted_value : List Block → List Bool → ℕ → ℤ
+accepted_value blocks selection t = over_accepted (value_in t) blocks selection
 
 -- whether both name one group
 abbrev pub same_group : Option (List ℕ) → Option (List ℕ) → Bool

@@ -5,7 +5,7 @@ ghost use Rattle.dam_book.specs.Limits.{greatest_volume, most_blocks};
 ghost use Rattle.dam_hour.specs.Limits.{greatest_net, price_span, greatest_value};
 ghost use Rattle.dam_hour.specs.Best.{signed};
 ghost use Rattle.dam_hour.specs.Execution.{IsNetVolume};
-ghost use Rattle.dam_blocks.specs.Selection.{volume_in, net_volume_of, bought_volume_of, value_of, net_volume, bought_volume, block_value};
+ghost use Rattle.dam_blocks.specs.Selection.{volume_in, net_volume_of, bought_volume_of, value_in, net_volume, bought_volume, accepted_value};
 ghost use Rattle.dam_blocks.specs.Magnitude.{IsWithin, greatest_block_value_in_period, greatest_gain};
 
 use crate::problem::Block;
@@ -26,7 +26,7 @@ pub fn volume_in(volumes: &Volumes, period: Period) -> u32
     0
 }
 
-/// The amount, with the other sign for a sell.
+/// The amount for a buy, and the amount with the other sign for a sell.
 pub(crate) fn signed(side: Side, amount: i64) -> i64
     requires at_least { neg_ℤ (pos greatest_gain) ≤ℤ amount }
     requires at_most { amount ≤ℤ pos greatest_gain }
@@ -38,8 +38,8 @@ pub(crate) fn signed(side: Side, amount: i64) -> i64
     }
 }
 
-/// Cents per MWh times tenths of a MW.
-pub(crate) fn times(cents: i32, volume: u32) -> i64
+/// The product of cents per MWh and tenths of a MW.
+pub(crate) fn cents_times_volume(cents: i32, volume: u32) -> i64
     requires at_least { neg_ℤ (pos price_span) ≤ℤ cents }
     requires at_most { cents ≤ℤ pos price_span }
     requires volume { volume ≤ greatest_volume }
@@ -75,12 +75,15 @@ pub fn bought_volume_of(order: &BlockOrder, period: Period) -> u32
 
 /// A block's limit times its volume in a period, in cents per MWh times tenths of a MW, with the other
 /// sign if it sells.
-pub fn value_of(order: &BlockOrder, period: Period) -> i64
-    ensures value { result ≡ value_of period order.now }
+pub fn value_in(order: &BlockOrder, period: Period) -> i64
+    ensures value { result ≡ value_in period order.now }
     ensures size { IsWithin greatest_value result }
 {
     let volume = volume_in(order.volumes(), period);
-    signed(order.side(), times(order.price().get(), volume))
+    signed(
+        order.side(),
+        cents_times_volume(order.price().get(), volume),
+    )
 }
 
 /// The accepted sell blocks' volume in a period less the accepted buy blocks', in tenths of a MW.
@@ -117,15 +120,15 @@ pub fn bought_volume(blocks: &[Block], selection: Selection, period: Period) -> 
 
 /// The accepted buy blocks' limit times volume in a period less the accepted sell blocks', in cents
 /// per MWh times tenths of a MW.
-pub fn block_value(blocks: &[Block], selection: Selection, period: Period) -> i64
+pub fn accepted_value(blocks: &[Block], selection: Selection, period: Period) -> i64
     requires { length blocks.now ≤ most_blocks }
-    ensures value { result ≡ block_value blocks.now selection period }
+    ensures value { result ≡ accepted_value blocks.now selection period }
     ensures size { IsWithin greatest_block_value_in_period result }
 {
     let mut total = 0;
     for (place, block) in blocks.iter().enumerate() {
         if selection.has(place) {
-            total += value_of(&block.order, period);
+            total += value_in(&block.order, period);
         }
     }
     total

@@ -1,6 +1,6 @@
 ghost use Rattle.std.specs.Prelude.{◌≡◌, ◌≤◌, length, IfOk};
 ghost use Rattle.dam_book.specs.Limits.{most_blocks};
-ghost use Rattle.dam_blocks.specs.inside.Hindrances.{parents_of, group_of, accepted_among, AreAllHindrances};
+ghost use Rattle.dam_blocks.specs.inside.Hindrances.{parents_of, group_members, count_accepted, AreAllHindrances};
 
 use crate::family::is_parent;
 use crate::links::are_of_one_group;
@@ -35,9 +35,9 @@ fn parents_of(blocks: &[Block], block: &Block) -> ArrayVec<u8, MOST_BLOCKS>
 }
 
 /// The places of the blocks of the block's group, its own among them.
-fn group_of(blocks: &[Block], block: &Block) -> ArrayVec<u8, MOST_BLOCKS>
+fn group_members(blocks: &[Block], block: &Block) -> ArrayVec<u8, MOST_BLOCKS>
     requires { length blocks.now ≤ most_blocks }
-    ensures { result.items ≡ group_of block.now blocks.now }
+    ensures { result.items ≡ group_members block.now blocks.now }
 {
     let mut places = ArrayVec::new();
     for (at, other) in blocks.iter().enumerate() {
@@ -60,15 +60,15 @@ pub(crate) fn all_hindrances<A: Allocator>(
     for place in 0..blocks.len() {
         let block = &blocks[place];
         let parents = parents_of(blocks, block);
-        let group = group_of(blocks, block);
+        let group = group_members(blocks, block);
         all.push(Hindrances { parents, group })?;
     }
     Ok(all)
 }
 
 /// The number of these places that the selection accepts.
-pub(crate) fn accepted_among(selection: Selection, places: &[u8]) -> usize
-    ensures { result ≡ accepted_among selection places.now }
+pub(crate) fn count_accepted(selection: Selection, places: &[u8]) -> usize
+    ensures { result ≡ count_accepted selection places.now }
 {
     let mut accepted = 0;
     for place in places {

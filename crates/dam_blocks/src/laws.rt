@@ -45,25 +45,25 @@ pub fn empty_is_eligible()
     ensures { (problem : ProblemState) → IsProblem problem
         → (w : ℤ) × IsEligible problem empty_selection w }
 {
-    dam_hour::laws::existence();
-    dam_hour::laws::welfare();
+    dam_hour::laws::best_execution_exists();
+    dam_hour::laws::best_has_greatest_welfare();
 }
 
 /// An eligible selection has a welfare of at least 0: at the prices no hourly order loses, and the
 /// accepted blocks together don't either.
-pub fn eligible_welfare()
+pub fn eligible_welfare_is_not_negative()
     ensures { (problem : ProblemState) (selection : List Bool) (w : ℤ) → IsProblem problem
         → IsEligible problem selection w → pos 0 ≤ℤ w }
 {
-    dam_hour::laws::price();
-    dam_hour::laws::exchange();
-    dam_hour::laws::welfare();
-    dam_hour::laws::surplus();
+    dam_hour::laws::price_is_between_ends();
+    dam_hour::laws::prices_between_ends_support();
+    dam_hour::laws::best_has_greatest_welfare();
+    dam_hour::laws::supported_surplus_is_greatest();
 }
 
 /// The verdict on an eligible selection is that it is eligible, with its welfare, which is unique; and a
 /// selection with another verdict isn't eligible.
-pub fn verdict()
+pub fn verdict_tells_eligibility()
     ensures eligible { (problem : ProblemState) (selection : List Bool) (verdict : Verdict)
         (w : ℤ)
         → IsVerdict problem selection verdict → IsEligible problem selection w
@@ -78,17 +78,17 @@ pub fn verdict()
 
 /// A bound on the size of a selection's welfare: every hourly order, and every block in every period,
 /// counts at most the greatest limit times the greatest volume.
-pub fn magnitude()
+pub fn selection_welfare_is_small()
     ensures { (problem : ProblemState) (selection : List Bool) (w : ℤ) → IsProblem problem
         → selection_welfare problem selection ≡ Some w → IsWithin greatest_selection_welfare w }
 {
     dam_book::laws::days_are_short();
-    dam_hour::laws::welfare();
+    dam_hour::laws::best_has_greatest_welfare();
 }
 
 /// The order of selections is a total one: the first of two ranks either above the second, or at or below it. Each
 /// ranks at or below the other only if they are the same.
-pub fn ranking()
+pub fn ranking_is_total()
     ensures either { (v w : ℤ) (xs ys : List Bool)
         → RanksAbove v xs w ys ⊎ RanksAtOrBelow v xs w ys }
     ensures apart { (v w : ℤ) (xs ys : List Bool) → RanksAbove v xs w ys
@@ -104,7 +104,7 @@ pub fn ranking()
 
 /// The higher of two selections has the greater welfare, or the same, and then it accepts the first block at which the
 /// two differ. The result ranks above each other eligible selection.
-pub fn best()
+pub fn result_ranks_above_others()
     ensures above { (v w : ℤ) (xs ys : List Bool) → RanksAbove v xs w ys
         ↔ ((w <ℤ v) ⊎ ((w ≡ v) × (accepts_first xs ys ≡ true))) }
     ensures others { (problem : ProblemState) (selection : List Bool) (w : ℤ)
@@ -114,25 +114,25 @@ pub fn best()
 {}
 
 /// A problem has a result.
-pub fn existence()
+pub fn result_exists()
     ensures { (problem : ProblemState) → IsProblem problem
         → (selection : List Bool) × ((w : ℤ) × IsResult problem selection w) }
 {
     empty_is_eligible();
-    dam_hour::laws::balance();
-    dam_hour::laws::existence();
-    dam_hour::laws::welfare();
+    dam_hour::laws::balances_within_offers();
+    dam_hour::laws::best_execution_exists();
+    dam_hour::laws::best_has_greatest_welfare();
 }
 
 /// A problem has one result at most.
-pub fn uniqueness()
+pub fn result_is_unique()
     ensures { (problem : ProblemState) (xs ys : List Bool) (v w : ℤ) → IsResult problem xs v
         → IsResult problem ys w → (xs ≡ ys) × (v ≡ w) }
 {}
 
 /// A sum over the accepted blocks is that over a front of the list and that over the rest; the places
 /// that a list of acceptances leaves out add nothing.
-pub fn sums()
+pub fn sums_split_at_fronts()
     ensures parted { (f : BlockTerms → ℤ) (blocks : List Block) (front rest : List Bool)
         → over_accepted f blocks (front ++ rest)
         ≡ over_accepted f blocks front +ℤ over_accepted f (drop (length front) blocks) rest }
@@ -142,7 +142,7 @@ pub fn sums()
 
 /// A place is among a block's accepted descendants exactly if the selection accepts it and it
 /// descends from that block.
-pub fn descendants()
+pub fn accepted_descendants_descend()
     ensures { (blocks : List Block) (selection : List Bool) (i j : ℕ)
         → accepts (accepted_descendants blocks selection i) j
         ≡ (accepts selection j && descends blocks i j) }
@@ -151,7 +151,7 @@ pub fn descendants()
 /// Among the blocks of a problem, the one that a block names is its parent in the sense of the links, and the
 /// one that stands at its parent's place; and a block descends from another exactly if it is its child, or
 /// the child of one that descends from it.
-pub fn families()
+pub fn descent_follows_parents()
     ensures named { (parent child : Block)
         → (names parent child ≡ true) ↔ IsParent parent child }
     ensures place { (problem : ProblemState) (i j : ℕ) → IsProblem problem
@@ -162,7 +162,7 @@ pub fn families()
 
 /// An admissible selection that accepts a block accepts each block that this one descends from, and no other one of its
 /// exclusive group.
-pub fn conflicts()
+pub fn admissible_keeps_ancestors_and_groups()
     ensures ancestors { (problem : ProblemState) (selection : List Bool) (i j : ℕ)
         → IsProblem problem → IsAdmissible problem.blocks selection
         → descends problem.blocks i j ≡ true → accepts selection j ≡ true
@@ -175,14 +175,14 @@ pub fn conflicts()
 
 /// If a selection is admissible, so is each front of it with no other block: a block's parent stands
 /// before it.
-pub fn fronts()
+pub fn fronts_are_admissible()
     ensures { (problem : ProblemState) (front rest : List Bool) → IsProblem problem
         → IsAdmissible problem.blocks (front ++ rest) → IsAdmissible problem.blocks (padded front) }
 {}
 
 /// Every list of acceptances is just one of the numbered choices over that number of places, and an
 /// admissible selection is one of the choices over the problem's blocks.
-pub fn choices()
+pub fn choices_are_all_selections()
     ensures each { (xs : List Bool)
         → (k : ℕ) × (k < 2 ^ length xs) × (choice (length xs) k ≡ xs) }
     ensures admissible { (problem : ProblemState) (selection : List Bool) → IsProblem problem

@@ -24,7 +24,6 @@
 
 mod accepted;
 mod family;
-mod gain;
 mod hindrances;
 pub mod laws;
 mod links;
@@ -34,14 +33,15 @@ mod problem_making;
 mod result;
 mod scoring;
 mod selection;
+mod surpluses;
 
 pub use accepted::{
-    block_value, bought_volume, bought_volume_of, net_volume, net_volume_of, value_of, volume_in,
+    accepted_value, bought_volume, bought_volume_of, net_volume, net_volume_of, value_in, volume_in,
 };
 pub use family::descends;
-pub use gain::{family_surplus, surplus};
 pub use links::{admissible, are_of_one_group, is_allowed};
 pub use problem::{Block, MOST_PERIODS, Place, Problem, ProblemFault, ProblemRow};
 pub use result::{best_of_all, best_of_none, ranks_above};
 pub use scoring::{Verdict, score};
 pub use selection::{Best, Selection};
+pub use surpluses::{family_surplus, surplus};

@@ -1,7 +1,7 @@
 ghost use Rattle.std.specs.Prelude.{◌≡◌, ◌↔◌, true, IsTrue};
 ghost use Rattle.dam_blocks.specs.Selection.{accepts, are_of_one_group, IsAllowed, IsAdmissible};
 
-use crate::hindrances::accepted_among;
+use crate::hindrances::count_accepted;
 use crate::problem::{Block, Problem};
 use crate::selection::Selection;
 use dam_book::{MOST_BLOCKS, MOST_OF_GROUP};
@@ -27,13 +27,13 @@ pub fn is_allowed<A: Allocator>(problem: &Problem<A>, selection: Selection, plac
     requires { accepts selection place ≡ true }
     ensures { IsTrue result ↔ IsAllowed problem.now.blocks selection place }
 {
-    let Some(hindrances) = problem.hindrances(place) else {
+    let Some(hindrances) = problem.hindrances_at(place) else {
         return false;
     };
     let parents = hindrances.parents.as_slice();
     let group = hindrances.group.as_slice();
-    accepted_among(selection, parents) == parents.len()
-        && accepted_among(selection, group) <= MOST_OF_GROUP
+    count_accepted(selection, parents) == parents.len()
+        && count_accepted(selection, group) <= MOST_OF_GROUP
 }
 
 /// Whether the links and the exclusive groups admit the selection: it accepts blocks of the problem

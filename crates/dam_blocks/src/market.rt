@@ -67,14 +67,14 @@ pub fn an_eligible_selection_has_an_outcome()
         → IsOutcome problem selection other_prices other_executions
         → (prices ≡ other_prices) × (executions ≡ other_executions) }
 {
-    dam_hour::laws::balance();
-    dam_hour::laws::existence();
-    dam_hour::laws::welfare();
-    dam_hour::laws::uniqueness();
+    dam_hour::laws::balances_within_offers();
+    dam_hour::laws::best_execution_exists();
+    dam_hour::laws::best_has_greatest_welfare();
+    dam_hour::laws::best_execution_is_unique();
 }
 
 /// An outcome executes each hourly order, at place `i` of the period that `k` others precede, at the period's
-/// price. So `dam_hour::market::fair_in_a_period` is of each.
+/// price. So `dam_hour::market::a_period_is_fair` is of each.
 pub fn hourly_orders_are_executed()
     ensures executed { (problem : ProblemState) (selection : List Bool) (prices : List ℤ)
         (executions : List (List ℕ)) (k i : ℕ) (steps : List Step) (step : Step)
@@ -112,8 +112,8 @@ pub fn welfare_is_shared_out()
         ≡ Some (over_participants participants (gain_of problem selection prices executions)
         problem.rows) }
 {
-    dam_hour::laws::welfare();
-    dam_hour::laws::surplus();
+    dam_hour::laws::best_has_greatest_welfare();
+    dam_hour::laws::supported_surplus_is_greatest();
 }
 
 /// Money balances: in each period, the hourly orders and the accepted blocks together buy as much as they
@@ -162,13 +162,13 @@ pub fn nobody_loses()
         → slice_get problem.blocks i ≡ Some a → slice_get problem.blocks j ≡ Some b
         → descends problem.blocks i j ≡ true → a.who ≡ b.who }
 {
-    dam_hour::laws::support();
-    dam_hour::laws::surplus();
+    dam_hour::laws::price_supports_best();
+    dam_hour::laws::supported_surplus_is_greatest();
 }
 
 /// More blocks, no less welfare: if a book has a block more, wherever it stands, the welfare of the result
 /// is at least as great.
-pub fn a_block_more()
+pub fn a_block_more_never_lowers_welfare()
     ensures welfare { (problem other : ProblemState) (place : ℕ) (block : Block)
         (selection other_selection : List Bool) (welfare other_welfare : ℤ) → IsProblem problem
         → IsProblem other → IsWithoutBlock problem other place block
@@ -180,7 +180,7 @@ pub fn a_block_more()
 /// place, with the same welfare, prices and executions, and every sum over the accepted blocks is the same.
 ///
 /// A block that has children can't leave a book alone, so that then there is no such other problem.
-pub fn a_rejected_block_withdrawn()
+pub fn a_rejected_block_withdrawn_changes_nothing()
     ensures result { (problem other : ProblemState) (place : ℕ) (block : Block)
         (selection : List Bool) (welfare : ℤ) → IsProblem problem → IsProblem other
         → IsWithoutBlock problem other place block → IsResult problem selection welfare
@@ -222,14 +222,14 @@ pub fn a_better_limit_keeps_a_block()
         → slice_get problem.blocks place ≡ Some block → IsNeverAccepted problem place block
         ⊎ ((limit : ℤ) × IsWorstLimit problem place block limit) }
 {
-    dam_hour::laws::balance();
-    dam_hour::laws::existence();
-    dam_hour::laws::welfare();
+    dam_hour::laws::balances_within_offers();
+    dam_hour::laws::best_execution_exists();
+    dam_hour::laws::best_has_greatest_welfare();
 }
 
 /// The better of two blocks goes first: of two blocks with the same side and volumes that have no links and
 /// no groups, the result doesn't accept the one with the worse limit without the other.
-pub fn the_better_of_two_blocks()
+pub fn the_better_of_two_blocks_goes_first()
     ensures accepted { (problem : ProblemState) (i j : ℕ) (better worse : Block)
         (selection : List Bool) (welfare : ℤ) → IsProblem problem
         → slice_get problem.blocks i ≡ Some better → slice_get problem.blocks j ≡ Some worse
@@ -243,7 +243,7 @@ pub fn the_better_of_two_blocks()
 /// A rejected block that asks for worse changes nothing: if the result rejects a block, then with a worse
 /// limit the result is the same selection with the same welfare, and so are its prices and executions
 /// (`outcome` of `a_better_limit_keeps_a_block`, which is of any limit).
-pub fn a_rejected_block_that_asks_for_worse()
+pub fn a_worse_limit_keeps_a_rejection()
     ensures result { (problem other : ProblemState) (place : ℕ) (block : Block) (limit : ℤ)
         (selection : List Bool) (welfare : ℤ) → IsWithLimit problem other place block limit
         → IsWorse block.order.side limit block.order.price
@@ -253,7 +253,7 @@ pub fn a_rejected_block_that_asks_for_worse()
 
 /// Book order decides only ties, for hourly orders: if the orders of a period stand in another order, the
 /// prices of each selection are the same, and so are the result and its welfare.
-pub fn book_order_of_hourly_orders()
+pub fn book_order_of_hourly_orders_decides_only_ties()
     ensures prices { (problem other : ProblemState) (selection : List Bool) (prices : List ℤ)
         → IsReordered problem other
         → ArePrices problem.blocks selection 1 problem.hours prices
@@ -262,13 +262,13 @@ pub fn book_order_of_hourly_orders()
         → IsReordered problem other
         → IsResult problem selection welfare → IsResult other selection welfare }
 {
-    dam_hour::market::book_order();
+    dam_hour::market::book_order_decides_only_ties();
 }
 
 /// Book order decides only ties, for blocks: if they stand in another order, parents before their
 /// children, each eligible selection has its counterpart, which accepts the same blocks at the same
 /// prices with the same welfare. So the welfare of the result is the same.
-pub fn book_order_of_blocks()
+pub fn book_order_of_blocks_decides_only_ties()
     ensures selections { (problem other : ProblemState) (selection : List Bool) (welfare : ℤ)
         → IsProblem problem → IsProblem other → HasBlocksReordered problem other
         → IsEligible problem selection welfare

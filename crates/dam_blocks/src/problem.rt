@@ -8,7 +8,7 @@ ghost use Rattle.dam_blocks.specs.Problem.{IsProblem, problem_of};
 ghost use Rattle.dam_blocks.specs.inside.Hindrances.{AreHindrances};
 
 use crate::hindrances::{Hindrances, all_hindrances};
-use crate::problem_making::{hours_of, lists_of};
+use crate::problem_making::{hours_of, split_orders};
 use dam_book::{BlockOrder, Book, DayLength, LAST_PERIOD, Name, Participant, Period};
 use dam_hour::{Hour, Step};
 use std::alloc::{AllocError, Allocator, Global};
@@ -143,7 +143,7 @@ impl<A: Allocator + Copy> Problem<A> {
         if !book.is_closed() {
             return Err(ProblemFault::StillOpen);
         }
-        let lists = lists_of(alloc, book)?;
+        let lists = split_orders(alloc, book)?;
         Ok(Problem {
             periods: book.periods(),
             hours: hours_of(alloc, &lists.hourly)?,
@@ -219,7 +219,7 @@ impl<A: Allocator> Problem<A> {
     }
 
     /// The hindrances to accepting the block at a place; `None` past the last.
-    pub(crate) fn hindrances(&self, place: usize) -> Option<&Hindrances>
+    pub(crate) fn hindrances_at(&self, place: usize) -> Option<&Hindrances>
         ensures valid { IsProblem self.now }
         ensures none { IfNone result (length self.now.blocks ≤ place) }
         ensures some { IfSome result (λ hindrances. (place < length self.now.blocks)

@@ -21,7 +21,7 @@ fn row_at<B: Allocator + Copy>(book: &Book<B>, place: usize) -> (Participant, Na
 /// The orders of a book by their kind, the hourly ones by their period too, and all its rows with the
 /// places of their orders.
 #[derive(Drop)]
-pub(crate) struct Lists<A: Allocator> {
+pub(crate) struct OrderLists<A: Allocator> {
     /// Those of each period of the day, from the first one on.
     pub(crate) hourly: Vec<Vec<Step, A>, A>,
     pub(crate) blocks: Vec<Block, A>,
@@ -61,11 +61,11 @@ fn add_step<A: Allocator>(
     Ok(place)
 }
 
-/// Parts the orders of a book by their kind and period, in one pass over its rows.
-pub(crate) fn lists_of<A: Allocator + Copy, B: Allocator + Copy>(
+/// Splits the orders of a book by kind and period, in one pass over its rows.
+pub(crate) fn split_orders<A: Allocator + Copy, B: Allocator + Copy>(
     alloc: A,
     book: &Book<B>,
-) -> Result<Lists<A>, AllocError>
+) -> Result<OrderLists<A>, AllocError>
     ensures hourly { IfOk result (λ lists. map (λ steps. steps.items) lists.hourly.items
         ≡ hours_from 1 book.now.periods book.now.rows) }
     ensures blocks { IfOk result (λ lists. lists.blocks.items ≡ blocks_in book.now.rows) }
@@ -86,7 +86,7 @@ pub(crate) fn lists_of<A: Allocator + Copy, B: Allocator + Copy>(
         };
         rows.push(ProblemRow { who, name, at })?;
     }
-    Ok(Lists {
+    Ok(OrderLists {
         hourly,
         blocks,
         rows,

@@ -7,7 +7,7 @@ ghost use Rattle.dam_blocks.specs.inside.Better.{RanksNoHigher};
 use crate::laws;
 use crate::problem::Problem;
 use crate::scoring::{Verdict, score};
-use crate::selection::{Best, Selection, choices};
+use crate::selection::{Best, Selection, choice_count};
 use dam_book::MOST_BLOCKS;
 use std::alloc::Allocator;
 
@@ -67,7 +67,7 @@ fn higher(first: &Best, second: &Best) -> Best
 }
 
 /// The better of `best` and this selection, if that is eligible.
-fn better<A: Allocator>(problem: &Problem<A>, best: Best, selection: Selection) -> Best
+fn best_after_trying<A: Allocator>(problem: &Problem<A>, best: Best, selection: Selection) -> Best
     requires { IsEligible problem.now best.selection (pos best.welfare) }
     ensures eligible { IsEligible problem.now result.selection (pos result.welfare) }
     ensures kept { RanksNoHigher best result }
@@ -88,8 +88,8 @@ pub fn best_of_all<A: Allocator>(problem: &Problem<A>) -> Best
 {
     let count = problem.block_count();
     let mut best = best_of_none(problem);
-    for number in 0..choices(count) {
-        best = better(problem, best, Selection::choice(count, number));
+    for number in 0..choice_count(count) {
+        best = best_after_trying(problem, best, Selection::choice(count, number));
     }
     best
 }

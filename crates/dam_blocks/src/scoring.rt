@@ -3,12 +3,12 @@ ghost use Rattle.dam_book.specs.Limits.{last_period};
 ghost use Rattle.dam_blocks.specs.Eligible.{ArePrices, HasNoLoss, selection_welfare};
 ghost use Rattle.dam_blocks.specs.Score.{IsFirstUnbalanced, IsFirstLosing, IsVerdict};
 
-use crate::accepted::{block_value, net_volume};
-use crate::gain::family_surplus;
+use crate::accepted::{accepted_value, net_volume};
 use crate::laws;
 use crate::links::admissible;
 use crate::problem::{MOST_PERIODS, Problem};
 use crate::selection::Selection;
+use crate::surpluses::family_surplus;
 use dam_book::{MOST_BLOCKS, Period, Price};
 use std::alloc::Allocator;
 
@@ -54,7 +54,7 @@ fn price_day<A: Allocator>(problem: &Problem<A>, selection: Selection) -> Result
             return Err(period);
         };
         prices[place] = cleared.price;
-        welfare += cleared.welfare + block_value(blocks, selection, period);
+        welfare += cleared.welfare + accepted_value(blocks, selection, period);
     }
     Ok(PricedDay { prices, welfare })
 }
@@ -90,7 +90,7 @@ pub fn score<A: Allocator>(problem: &Problem<A>, selection: Selection) -> Verdic
     ensures { IsVerdict problem.now selection result }
 {
     selection.use_invariant();
-    laws::eligible_welfare();
+    laws::eligible_welfare_is_not_negative();
     if !admissible(problem, selection) {
         return Verdict::NotAdmissible;
     }

@@ -32,7 +32,7 @@ impl Model for Selection {
 }
 
 /// The number of choices over this number of places.
-pub(crate) fn choices(count: usize) -> u32
+pub(crate) fn choice_count(count: usize) -> u32
     requires { count ≤ most_blocks }
     ensures { result ≡ 2 ^ count }
 {
@@ -99,7 +99,7 @@ impl Selection {
         let mut selection = Selection::none();
         let mut rest = number;
         for place in 0..count {
-            let half = choices(count - 1 - place);
+            let half = choice_count(count - 1 - place);
             if rest < half {
                 selection = selection.with(place);
             } else {

@@ -13,7 +13,7 @@ use Rattle.dam_hour.specs.Best.{signed}
 use Rattle.dam_blocks.specs.declared.problem.Block.{Block}
 use Rattle.dam_blocks.specs.Problem.{AreBlocks}
 use Rattle.dam_blocks.specs.Magnitude.{IsWithin}
-use Rattle.dam_blocks.specs.Selection.{volume_in, net_volume_of, value_of}
+use Rattle.dam_blocks.specs.Selection.{volume_in, net_volume_of, value_in}
 use Rattle.dam_blocks.proofs.Magnitudes.{value_within}
 use Rattle.dam_bound.specs.Sums.{over_periods, at_places}
 use Rattle.dam_bound.specs.inside.Numbers.{AreNumbersWithin, AreRaised}
@@ -104,8 +104,8 @@ pub net_small : (t : ℕ) (o : BlockTerms) → IsBlockOrder o → IsWithin great
 net_small t o is = one_net o.side (volume_in o.volumes t) (volume_small o.volumes t is.volumes.ranges)
 
 pub value_small : (n : ℕ) (o : BlockTerms) → n ≤ last_period → IsBlockOrder o
-    → IsWithin (last_period * greatest_value) (over_periods (λ t. value_of t o) 1 n)
+    → IsWithin (last_period * greatest_value) (over_periods (λ t. value_in t o) 1 n)
 value_small n o few is =
-    let sum = periods_within (λ t. value_of t o) 1 n greatest_value (λ t. value_within t o is) in
+    let sum = periods_within (λ t. value_in t o) 1 n greatest_value (λ t. value_within t o is) in
     let a = sum.at_least in let b = sum.at_most in
     record { at_least = omega (arith, ints, a, few); at_most = omega (arith, ints, b, few) }

@@ -8,7 +8,7 @@ use Rattle.std.proofs.lemmas.Int.{ints}
 use Rattle.std.proofs.lemmas.List.{drop_all}
 use Rattle.dam_hour.specs.declared.step.Step.{Step}
 use Rattle.dam_blocks.specs.declared.problem.Block.{Block}
-use Rattle.dam_blocks.specs.Selection.{net_volume, block_value}
+use Rattle.dam_blocks.specs.Selection.{net_volume, accepted_value}
 use Rattle.dam_blocks.specs.Eligible.{added, period_welfare, welfare_from}
 use Rattle.dam_blocks.specs.Magnitude.{IsWithin}
 use Rattle.dam_bound.specs.Relaxed.{as_steps, relaxed_hours}
@@ -85,8 +85,8 @@ all_bound blocks taken left hours place total all so_far =
 -- a period whose greatest welfare is known
 pub cleared_period : (blocks : List Block) (taken : List Bool) (t : ℕ) (ss relaxed : List Step) (net g value w : ℤ) → ss ≡ relaxed
     → net ≡ net_volume blocks taken t
-    → greatest_welfare ss net ≡ Some g → value ≡ block_value blocks taken t → w ≡ g +ℤ value
+    → greatest_welfare ss net ≡ Some g → value ≡ accepted_value blocks taken t → w ≡ g +ℤ value
     → Some w ≡ period_welfare blocks taken t relaxed
 cleared_period blocks taken t ss relaxed net g value w steps net_is great value_is e =
     ap (λ (z : ℤ). Some z) (e ∙ ap (λ (z : ℤ). g +ℤ z) value_is)
-    ∙ ap (option_map (λ (z : ℤ). z +ℤ block_value blocks taken t)) (sym great ∙ ap₂ greatest_welfare steps net_is)
+    ∙ ap (option_map (λ (z : ℤ). z +ℤ accepted_value blocks taken t)) (sym great ∙ ap₂ greatest_welfare steps net_is)

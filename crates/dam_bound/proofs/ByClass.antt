@@ -11,7 +11,7 @@ use Rattle.dam_hour.specs.declared.step.Step.{Step}
 use Rattle.dam_curve.specs.Curve.{both, joint_welfare}
 use Rattle.dam_blocks.specs.declared.problem.Block.{Block}
 use Rattle.dam_blocks.specs.Problem.{ProblemState}
-use Rattle.dam_blocks.specs.Selection.{over_accepted, value_of, net_volume, block_value}
+use Rattle.dam_blocks.specs.Selection.{over_accepted, value_in, net_volume, accepted_value}
 use Rattle.dam_blocks.specs.Eligible.{added, period_welfare, welfare_from, selection_welfare}
 use Rattle.dam_blocks.proofs.Sums.{over_accepted-plus, over_accepted-zero}
 use Rattle.dam_bound.specs.Classes.{first_of, members}
@@ -101,11 +101,11 @@ member_great blocks c i net u (hour ∷ hours) (suc k) ss e at own =
 -- ---- all periods
 -- from the periods to the selection
 welfare_is : (f : ℕ → ℤ) (blocks : List Block) (sel : List Bool) (i : ℕ) (hours : List (List Step)) → AreGreat f blocks sel i hours
-    → welfare_from blocks sel (suc i) hours ≡ Some (over_periods (λ t. f t +ℤ block_value blocks sel t) (suc i) (length hours))
+    → welfare_from blocks sel (suc i) hours ≡ Some (over_periods (λ t. f t +ℤ accepted_value blocks sel t) (suc i) (length hours))
 welfare_is f blocks sel i [] each = refl
 welfare_is f blocks sel i (ss ∷ hours) each =
     ap₂ added
-    (raised_is (greatest_welfare ss (net_volume blocks sel (suc i))) (block_value blocks sel (suc i)) (f (suc i))
+    (raised_is (greatest_welfare ss (net_volume blocks sel (suc i))) (accepted_value blocks sel (suc i)) (f (suc i))
     (great_here f blocks sel i ss hours each))
     (welfare_is f blocks sel (suc i) hours (great_rest f blocks sel i ss hours each))
 
@@ -116,7 +116,7 @@ each_great : (f : ℕ → ℤ) (blocks : List Block) (sel : List Bool) (t : ℕ)
 each_great f blocks sel t [] w k ss e at = absurd (cc)
 each_great f blocks sel t (hour ∷ hours) w zero ss e at =
     let parts = added_some (period_welfare blocks sel t hour) (welfare_from blocks sel (suc t) hours) w e in
-    let great = raised_some (greatest_welfare hour (net_volume blocks sel t)) (block_value blocks sel t) parts.0 parts.2 in
+    let great = raised_some (greatest_welfare hour (net_volume blocks sel t)) (accepted_value blocks sel t) parts.0 parts.2 in
     let same : hour ≡ ss = cc in let none : t ≡ t + 0 = omega arith in (
       great.0,
       subst (λ (n : ℕ). greatest_welfare ss (net_volume blocks sel n) ≡ Some great.0) none
@@ -155,11 +155,11 @@ all_great problem sel each k ss at =
 
 -- ---- the value of the blocks
 block_values : (bs : List Block) (sel : List Bool) (t n : ℕ)
-    → over_periods (λ u. block_value bs sel u) t n ≡ over_accepted (λ o. over_periods (λ u. value_of u o) t n) bs sel
+    → over_periods (λ u. accepted_value bs sel u) t n ≡ over_accepted (λ o. over_periods (λ u. value_in u o) t n) bs sel
 block_values bs sel t zero = sym (over_accepted-zero bs sel)
 block_values bs sel t (suc n) =
-    ap (λ (z : ℤ). block_value bs sel t +ℤ z) (block_values bs sel (suc t) n)
-    ∙ sym (over_accepted-plus (value_of t) (λ o. over_periods (λ u. value_of u o) (suc t) n) bs sel)
+    ap (λ (z : ℤ). accepted_value bs sel t +ℤ z) (block_values bs sel (suc t) n)
+    ∙ sym (over_accepted-plus (value_in t) (λ o. over_periods (λ u. value_in u o) (suc t) n) bs sel)
 
 -- ---- the selection
 -- the joint welfare of a class at the selection's net volume
@@ -179,12 +179,12 @@ whole_is : (problem : ProblemState) (sel : List Bool) → AreGreat (great_at pro
     → selection_welfare problem sel ≡ Some (whole_of problem sel)
 whole_is problem sel each =
     let n = length problem.hours in let f = great_at problem sel in let blocks = problem.blocks in
-    let total = periods_plus f (λ t. block_value blocks sel t) 1 n in
+    let total = periods_plus f (λ t. accepted_value blocks sel t) 1 n in
     let values = block_values blocks sel 1 n in
     let classes = by_class f blocks n in
     let worths = over_same (λ c. worth (joint_of problem sel c)) (λ c. over_class f blocks c 0 n) (class_places problem)
     (λ j c at. ap worth (joint_is problem sel c each)) in
-    let sum : over_periods (λ t. f t +ℤ block_value blocks sel t) 1 n ≡ whole_of problem sel = omega (arith, ints, total, values, classes, worths) in
+    let sum : over_periods (λ t. f t +ℤ accepted_value blocks sel t) 1 n ≡ whole_of problem sel = omega (arith, ints, total, values, classes, worths) in
     welfare_is f blocks sel 0 problem.hours each ∙ ap Some sum
 
 -- a selection with which every period balances has a joint welfare in each class

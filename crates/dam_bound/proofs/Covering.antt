@@ -10,7 +10,7 @@ use Rattle.dam_hour.specs.Execution.{AreInRange, IsExecution, executed_volume, B
 use Rattle.dam_hour.specs.Best.{welfare_of, AreSmall, greatest_welfare}
 use Rattle.dam_blocks.specs.declared.problem.Block.{Block}
 use Rattle.dam_book.specs.Terms.{BlockTerms}
-use Rattle.dam_blocks.specs.Selection.{padded, over_accepted, net_volume_of, value_of, net_volume, block_value}
+use Rattle.dam_blocks.specs.Selection.{padded, over_accepted, net_volume_of, value_in, net_volume, accepted_value}
 use Rattle.dam_blocks.specs.Eligible.{added, period_welfare, welfare_from}
 use Rattle.dam_bound.specs.Relaxed.{as_steps, relaxed_hours}
 use Rattle.dam_bound.proofs.Levelling.{relaxed_at}
@@ -78,13 +78,13 @@ covered : Laws → (t : ℕ) (bs : List Block) (prefix rest : List Bool) (ss : L
     +ℤ net_volume bs (prefix ++ rest) t
     ≡ pos (executed_volume Buy ss xs) +ℤ pos (executed_volume Buy (left_steps t bs prefix rest) us)
     → (r : ℤ) × (period_welfare bs prefix t (relaxed_at ss t bs (length prefix)) ≡ Some r)
-    × (((welfare_of ss xs +ℤ welfare_of (left_steps t bs prefix rest) us) +ℤ block_value bs (prefix ++ rest) t) ≤ℤ r)
+    × (((welfare_of ss xs +ℤ welfare_of (left_steps t bs prefix rest) us) +ℤ accepted_value bs (prefix ++ rest) t) ≤ℤ r)
 covered laws t bs prefix rest ss xs us e f b =
     let undecided = drop (length prefix) bs in
     let s = stand t undecided rest us f in
     let ts = as_steps t undecided in
     let net = laws.sums.parted (net_volume_of t) bs prefix rest in
-    let value = laws.sums.parted (value_of t) bs prefix rest in
+    let value = laws.sums.parted (value_in t) bs prefix rest in
     let sold = laws.volume Sell ss ts xs s.volumes e in
     let bought = laws.volume Buy ss ts xs s.volumes e in
     let worth = laws.welfare ss ts xs s.volumes e in
@@ -92,8 +92,8 @@ covered laws t bs prefix rest ss xs us e f b =
     let found = great_at_least laws (ss ++ ts) (net_volume bs prefix t) (xs ++ s.volumes) (laws.joined ss ts xs s.volumes e s.execution)
     (omega (arith, ints, b, net, sold, bought, own)) in
     let most = found.2 in (
-      found.0 +ℤ block_value bs prefix t,
-      raised_is (greatest_welfare (ss ++ ts) (net_volume bs prefix t)) (block_value bs prefix t) found.0 found.1,
+      found.0 +ℤ accepted_value bs prefix t,
+      raised_is (greatest_welfare (ss ++ ts) (net_volume bs prefix t)) (accepted_value bs prefix t) found.0 found.1,
       omega (arith, ints, most, worth, gain, value),
     )
 
@@ -103,7 +103,7 @@ period_completed : Laws → (t : ℕ) (bs : List Block) (prefix rest : List Bool
     → (r : ℤ) × (period_welfare bs prefix t (relaxed_at ss t bs (length prefix)) ≡ Some r) × (w ≤ℤ r)
 period_completed laws t bs prefix rest ss w e =
     let none = idle (left_steps t bs prefix rest) in
-    let parts = raised_some (greatest_welfare ss (net_volume bs (prefix ++ rest) t)) (block_value bs (prefix ++ rest) t) w e in
+    let parts = raised_some (greatest_welfare ss (net_volume bs (prefix ++ rest) t)) (accepted_value bs (prefix ++ rest) t) w e in
     let best = laws.reached ss (net_volume bs (prefix ++ rest) t) parts.0 parts.1 in
     let balance = best.2 in let is = best.3 in let sum = parts.2 in
     let sold = none.sold in let bought = none.bought in let worth = none.welfare in
@@ -127,7 +127,7 @@ completed_from laws t bs prefix rest (ss ∷ hours) w e =
 -- the same sums over the accepted blocks give the same welfare
 pub same_welfare : (bs : List Block) (xs ys : List Bool) (t : ℕ) (hours : List (List Step))
     → ((u : ℕ) → net_volume bs xs u ≡ net_volume bs ys u)
-    → ((u : ℕ) → block_value bs xs u ≡ block_value bs ys u) → welfare_from bs xs t hours ≡ welfare_from bs ys t hours
+    → ((u : ℕ) → accepted_value bs xs u ≡ accepted_value bs ys u) → welfare_from bs xs t hours ≡ welfare_from bs ys t hours
 same_welfare bs xs ys t [] n v = refl
 same_welfare bs xs ys t (ss ∷ hours) n v =
     ap₂ added (ap₂ (λ (net value : ℤ). option_map (λ w. w +ℤ value) (greatest_welfare ss net)) (n t) (v t))
@@ -141,4 +141,4 @@ pub padded_welfare : SumLaws → (bs : List Block) (prefix taken : List Bool) (d
 padded_welfare sums bs prefix taken depth hours long is =
     ap₂ (λ (xs : List Bool) (n : ℕ). welfare_from bs xs 1 (relaxed_hours (drop n bs) 1 hours)) is (sym long)
     ∙ same_welfare bs (padded prefix) prefix 1 (relaxed_hours (drop (length prefix) bs) 1 hours)
-    (λ u. sums.padded (net_volume_of u) bs prefix) (λ u. sums.padded (value_of u) bs prefix)
+    (λ u. sums.padded (net_volume_of u) bs prefix) (λ u. sums.padded (value_in u) bs prefix)

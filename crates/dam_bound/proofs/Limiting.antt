@@ -18,7 +18,7 @@ use Rattle.dam_bound.specs.NetLimits.{most_limits, room_taken, if_open, taken_un
 use Rattle.dam_bound.specs.Prices.{over_gains}
 use Rattle.dam_bound.specs.Sums.{at_places}
 use Rattle.dam_bound.specs.declared.class_curves.Class.{Class}
-use Rattle.dam_bound.specs.declared.net_limits.Limit.{Limit}
+use Rattle.dam_bound.specs.declared.net_limits.NetLimit.{NetLimit}
 use Rattle.dam_bound.specs.inside.Numbers.{AreNumbersWithin, negative_sum}
 use Rattle.dam_bound.proofs.Accepted.{if_accepted}
 use Rattle.dam_bound.proofs.ByClass.{has_whole}
@@ -112,7 +112,7 @@ taken_all nets sel long =
     let low = ap negative_sum (drop_all most_blocks nets (omega (arith, long))) in
     omega (arith, ints, all, gains, low)
 
-pub limit_is : (problem : ProblemState) (limit : Limit) (most total low : ℤ) → AreNumbersWithin greatest_volume limit.nets → total ≡ negative_sum limit.nets
+pub limit_is : (problem : ProblemState) (limit : NetLimit) (most total low : ℤ) → AreNumbersWithin greatest_volume limit.nets → total ≡ negative_sum limit.nets
     → low ≡ int_max (most -ℤ total) (neg_ℤ (pos 1)) → limit.room ≡ int_min low (pos greatest_room)
     → ((sel : List Bool) (w : ℤ) → IsEligible problem sel w → over_gains limit.nets sel ≤ℤ most) → IsLimit problem limit
 limit_is problem limit most total low small total_is low_is room_is keeps =
@@ -149,7 +149,7 @@ nothing_taken nets sel (suc n) none =
     omega (arith, ints, rest, own)
 
 -- the limit that allows everything
-abbrev pub no_limit : Limit
+abbrev pub no_limit : NetLimit
 no_limit = record { nets = replicate most_blocks (pos 0); room = pos 0 }
 
 pub nothing_limits : (problem : ProblemState) → IsLimit problem no_limit
@@ -163,7 +163,7 @@ nothing_limits problem = record {
       omega (arith, ints, none));
 }
 
-limit_at : (n k : ℕ) (limit : Limit) → k < n → limit_in (replicate n limit) k ≡ limit
+limit_at : (n k : ℕ) (limit : NetLimit) → k < n → limit_in (replicate n limit) k ≡ limit
 limit_at zero k limit l = absurd (omega (arith, l))
 limit_at (suc n) zero limit l = refl
 limit_at (suc n) (suc k) limit l = limit_at n k limit (omega (arith, l))
@@ -174,7 +174,7 @@ no_limits problem = record {
   each = λ k l. subst (IsLimit problem) (sym (limit_at most_limits k no_limit l)) (nothing_limits problem);
 }
 
-pub limit_more : (problem : ProblemState) (limits : List Limit) (at : ℕ) (limit : Limit) → at < most_limits → IsLimit problem limit
+pub limit_more : (problem : ProblemState) (limits : List NetLimit) (at : ℕ) (limit : NetLimit) → at < most_limits → IsLimit problem limit
     → AreLimits problem limits → AreLimits problem (slice_set limits at limit)
 limit_more problem limits at limit inside is are = record {
   many = length-set limits at limit ∙ are.many;
@@ -187,7 +187,7 @@ limit_more problem limits at limit inside is are = record {
   ];
 }
   where
-    any_limit : Limit
+    any_limit : NetLimit
     any_limit = record { nets = []; room = pos 0 }
 
 -- ---- rooms
@@ -225,12 +225,12 @@ lowered_here held rooms k i d z taken same inside within is was =
     ∙ ap (λ (j : ℕ). get_or rooms j d -ℤ taken) (sym same)
 
 -- the rooms after a decision
-pub record AreLowered (limits : List Limit) (accept : Bool) (place : ℕ) (rooms after : List ℤ) : Type 0 where
+pub record AreLowered (limits : List NetLimit) (accept : Bool) (place : ℕ) (rooms after : List ℤ) : Type 0 where
   pub many : length after ≡ most_limits
   pub each : (k : ℕ) (d : ℤ) → k < most_limits
       → get_or after k d ≡ get_or rooms k d -ℤ room_taken accept (get_or (limit_in limits k).nets place (pos 0))
 
-pub still_rooms : (problem : ProblemState) (limits : List Limit) (accept : Bool) (place : ℕ) (rooms after : List ℤ) (least : ℤ) → AreLimits problem limits
+pub still_rooms : (problem : ProblemState) (limits : List NetLimit) (accept : Bool) (place : ℕ) (rooms after : List ℤ) (least : ℤ) → AreLimits problem limits
     → place < most_blocks → AreRooms rooms → AreLowered limits accept place rooms after
     → ((k : ℕ) → k < most_limits → least ≤ℤ get_or after k (pos 0)) → pos 0 ≤ℤ least → AreRooms after
 still_rooms problem limits accept place rooms after least are inside had lowered under some = record {
@@ -244,7 +244,7 @@ still_rooms problem limits accept place rooms after least are inside had lowered
       record { at_least = omega (arith, ints, own, same, some); at_most = omega (arith, ints, is, high, none) });
 }
 
-pub still_has : (problem : ProblemState) (limits : List Limit) (accept : Bool) (place : ℕ) (rooms next : List ℤ) (sel : List Bool) (before after : ℕ → Bool)
+pub still_has : (problem : ProblemState) (limits : List NetLimit) (accept : Bool) (place : ℕ) (rooms next : List ℤ) (sel : List Bool) (before after : ℕ → Bool)
     → place < most_blocks → AreLowered limits accept place rooms next → HasRoom limits sel before rooms
     → before place ≡ true → after place ≡ false → ((p : ℕ) → p ≢ place → after p ≡ before p) → accepts sel place ≡ accept
     → HasRoom limits sel after next
@@ -255,7 +255,7 @@ still_has problem limits accept place rooms next sel before after inside lowered
     let is = lowered.each k (pos 0) l in let had = has k l in
     omega (arith, ints, less, own, is, had)
 
-pub none_fits : (problem : ProblemState) (limits : List Limit) (accept : Bool) (place : ℕ) (rooms after : List ℤ) (least : ℤ)
+pub none_fits : (problem : ProblemState) (limits : List NetLimit) (accept : Bool) (place : ℕ) (rooms after : List ℤ) (least : ℤ)
     (sel : List Bool) (free : ℕ → Bool) → AreLimits problem limits → place < most_blocks → AreLowered limits accept place rooms after
     → ((k : ℕ) × (k < most_limits) × (least ≡ get_or after k (pos 0))) → least <ℤ pos 0
     → HasRoom limits sel free rooms → free place ≡ true → accepts sel place ≡ accept → ⊥

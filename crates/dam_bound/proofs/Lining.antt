@@ -6,7 +6,7 @@ use Rattle.std.proofs.lemmas.Int.{ints, int_max_is, int_min_is}
 use Rattle.dam_book.specs.Terms.{BlockTerms}
 use Rattle.dam_book.specs.Limits.{most_blocks}
 use Rattle.dam_curve.specs.Curve.{joint_welfare}
-use Rattle.dam_curve.specs.Line.{line_at}
+use Rattle.dam_curve.specs.Line.{line_value}
 use Rattle.dam_curve.specs.declared.line.Line.{Line}
 use Rattle.dam_blocks.specs.declared.problem.Block.{Block}
 use Rattle.dam_blocks.specs.Problem.{ProblemState}
@@ -70,7 +70,7 @@ priced_parts p (c ∷ places) bs sel =
 -- ---- the bound
 -- the line of a class at the selection's net volume
 abbrev pub lined : ProblemState → List Line → List Bool → ℕ → ℤ
-lined problem lines sel c = line_at (line_in lines c) (net_volume problem.blocks sel (c + 1))
+lined problem lines sel c = line_value (line_in lines c) (net_volume problem.blocks sel (c + 1))
 
 -- the bound of a selection is the lines of all classes and the value of the blocks
 pub bound_is : (problem : ProblemState) (bound : PriceBound) (sel : List Bool) → IsByLines problem bound

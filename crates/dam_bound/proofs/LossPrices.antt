@@ -20,7 +20,7 @@ use Rattle.dam_curve.specs.Line.{IsJointPrice}
 use Rattle.dam_blocks.specs.declared.problem.Block.{Block}
 use Rattle.dam_blocks.specs.Problem.{ProblemState}
 use Rattle.dam_blocks.specs.Magnitude.{IsWithin}
-use Rattle.dam_blocks.specs.Selection.{accepts, over_accepted, net_volume_of, value_of, net_volume}
+use Rattle.dam_blocks.specs.Selection.{accepts, over_accepted, net_volume_of, value_in, net_volume}
 use Rattle.dam_blocks.specs.Family.{names, parent_among, parent_place, leads_to, descends, accepted_descendants}
 use Rattle.dam_blocks.specs.Eligible.{ArePrices, surplus_from, surplus_of, family_surplus}
 use Rattle.dam_blocks.proofs.Sums.{surplus_split}
@@ -93,7 +93,7 @@ joint_price_is law problem sel c prices price are is =
 
 -- ---- the surplus of a block
 surplus_periods : (p : ℕ → ℤ) (i : ℕ) (prices : List ℤ) (o : BlockTerms) → ArePricesFrom p i prices
-    → surplus_from (suc i) prices o ≡ over_periods (λ t. value_of t o +ℤ p t *ℤ net_volume_of t o) (suc i) (length prices)
+    → surplus_from (suc i) prices o ≡ over_periods (λ t. value_in t o +ℤ p t *ℤ net_volume_of t o) (suc i) (length prices)
 surplus_periods p i [] o each = refl
 surplus_periods p i (x ∷ prices) o each =
     let here = prices_here p i x prices each in
@@ -132,8 +132,8 @@ pub surplus_is : (problem : ProblemState) (sel : List Bool) (prices : List ℤ) 
 surplus_is problem sel prices k b are at =
     let o = b.order in let n = length problem.hours in let p = price_of prices in
     let periods = surplus_periods p 0 prices o (all_prices prices) in
-    let long = ap (over_periods (λ t. value_of t o +ℤ p t *ℤ net_volume_of t o) 1) (as_long problem.blocks sel 1 problem.hours prices are) in
-    let parts = periods_plus (λ t. value_of t o) (λ t. p t *ℤ net_volume_of t o) 1 n in
+    let long = ap (over_periods (λ t. value_in t o +ℤ p t *ℤ net_volume_of t o) 1) (as_long problem.blocks sel 1 problem.hours prices are) in
+    let parts = periods_plus (λ t. value_in t o) (λ t. p t *ℤ net_volume_of t o) 1 n in
     let classes = by_class (λ t. p t *ℤ net_volume_of t o) problem.blocks n in
     let each = over_same (λ c. over_class (λ t. p t *ℤ net_volume_of t o) problem.blocks c 0 n)
     (λ c. class_price problem prices c *ℤ net_volume_of (c + 1) o) (class_places problem)

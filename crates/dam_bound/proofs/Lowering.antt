@@ -11,7 +11,7 @@ use mir.Val.{to_z, of_z, SFits}
 use Rattle.dam_book.specs.Limits.{most_blocks, last_period, greatest_volume}
 use Rattle.dam_hour.specs.Limits.{greatest_net, greatest_value, greatest_price}
 use Rattle.dam_curve.specs.Curve.{joint_welfare, greatest_joint_welfare}
-use Rattle.dam_curve.specs.Line.{line_at, IsSmallLine}
+use Rattle.dam_curve.specs.Line.{line_value, IsSmallLine}
 use Rattle.dam_curve.specs.declared.line.Line.{Line}
 use Rattle.dam_blocks.specs.declared.problem.Block.{Block}
 use Rattle.dam_blocks.specs.Problem.{ProblemState, AreBlocks}
@@ -176,7 +176,7 @@ net_bounded periods t bs sel are few =
     record { at_least = omega (arith, ints, l, few); at_most = omega (arith, ints, h, few) }
 
 pub line_within : (line : Line) (net : ℤ) → IsSmallLine last_period line → IsWithin (2 * greatest_net) net
-    → IsWithin greatest_line_value (line_at line net)
+    → IsWithin greatest_line_value (line_value line net)
 line_within line net small within =
     let l = small.price_at_least in let h = small.price_at_most in
     let product = times_within (last_period * greatest_price) (2 * greatest_net) line.price net (record { at_least = l; at_most = h }) within in
@@ -263,7 +263,7 @@ range_read problem sel c net e =
 pub line_read : (line : Line) (net price : ℤ) → IsSmallLine last_period line → IsWithin (2 * greatest_net) net → price ≡ line.price
     → SFits w64 (to_z w64 (of_z w64 line.surplus) +ℤ to_z w64 (of_z w64 (to_z w64 (of_z w64 price) *ℤ to_z w64 (of_z w64 net))))
     × (to_z w64 (of_z w64 (to_z w64 (of_z w64 line.surplus) +ℤ to_z w64 (of_z w64 (to_z w64 (of_z w64 price) *ℤ to_z w64 (of_z w64 net)))))
-    ≡ line_at line net)
+    ≡ line_value line net)
 line_read line net price small within same =
     let l = small.price_at_least in let h = small.price_at_most in
     let product = times_within (last_period * greatest_price) (2 * greatest_net) line.price net (record { at_least = l; at_most = h }) within in

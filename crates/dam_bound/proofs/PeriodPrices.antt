@@ -7,8 +7,8 @@ use Rattle.dam_hour.specs.Price.{AreEnds, price_between}
 use Rattle.dam_hour.specs.Best.{welfare_of, greatest_welfare}
 use Rattle.dam_hour.specs.Execution.{AreInRange, IsExecution, Balances, IsWithinOffers}
 use Rattle.dam_blocks.specs.declared.problem.Block.{Block}
-use Rattle.dam_blocks.specs.Problem.{AreHours}
-use Rattle.dam_blocks.specs.Selection.{net_volume, block_value}
+use Rattle.dam_blocks.specs.Problem.{AreHoursInRange}
+use Rattle.dam_blocks.specs.Selection.{net_volume, accepted_value}
 use Rattle.dam_blocks.specs.Eligible.{ArePrices, added, period_welfare, welfare_from}
 
 -- the law of dam_hour on two pairs of ends
@@ -33,14 +33,14 @@ mapped f None u e = absurd (cc)
 mapped f (Some g) u e = (g, refl)
 
 -- there are prices
-pub some_prices : PriceLaws → (blocks : List Block) (sel : List Bool) (t : ℕ) (hours : List (List Step)) (w : ℤ) → AreHours hours
+pub some_prices : PriceLaws → (blocks : List Block) (sel : List Bool) (t : ℕ) (hours : List (List Step)) (w : ℤ) → AreHoursInRange hours
     → welfare_from blocks sel t hours ≡ Some w
     → (prices : List ℤ) × ArePrices blocks sel t hours prices
 some_prices laws blocks sel t [] w are e = ([], tt)
 some_prices laws blocks sel t (ss ∷ hours) w are e =
     let net = net_volume blocks sel t in
     let parts = both (period_welfare blocks sel t ss) (welfare_from blocks sel (suc t) hours) w e in
-    let great = mapped (λ (z : ℤ). z +ℤ block_value blocks sel t) (greatest_welfare ss net) parts.0.0 parts.0.1 in
+    let great = mapped (λ (z : ℤ). z +ℤ accepted_value blocks sel t) (greatest_welfare ss net) parts.0.0 parts.0.1 in
     let execution = laws.reached ss net great.0 great.1 in
     let ends = laws.ends ss net are.0 (laws.within ss net execution.0 execution.1 execution.2) in
     let rest = some_prices laws blocks sel (suc t) hours parts.1.0 are.1 parts.1.1 in

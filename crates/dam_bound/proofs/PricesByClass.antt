@@ -14,7 +14,7 @@ use Rattle.dam_hour.proofs.Numbers.{minus_times}
 use Rattle.dam_curve.specs.JointPrice.{IsJointPrice}
 use Rattle.dam_blocks.specs.declared.problem.Block.{Block}
 use Rattle.dam_blocks.specs.Problem.{ProblemState}
-use Rattle.dam_blocks.specs.Selection.{volume_in, net_volume_of, value_of, net_volume}
+use Rattle.dam_blocks.specs.Selection.{volume_in, net_volume_of, value_in, net_volume}
 use Rattle.dam_blocks.specs.Eligible.{IsClearingPrice, ArePrices, surplus_from, surplus_of}
 use Rattle.dam_bound.specs.Classes.{first_of, members}
 use Rattle.dam_bound.specs.ClassCurves.{class_orders, day_value}
@@ -117,13 +117,13 @@ times_net price p Sell v =
 
 surplus_parts : (f : ℕ → ℤ) (o : BlockTerms) (t : ℕ) (prices : List ℤ)
     → ((k : ℕ) → k < length prices → f (t + k) ≡ get_or prices k (pos 0))
-    → surplus_from t prices o ≡ over_periods (λ u. value_of u o +ℤ f u *ℤ net_volume_of u o) t (length prices)
+    → surplus_from t prices o ≡ over_periods (λ u. value_in u o +ℤ f u *ℤ net_volume_of u o) t (length prices)
 surplus_parts f o t [] each = refl
 surplus_parts f o t (p ∷ prices) each =
     let none : t + 0 ≡ t = omega arith in
     let own : p ≡ f t = sym (each 0 (omega arith)) ∙ ap f none in
     ap₂ (λ (a b : ℤ). a +ℤ b)
-    (times_net o.price p o.side (volume_in o.volumes t) ∙ ap (λ (z : ℤ). value_of t o +ℤ z *ℤ net_volume_of t o) own)
+    (times_net o.price p o.side (volume_in o.volumes t) ∙ ap (λ (z : ℤ). value_in t o +ℤ z *ℤ net_volume_of t o) own)
     (surplus_parts f o (suc t) prices (λ k l.
     (let next : suc t + k ≡ t + suc k = omega arith in ap f next ∙ each (suc k) (omega (arith, l)))))
 
@@ -160,8 +160,8 @@ surplus_is problem sel prices k b are at =
     let n = length problem.hours in let f = price_in prices in let o = b.order in
     let long = as_long problem.blocks sel 1 problem.hours prices are in
     let parts = surplus_parts f o 1 prices (λ i l. (let place : (1 + i) - 1 ≡ i = omega arith in ap (λ (m : ℕ). get_or prices m (pos 0)) place))
-    ∙ ap (over_periods (λ u. value_of u o +ℤ f u *ℤ net_volume_of u o) 1) long in
-    let sum = periods_plus (λ u. value_of u o) (λ u. f u *ℤ net_volume_of u o) 1 n in
+    ∙ ap (over_periods (λ u. value_in u o +ℤ f u *ℤ net_volume_of u o) 1) long in
+    let sum = periods_plus (λ u. value_in u o) (λ u. f u *ℤ net_volume_of u o) 1 n in
     let classes = by_class (λ u. f u *ℤ net_volume_of u o) problem.blocks n in
     let each = over_same (λ c. over_class (λ u. f u *ℤ net_volume_of u o) problem.blocks c 0 n)
     (λ c. class_price problem prices c *ℤ net_volume_of (c + 1) o) (class_places problem)

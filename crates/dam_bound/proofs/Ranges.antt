@@ -11,8 +11,8 @@ use Rattle.dam_book.specs.Limits.{last_period, greatest_volume, most_blocks}
 use Rattle.dam_hour.specs.Limits.{greatest_value}
 use Rattle.dam_hour.specs.Best.{welfare_of, greatest_welfare}
 use Rattle.dam_blocks.specs.declared.problem.Block.{Block}
-use Rattle.dam_blocks.specs.Problem.{ProblemState, hourly_orders, AreHours, AreBlocks, IsProblem}
-use Rattle.dam_blocks.specs.Selection.{volume_in, net_volume, block_value}
+use Rattle.dam_blocks.specs.Problem.{ProblemState, hourly_orders, AreHoursInRange, AreBlocks, IsProblem}
+use Rattle.dam_blocks.specs.Selection.{volume_in, net_volume, accepted_value}
 use Rattle.dam_blocks.specs.Eligible.{period_welfare, welfare_from}
 use Rattle.dam_blocks.specs.Magnitude.{IsWithin, greatest_selection_welfare}
 use Rattle.dam_bound.specs.Relaxed.{step_of, as_steps, relaxed_hours, relaxed_welfare}
@@ -58,7 +58,7 @@ pub period_size : Laws → (periods t : ℕ) (bs : List Block) (prefix : List Bo
     → IsWithin ((length ss + length bs) * greatest_value) u
 period_size laws periods t bs prefix ss u are range e =
     let left = as_steps t (drop (length prefix) bs) in
-    let parts = raised_some (greatest_welfare (ss ++ left) (net_volume bs prefix t)) (block_value bs prefix t) u e in
+    let parts = raised_some (greatest_welfare (ss ++ left) (net_volume bs prefix t)) (accepted_value bs prefix t) u e in
     let best = laws.reached (ss ++ left) (net_volume bs prefix t) parts.0 parts.1 in
     let apart = laws.parted ss left best.0 best.1 in
     let worth = ap (welfare_of (ss ++ left)) apart.2 ∙ laws.welfare ss left apart.0 apart.1 apart.3 in
@@ -77,7 +77,7 @@ period_size laws periods t bs prefix ss u are range e =
     }
 
 periods_size : Laws → (periods t : ℕ) (bs : List Block) (prefix : List Bool) (hours : List (List Step)) (w : ℤ) → AreBlocks periods bs
-    → length bs ≤ most_blocks → AreHours hours
+    → length bs ≤ most_blocks → AreHoursInRange hours
     → welfare_from bs prefix t (relaxed_hours (drop (length prefix) bs) t hours) ≡ Some w
     → IsWithin (hourly_orders hours * greatest_value + length hours * (most_blocks * greatest_value)) w
 periods_size laws periods t bs prefix [] w are few ranges e =

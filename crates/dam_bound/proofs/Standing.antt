@@ -10,7 +10,7 @@ use Rattle.dam_hour.specs.declared.step.Step.{Step}
 use Rattle.dam_hour.specs.Execution.{IsExecution, executed_volume, volume_on}
 use Rattle.dam_hour.specs.Best.{signed, welfare_of}
 use Rattle.dam_blocks.specs.declared.problem.Block.{Block}
-use Rattle.dam_blocks.specs.Selection.{over_accepted, volume_in, net_volume_of, value_of, net_volume, block_value}
+use Rattle.dam_blocks.specs.Selection.{over_accepted, volume_in, net_volume_of, value_in, net_volume, accepted_value}
 use Rattle.dam_bound.specs.Relaxed.{step_of, as_steps}
 
 pub over_accepted-nil : (f : BlockTerms → ℤ) (bs : List Block) → over_accepted f bs [] ≡ pos 0
@@ -46,7 +46,7 @@ pub record Stands (t : ℕ) (ts : List Step) (bs : List Block) (prefix : List Bo
   pub execution : IsExecution ts volumes
   pub balance : pos (executed_volume Sell ts volumes) +ℤ pos (executed_volume Buy left us)
       ≡ (pos (executed_volume Buy ts volumes) +ℤ pos (executed_volume Sell left us)) +ℤ net_volume bs prefix t
-  pub welfare : welfare_of ts volumes ≡ welfare_of left us +ℤ block_value bs prefix t
+  pub welfare : welfare_of ts volumes ≡ welfare_of left us +ℤ accepted_value bs prefix t
 
 stand_more : (t : ℕ) (ts : List Step) (b : Block) (bs : List Block) (a : Bool) (prefix : List Bool) (left : List Step) (us : List ℕ)
     → Stands t ts bs prefix left us → (c : Bool) → (volume_in b.order.volumes t == 0) ≡ c
@@ -55,7 +55,7 @@ stand_more t ts b bs true prefix left us s true e =
     let none : volume_in b.order.volumes t ≡ 0 = grind (arith, nat_tests) in
     let net : net_volume_of t b.order ≡ pos 0 = ap (λ (v : ℕ). neg_ℤ (signed b.order.side (pos v))) none
     ∙ ap neg_ℤ (signed_zero b.order.side (pos 0) refl) in
-    let value : value_of t b.order ≡ pos 0 = ap (λ (v : ℕ). signed b.order.side (b.order.price *ℤ pos v)) none
+    let value : value_in t b.order ≡ pos 0 = ap (λ (v : ℕ). signed b.order.side (b.order.price *ℤ pos v)) none
     ∙ nothing_worth b.order.side b.order.price in
     let balance = s.balance in let welfare = s.welfare in
     record {
@@ -93,7 +93,7 @@ pub stand : (t : ℕ) (bs : List Block) (prefix : List Bool) (us : List ℕ) →
     → Stands t (as_steps t bs) bs prefix (as_steps t (drop (length prefix) bs)) us
 stand t bs [] us e =
     let net = over_accepted-nil (net_volume_of t) bs in
-    let value = over_accepted-nil (value_of t) bs in
+    let value = over_accepted-nil (value_in t) bs in
     record { volumes = us; execution = e; balance = omega (arith, ints, net); welfare = omega (arith, ints, value) }
 stand t [] (d ∷ prefix) us e = record { volumes = []; execution = tt; balance = refl; welfare = refl }
 stand t (b ∷ bs) (d ∷ prefix) us e =

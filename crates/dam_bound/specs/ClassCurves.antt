@@ -7,7 +7,7 @@ use Rattle.dam_hour.specs.declared.step.Step.{Step}
 use Rattle.dam_curve.specs.Curve.{CurvesState, IsCurveAt}
 use Rattle.dam_blocks.specs.declared.problem.Block.{Block}
 use Rattle.dam_blocks.specs.Problem.{ProblemState, AreBlocks}
-use Rattle.dam_blocks.specs.Selection.{net_volume_of, value_of}
+use Rattle.dam_blocks.specs.Selection.{net_volume_of, value_in}
 use Rattle.dam_bound.specs.Classes.{members}
 use Rattle.dam_bound.specs.Sums.{over_periods, class_places, at_places}
 use Rattle.dam_bound.specs.inside.Families.{AreFamilies}
@@ -29,7 +29,7 @@ most_net_in t (b ∷ bs) = int_max (net_volume_of t b.order) (pos 0) +ℤ most_n
 
 -- the value of a block in all periods of the day
 abbrev pub day_value : ProblemState → BlockTerms → ℤ
-day_value problem o = over_periods (λ t. value_of t o) 1 (length problem.hours)
+day_value problem o = over_periods (λ t. value_in t o) 1 (length problem.hours)
 
 -- the class that begins at its place: the curve of its hourly orders, and the net volume of each block
 pub record IsClassIn (problem : ProblemState) (curves : CurvesState) (class : Class) : Type 0 where

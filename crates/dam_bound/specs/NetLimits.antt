@@ -6,7 +6,7 @@ use Rattle.dam_blocks.specs.Problem.{ProblemState}
 use Rattle.dam_blocks.specs.Magnitude.{IsWithin}
 use Rattle.dam_blocks.specs.Selection.{accepts}
 use Rattle.dam_blocks.specs.Eligible.{IsEligible}
-use Rattle.dam_bound.specs.declared.net_limits.Limit.{Limit}
+use Rattle.dam_bound.specs.declared.net_limits.NetLimit.{NetLimit}
 
 -- how many limits there are
 abbrev pub most_limits : ℕ
@@ -37,7 +37,7 @@ abbrev pub greatest_room : ℕ
 greatest_room = most_blocks * greatest_volume
 
 -- a limit that every eligible selection keeps
-pub record IsLimit (problem : ProblemState) (limit : Limit) : Type 0 where
+pub record IsLimit (problem : ProblemState) (limit : NetLimit) : Type 0 where
   pub long : length limit.nets ≡ most_blocks
   pub small : (place : ℕ) (d : ℤ) → place < most_blocks → IsWithin greatest_volume (slice_index_or limit.nets place d)
   pub room_is : IsWithin greatest_room limit.room
@@ -45,11 +45,11 @@ pub record IsLimit (problem : ProblemState) (limit : Limit) : Type 0 where
       → taken_under limit.nets selection every_place most_blocks ≤ℤ limit.room
 
 -- the limit at the place
-abbrev pub limit_in : List Limit → ℕ → Limit
+abbrev pub limit_in : List NetLimit → ℕ → NetLimit
 limit_in limits k = slice_index_or limits k (record { nets = []; room = pos 0 })
 
 -- the limits of the problem
-pub record AreLimits (problem : ProblemState) (limits : List Limit) : Type 0 where
+pub record AreLimits (problem : ProblemState) (limits : List NetLimit) : Type 0 where
   pub many : length limits ≡ most_limits
   pub each : (k : ℕ) → k < most_limits → IsLimit problem (limit_in limits k)
 
@@ -63,6 +63,6 @@ abbrev pub AreRooms : List ℤ → Type 0
 AreRooms rooms = AreRoomsWithin greatest_room rooms
 
 -- what the decisions of the selection take on the places that are open is no more than the room under each limit
-abbrev pub HasRoom : List Limit → List Bool → (ℕ → Bool) → List ℤ → Type 0
+abbrev pub HasRoom : List NetLimit → List Bool → (ℕ → Bool) → List ℤ → Type 0
 HasRoom limits selection free rooms = (k : ℕ) → k < most_limits
     → taken_under (limit_in limits k).nets selection free most_blocks ≤ℤ slice_index_or rooms k (pos 0)

@@ -9,10 +9,10 @@ ghost use Rattle.dam_bound.specs.Prices.{IsPriceBound, greatest_priced_gain};
 ghost use Rattle.dam_bound.specs.Relaxed.{without_rows};
 ghost use Rattle.dam_bound.specs.inside.Counted.{counted_if};
 
-use crate::class_making::{classes_of, values_of};
+use crate::class_making::{add_class_curves, values_of};
 use crate::class_prices::ClassPrices;
-use crate::families::families_of;
-use crate::numbers::{add_priced, counts_of, line_at, weighted, weights_of};
+use crate::families::descendants_of_each;
+use crate::numbers::{acceptance_weights, add_priced, doubled_weights, line_value, weighted};
 use crate::price_bound::PriceBound;
 use dam_blocks::{Problem, Selection};
 use dam_book::MOST_BLOCKS;
@@ -66,9 +66,9 @@ impl<'a, A: Allocator, B: Allocator + Copy> ClassCurves<'a, A, B> {
         ensures { IfOk result (λ curves. curves ≡ without_rows problem.now) }
     {
         let mut curves = Curves::new(alloc);
-        let classes = classes_of(alloc, problem, &mut curves)?;
+        let classes = add_class_curves(alloc, problem, &mut curves)?;
         let values = values_of(problem.blocks(), usize::from(problem.periods().get()));
-        let families = families_of(alloc, problem.blocks())?;
+        let families = descendants_of_each(alloc, problem.blocks())?;
         Ok(ClassCurves {
             problem,
             curves,
@@ -83,11 +83,11 @@ impl<A: Allocator, B: Allocator> ClassCurves<'_, A, B> {
     /// Writes a bound by prices. Its prices are those at which the taken blocks, and half of the volume of those that are
     /// left open, would clear, so that the bound of the selections that accept the taken blocks and some of the open ones is
     /// little above their welfares. But it bounds every selection. No clause says how tight it is. Takes no memory.
-    pub fn bound_by_prices(&self, taken: Selection, left: &[u8], bound: &mut PriceBound)
+    pub fn write_price_bound(&self, taken: Selection, left: &[u8], bound: &mut PriceBound)
         requires { All (λ place. place < most_blocks) left.now }
         ensures { IsPriceBound self.now bound.new }
     {
-        let weights = weights_of(taken, left);
+        let weights = doubled_weights(taken, left);
         bound.base = 0;
         bound.gains = self.values;
         for class in &self.classes {
@@ -103,7 +103,7 @@ impl<A: Allocator, B: Allocator> ClassCurves<'_, A, B> {
     /// period doesn't balance. The bound may be any of this problem: it is lowered class by class, and given up once it is
     /// under `least`. The prices at which the selection clears are written too, all of them only if there is a welfare. Takes
     /// no memory.
-    pub fn welfare(
+    pub fn clear_selection(
         &self,
         selection: Selection,
         bound: &PriceBound,
@@ -118,14 +118,14 @@ impl<A: Allocator, B: Allocator> ClassCurves<'_, A, B> {
             → w <ℤ least }
         ensures prices { IfSome result (λ w. AreClassPrices self.now selection prices.new.prices) }
     {
-        let counts = counts_of(selection);
+        let counts = acceptance_weights(selection);
         let mut total = bound.most(selection, &[]);
         for class in &self.classes {
             let net = i64::from(weighted(&counts, &class.nets));
             let Some(point) = self.curves.point(class.curve, net) else {
                 return None;
             };
-            total -= line_at(bound.lines[class.at as usize], net) - point.welfare;
+            total -= line_value(bound.lines[class.at as usize], net) - point.welfare;
             if total < least {
                 return None;
             }
@@ -135,14 +135,14 @@ impl<A: Allocator, B: Allocator> ClassCurves<'_, A, B> {
     }
 
     /// Whether an accepted block, together with the accepted blocks that descend from it, loses at these prices of the
-    /// selection, which `welfare` wrote. Takes no memory.
+    /// selection, which `clear_selection` wrote. Takes no memory.
     pub fn has_loss(&self, selection: Selection, prices: &ClassPrices) -> bool
         requires { AreClassPrices self.now selection prices.now.prices }
         ensures { (day : List ℤ)
             → ArePrices self.now.blocks selection 1 self.now.hours day
             → (result ≡ false) ↔ HasNoLoss self.now.blocks selection day }
     {
-        dam_blocks::laws::descendants();
+        dam_blocks::laws::accepted_descendants_descend();
         for place in 0..self.families.len() {
             if selection.has(place) && self.family_gain(selection, place, prices) < 0 {
                 return true;
@@ -159,7 +159,7 @@ impl<A: Allocator, B: Allocator> ClassCurves<'_, A, B> {
             → ArePrices self.now.blocks selection 1 self.now.hours day
             → result ≡ family_surplus self.now.blocks selection day place }
     {
-        dam_blocks::laws::descendants();
+        dam_blocks::laws::accepted_descendants_descend();
         let own = self.gain_at(place, prices);
         let Some(family) = self.families[place] else {
             return own;
@@ -201,7 +201,7 @@ impl<A: Allocator, B: Allocator> ClassCurves<'_, A, B> {
             → result ≡ surplus_at self.now.blocks day place }
         ensures size { IsWithin greatest_priced_gain result }
     {
-        dam_hour::laws::uniqueness();
+        dam_hour::laws::best_execution_is_unique();
         let values = &self.values;
         let mut gain = values[place];
         for class in &self.classes {

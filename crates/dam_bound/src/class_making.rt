@@ -4,7 +4,7 @@ ghost use Rattle.std.specs.Prelude.{◌≡◌, ◌<◌, ◌≤◌, ◌+◌, ℕ,
 ghost use Rattle.dam_book.specs.Limits.{most_blocks, last_period, greatest_volume};
 ghost use Rattle.dam_curve.specs.Curve.{IsCurve, IsCurveAt, Keeps};
 ghost use Rattle.dam_blocks.specs.Problem.{AreBlocks};
-ghost use Rattle.dam_blocks.specs.Selection.{net_volume_of, value_of};
+ghost use Rattle.dam_blocks.specs.Selection.{net_volume_of, value_in};
 ghost use Rattle.dam_bound.specs.ClassCurves.{class_orders, AreClasses};
 ghost use Rattle.dam_bound.specs.Classes.{AreFirsts};
 ghost use Rattle.dam_bound.specs.Relaxed.{without_rows};
@@ -13,13 +13,13 @@ ghost use Rattle.dam_bound.specs.inside.Numbers.{AreNumbersWithin, negative_sum,
 
 use crate::class_curves::Class;
 use crate::classes::firsts_of;
-use dam_blocks::{Block, MOST_PERIODS, Problem, net_volume_of, value_of};
+use dam_blocks::{Block, MOST_PERIODS, Problem, net_volume_of, value_in};
 use dam_book::{BlockOrder, MOST_BLOCKS, Period};
-use dam_curve::{Curve, Curves, Sum, Supply};
+use dam_curve::{Curve, CurveSum, Curves, Supply};
 use std::alloc::{AllocError, Allocator};
 
 /// The net volume of each block in the period at the place, in tenths of a MW.
-fn nets_in(blocks: &[Block], at: usize) -> [i32; MOST_BLOCKS]
+fn net_volumes_in(blocks: &[Block], at: usize) -> [i32; MOST_BLOCKS]
     requires orders { (periods : ℕ) × AreBlocks periods blocks.now }
     requires few { length blocks.now ≤ most_blocks }
     requires place { at < last_period }
@@ -37,11 +37,11 @@ fn nets_in(blocks: &[Block], at: usize) -> [i32; MOST_BLOCKS]
 /// The value of a block in the first `count` periods.
 fn value_over(order: &BlockOrder, count: usize) -> i64
     requires { count ≤ last_period }
-    ensures value { result ≡ over_periods (λ t. value_of t order.now) 1 count }
+    ensures value { result ≡ over_periods (λ t. value_in t order.now) 1 count }
 {
     let mut total = 0;
     for at in 0..count {
-        total += value_of(order, Period::at(at));
+        total += value_in(order, Period::at(at));
     }
     total
 }
@@ -51,7 +51,7 @@ pub(crate) fn values_of(blocks: &[Block], count: usize) -> [i64; MOST_BLOCKS]
     requires few { length blocks.now ≤ most_blocks }
     requires count { count ≤ last_period }
     ensures { result
-        ≡ at_places most_blocks (λ o. over_periods (λ t. value_of t o) 1 count) blocks.now }
+        ≡ at_places most_blocks (λ o. over_periods (λ t. value_in t o) 1 count) blocks.now }
 {
     let mut values = [0; MOST_BLOCKS];
     for (place, block) in blocks.iter().enumerate() {
@@ -60,9 +60,12 @@ pub(crate) fn values_of(blocks: &[Block], count: usize) -> [i64; MOST_BLOCKS]
     values
 }
 
-/// Begins the sum of a class at the net volumes that selections of blocks with these net volumes make. The error is out of
-/// memory.
-fn clear_for<A: Allocator>(sum: &mut Sum<A>, nets: &[i32; MOST_BLOCKS]) -> Result<(), AllocError>
+/// Starts the sum of a class over, for the net volumes that selections of blocks with these net volumes make. The error is
+/// out of memory.
+fn restart_sum<A: Allocator>(
+    sum: &mut CurveSum<A>,
+    nets: &[i32; MOST_BLOCKS],
+) -> Result<(), AllocError>
     requires { AreNumbersWithin greatest_volume nets.now }
     ensures { OnOk result (IsCurve [] (negative_sum nets.now) (positive_sum nets.now) sum.new) }
 {
@@ -72,11 +75,11 @@ fn clear_for<A: Allocator>(sum: &mut Sum<A>, nets: &[i32; MOST_BLOCKS]) -> Resul
         least += i64::from((*net).min(0));
         most += i64::from((*net).max(0));
     }
-    sum.clear(least, most)
+    sum.restart(least, most)
 }
 
 /// Adds the curve of the class that begins at the place, over its hourly orders. The error is out of memory.
-fn curve_of<A: Allocator, B: Allocator + Copy>(
+fn add_curve<A: Allocator, B: Allocator + Copy>(
     alloc: B,
     problem: &Problem<A>,
     firsts: &[u32; MOST_PERIODS],
@@ -91,8 +94,8 @@ fn curve_of<A: Allocator, B: Allocator + Copy>(
         (negative_sum nets.now) (positive_sum nets.now)) }
     ensures kept { Keeps curves.old curves.new }
 {
-    let mut sum = Sum::new(alloc);
-    clear_for(&mut sum, nets)?;
+    let mut sum = CurveSum::new(alloc);
+    restart_sum(&mut sum, nets)?;
     let mut at = usize::from(problem.periods().get());
     while at > 0 {
         at -= 1;
@@ -105,7 +108,7 @@ fn curve_of<A: Allocator, B: Allocator + Copy>(
 }
 
 /// Adds the curves of all classes, and returns the classes in the order of their first periods. The error is out of memory.
-pub(crate) fn classes_of<A: Allocator, B: Allocator + Copy>(
+pub(crate) fn add_class_curves<A: Allocator, B: Allocator + Copy>(
     alloc: B,
     problem: &Problem<A>,
     curves: &mut Curves<B>,
@@ -119,8 +122,8 @@ pub(crate) fn classes_of<A: Allocator, B: Allocator + Copy>(
     let mut classes = Vec::with_capacity(alloc, count)?;
     for at in 0..count {
         if firsts[at] as usize == at {
-            let nets = nets_in(blocks, at);
-            let curve = curve_of(alloc, problem, &firsts, &nets, at, curves)?;
+            let nets = net_volumes_in(blocks, at);
+            let curve = add_curve(alloc, problem, &firsts, &nets, at, curves)?;
             classes.push(Class {
                 at: at as u32,
                 curve,

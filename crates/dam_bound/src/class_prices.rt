@@ -1,6 +1,6 @@
 use dam_blocks::MOST_PERIODS;
 
-/// The prices of the classes of periods at which a selection clears. `ClassCurves::welfare` writes them.
+/// The prices of the classes of periods at which a selection clears. `ClassCurves::clear_selection` writes them.
 #[derive(Clone, Copy)]
 pub struct ClassPrices {
     /// For each class, at the place of its first period, the clearing prices of its periods, added up, in cents per MWh.

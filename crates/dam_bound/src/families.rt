@@ -6,7 +6,7 @@ use dam_blocks::{Block, Selection, descends};
 use std::alloc::{AllocError, Allocator};
 
 /// The blocks that descend from the one at a place; nothing if none does.
-fn family_of(blocks: &[Block], place: usize) -> Option<Selection>
+fn descendants_of(blocks: &[Block], place: usize) -> Option<Selection>
     requires { length blocks.now ≤ most_blocks }
     ensures { IsFamily blocks.now place result }
 {
@@ -22,7 +22,7 @@ fn family_of(blocks: &[Block], place: usize) -> Option<Selection>
 }
 
 /// For each block those that descend from it. They are asked for once, so that gains compare no names.
-pub(crate) fn families_of<A: Allocator>(
+pub(crate) fn descendants_of_each<A: Allocator>(
     alloc: A,
     blocks: &[Block],
 ) -> Result<Vec<Option<Selection>, A>, AllocError>
@@ -31,7 +31,7 @@ pub(crate) fn families_of<A: Allocator>(
 {
     let mut families = Vec::with_capacity(alloc, blocks.len())?;
     for place in 0..blocks.len() {
-        families.push(family_of(blocks, place))?;
+        families.push(descendants_of(blocks, place))?;
     }
     Ok(families)
 }

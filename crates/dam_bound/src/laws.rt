@@ -18,23 +18,23 @@ ghost use Rattle.dam_bound.specs.declared.price_bound.PriceBound.{PriceBound};
 /// The bound law: no completion of a prefix, admissible or not, has a welfare above the relaxed
 /// welfare of the prefix; and if there is no relaxed welfare, no completion balances every
 /// period.
-pub fn bound()
+pub fn relaxed_welfare_bounds_completions()
     ensures most { (problem : ProblemState) (prefix sel : List Bool) (w : ℤ)
         → IsCompletion prefix sel → selection_welfare problem sel ≡ Some w
         → (r : ℤ) × (relaxed_welfare problem prefix ≡ Some r) × (w ≤ℤ r) }
     ensures none { (problem : ProblemState) (prefix sel : List Bool) → IsCompletion prefix sel
         → relaxed_welfare problem prefix ≡ None → selection_welfare problem sel ≡ None }
 {
-    dam_hour::laws::joining();
-    dam_hour::laws::welfare();
-    dam_hour::laws::magnitude();
-    dam_blocks::laws::sums();
+    dam_hour::laws::executions_join();
+    dam_hour::laws::best_has_greatest_welfare();
+    dam_hour::laws::executions_are_small();
+    dam_blocks::laws::sums_split_at_fronts();
 }
 
 /// The completions of a prefix are the completions of its two extensions by the next block. The
 /// prefix with no other block accepted is one of them; and if every block is decided, it is the
 /// only one that can be admissible.
-pub fn completions()
+pub fn completions_split()
     ensures extended { (prefix sel : List Bool) → length prefix < most_blocks
         → IsCompletion prefix sel
         → IsCompletion (prefix ++ true ∷ []) sel ⊎ IsCompletion (prefix ++ false ∷ []) sel }
@@ -50,37 +50,37 @@ pub fn completions()
 
 /// A bound on the size of a relaxed welfare, the same as of a selection's welfare. Every hourly order, and
 /// every block in every period, counts at most the greatest price times the greatest volume.
-pub fn magnitude()
+pub fn relaxed_welfare_is_small()
     ensures { (problem : ProblemState) (prefix : List Bool) (w : ℤ) → IsProblem problem
         → relaxed_welfare problem prefix ≡ Some w → IsWithin greatest_selection_welfare w }
 {
-    dam_hour::laws::joining();
-    dam_hour::laws::welfare();
-    dam_hour::laws::magnitude();
-    dam_blocks::laws::sums();
+    dam_hour::laws::executions_join();
+    dam_hour::laws::best_has_greatest_welfare();
+    dam_hour::laws::executions_are_small();
+    dam_blocks::laws::sums_split_at_fronts();
 }
 
 /// At the prices of lines over the classes, the surplus of all hourly orders and of the blocks of a selection is no
 /// less than the welfare of the selection.
-pub fn price_bound()
+pub fn lines_bound_welfare()
     ensures { (problem : ProblemState) (bound : PriceBound) (selection : List Bool) (w : ℤ)
         → IsByLines problem bound → selection_welfare problem selection ≡ Some w
         → w ≤ℤ (bound.base +ℤ over_gains bound.gains selection) }
 {}
 
 /// A selection with which every period balances has a price in each of them.
-pub fn prices()
+pub fn balanced_selections_have_prices()
     ensures { (problem : ProblemState) (sel : List Bool) (w : ℤ) → IsProblem problem
         → selection_welfare problem sel ≡ Some w
         → (prices : List ℤ) × ArePrices problem.blocks sel 1 problem.hours prices }
 {
-    dam_hour::laws::welfare();
-    dam_hour::laws::balance();
-    dam_hour::laws::existence();
+    dam_hour::laws::best_has_greatest_welfare();
+    dam_hour::laws::balances_within_offers();
+    dam_hour::laws::best_execution_exists();
 }
 
 /// An open selection has no more welfare than the bound by prices, with each open place at its gain if that is above 0.
-pub fn open_bound()
+pub fn most_bounds_open_selections()
     ensures { (problem : ProblemState) (bound : PriceBound) (taken selection : List Bool)
         (left : List ℕ) (w : ℤ)
         → IsPriceBound problem bound → length taken ≡ most_blocks → AreFree taken left

@@ -4,15 +4,15 @@
 //! ```
 //! let curves = ClassCurves::of(alloc, &problem)?;
 //! let mut bound = PriceBound::empty();
-//! curves.bound_by_prices(Selection::none(), &[0, 1, 2], &mut bound); // prices for selections of three blocks
+//! curves.write_price_bound(Selection::none(), &[0, 1, 2], &mut bound); // prices for selections of three blocks
 //! let most = bound.most(Selection::none().with(0), &[1, 2]); // of those that accept block 0
 //! let selection = Selection::none().with(0).with(2);
 //! let mut prices = ClassPrices::empty();
-//! if let Some(welfare) = curves.welfare(selection, &bound, 0, &mut prices) { // None if it is under 0, or doesn't balance
+//! if let Some(welfare) = curves.clear_selection(selection, &bound, 0, &mut prices) { // None if it is under 0, or doesn't balance
 //!     let loses = curves.has_loss(selection, &prices);
 //! }
 //! let rivals = curves.are_rivals(0, 1); // if true, no eligible selection accepts both
-//! let limits = curves.limits(); // that every eligible selection keeps
+//! let limits = curves.net_limits(); // that every eligible selection keeps
 //! let room = limits.room_after(&limits.room(), 0, true); // if None, no eligible selection accepts block 0
 //!
 //! let relaxed = Relaxed::build(alloc, &problem)?;
@@ -44,7 +44,7 @@ mod classes;
 mod families;
 pub mod laws;
 mod levels;
-mod limit_making;
+mod net_limit_making;
 mod net_limits;
 mod numbers;
 mod price_bound;
@@ -53,6 +53,6 @@ mod rivals;
 
 pub use class_curves::ClassCurves;
 pub use class_prices::ClassPrices;
-pub use net_limits::{Limit, Limits, MOST_LIMITS, Room};
+pub use net_limits::{MOST_LIMITS, NetLimit, NetLimits, Room};
 pub use price_bound::PriceBound;
 pub use relaxed::Relaxed;

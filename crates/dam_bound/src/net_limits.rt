@@ -15,10 +15,10 @@ pub const MOST_LIMITS: usize = 32;
 
 /// A limit that every eligible selection keeps: the decisions on all blocks together take no more than its room.
 ///
-/// The numbers of the accepted blocks add up to something that has a greatest value. Accepting a block takes its number, if
-/// that is above 0. Rejecting it takes the opposite number, if that is above 0. So no decision gives room back.
+/// The numbers of the accepted blocks add up to at most some value. Accepting a block takes its number, if that is above 0.
+/// Rejecting it takes the opposite number, if that is above 0. So no decision gives room back.
 #[derive(Clone, Copy)]
-pub struct Limit {
+pub struct NetLimit {
     /// The number of each block, in tenths of a MW: its net volume in a class of periods, or the opposite.
     pub nets: [i32; MOST_BLOCKS],
     /// The room before any decision, in tenths of a MW.
@@ -27,9 +27,9 @@ pub struct Limit {
 
 /// The limits of a search. One that allows everything may stand for a limit that is missing.
 #[derive(Clone, Copy)]
-pub struct Limits {
+pub struct NetLimits {
     /// The limits.
-    pub limits: [Limit; MOST_LIMITS],
+    pub limits: [NetLimit; MOST_LIMITS],
 }
 
 /// The room that decisions leave under each limit, in tenths of a MW.
@@ -68,7 +68,7 @@ impl Room {
     }
 }
 
-impl Limits {
+impl NetLimits {
     /// The room under the limits before any decision.
     pub fn room(&self) -> Room
         requires { (problem : ProblemState) × AreLimits problem self.now.limits }

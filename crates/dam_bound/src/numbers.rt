@@ -4,7 +4,7 @@
 ghost use Rattle.std.specs.Prelude.{◌≡◌, ◌*◌, ◌<◌, ◌≤◌, ℕ, All};
 ghost use Rattle.dam_book.specs.Limits.{most_blocks, last_period, greatest_volume};
 ghost use Rattle.dam_hour.specs.Limits.{greatest_net, greatest_price, greatest_value};
-ghost use Rattle.dam_curve.specs.Line.{line_at, IsSmallLine};
+ghost use Rattle.dam_curve.specs.Line.{line_value, IsSmallLine};
 ghost use Rattle.dam_blocks.specs.Magnitude.{IsWithin};
 ghost use Rattle.dam_bound.specs.inside.Numbers.{AreNumbersWithin, AreWeights, AreCounts, weighted, AreRaised, greatest_line_value};
 
@@ -13,7 +13,7 @@ use dam_book::MOST_BLOCKS;
 use dam_curve::Line;
 
 /// 1 for each accepted place, and 0 for the others.
-pub(crate) fn counts_of(selection: Selection) -> [i32; MOST_BLOCKS]
+pub(crate) fn acceptance_weights(selection: Selection) -> [i32; MOST_BLOCKS]
     ensures counts { AreCounts selection result }
     ensures weights { AreWeights result }
 {
@@ -25,7 +25,7 @@ pub(crate) fn counts_of(selection: Selection) -> [i32; MOST_BLOCKS]
 }
 
 /// 2 for each place that is taken, 1 for each that is left open, and 0 for the others.
-pub(crate) fn weights_of(taken: Selection, left: &[u8]) -> [i32; MOST_BLOCKS]
+pub(crate) fn doubled_weights(taken: Selection, left: &[u8]) -> [i32; MOST_BLOCKS]
     requires { All (λ place. place < most_blocks) left.now }
     ensures { AreWeights result }
 {
@@ -70,10 +70,10 @@ pub(crate) fn add_priced(gains: &mut [i64; MOST_BLOCKS], nets: &[i32; MOST_BLOCK
 
 /// The value of a line at a net volume.
 #[inline(always)]
-pub(crate) fn line_at(line: Line, net: i64) -> i64
+pub(crate) fn line_value(line: Line, net: i64) -> i64
     requires line { IsSmallLine last_period line }
     requires net { IsWithin (2 * greatest_net) net }
-    ensures value { result ≡ line_at line net }
+    ensures value { result ≡ line_value line net }
     ensures size { IsWithin greatest_line_value result }
 {
     line.surplus + i64::from(line.price) * net

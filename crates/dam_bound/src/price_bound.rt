@@ -12,7 +12,7 @@ use dam_curve::Line;
 /// A bound by prices: at some prices, the surplus of all hourly orders, and the surplus of each block.
 ///
 /// At any prices, the welfare of a selection is at most the surplus of all hourly orders plus the surpluses of the
-/// selection's blocks. So the prices need not be clearing prices of anything. `laws::price_bound` says so of the prices
+/// selection's blocks. So the prices need not be clearing prices of anything. `laws::lines_bound_welfare` says so of the prices
 /// and surpluses of lines that are nowhere below the curves of the classes. All numbers are in cents per MWh times
 /// tenths of a MW.
 #[derive(Clone, Copy)]

@@ -9,7 +9,7 @@ ghost use Rattle.dam_bound.specs.inside.Levels.{AreLevels, AreLevelsAt, last_ste
 ghost use Rattle.dam_bound.specs.inside.Levels.{greatest_period_bound};
 
 use crate::levels::Levels;
-use dam_blocks::{Block, Problem, Selection, block_value, laws, net_volume};
+use dam_blocks::{Block, Problem, Selection, accepted_value, laws, net_volume};
 use dam_book::Period;
 use std::alloc::{AllocError, Allocator, Global};
 use std::marker::Model;
@@ -38,7 +38,8 @@ impl<A: Allocator> Model for Relaxed<A> {
         × AreBlocks (length r.periods.items) r.blocks.items };
 }
 
-fn copies_of<A: Allocator>(alloc: A, blocks: &[Block]) -> Result<Vec<Block, A>, AllocError>
+/// Copies of the blocks. The error is out of memory.
+fn copy_blocks<A: Allocator>(alloc: A, blocks: &[Block]) -> Result<Vec<Block, A>, AllocError>
     ensures { IfOk result (λ copies. copies.items ≡ blocks.now) }
 {
     let mut copies = Vec::with_capacity(alloc, blocks.len())?;
@@ -49,7 +50,7 @@ fn copies_of<A: Allocator>(alloc: A, blocks: &[Block]) -> Result<Vec<Block, A>, 
 }
 
 /// The levels of the period at the place.
-fn levels_at<A: Allocator + Copy, B: Allocator>(
+fn build_levels<A: Allocator + Copy, B: Allocator>(
     alloc: A,
     problem: &Problem<B>,
     place: usize,
@@ -64,7 +65,7 @@ fn levels_at<A: Allocator + Copy, B: Allocator>(
 }
 
 /// The levels of each period of the day.
-fn periods_of<A: Allocator + Copy, B: Allocator>(
+fn build_all_levels<A: Allocator + Copy, B: Allocator>(
     alloc: A,
     problem: &Problem<B>,
 ) -> Result<Vec<Levels<A>, A>, AllocError>
@@ -76,7 +77,7 @@ fn periods_of<A: Allocator + Copy, B: Allocator>(
     let count = usize::from(problem.periods().get());
     let mut periods = Vec::with_capacity(alloc, count)?;
     for place in 0..count {
-        periods.push(levels_at(alloc, problem, place)?)?;
+        periods.push(build_levels(alloc, problem, place)?)?;
     }
     Ok(periods)
 }
@@ -86,8 +87,8 @@ impl<A: Allocator + Copy> Relaxed<A> {
     pub fn build<B: Allocator>(alloc: A, problem: &Problem<B>) -> Result<Relaxed<A>, AllocError>
         ensures { IfOk result (λ relaxed. relaxed ≡ without_rows problem.now) }
     {
-        let periods = periods_of(alloc, problem)?;
-        let blocks = copies_of(alloc, problem.blocks())?;
+        let periods = build_all_levels(alloc, problem)?;
+        let blocks = copy_blocks(alloc, problem.blocks())?;
         Ok(Relaxed { periods, blocks })
     }
 }
@@ -110,7 +111,7 @@ fn period_bound<A: Allocator>(
 {
     let hour = levels.hour(depth);
     let cleared = hour.clear(net_volume(blocks, taken, period))?;
-    Some(cleared.welfare + block_value(blocks, taken, period))
+    Some(cleared.welfare + accepted_value(blocks, taken, period))
 }
 
 impl<A: Allocator> Relaxed<A> {
@@ -130,7 +131,7 @@ impl<A: Allocator> Relaxed<A> {
             → result ≡ relaxed_welfare self.now prefix }
     {
         prove!(depth <= self.blocks.len());
-        laws::sums();
+        laws::sums_split_at_fronts();
         let mut total = 0;
         for (place, levels) in self.periods.iter().enumerate() {
             let period = Period::at(place);

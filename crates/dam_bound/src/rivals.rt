@@ -61,14 +61,14 @@ impl<A: Allocator, B: Allocator> ClassCurves<'_, A, B> {
             → IsEligible self.now selection w
             → accepts selection sell ≡ true → accepts selection buy ≡ false }
     {
-        laws::descendants();
+        laws::accepted_descendants_descend();
         if self.families[sell].is_some() || self.families[buy].is_some() {
             return false;
         }
         let Some(weights) = self.cancelling_weights(sell, buy) else {
             return false;
         };
-        match self.most_of_two(sell, buy, weights) {
+        match self.most_weighed_surplus(sell, buy, weights) {
             Some(most) => most < 0,
             None => false,
         }
@@ -94,9 +94,9 @@ impl<A: Allocator, B: Allocator> ClassCurves<'_, A, B> {
         None
     }
 
-    /// A number that the surpluses of two blocks at the prices of a selection, each times its weight, aren't above
-    /// together; nothing if it is too large for an `i64`.
-    fn most_of_two(&self, sell: usize, buy: usize, weights: Weights) -> Option<i64>
+    /// An upper bound on the two blocks' surpluses at the prices of a selection that accepts both, each times its weight,
+    /// added up; nothing if it is too large for an `i64`.
+    fn most_weighed_surplus(&self, sell: usize, buy: usize, weights: Weights) -> Option<i64>
         requires sell { sell < length self.now.blocks }
         requires buy { buy < length self.now.blocks }
         requires weights { AreVolumes weights }

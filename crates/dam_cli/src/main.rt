@@ -30,11 +30,11 @@ use std::time::Clock;
 const REFUSED_LINE: u8 = 2;
 
 fn main(rt: HostRuntime) -> ExitCode {
-    let job = match job(&rt) {
+    let job = match read_job_or_answer(&rt) {
         Ok(job) => job,
         Err(status) => return status,
     };
-    hint(&rt);
+    say_terminal_input(&rt);
     let progress = Progress::new(&rt, rt.stderr().is_terminal());
     let (mut input, mut output) = (Source::new(rt.stdin()), Sink::new(rt.stdout()));
     let seed = Seed::drawn(&rt);
@@ -47,12 +47,11 @@ fn main(rt: HostRuntime) -> ExitCode {
         &mut output,
         &progress,
     );
-    ended(&rt, &progress, done)
+    end_run(&rt, &progress, done)
 }
 
-/// The status of a run with this end. After a fault its line is printed; otherwise, at a terminal, how many commands
-/// were refused.
-fn ended<R: Wait + Eprint + Clock>(
+/// The exit status of a run that ended so. Prints the fault's line or, at a terminal, how many commands were refused.
+fn end_run<R: Wait + Eprint + Clock>(
     rt: &HostRuntime,
     progress: &Progress<'_, R>,
     done: Result<(), RunFault>,
@@ -68,17 +67,18 @@ fn ended<R: Wait + Eprint + Clock>(
     }
 }
 
-/// The job that the words ask for. If there is none, the words have been answered, and the error is the status.
-fn job(rt: &HostRuntime) -> Result<Job, ExitCode>
+/// The job that the program's words ask for. If they ask for none, prints the help or the refusal; the error is then the exit
+/// status.
+fn read_job_or_answer(rt: &HostRuntime) -> Result<Job, ExitCode>
     ensures { IfErr result (λ status. IsEndedStatus (exit_status status)) }
 {
     let words = match words(rt) {
         Ok(words) => words,
-        Err(fault) => return Err(answer(rt, &fault, &[])),
+        Err(fault) => return Err(help_or_refuse(rt, &fault, &[])),
     };
     match read_line(rt.alloc(), words.as_slice()) {
         Ok(job) => Ok(job),
-        Err(fault) => Err(answer(rt, &fault, words.as_slice())),
+        Err(fault) => Err(help_or_refuse(rt, &fault, words.as_slice())),
     }
 }
 
@@ -90,7 +90,7 @@ fn words(rt: &HostRuntime) -> Result<Vec<String>, LineFault>
     let mut words = match env::args(rt) {
         Ok(words) => words,
         Err(error) if error.kind() == ErrorKind::OutOfMemory => return Err(LineFault::Memory),
-        Err(_) => return Err(not_text(alloc)),
+        Err(_) => return Err(not_utf8_fault(alloc)),
     };
     // the first word is the program's name
     let _program = words.next();
@@ -101,7 +101,7 @@ fn words(rt: &HostRuntime) -> Result<Vec<String>, LineFault>
 }
 
 /// The fault of words that aren't UTF-8.
-fn not_text(alloc: Global) -> LineFault
+fn not_utf8_fault(alloc: Global) -> LineFault
     ensures { IsNoHelp result }
 {
     match String::from_str(alloc, "error: a word isn't UTF-8\n") {
@@ -110,8 +110,8 @@ fn not_text(alloc: Global) -> LineFault
     }
 }
 
-/// Says to a person at a terminal that the program reads from it; otherwise it would seem to hang.
-fn hint(rt: &HostRuntime) {
+/// At a terminal, prints that the program reads the journal from it; otherwise it would seem to hang.
+fn say_terminal_input(rt: &HostRuntime) {
     if rt.stdin().is_terminal() && rt.stderr().is_terminal() {
         let _ = eprintln!(rt; "dam: reading a journal from this terminal; end it with Ctrl-D");
     }
@@ -131,8 +131,8 @@ fn report(rt: &HostRuntime, fault: &RunFault) -> ExitCode
     ExitCode::from(status(fault))
 }
 
-/// Answers words that ask for no job: with the help, if they ask for that.
-fn answer(rt: &HostRuntime, fault: &LineFault, words: &[String]) -> ExitCode
+/// Answers words that ask for no job: prints the help if they ask for it, or why they are refused. Returns the exit status.
+fn help_or_refuse(rt: &HostRuntime, fault: &LineFault, words: &[String]) -> ExitCode
     ensures { IsLineStatus fault.now (exit_status result) }
 {
     match fault {

@@ -127,16 +127,16 @@ impl<'a, R: Wait + Eprint + Clock> Progress<'a, R> {
         let _ = eprintln!(self.rt; "{}", Refused(refused));
     }
 
-    /// Writes the line again, if the search has run for a moment.
+    /// Writes the line of the count again, if the search has run for a moment.
     fn show(&self, state: &mut State) {
-        if self.is_shown && self.has_run(state.begun) {
+        if self.is_shown && self.has_moment_passed(state.begun) {
             let _ = eprint!(self.rt; "{CLEAR}{}", state.count);
             state.is_written = true;
         }
     }
 
     /// Whether a moment has passed since this time.
-    fn has_run(&self, begun: Option<Instant>) -> bool {
+    fn has_moment_passed(&self, begun: Option<Instant>) -> bool {
         match begun {
             Some(begun) => match begun.elapsed(self.rt) {
                 Ok(took) => took >= Duration::from_millis(MOMENT),

@@ -8,7 +8,7 @@ use Rattle.std.proofs.lemmas.List.{get_or_default}
 use Rattle.dam_curve.specs.declared.segment.Segment.{Segment}
 use Rattle.dam_curve.specs.Curve.{both, IsSegment, end_of, AreSegments, bottom_of, IsUnderEach, IsPriced, ArePriced, AreWithin, IsOutside, AreSmallSegments}
 use Rattle.dam_hour.specs.declared.step.Step.{Step}
-use Rattle.dam_curve.specs.inside.Segments.{joined, IsPast}
+use Rattle.dam_curve.specs.inside.Segments.{joint_segment, IsPast}
 use Rattle.dam_curve.proofs.ListsOfSegments.{end_more, segments_more, bottom_more, small_more, under_more, priced_more, under_at, priced_inside, priced_last, segment_inside, segment_last, bottom_at, small_at, joined_is}
 use Rattle.dam_curve.proofs.ListsOfSegments.{joined_under, joined_priced, joined_small}
 
@@ -163,16 +163,16 @@ none_added a b at left right la lb over sa sb ta tb = record {
 -- the two segments that hold at the net volume, in the sum
 pub small_added : (n m : ℕ) (a b sum : List Segment) (start at : ℤ) (left right : ℕ) (d : Segment) → IsAdded a b sum start at left right
     → AreSmallSegments n a → AreSmallSegments m b
-    → AreSmallSegments (n + m) (sum ++ joined (get_or a left d) (get_or b right d) at ∷ [])
+    → AreSmallSegments (n + m) (sum ++ joint_segment (get_or a left d) (get_or b right d) at ∷ [])
 small_added n m a b sum start at left right d is s t =
-    small_more (n + m) sum (joined (get_or a left d) (get_or b right d) at) (is.small n m s t)
+    small_more (n + m) sum (joint_segment (get_or a left d) (get_or b right d) at) (is.small n m s t)
     (joined_small n m (get_or a left d) (get_or b right d) at (small_at n a left d s is.left_is.inside) (small_at m b right d t is.right_is.inside))
 
 pub under_added : (f g : ℤ → Option ℤ) (a b sum : List Segment) (start at : ℤ) (left right : ℕ) (d : Segment)
     → IsAdded a b sum start at left right → IsUnderEach f a → IsUnderEach g b
-    → IsUnderEach (λ net. both (f net) (g net)) (sum ++ joined (get_or a left d) (get_or b right d) at ∷ [])
+    → IsUnderEach (λ net. both (f net) (g net)) (sum ++ joint_segment (get_or a left d) (get_or b right d) at ∷ [])
 under_added f g a b sum start at left right d is s t =
-    under_more (λ net. both (f net) (g net)) sum (joined (get_or a left d) (get_or b right d) at) (is.under f g s t)
+    under_more (λ net. both (f net) (g net)) sum (joint_segment (get_or a left d) (get_or b right d) at) (is.under f g s t)
     (joined_under f g (get_or a left d) (get_or b right d) at (under_at f a left d s is.left_is.inside)
     (under_at g b right d t is.right_is.inside))
 
@@ -187,7 +187,7 @@ pub next_added : (a b sum : List Segment) (start at lower : ℤ) (left right nex
     → IsAdded a b sum start at left right → left + 1 < length a → right + 1 < length b
     → lower ≡ int_max (get_or a (left + 1) d).most (get_or b (right + 1) d).most
     → IsPast a left lower next_left → IsPast b right lower next_right
-    → IsAdded a b (sum ++ joined (get_or a left d) (get_or b right d) at ∷ []) start lower next_left next_right
+    → IsAdded a b (sum ++ joint_segment (get_or a left d) (get_or b right d) at ∷ []) start lower next_left next_right
 next_added a b sum start at lower left right next_left next_right d is la lb top pa pb =
     let sa : suc left < length a = omega (arith, la) in
     let sb : suc right < length b = omega (arith, lb) in
@@ -202,14 +202,14 @@ next_added a b sum start at lower left right next_left next_right d is la lb top
       under = λ f g s t. under_added f g a b sum start at left right d is s t;
       priced = λ f g ss ps s t p q.
           (let was = is.are_segments f g s t in
-          priced_more (ss ∷ ps) sum (joined (get_or a left d) (get_or b right d) at) lower (is.priced f g ss ps s t p q)
+          priced_more (ss ∷ ps) sum (joint_segment (get_or a left d) (get_or b right d) at) lower (is.priced f g ss ps s t p q)
           (joined_priced ss ps (get_or a left d) (get_or b right d) (get_or a (suc left) d).most (get_or b (suc right) d).most at lower
           (priced_inside (ss ∷ []) a (bottom_of a) left d p sa) (priced_inside ps b (bottom_of b) right d q sb)
           (omega (arith, ints, x, top, greatest)) (omega (arith, ints, y, top, greatest)) (was.0.holds d) (was.1.holds d)
           (is.left_last.apart d sa) (is.right_last.apart d sb)));
       left_is = past_place a lower left next_left d sa pa;
       right_is = past_place b lower right next_right d sb pb;
-      begins = begins_added sum (joined (get_or a left d) (get_or b right d) at) start at lower is.begins refl;
+      begins = begins_added sum (joint_segment (get_or a left d) (get_or b right d) at) start at lower is.begins refl;
       over = λ f t.
           (let under = bottom_under f b (right + 1) d t lb in
           omega (arith, ints, under, top, greatest));
@@ -225,7 +225,7 @@ next_added a b sum start at lower left right next_left next_right d is la lb top
                 (λ e. (let m = most_at a (left + 1) (suc left) d e la (omega arith) in omega (arith, ints, m, falls.0))) pa,
             past_stands g b at lower right next_right t was.1 falls.2
                 (λ e. (let m = most_at b (right + 1) (suc right) d e lb (omega arith) in omega (arith, ints, m, falls.1))) pb,
-            segments_more (λ net. both (f net) (g net)) sum (joined (get_or a left d) (get_or b right d) at) lower was.2
+            segments_more (λ net. both (f net) (g net)) sum (joint_segment (get_or a left d) (get_or b right d) at) lower was.2
                 (joined_is f g (get_or a left d) (get_or b right d) (get_or a (suc left) d).most (get_or b (suc right) d).most at lower first
                 second
                 (omega (arith, ints, x, falls.0)) (omega (arith, ints, y, falls.1)) falls.2 (was.0.holds d) (was.1.holds d)),
@@ -249,10 +249,10 @@ shorter a b lower left right next_left next_right d la lb top (inr (e, differs))
 -- ---- the whole sum
 pub all_segments : (f g : ℤ → Option ℤ) (a b sum : List Segment) (start at : ℤ) (left right : ℕ) (d : Segment)
     → IsAdded a b sum start at left right → AreSegments f a (bottom_of a) → AreSegments g b (bottom_of b)
-    → AreSegments (λ net. both (f net) (g net)) (sum ++ joined (get_or a left d) (get_or b right d) at ∷ [])
-    (bottom_of (sum ++ joined (get_or a left d) (get_or b right d) at ∷ []))
+    → AreSegments (λ net. both (f net) (g net)) (sum ++ joint_segment (get_or a left d) (get_or b right d) at ∷ [])
+    (bottom_of (sum ++ joint_segment (get_or a left d) (get_or b right d) at ∷ []))
 all_segments f g a b sum start at left right d is s t =
-    let segment = joined (get_or a left d) (get_or b right d) at in
+    let segment = joint_segment (get_or a left d) (get_or b right d) at in
     let was = is.are_segments f g s t in
     let first = segment_here f a at left d s is.left_is was.0 in
     let second = segment_here g b at right d t is.right_is was.1 in
@@ -265,10 +265,10 @@ pub all_priced : (f g : ℤ → Option ℤ) (ss : List Step) (ps : List (List St
     (d : Segment)
     → IsAdded a b sum start at left right → AreSegments f a (bottom_of a) → AreSegments g b (bottom_of b)
     → ArePriced (ss ∷ []) a (bottom_of a) → ArePriced ps b (bottom_of b)
-    → ArePriced (ss ∷ ps) (sum ++ joined (get_or a left d) (get_or b right d) at ∷ [])
-    (bottom_of (sum ++ joined (get_or a left d) (get_or b right d) at ∷ []))
+    → ArePriced (ss ∷ ps) (sum ++ joint_segment (get_or a left d) (get_or b right d) at ∷ [])
+    (bottom_of (sum ++ joint_segment (get_or a left d) (get_or b right d) at ∷ []))
 all_priced f g ss ps a b sum start at left right d is s t p q =
-    let segment = joined (get_or a left d) (get_or b right d) at in
+    let segment = joint_segment (get_or a left d) (get_or b right d) at in
     let was = is.are_segments f g s t in
     let first = priced_here (ss ∷ []) a at left d p is.left_is was.0 is.left_last in
     let second = priced_here ps b at right d q is.right_is was.1 is.right_last in
@@ -314,9 +314,9 @@ under_first a b start d e la lb s =
 -- the sum goes no further than the second list
 pub all_within : (g : ℤ → Option ℤ) (a b sum : List Segment) (start at least most : ℤ) (left right : ℕ) (d : Segment)
     → IsAdded a b sum start at left right → AreSegments g b (bottom_of b) → start ≡ int_min (get_or a 0 d).most (get_or b 0 d).most
-    → AreWithin b least most → AreWithin (sum ++ joined (get_or a left d) (get_or b right d) at ∷ []) least most
+    → AreWithin b least most → AreWithin (sum ++ joint_segment (get_or a left d) (get_or b right d) at ∷ []) least most
 all_within g a b sum start at least most left right d is t e within some =
-    let segment = joined (get_or a left d) (get_or b right d) at in
+    let segment = joint_segment (get_or a left d) (get_or b right d) at in
     let inside = is.right_is.inside in
     let any : 0 < length b = omega (arith, inside) in
     let ends = within any in
@@ -350,12 +350,12 @@ pub all_outside : (f g : ℤ → Option ℤ) (a b sum : List Segment) (start at 
     → IsAdded a b sum start at left right
     → AreSegments f a (bottom_of a) → AreSegments g b (bottom_of b) → (suc left ≡ length a) ⊎ (suc right ≡ length b)
     → start ≡ int_min (get_or a 0 d).most (get_or b 0 d).most
-    → IsOutside (sum ++ joined (get_or a left d) (get_or b right d) at ∷ []) net → IsOutside a net ⊎ IsOutside b net
+    → IsOutside (sum ++ joint_segment (get_or a left d) (get_or b right d) at ∷ []) net → IsOutside a net ⊎ IsOutside b net
 all_outside f g a b sum start at net left right d is s t whole least o =
     parted (outside_parts (sum ++ segment ∷ []) net (some_more sum segment) o)
   where
     segment : Segment
-    segment = joined (get_or a left d) (get_or b right d) at
+    segment = joint_segment (get_or a left d) (get_or b right d) at
 
     under : (suc left ≡ length a) ⊎ (suc right ≡ length b) → net <ℤ at → IsOutside a net ⊎ IsOutside b net
     under (inl e) l = inl (below_last a at net left d (is.are_segments f g s t).0 e l)

@@ -11,7 +11,7 @@ use Rattle.dam_curve.specs.JointPrice.{IsJointPrice}
 use borrow.Author.Differences.{up, down}
 use Rattle.dam_curve.specs.declared.segment.Segment.{Segment}
 use Rattle.dam_curve.specs.Curve.{both, segment_at, IsSegment, end_of, AreSegments, bottom_of, IsUnder, IsUnderEach, IsPriced, ArePriced, IsSmallSegment, AreSmallSegments}
-use Rattle.dam_curve.specs.inside.Segments.{price_at, joined}
+use Rattle.dam_curve.specs.inside.Segments.{price_at, joint_segment}
 
 -- any segment, for the places behind the end of a list
 abbrev pub any_segment : Segment
@@ -157,11 +157,11 @@ times_sum p q y =
     let k = ap (λ (n : ℕ). n * down y) s in
     omega (arith, ints, m, k)
 
-joined_at : (a b : Segment) (most net : ℤ) → segment_at a net +ℤ segment_at b net ≡ segment_at (joined a b most) net
+joined_at : (a b : Segment) (most net : ℤ) → segment_at a net +ℤ segment_at b net ≡ segment_at (joint_segment a b most) net
 joined_at a b most net = let t = times_sum a.price b.price net in omega (arith, ints, t)
 
 pub joined_is : (f g : ℤ → Option ℤ) (a b : Segment) (x y most least : ℤ) → IsSegment f a x → IsSegment g b y → x ≤ℤ least → y ≤ℤ least
-    → least ≤ℤ most → most ≤ℤ a.most → most ≤ℤ b.most → IsSegment (λ net. both (f net) (g net)) (joined a b most) least
+    → least ≤ℤ most → most ≤ℤ a.most → most ≤ℤ b.most → IsSegment (λ net. both (f net) (g net)) (joint_segment a b most) least
 joined_is f g a b x y most least is other lx ly l la lb = record {
   ordered = l;
   each = λ net low high.
@@ -171,7 +171,7 @@ joined_is f g a b x y most least is other lx ly l la lb = record {
 }
 
 pub joined_under : (f g : ℤ → Option ℤ) (a b : Segment) (most : ℤ) → IsUnder f a → IsUnder g b
-    → IsUnder (λ net. both (f net) (g net)) (joined a b most)
+    → IsUnder (λ net. both (f net) (g net)) (joint_segment a b most)
 joined_under f g a b most is other net w e =
     let parts = parts_of (f net) (g net) w e in
     let left = is net parts.left parts.left_is in let right = other net parts.right parts.right_is in
@@ -185,7 +185,7 @@ joint_sum ss ps net x y is other =
 
 pub joined_priced : (ss : List Step) (ps : List (List Step)) (a b : Segment) (x y most least : ℤ) → IsPriced (ss ∷ []) a x
     → IsPriced ps b y → x ≤ℤ least → y ≤ℤ least → most ≤ℤ a.most → most ≤ℤ b.most
-    → (x <ℤ most) ⊎ (a.most ≡ most) → (y <ℤ most) ⊎ (b.most ≡ most) → IsPriced (ss ∷ ps) (joined a b most) least
+    → (x <ℤ most) ⊎ (a.most ≡ most) → (y <ℤ most) ⊎ (b.most ≡ most) → IsPriced (ss ∷ ps) (joint_segment a b most) least
 joined_priced ss ps a b x y most least is other lx ly la lb apart_a apart_b = record {
   dot = joint_sum ss ps most (price_at a most) (price_at b most) (price_is (ss ∷ []) a x most is la apart_a)
       (price_is ps b y most other lb apart_b);
@@ -194,7 +194,7 @@ joined_priced ss ps a b x y most least is other lx ly la lb apart_a apart_b = re
       (other.inside net (omega (arith, ints, ly, low)) (omega (arith, ints, lb, high)));
 }
 
-pub joined_small : (n m : ℕ) (a b : Segment) (most : ℤ) → IsSmallSegment n a → IsSmallSegment m b → IsSmallSegment (n + m) (joined a b most)
+pub joined_small : (n m : ℕ) (a b : Segment) (most : ℤ) → IsSmallSegment n a → IsSmallSegment m b → IsSmallSegment (n + m) (joint_segment a b most)
 joined_small n m a b most is other =
     let p = is.price_at_least in let q = is.price_at_most in let s = is.surplus_at_least in let t = is.surplus_at_most in
     let p2 = other.price_at_least in let q2 = other.price_at_most in let s2 = other.surplus_at_least in let t2 = other.surplus_at_most in

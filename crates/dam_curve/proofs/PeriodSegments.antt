@@ -20,7 +20,7 @@ use Rattle.dam_curve.specs.declared.segment.Segment.{Segment}
 use Rattle.dam_curve.specs.Supply.{height_of, total_of, AreAlike, IsSupplyOf}
 use Rattle.dam_curve.specs.Curve.{segment_at, IsSegment, end_of, AreSegments, bottom_of, IsUnder, IsUnderEach, IsPriced, ArePriced, IsOutside, IsSmallSegment, AreSmallSegments}
 use Rattle.dam_curve.specs.inside.Supply.{worth_of}
-use Rattle.dam_curve.specs.inside.Segments.{segment_of, segments_from}
+use Rattle.dam_curve.specs.inside.Segments.{segment_at_price, segments_from}
 use Rattle.dam_curve.proofs.Units.{all_units, units_under, units_up_to, gain_under, AreUnitsAt, Reaches, if_any}
 use Rattle.dam_curve.proofs.Parts.{under_none, up_to_full, under_rises, part_most}
 use Rattle.dam_curve.proofs.Supplying.{height_is, all_offered}
@@ -226,7 +226,7 @@ bottom_next segment v w q b c (s ∷ ss) = refl
 bottom_is : (v w : ℕ) (q : ℤ) (b c : ℕ) (ss : List Step) → bottom_of (segments_from v w q b c ss) ≡ pos v -ℤ pos (b + all_units ss)
 bottom_is v w q b c [] = omega (arith, ints)
 bottom_is v w q b c (s ∷ ss) =
-    bottom_next (segment_of v w q s.price b c) v w s.price (b + s.qty) (c + height_of s.price * s.qty) ss
+    bottom_next (segment_at_price v w q s.price b c) v w s.price (b + s.qty) (c + height_of s.price * s.qty) ss
     ∙ bottom_is v w s.price (b + s.qty) (c + height_of s.price * s.qty) ss
     ∙ (let same : pos v -ℤ pos ((b + s.qty) + all_units ss) ≡ pos v -ℤ pos (b + (s.qty + all_units ss)) = omega (arith, ints) in same)
 
@@ -251,14 +251,14 @@ pieces_next ss segment ls least is are = record {
 
 abbrev EachPiece : List Step → ℕ → ℕ → List Step → Type 0
 EachPiece own v w all = (q p : ℤ) (b e c : ℕ) → IsPrice q → IsPrice p → ArePiece all (height_of p) b e c
-    → IsGap all b (height_of q) (height_of p) → b ≤ e → e ≤ all_units all → IsPiece own (segment_of v w q p b c) (pos v -ℤ pos e)
+    → IsGap all b (height_of q) (height_of p) → b ≤ e → e ≤ all_units all → IsPiece own (segment_at_price v w q p b c) (pos v -ℤ pos e)
 
 segments_hold : (own : List Step) (v w : ℕ) (all : List Step) → AreInRange all → EachPiece own v w all → (ss : List Step) (q : ℤ) (b c : ℕ)
     → IsPrice q → AreInRange ss → Rises ss → AtLeast (height_of q) ss → AreLast all ss (height_of q) b c
     → ArePieces own (segments_from v w q b c ss) (pos v -ℤ pos (all_units all))
 segments_hold own v w all a each [] q b c rq r rises low is =
     let units = is.units in
-    pieces_next own (segment_of v w q highest_price b c) [] (pos v -ℤ pos (all_units all))
+    pieces_next own (segment_at_price v w q highest_price b c) [] (pos v -ℤ pos (all_units all))
     (each q highest_price b (all_units all) c rq highest_in_range (last_piece all (height_of q) b c a is)
     (last_gap all (height_of q) b c a is) (omega (arith, units)) (omega arith))
     (record { are_segments = tt; under = tt; priced = tt })
@@ -266,8 +266,8 @@ segments_hold own v w all a each (s ∷ ss) q b c rq r rises low is =
     let units = is.units in
     let least = pos v -ℤ pos (all_units all) in
     let some = r.1.at_least in
-    pieces_next own (segment_of v w q s.price b c) (segments_from v w s.price (b + s.qty) (c + height_of s.price * s.qty) ss) least
-    (subst (IsPiece own (segment_of v w q s.price b c))
+    pieces_next own (segment_at_price v w q s.price b c) (segments_from v w s.price (b + s.qty) (c + height_of s.price * s.qty) ss) least
+    (subst (IsPiece own (segment_at_price v w q s.price b c))
     (sym (ends_at v w s.price (b + s.qty) (c + height_of s.price * s.qty) ss least))
     (each q s.price b (b + s.qty) c rq r.0 (piece_of all s ss (height_of q) b c low.0 rises.0 is)
     (step_gap all s ss (height_of q) b c some low rises.0 is) (omega arith) (omega (arith, units))))
@@ -295,7 +295,7 @@ price_times p c y h e =
     omega (arith, ints, m, k)
 
 welfare_at : (q p net : ℤ) (h v w b c x u k : ℕ) → p ≡ lowest_price +ℤ pos h → pos x +ℤ net ≡ pos u → b ≤ x → v ≡ u → w ≡ k
-    → (pos k -ℤ pos (c + h * (x - b))) +ℤ lowest_price *ℤ net ≡ segment_at (segment_of v w q p b c) net
+    → (pos k -ℤ pos (c + h * (x - b))) +ℤ lowest_price *ℤ net ≡ segment_at (segment_at_price v w q p b c) net
 welfare_at q p net h v w b c x u k ep ex l ev ew =
     let s : pos v -ℤ pos b ≡ pos (x - b) +ℤ net = omega (arith, ints, ex, l, ev) in
     let t = times_sum h (x - b) (pos v -ℤ pos b) net s in
@@ -306,7 +306,7 @@ welfare_at q p net h v w b c x u k ep ex l ev ew =
 
 segment_holds : Laws → (ss : List Step) (v w : ℕ) → AreInRange ss → v ≡ offered_volume Buy ss → w ≡ worth_of ss
     → (q p : ℤ) (b e c : ℕ) → IsPrice p → ArePiece ss (height_of p) b e c → b ≤ e → e ≤ all_units ss
-    → IsSegment (greatest_welfare ss) (segment_of v w q p b c) (pos v -ℤ pos e)
+    → IsSegment (greatest_welfare ss) (segment_at_price v w q p b c) (pos v -ℤ pos e)
 segment_holds laws ss v w a ev ew q p b e c r piece l within = record {
   ordered = omega (arith, ints, l);
   each = λ net low high.
@@ -329,10 +329,10 @@ segment_holds laws ss v w a ev ew q p b e c r piece l within = record {
 -- ---- the line of a segment, and its prices
 segment_under : Laws → (ss : List Step) (v w : ℕ) → AreInRange ss → v ≡ offered_volume Buy ss → (q p : ℤ) (b e c : ℕ) → IsPrice p
     → Reaches ss b (height_of p) → b ≤ e → e ≤ all_units ss
-    → IsSegment (greatest_welfare ss) (segment_of v w q p b c) (pos v -ℤ pos e) → IsUnder (greatest_welfare ss) (segment_of v w q p b c)
+    → IsSegment (greatest_welfare ss) (segment_at_price v w q p b c) (pos v -ℤ pos e) → IsUnder (greatest_welfare ss) (segment_at_price v w q p b c)
 segment_under laws ss v w a ev q p b e c r reaches l within is =
     let top : AreUnitsAt ss (pos v -ℤ pos b) b = record { balance = omega (arith, ints, ev); within = omega (arith, l, within) } in
-    line_above laws ss (pos v -ℤ pos b) p (segment_of v w q p b c).surplus (reaches_supporting ss (pos v -ℤ pos b) p b a top r reaches)
+    line_above laws ss (pos v -ℤ pos b) p (segment_at_price v w q p b c).surplus (reaches_supporting ss (pos v -ℤ pos b) p b a top r reaches)
     (is.each (pos v -ℤ pos b) (omega (arith, ints, l)) (omega (arith, ints)))
 
 own_price : Laws → (ss : List Step) (net p : ℤ) → AreEnds ss net p p → IsJointPrice (ss ∷ []) net p
@@ -342,7 +342,7 @@ own_price laws ss net p ends =
 
 segment_priced : Laws → (ss : List Step) (v w : ℕ) → AreInRange ss → v ≡ offered_volume Buy ss → (q p : ℤ) (b e c : ℕ) → IsPrice q
     → IsPrice p → ArePiece ss (height_of p) b e c → IsGap ss b (height_of q) (height_of p) → b ≤ e → e ≤ all_units ss
-    → IsPriced (ss ∷ []) (segment_of v w q p b c) (pos v -ℤ pos e)
+    → IsPriced (ss ∷ []) (segment_at_price v w q p b c) (pos v -ℤ pos e)
 segment_priced laws ss v w a ev q p b e c rq rp piece gap l within = record {
   dot = (
     q,
@@ -453,7 +453,7 @@ times_small h s n (negsuc m) l a b =
 
 segment_small : Laws → (v w b c : ℕ) (q p : ℤ) → IsPrice q → IsPrice p → q ≤ℤ p → v ≤ most_steps * greatest_volume
     → b ≤ most_steps * greatest_volume → w ≤ most_steps * (price_span * greatest_volume)
-    → c ≤ most_steps * (price_span * greatest_volume) → IsSmallSegment 1 (segment_of v w q p b c)
+    → c ≤ most_steps * (price_span * greatest_volume) → IsSmallSegment 1 (segment_at_price v w q p b c)
 segment_small laws v w b c q p rq r order lv lb lw lc =
     let least = rq.at_least in let low = r.at_least in let high = r.at_most in
     let between = laws.between q p order in

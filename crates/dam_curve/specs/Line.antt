@@ -7,13 +7,13 @@ use Rattle.dam_curve.specs.Curve.{joint_welfare, greatest_segment_surplus}
 pub use Rattle.dam_curve.specs.JointPrice.{IsJointPrice}
 
 -- the value of a line at a net volume
-abbrev pub line_at : Line → ℤ → ℤ
-line_at line net = line.surplus +ℤ line.price *ℤ net
+abbrev pub line_value : Line → ℤ → ℤ
+line_value line net = line.surplus +ℤ line.price *ℤ net
 
 -- at no net volume from the least to the most is the joint welfare of the periods above the line
 abbrev pub IsAbove : List (List Step) → ℤ → ℤ → Line → Type 0
 IsAbove periods least most line =
-    (net w : ℤ) → least ≤ℤ net → net ≤ℤ most → joint_welfare periods net ≡ Some w → w ≤ℤ line_at line net
+    (net w : ℤ) → least ≤ℤ net → net ≤ℤ most → joint_welfare periods net ≡ Some w → w ≤ℤ line_value line net
 
 -- the sizes of a line over this number of periods
 pub record IsSmallLine (count : ℕ) (line : Line) : Type 0 where

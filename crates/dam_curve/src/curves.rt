@@ -11,7 +11,7 @@ ghost use Rattle.dam_curve.specs.Point.{IsSmallPoint};
 use crate::line::Line;
 use crate::point::Point;
 use crate::segment::Segment;
-use crate::sum::Sum;
+use crate::sum::CurveSum;
 use dam_hour::laws;
 use std::alloc::{AllocError, Allocator, Global};
 use std::marker::Model;
@@ -118,7 +118,7 @@ pub(crate) fn segments_of(segments: &[Segment], curve: Curve) -> &[Segment]
 
 /// The welfare that a segment gives at a net volume.
 #[inline(always)]
-fn value_of(segment: Segment, net: i64) -> i64
+fn welfare_on(segment: Segment, net: i64) -> i64
     requires segment { IsSmallSegment last_period segment }
     requires least { neg_ℤ (pos (2 ^ 31)) ≤ℤ net }
     requires most { net ≤ℤ pos (2 ^ 31) }
@@ -147,13 +147,13 @@ fn point_in(segments: &[Segment], net: i64, near: usize) -> Point
 {
     let segment = segments[place_of(segments, net, near)];
     Point {
-        welfare: value_of(segment, net),
+        welfare: welfare_on(segment, net),
         price: segment.price_at(net),
     }
 }
 
-/// The place before the last one if this is the last, since the last segment holds at one net volume alone, and is steep. Any
-/// other place is itself.
+/// The place itself; of the last one the place before it, if there is one, since the last segment holds at one net volume
+/// alone, and is steep.
 #[inline(always)]
 fn place_before_end(place: usize, count: usize) -> usize
     requires { place < count }
@@ -196,7 +196,7 @@ impl<A: Allocator + Copy> Curves<A> {
 
 impl<A: Allocator> Curves<A> {
     /// Adds the curve of the sum. On an error, which is out of memory, the curve isn't added.
-    pub fn add<B: Allocator>(&mut self, sum: &Sum<B>) -> Result<Curve, AllocError>
+    pub fn add<B: Allocator>(&mut self, sum: &CurveSum<B>) -> Result<Curve, AllocError>
         ensures added { (periods : List (List Step)) (least most : ℤ)
             → IsCurve periods least most sum.now
             → IfOk result (λ curve. IsCurveAt self.new curve periods least most) }
@@ -221,7 +221,7 @@ impl<A: Allocator> Curves<A> {
     }
 
     /// A place near the segment for the net volume; it may be any.
-    fn near(&self, curve: Curve, net: i64) -> usize
+    fn place_near(&self, curve: Curve, net: i64) -> usize
         requires least { curve.bottom ≤ℤ net }
         requires most { net ≤ℤ curve.top }
     {
@@ -249,17 +249,17 @@ impl<A: Allocator> Curves<A> {
             → IfSome result (λ point. IsJointPrice periods net point.price) }
         ensures small { IfSome result IsSmallPoint }
     {
-        laws::welfare();
-        laws::magnitude();
+        laws::best_has_greatest_welfare();
+        laws::executions_are_small();
         if net < i64::from(curve.bottom) || net > i64::from(curve.top) {
             return None;
         }
-        Some(self.searched(curve, net))
+        Some(self.point_within(curve, net))
     }
 
     /// The point of the segment for the net volume.
     #[inline(always)]
-    pub(crate) fn searched(&self, curve: Curve, net: i64) -> Point
+    pub(crate) fn point_within(&self, curve: Curve, net: i64) -> Point
         requires curve { (periods : List (List Step)) × (least : ℤ) × (most : ℤ)
             × IsCurveAt self.now curve periods least most }
         requires bottom { curve.bottom ≤ℤ net }
@@ -273,7 +273,7 @@ impl<A: Allocator> Curves<A> {
         ensures at_most { result.price ≤ℤ pos (last_period * greatest_price) }
     {
         let segments = segments_of(&self.segments, curve);
-        point_in(segments, net, self.near(curve, net))
+        point_in(segments, net, self.place_near(curve, net))
     }
 
     /// A line over the joint welfare of the curve's periods, which touches it at the net volume; if some period doesn't
@@ -296,7 +296,7 @@ impl<A: Allocator> Curves<A> {
         }
         let segments = segments_of(&self.segments, curve);
         let net = net.max(i64::from(curve.bottom)).min(i64::from(curve.top));
-        line_in(segments, net, self.near(curve, net))
+        line_in(segments, net, self.place_near(curve, net))
     }
 }
 
@@ -316,7 +316,7 @@ impl Curve {
     }
 }
 
-/// The last segment that holds at the net volume; looked for from a place near by, which may be any.
+/// The place of the last segment that holds at the net volume, looked for from a place near by, which may be any.
 fn place_of(segments: &[Segment], net: i64, near: usize) -> usize
     requires some { 0 < length segments.now }
     requires first { (d : Segment) → net ≤ℤ (slice_index_or segments.now 0 d).most }

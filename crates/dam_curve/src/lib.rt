@@ -11,8 +11,8 @@
 //!
 //! ```
 //! let supply = Supply::of(alloc, &steps)?; // the steps of a period, by one sort
-//! let mut sum = Sum::new(alloc);
-//! sum.clear(-500, 500)?; // from 50 MW bought to 50 MW sold, so far over no period
+//! let mut sum = CurveSum::new(alloc);
+//! sum.restart(-500, 500)?; // from 50 MW bought to 50 MW sold, so far over no period
 //! sum.add(&supply)?;
 //! let mut curves = Curves::new(alloc);
 //! let curve = curves.add(&sum)?;
@@ -30,12 +30,12 @@
 #![tactic(auto)]
 
 mod curves;
+mod height;
 pub mod laws;
 mod line;
 mod net_range;
 mod point;
 mod price_range;
-mod row;
 mod segment;
 mod sum;
 mod supply;
@@ -45,5 +45,5 @@ pub use line::Line;
 pub use net_range::NetRange;
 pub use point::Point;
 pub use price_range::PriceRange;
-pub use sum::Sum;
+pub use sum::CurveSum;
 pub use supply::Supply;

@@ -31,8 +31,8 @@ impl<A: Allocator> Curves<A> {
             → ArePricesIn periods least most result }
         ensures small { IsSmallRange last_period result }
     {
-        laws::falling();
-        dam_hour::laws::welfare();
+        laws::prices_fall_as_net_rises();
+        dam_hour::laws::best_has_greatest_welfare();
         if curve.count == 0 {
             return PriceRange {
                 lowest: 0,

@@ -8,9 +8,9 @@ ghost use Rattle.dam_curve.specs.declared.segment.Segment.{Segment};
 ghost use Rattle.dam_curve.specs.Supply.{IsSupplyOf};
 ghost use Rattle.dam_curve.specs.Curve.{both, AreSegments, bottom_of, AreWithin, IsOutside, AreSmallSegments, IsSmallSegment, IsUnderEach, ArePriced, IsCurve};
 ghost use Rattle.dam_curve.specs.inside.Supply.{worth_of};
-ghost use Rattle.dam_curve.specs.inside.Segments.{segment_of, segments_from, joined, IsPast};
+ghost use Rattle.dam_curve.specs.inside.Segments.{segment_at_price, segments_from, joint_segment, IsPast};
 
-use crate::row::height;
+use crate::height::cents_above_lowest;
 use crate::segment::Segment;
 use crate::supply::{Demand, Supply};
 use dam_book::Price;
@@ -23,7 +23,7 @@ use std::mem;
 ///
 /// A contract sees its segments.
 #[derive(Drop)]
-pub struct Sum<A: Allocator = Global> {
+pub struct CurveSum<A: Allocator = Global> {
     segments: Vec<Segment, A>,
     /// The segments of the period that is added.
     own: Vec<Segment, A>,
@@ -31,7 +31,7 @@ pub struct Sum<A: Allocator = Global> {
     next: Vec<Segment, A>,
 }
 
-impl<A: Allocator> Model for Sum<A> {
+impl<A: Allocator> Model for CurveSum<A> {
     ghost use Rattle.std.specs.Prelude.{List};
     ghost use Rattle.dam_curve.specs.declared.segment.Segment.{Segment};
 
@@ -40,12 +40,12 @@ impl<A: Allocator> Model for Sum<A> {
     ghost view = { λ s. s.segments.items };
 }
 
-impl<A: Allocator + Copy> Sum<A> {
-    /// A sum without segments, which has to be cleared first.
-    pub fn new(alloc: A) -> Sum<A>
+impl<A: Allocator + Copy> CurveSum<A> {
+    /// A sum without segments, which has to be restarted first.
+    pub fn new(alloc: A) -> CurveSum<A>
         ensures { result ≡ [] }
     {
-        Sum {
+        CurveSum {
             segments: Vec::new(alloc),
             own: Vec::new(alloc),
             next: Vec::new(alloc),
@@ -53,10 +53,10 @@ impl<A: Allocator + Copy> Sum<A> {
     }
 }
 
-impl<A: Allocator> Sum<A> {
+impl<A: Allocator> CurveSum<A> {
     /// Begins again, with no period, over the net volumes from the least to the most, in tenths of a MW. The error
-    /// is out of memory; the sum is then of use only for another `clear`.
-    pub fn clear(&mut self, least: i64, most: i64) -> Result<(), AllocError>
+    /// is out of memory; the sum is then of use only for another `restart`.
+    pub fn restart(&mut self, least: i64, most: i64) -> Result<(), AllocError>
         requires least { IsNetVolume least }
         requires most { IsNetVolume most }
         requires ordered { least ≤ℤ most }
@@ -81,10 +81,10 @@ impl<A: Allocator> Sum<A> {
             → OnOk result (IsCurve (steps ∷ periods) least most self.new) }
         ensures err { OnErr result (self.new ≡ self.old) }
     {
-        laws::welfare();
-        laws::surplus();
-        laws::balance();
-        laws::price();
+        laws::best_has_greatest_welfare();
+        laws::supported_surplus_is_greatest();
+        laws::balances_within_offers();
+        laws::price_is_between_ends();
         write_segments(&mut self.own, supply.steps())?;
         add_segments(&self.own, &self.segments, &mut self.next)?;
         mem::swap(&mut self.segments, &mut self.next);
@@ -111,20 +111,27 @@ fn flat(most: i32) -> Segment
     }
 }
 
-/// The segment at a price, after one at the previous price, if this volume at this cost is taken of the supply.
-fn segment_of(demand: Demand, previous: Price, price: Price, before: u64, cost: u64) -> Segment
+/// The segment at a price, if the previous limit is `previous`, and the cheaper supply has the volume `before` at
+/// this cost.
+fn segment_at_price(
+    demand: Demand,
+    previous: Price,
+    price: Price,
+    before: u64,
+    cost: u64,
+) -> Segment
     requires volume { demand.volume ≤ most_steps * greatest_volume }
     requires worth { demand.worth ≤ most_steps * (price_span * greatest_volume) }
     requires before { before ≤ most_steps * greatest_volume }
     requires cost { cost ≤ most_steps * (price_span * greatest_volume) }
-    ensures { result ≡ segment_of demand.volume demand.worth previous price before cost }
+    ensures { result ≡ segment_at_price demand.volume demand.worth previous price before cost }
 {
     let most = demand.volume as i64 - before as i64;
     Segment {
         most: most as i32,
         price: price.get(),
         dot: price_between(previous, price).get(),
-        surplus: demand.worth as i64 - cost as i64 - i64::from(height(price)) * most,
+        surplus: demand.worth as i64 - cost as i64 - i64::from(cents_above_lowest(price)) * most,
     }
 }
 
@@ -145,21 +152,21 @@ fn write_segments<A: Allocator>(
     segments.clear();
     segments.reserve(steps.len() + 1)?;
     for step in steps {
-        segments.push(segment_of(demand, previous, step.price, before, cost))?;
+        segments.push(segment_at_price(demand, previous, step.price, before, cost))?;
         previous = step.price;
         let volume = u64::from(step.qty.get());
         before += volume;
-        cost += u64::from(height(step.price)) * volume;
+        cost += u64::from(cents_above_lowest(step.price)) * volume;
     }
-    segments.push(segment_of(demand, previous, Price::highest(), before, cost))?;
+    segments.push(segment_at_price(demand, previous, Price::highest(), before, cost))?;
     Ok(())
 }
 
 /// The sum of two segments, at the net volumes at which both hold, up to this one.
-fn joined(a: Segment, b: Segment, most: i32) -> Segment
+fn joint_segment(a: Segment, b: Segment, most: i32) -> Segment
     requires { (n : ℕ) × (m : ℕ) × IsSmallSegment n a × IsSmallSegment m b
         × (n + m ≤ last_period) }
-    ensures { result ≡ joined a b most }
+    ensures { result ≡ joint_segment a b most }
 {
     Segment {
         most,
@@ -169,8 +176,8 @@ fn joined(a: Segment, b: Segment, most: i32) -> Segment
     }
 }
 
-/// The last segment that holds at the net volume, from a first one on.
-fn from_net(segments: &[Segment], net: i32) -> usize
+/// The place of the last segment that holds at the net volume.
+fn place_at_net(segments: &[Segment], net: i32) -> usize
     requires some { 0 < length segments.now }
     requires first { (d : Segment) → net ≤ℤ (slice_index_or segments.now 0 d).most }
     ensures inside { result < length segments.now }
@@ -186,7 +193,7 @@ fn from_net(segments: &[Segment], net: i32) -> usize
 }
 
 /// The next place if the segment there holds up to this net volume, and otherwise the same place.
-fn past(segments: &[Segment], place: usize, net: i32) -> usize
+fn place_past(segments: &[Segment], place: usize, net: i32) -> usize
     requires { place + 1 < length segments.now }
     ensures { IsPast segments.now place net result }
 {
@@ -233,14 +240,14 @@ fn add_segments<A: Allocator>(
     if a[a.len() - 1].most > at || b[b.len() - 1].most > at {
         return Ok(());
     }
-    let mut left = from_net(a, at);
-    let mut right = from_net(b, at);
+    let mut left = place_at_net(a, at);
+    let mut right = place_at_net(b, at);
     while left + 1 < a.len() && right + 1 < b.len() {
-        sum.push(joined(a[left], b[right], at))?;
+        sum.push(joint_segment(a[left], b[right], at))?;
         at = a[left + 1].most.max(b[right + 1].most);
-        left = past(a, left, at);
-        right = past(b, right, at);
+        left = place_past(a, left, at);
+        right = place_past(b, right, at);
     }
-    sum.push(joined(a[left], b[right], at))?;
+    sum.push(joint_segment(a[left], b[right], at))?;
     Ok(())
 }

@@ -5,7 +5,7 @@ ghost use Rattle.dam_hour.specs.declared.step.Step.{Step};
 ghost use Rattle.dam_curve.specs.Supply.{IsSupplyOf};
 ghost use Rattle.dam_curve.specs.inside.Supply.{IsDemand, IsDemandOfStep};
 
-use crate::row::height;
+use crate::height::cents_above_lowest;
 use dam_book::Side;
 use dam_hour::Step;
 use std::alloc::{AllocError, Allocator, Global};
@@ -37,7 +37,7 @@ impl<A: Allocator> Supply<A> {
     {
         let mut rising = Vec::with_capacity(alloc, steps.len())?;
         rising.extend_from_slice(steps)?;
-        rising.sort_unstable_by_key(|step| height(step.price));
+        rising.sort_unstable_by_key(|step| cents_above_lowest(step.price));
         Ok(Supply { rising })
     }
 
@@ -87,7 +87,7 @@ impl Demand {
         let volume = u64::from(step.qty.get());
         Demand {
             volume,
-            worth: u64::from(height(step.price)) * volume,
+            worth: u64::from(cents_above_lowest(step.price)) * volume,
         }
     }
 }

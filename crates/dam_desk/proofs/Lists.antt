@@ -50,10 +50,10 @@ pub on_ok_then : {X Y : Type 0} (r : Result X Y) (new is other : List ℕ) → n
 on_ok_then (Ok x) new is other e = e
 on_ok_then (Err y) new is other e = tt
 
-pub fits_before : (header records front back : List ℕ) → header ≡ front → records ≡ front ++ back → length header ≤ length records
-fits_before header records front back is split = omega (arith, ap length is, ap length split, length-append front back)
+pub fits_before : (day_record records front back : List ℕ) → day_record ≡ front → records ≡ front ++ back → length day_record ≤ length records
+fits_before day_record records front back is split = omega (arith, ap length is, ap length split, length-append front back)
 
-pub left_after : (header records front back : List ℕ) → header ≡ front → records ≡ front ++ back
-    → take (length records - length header) (drop (length header) records) ≡ back
-left_after header records front back is split =
-    take_rest records (length header) ∙ ap (drop (length header)) split ∙ drop_at front back (length header) (sym (ap length is))
+pub left_after : (day_record records front back : List ℕ) → day_record ≡ front → records ≡ front ++ back
+    → take (length records - length day_record) (drop (length day_record) records) ≡ back
+left_after day_record records front back is split =
+    take_rest records (length day_record) ∙ ap (drop (length day_record)) split ∙ drop_at front back (length day_record) (sym (ap length is))

@@ -43,7 +43,7 @@ impl Intake {
             self.end_line(line)?;
             rest = after;
         }
-        self.begin_line(rest)
+        self.extend_line(rest)
     }
 
     /// Answers the line that ends with these bytes.
@@ -58,8 +58,8 @@ impl Intake {
         Ok(())
     }
 
-    /// Adds to the line that has begun.
-    fn begin_line(&mut self, piece: &[u8]) -> Result<(), AllocError>
+    /// Adds bytes to the line that has begun.
+    fn extend_line(&mut self, piece: &[u8]) -> Result<(), AllocError>
         ensures { (state : State) (given : List ℕ) → has_byte 10 piece.now ≡ false
             → HasRead self.old state given piece.now
             → OnOk result (HasRead self.new state given []) }
@@ -76,20 +76,20 @@ impl Intake {
             → OnOk result (TakesLine self.old self.new before journal text) }
     {
         self.answered = self.answered.saturating_add(1);
-        let said = self.read()?;
+        let said = self.meaning_of_line()?;
         self.answer(said)
     }
 
     /// The meaning of the line that has come.
-    fn read(&self) -> Result<Said, AllocError>
+    fn meaning_of_line(&self) -> Result<Said, AllocError>
         ensures { (text : List ℕ) → self.now.line ≡ kept_bytes text
             → IfOk result (Says (periods_of self.now.day) text) }
     {
-        let header: &[u8] = match &self.day {
-            Some(day) => day.header(),
+        let day_record: &[u8] = match &self.day {
+            Some(day) => day.day_record(),
             None => &[],
         };
-        read_input_line(self.alloc, header, self.line.bytes())
+        read_input_line(self.alloc, day_record, self.line.bytes())
     }
 
     /// Enters the record, if the line that has come is one, and adds the answer to it.
@@ -100,14 +100,14 @@ impl Intake {
             → OnOk result (Answered self.old self.new before journal said) }
     {
         match said {
-            Said::Fault(fault) => self.refuse(fault),
+            Said::Fault(fault) => self.answer_fault(fault),
             Said::Day(periods) => self.answer_day(periods),
             Said::Command(command) => self.answer_command(&command.command()),
         }
     }
 
     /// Adds the answer to a line with a fault.
-    fn refuse(&mut self, fault: InputLineFault) -> Result<(), AllocError>
+    fn answer_fault(&mut self, fault: InputLineFault) -> Result<(), AllocError>
         ensures line { self.new.line ≡ self.old.line }
         ensures answered { self.new.answered ≡ self.old.answered }
         ensures day { self.new.day ≡ self.old.day }
@@ -127,15 +127,16 @@ impl Intake {
             → OnOk result (Answered self.old self.new before journal (Days periods)) }
     {
         let Some(day) = &self.day else {
-            return self.begin(periods);
+            return self.begin_day(periods);
         };
         if day.periods() != periods {
-            return self.refuse(InputLineFault::OtherDay);
+            return self.answer_fault(InputLineFault::OtherDay);
         }
-        self.answers.extend_from_slice(day.line())
+        self.answers.extend_from_slice(day.day_line())
     }
 
-    fn begin(&mut self, periods: DayLength) -> Result<(), AllocError>
+    /// Begins the day, and adds its line to the answers.
+    fn begin_day(&mut self, periods: DayLength) -> Result<(), AllocError>
         requires { self.old.day ≡ None }
         ensures line { self.new.line ≡ self.old.line }
         ensures answered { self.new.answered ≡ self.old.answered }
@@ -143,7 +144,7 @@ impl Intake {
             → OnOk result (Answered self.old self.new before journal (Days periods)) }
     {
         let day = Day::begin(self.alloc, self.seed, periods)?;
-        self.answers.extend_from_slice(day.line())?;
+        self.answers.extend_from_slice(day.day_line())?;
         self.begins = true;
         self.day = Some(day);
         Ok(())
@@ -158,13 +159,13 @@ impl Intake {
     {
         runs_grow();
         let Some(day) = &mut self.day else {
-            return self.refuse(InputLineFault::NotDay);
+            return self.answer_fault(InputLineFault::NotDay);
         };
         if day.is_full(command) {
-            return self.refuse(InputLineFault::JournalFull);
+            return self.answer_fault(InputLineFault::JournalFull);
         }
         let number = day.entered() + 1;
-        day.enter(number, command, &mut self.entries, &mut self.answers)
+        day.apply_and_keep(number, command, &mut self.entries, &mut self.answers)
     }
 
     /// The records that the batch enters.
@@ -175,7 +176,7 @@ impl Intake {
             return Batch::new(self.alloc);
         };
         let mut batch = Batch::new(self.alloc)?;
-        let records = day.records(self.entries.as_slice())?;
+        let records = day.journal_text(self.entries.as_slice())?;
         push_lines(&mut batch, self.records_to_enter(day, records.as_slice()))?;
         Ok(batch)
     }
@@ -190,7 +191,7 @@ impl Intake {
         if self.begins {
             return records;
         }
-        &records[day.header().len()..]
+        &records[day.day_record().len()..]
     }
 }
 
@@ -201,14 +202,14 @@ fn push_lines(batch: &mut Batch, text: &[u8]) -> Result<(), AllocError>
 {
     let mut rest = text;
     while let Some((line, after)) = first_line(rest) {
-        push(batch, line)?;
+        push_line(batch, line)?;
         rest = after;
     }
     Ok(())
 }
 
 /// Adds a line. Only memory can be refused for it: a written record has no newline and no zero byte.
-fn push(batch: &mut Batch, line: &[u8]) -> Result<(), AllocError>
+fn push_line(batch: &mut Batch, line: &[u8]) -> Result<(), AllocError>
     ensures { OnOk result (batch.new ≡ batch.old ++ line.now ∷ []) }
 {
     match batch.push(line) {

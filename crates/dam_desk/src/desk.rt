@@ -83,8 +83,8 @@ impl<D: Disk> Desk<D> {
         Ok(answers.len())
     }
 
-    /// Answers the line in which the input ended, if it has.
-    pub(crate) fn end<W: Write>(&self, writer: &mut W) -> Result<(), DeskFault>
+    /// If the input ended inside a line, writes this line's answer: the fault `CutShort`. The file isn't changed.
+    pub(crate) fn answer_cut_short<W: Write>(&self, writer: &mut W) -> Result<(), DeskFault>
         ensures ok { (begun : List ℕ) → self.now.intake.line ≡ kept_bytes begun
             → OnOk result (Appends (W.contents writer.old) (W.contents writer.new)
             (end_answer (next self.now.intake.answered) begun)) }

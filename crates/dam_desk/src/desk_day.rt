@@ -19,15 +19,16 @@ pub(crate) struct Day {
     book: Book,
     entered: u32,
     /// The record of the day, with its line feed.
-    header: Vec<u8>,
+    day_record: Vec<u8>,
     /// The line of the day, which `dam replay` prints first.
     line: Vec<u8>,
     ghost valid: { is_day periods ≡ true },
-    ghost header_is: { header.items ≡ row_line (day_row periods) },
+    ghost day_record_is: { day_record.items ≡ row_line (day_row periods) },
     ghost line_is: { line.items ≡ day_line periods },
 }
 
 impl Day {
+    /// The day with an empty book.
     pub(crate) fn begin(alloc: Global, seed: Seed, periods: DayLength) -> Result<Day, AllocError>
         ensures periods { IfOk result (λ day. day.periods ≡ periods) }
         ensures book { IfOk result (λ day. day.book ≡ empty_book periods) }
@@ -40,7 +41,7 @@ impl Day {
             periods,
             book: Book::for_day(alloc, periods, seed),
             entered: 0,
-            header: packed_journal_text(alloc, periods, &[])?,
+            day_record: packed_journal_text(alloc, periods, &[])?,
             line: replies_text(alloc, periods, &[])?,
         })
     }
@@ -51,13 +52,13 @@ impl Day {
         self.periods
     }
 
-    pub(crate) fn header(&self) -> &[u8]
+    pub(crate) fn day_record(&self) -> &[u8]
         ensures { result.now ≡ row_line (day_row self.now.periods) }
     {
-        self.header.as_slice()
+        self.day_record.as_slice()
     }
 
-    pub(crate) fn line(&self) -> &[u8]
+    pub(crate) fn day_line(&self) -> &[u8]
         ensures { result.now ≡ day_line self.now.periods }
     {
         self.line.as_slice()
@@ -69,7 +70,7 @@ impl Day {
         self.entered
     }
 
-    /// Whether no command like this can be entered any more. The last entry is kept for a close.
+    /// Whether there is no room left for a command like this. The last entry is kept for a close.
     pub(crate) fn is_full(&self, command: &Command) -> bool
         ensures value { result ≡ is_journal_full self.now.entered command.now }
         ensures room { result ≡ false → self.now.entered + 1 ≤ most_entries }
@@ -81,8 +82,8 @@ impl Day {
         }
     }
 
-    /// Enters the command as the entry of this number, and adds the line of its reply.
-    pub(crate) fn apply(
+    /// Applies the command to the book as the entry of this number, and appends the line of its reply.
+    pub(crate) fn apply_and_reply(
         &mut self,
         number: u32,
         command: &Command,
@@ -103,8 +104,8 @@ impl Day {
         Ok(reply)
     }
 
-    /// Applies the command as `apply` does, and adds its entry.
-    pub(crate) fn enter(
+    /// Applies the command as `apply_and_reply` does, and adds its entry.
+    pub(crate) fn apply_and_keep(
         &mut self,
         number: u32,
         command: &Command,
@@ -124,13 +125,13 @@ impl Day {
             ≡ replies.old.items ++ reply_line number (reply_to self.old.book command.now)) }
     {
         let packed = PackedCommand::of(self.alloc, command)?;
-        let reply = self.apply(number, command, replies)?;
+        let reply = self.apply_and_reply(number, command, replies)?;
         entries.push(PackedEntry::new(number, packed, reply))?;
         Ok(())
     }
 
     /// The record of the day, and the records of the entries.
-    pub(crate) fn records(&self, entries: &[PackedEntry]) -> Result<Vec<u8>, AllocError>
+    pub(crate) fn journal_text(&self, entries: &[PackedEntry]) -> Result<Vec<u8>, AllocError>
         requires { length entries.now ≤ most_entries }
         ensures { IfOk result (λ text. text.items
             ≡ written self.now.periods (commands_of entries.now)) }

@@ -56,8 +56,8 @@ pub(crate) enum DeskFault {
 }
 
 impl DeskFault {
-    /// The fault as one of a longer text, of which `before` bytes were written before the text that has it.
-    pub(crate) fn after(self, before: usize) -> DeskFault
+    /// The same fault, with `before` more bytes written: those before the text that failed.
+    pub(crate) fn with_bytes_before(self, before: usize) -> DeskFault
         ensures { result ≡ fault_after before self }
     {
         match self {

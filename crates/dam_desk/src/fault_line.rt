@@ -6,7 +6,7 @@ use crate::fault::InputLineFault;
 use std::alloc::{AllocError, Global};
 
 /// The word of a fault, and its place in the line.
-fn word(alloc: Global, fault: InputLineFault) -> Result<String, AllocError>
+fn fault_word(alloc: Global, fault: InputLineFault) -> Result<String, AllocError>
     ensures { IfOk result (λ word. string_bytes word ≡ fault_word fault) }
 {
     match fault {
@@ -31,7 +31,7 @@ pub(crate) fn write_fault(
 ) -> Result<(), AllocError>
     ensures { OnOk result (text.new.items ≡ text.old.items ++ fault_line number fault) }
 {
-    let word = word(alloc, fault)?;
+    let word = fault_word(alloc, fault)?;
     let line = format!(in alloc; "fault,{number},{word}\n")?;
     text.extend_from_slice(line.as_bytes())
 }

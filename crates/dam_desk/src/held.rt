@@ -1,17 +1,17 @@
-//! The journal in a file that no desk is asked for.
+//! The journal in a file, read without a desk.
 ghost use Rattle.std.specs.Prelude.{◌≡◌, Option, IfOk, IfErr};
 ghost use Rattle.dam_desk.specs.Faults.{IsFileFault};
 ghost use Rattle.dam_desk.specs.DeskJournal.{Journal, OpensTo, desk_journal_text};
 
 use crate::fault::DeskFault;
-use crate::open::reopen;
+use crate::open::read_day_and_replies;
 use dam_book::Seed;
-use dam_store::{FileFault, MOST_FILE_BYTES, StoreFault, read_text};
+use dam_store::{FileFault, MOST_FILE_BYTES, StoreFault, text_of_file_bytes};
 use std::alloc::Global;
 use std::fs;
 
 /// The bytes of a file that isn't too long. It isn't locked or changed.
-pub(crate) fn file_bytes(rt: &HostRuntime, path: &str) -> Result<Vec<u8>, DeskFault> {
+pub(crate) fn read_file_bytes(rt: &HostRuntime, path: &str) -> Result<Vec<u8>, DeskFault> {
     let metadata = fs::metadata(rt, path).map_err(FileFault::from)?;
     if !metadata.is_file() {
         return Err(DeskFault::File(FileFault::NotAFile));
@@ -28,7 +28,7 @@ pub(crate) fn held_text(alloc: Global, seed: Seed, file: &[u8]) -> Result<Vec<u8
         × OpensTo journal file.now × (text.items ≡ desk_journal_text journal)) }
     ensures fault { IfErr result (IsFileFault file.now) }
 {
-    let text = read_text(alloc, file)?;
-    let _journal = reopen(alloc, seed, text.as_slice())?;
+    let text = text_of_file_bytes(alloc, file)?;
+    let _journal = read_day_and_replies(alloc, seed, text.as_slice())?;
     Ok(text)
 }

@@ -28,7 +28,7 @@ pub(crate) struct Intake {
 }
 
 impl Intake {
-    /// Before the first line.
+    /// An intake before its first line.
     pub(crate) fn new(alloc: Global, seed: Seed, day: Option<Day>) -> Intake
         requires { entered_of day ≤ most_entries }
         ensures day { result.day ≡ day }

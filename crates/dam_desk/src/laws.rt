@@ -1,4 +1,4 @@
-//! Laws of a desk's journal, the contract of a function that does nothing but cite the laws that they rest on.
+//! Laws of a desk's journal, each the contract of a function that does nothing but cite the laws that it rests on.
 ghost use Rattle.std.specs.Prelude.{◌≡◌, ◌⊎◌, ◌++◌, ℕ, List, Option, IfSome};
 ghost use Rattle.dam_desk.specs.Desk.{IsLegalAndUnambiguous};
 ghost use Rattle.dam_desk.specs.DeskJournal.{Journal, State, AreAnswers, AreAnswersToEntered, ReadsBack, answer_to, journal_after_line, desk_replies_text};

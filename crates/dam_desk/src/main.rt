@@ -27,7 +27,7 @@ mod text_lines;
 use command_line::{Job, USAGE, job_of, words};
 use dam_book::Seed;
 use fault::{DeskFault, status};
-use held::{file_bytes, held_text};
+use held::{held_text, read_file_bytes};
 use output::write_text;
 use run::serve_file;
 use sqlite_std_file::Wary;
@@ -63,7 +63,7 @@ fn serve_standard(rt: &HostRuntime, path: &str) -> Result<(), DeskFault> {
 /// Prints the journal that a file holds. It doesn't lock the file or change it. A file that a desk refuses has the same fault
 /// here.
 fn print_journal(rt: &HostRuntime, path: &str) -> Result<(), DeskFault> {
-    let bytes = file_bytes(rt, path)?;
+    let bytes = read_file_bytes(rt, path)?;
     let text = held_text(rt.alloc(), Seed::drawn(rt), bytes.as_slice())?;
     write_text(&mut rt.stdout(), text.as_slice())
 }
@@ -76,6 +76,7 @@ fn report(rt: &HostRuntime, fault: &DeskFault) -> ExitCode
     ExitCode::from(status(fault))
 }
 
+/// Prints the usage for a refused command line, and gives its status.
 fn refuse(rt: &HostRuntime) -> ExitCode
     ensures { exit_status result ≡ 2 }
 {

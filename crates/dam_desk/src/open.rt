@@ -27,7 +27,7 @@ pub(crate) struct UnopenedDesk<D: Disk> {
 
 /// The desk of the journal on a disk, and the replies to it. The file's lines are read before its end is repaired, so that
 /// a file with other lines stays as it is.
-pub(crate) fn open<D: Disk + Drop>(
+pub(crate) fn open_desk<D: Disk + Drop>(
     alloc: Global,
     seed: Seed,
     disk: D,
@@ -53,7 +53,7 @@ pub(crate) fn open<D: Disk + Drop>(
             });
         }
     };
-    let (day, replies) = match reopen(alloc, seed, found.text.as_slice()) {
+    let (day, replies) = match read_day_and_replies(alloc, seed, found.text.as_slice()) {
         Ok(reopened) => reopened,
         Err(why) => {
             let disk = found.into_disk();
@@ -76,7 +76,7 @@ pub(crate) fn open<D: Disk + Drop>(
 }
 
 /// The day of a journal's text, and the replies to its commands; none, if the text has no bytes.
-pub(crate) fn reopen(
+pub(crate) fn read_day_and_replies(
     alloc: Global,
     seed: Seed,
     text: &[u8],

@@ -23,7 +23,7 @@ pub(crate) enum Said {
     Fault(InputLineFault),
 }
 
-/// The fault of a line that is read as a journal after `before` bytes, if that has the fault.
+/// The fault of a line, from the fault of the journal that is read in its place: the line begins after `before` bytes.
 fn line_fault(before: usize, fault: JournalFault) -> Result<InputLineFault, AllocError>
     ensures { IfOk result (IsSameFault before fault) }
 {
@@ -38,7 +38,7 @@ fn line_fault(before: usize, fault: JournalFault) -> Result<InputLineFault, Allo
     }
 }
 
-/// The length of the day of which a text is the record alone.
+/// The length of the day, if the text is the record of a day and nothing else.
 fn read_day(alloc: Global, text: &[u8]) -> Result<Option<DayLength>, AllocError>
     ensures { IfOk result (λ day. MatchOption day
         ((periods : ℕ) → ¬ (ReadsAs text.now periods []))
@@ -67,8 +67,8 @@ fn only_command(journal: PackedJournal) -> Option<PackedCommand>
     commands.pop()
 }
 
-/// The meaning of a text as which a line is read after `before` bytes: the record of the day, or none.
-fn read_text(alloc: Global, text: &[u8], before: usize) -> Result<Said, AllocError>
+/// The meaning of the line that follows the first `before` bytes of the text: these are the record of the day, or none.
+fn meaning_of_text(alloc: Global, text: &[u8], before: usize) -> Result<Said, AllocError>
     requires { before ≤ length text.now }
     ensures { (day : Option ℕ) (line : List ℕ) → IfSome day (λ periods. is_day periods ≡ true)
         → text.now ≡ text_after day line → before ≡ length (record_of day)
@@ -89,12 +89,12 @@ fn read_text(alloc: Global, text: &[u8], before: usize) -> Result<Said, AllocErr
     }
 }
 
-/// The text as which a line is read: after the record of the day.
-fn text_of(alloc: Global, header: &[u8], line: &[u8]) -> Result<Vec<u8>, AllocError>
-    ensures { IfOk result (λ text. text.items ≡ header.now ++ (line.now ++ 10 ∷ [])) }
+/// The text in which a line is read: the record of the day, then the line and its line feed.
+fn text_after_day(alloc: Global, day_record: &[u8], line: &[u8]) -> Result<Vec<u8>, AllocError>
+    ensures { IfOk result (λ text. text.items ≡ day_record.now ++ (line.now ++ 10 ∷ [])) }
 {
-    let mut text = Vec::with_capacity(alloc, header.len() + line.len() + 1)?;
-    text.extend_from_slice(header)?;
+    let mut text = Vec::with_capacity(alloc, day_record.len() + line.len() + 1)?;
+    text.extend_from_slice(day_record)?;
     text.extend_from_slice(line)?;
     text.extend_from_slice(b"\n")?;
     Ok(text)
@@ -102,14 +102,18 @@ fn text_of(alloc: Global, header: &[u8], line: &[u8]) -> Result<Vec<u8>, AllocEr
 
 /// The meaning of a line after the record of the day, which has no bytes if there is no day yet. Of a line that is too
 /// long, `line` has the first `MOST_LINE + 1` bytes.
-pub(crate) fn read_input_line(alloc: Global, header: &[u8], line: &[u8]) -> Result<Said, AllocError>
+pub(crate) fn read_input_line(
+    alloc: Global,
+    day_record: &[u8],
+    line: &[u8],
+) -> Result<Said, AllocError>
     ensures { (day : Option ℕ) (text : List ℕ) → IfSome day (λ periods. is_day periods ≡ true)
-        → header.now ≡ record_of day → line.now ≡ kept_bytes text
+        → day_record.now ≡ record_of day → line.now ≡ kept_bytes text
         → IfOk result (Says day text) }
 {
     if line.len() > MOST_LINE {
         return Ok(Said::Fault(InputLineFault::TooLong));
     }
-    let text = text_of(alloc, header, line)?;
-    read_text(alloc, text.as_slice(), header.len())
+    let text = text_after_day(alloc, day_record, line)?;
+    meaning_of_text(alloc, text.as_slice(), day_record.len())
 }

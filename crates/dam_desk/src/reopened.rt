@@ -31,7 +31,7 @@ impl FromJournal for Reopened {
 
     fn begin(alloc: Global, seed: Seed, periods: DayLength) -> Result<Reopened, AllocError> {
         let day = Day::begin(alloc, seed, periods)?;
-        let replies = Vec::from_slice(alloc, day.line())?;
+        let replies = Vec::from_slice(alloc, day.day_line())?;
         Ok(Reopened {
             day,
             records: JournalWriter::begin(alloc, periods)?,
@@ -39,10 +39,11 @@ impl FromJournal for Reopened {
         })
     }
 
-    fn take(&mut self, number: u32, command: &Command) -> Result<(), AllocError> {
+    fn take_command(&mut self, number: u32, command: &Command) -> Result<(), AllocError> {
         runs_grow();
-        self.records.put(command)?;
-        self.day.apply(number, command, &mut self.replies)?;
+        self.records.put_command(command)?;
+        self.day
+            .apply_and_reply(number, command, &mut self.replies)?;
         Ok(())
     }
 }

@@ -7,7 +7,7 @@ ghost use Rattle.dam_desk.specs.DeskRun.{EndsAnswered, EndsSafe, EndsServed, End
 
 use crate::fault::DeskFault;
 use crate::laws::{journals_are_unambiguous, journals_grow, replies_are_answers};
-use crate::open::open;
+use crate::open::open_desk;
 use crate::serve::serve;
 use dam_book::Seed;
 use dam_store::open_file;
@@ -24,7 +24,7 @@ pub(crate) struct Ended<D: Disk> {
 }
 
 /// Opens the journal on a disk, prints the replies to it, and answers each line of the reader.
-pub(crate) fn run<D: Disk + Drop, R: Read, W: Write>(
+pub(crate) fn run_desk<D: Disk + Drop, R: Read, W: Write>(
     alloc: Global,
     seed: Seed,
     disk: D,
@@ -56,7 +56,7 @@ pub(crate) fn run<D: Disk + Drop, R: Read, W: Write>(
     journals_grow();
     replies_are_answers();
     journals_are_unambiguous();
-    match open(alloc, seed, disk) {
+    match open_desk(alloc, seed, disk) {
         Ok((mut desk, replies)) => {
             let done = serve(&mut desk, replies.as_slice(), reader, writer);
             Ended {
@@ -101,5 +101,5 @@ pub(crate) fn serve_file<S: Start, R: Read, W: Write>(
     ensures cause { IfErr result (λ why. (fault : FileFault) × (why ≡ of_file fault)) }
 {
     let disk = open_file(rt, path, start)?;
-    Ok(run(rt.alloc(), Seed::drawn(rt), disk, reader, writer))
+    Ok(run_desk(rt.alloc(), Seed::drawn(rt), disk, reader, writer))
 }

@@ -64,14 +64,14 @@ pub(crate) fn serve<D: Disk, R: Read, W: Write>(
             Err(_) => return Err(DeskFault::Read),
         };
         if count == 0 {
-            return match desk.end(writer) {
+            return match desk.answer_cut_short(writer) {
                 Ok(()) => Ok(()),
-                Err(fault) => Err(fault.after(printed)),
+                Err(fault) => Err(fault.with_bytes_before(printed)),
             };
         }
         match desk.serve_batch(&chunk[..count], writer) {
             Ok(count) => printed = printed.saturating_add(count),
-            Err(fault) => return Err(fault.after(printed)),
+            Err(fault) => return Err(fault.with_bytes_before(printed)),
         }
     }
     Err(DeskFault::Read)

@@ -5,17 +5,17 @@ use Rattle.dam_book.specs.Limits.{most_blocks}
 use Rattle.dam_book.specs.Book.{BookState}
 use Rattle.dam_blocks.specs.Problem.{ProblemState, IsProblem, problem_of}
 use Rattle.dam_plan.specs.Limits.{most_nodes}
-use Rattle.dam_search.specs.Piece.{all_nodes}
+use Rattle.dam_search.specs.Piece.{node_count}
 use Rattle.dam_plan.specs.Plan.{PlanTerms}
 use Rattle.dam_engines.specs.Clear.{IsCutShort}
 
-nodes_within : (left : ℕ) → left ≤ most_blocks → all_nodes left ≤ most_nodes
+nodes_within : (left : ℕ) → left ≤ most_blocks → node_count left ≤ most_nodes
 nodes_within left few =
     let fits : left + 1 ≤ most_blocks + 1 = omega (arith, few) in
     let powers : 2 ^ (left + 1) ≤ 2 ^ (most_blocks + 1) = pow_mono fits in
     omega (arith, powers)
 
-pub nodes_of_problem : (problem : ProblemState) → IsProblem problem → all_nodes (length problem.blocks) ≤ most_nodes
+pub nodes_of_problem : (problem : ProblemState) → IsProblem problem → node_count (length problem.blocks) ≤ most_nodes
 nodes_of_problem problem is = nodes_within (length problem.blocks) is.few_blocks
 
 pub not_cut_short : (plan : PlanTerms) (book : BookState) (piece visited : ℕ) → IsProblem (problem_of book) → most_nodes ≤ plan.nodes

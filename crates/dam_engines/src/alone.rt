@@ -11,12 +11,12 @@ use dam_blocks::Problem;
 use dam_book::{Book, Seed};
 use dam_results::publishing_laws::published_results_are_clearings;
 use dam_results::{book_of_text, results, results_text};
-use dam_search::search_alone;
+use dam_search::{Nodes, search_alone};
 use std::alloc::Global;
 
 /// The results text of a closed book, found on the calling thread alone. The answer to an open one is `StillOpen`, before
 /// any memory is asked for.
-fn clear_book_alone(alloc: Global, book: &Book, nodes: u32) -> Result<Vec<u8>, RunFault>
+fn clear_book_alone(alloc: Global, book: &Book, nodes: Nodes) -> Result<Vec<u8>, RunFault>
     ensures done { IfOk result (λ results.
         IsClearedWithin (terms_alone nodes) book.now results.items) }
     ensures fault { IfErr result (IsBookFault (terms_alone nodes) book.now) }
@@ -39,7 +39,7 @@ pub fn clear_text_alone(
     alloc: Global,
     seed: Seed,
     text: &[u8],
-    nodes: u32,
+    nodes: Nodes,
 ) -> Result<Vec<u8>, RunFault>
     ensures done { IfOk result (λ results.
         IsMadeFrom (AreResultsWithin (terms_alone nodes)) text.now results.items) }

@@ -7,7 +7,7 @@ use crate::fixed_line::fault_text;
 use dam_blocks::ProblemFault;
 use dam_gate::Mismatch;
 use dam_results::JournalFault;
-use dam_search::SearchFault;
+use dam_search::{Nodes, SearchFault};
 use std::alloc::{AllocError, Allocator};
 use std::error::Error;
 use std::fmt;
@@ -32,7 +32,7 @@ pub enum RunFault {
     Mismatch(Mismatch),
     /// The search visited as many nodes of this piece as the plan allows, and needed another. Only tests show
     /// that it is the least such piece.
-    Unfinished { piece: u32, visited: u32 },
+    Unfinished { piece: u32, visited: Nodes },
     /// The answers of the search's workers lack this piece or repeat it. The search never answers so, and
     /// so no run does.
     Collected { piece: u32 },

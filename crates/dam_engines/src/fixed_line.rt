@@ -6,6 +6,7 @@ use crate::fault::RunFault;
 use arrayvec::ArrayString;
 use dam_gate::Mismatch;
 use dam_results::JournalFault;
+use dam_search::Nodes;
 use itoa::Buffer;
 
 /// The bytes that a line has room for. The longest has 74 with its line feed.
@@ -54,7 +55,7 @@ fn bad_field_line(at: usize, field: usize) -> ArrayString<ROOM>
 }
 
 /// The text of a search that didn't finish.
-fn unfinished_line(piece: u32, visited: u32) -> ArrayString<ROOM>
+fn unfinished_line(piece: u32, visited: Nodes) -> ArrayString<ROOM>
     ensures text { result.bytes ≡ codes "unfinished: piece "
         ++ (decimal piece ++ (codes " after " ++ (decimal visited ++ codes " nodes"))) }
     ensures short { length result.bytes ≤ 80 }
@@ -86,7 +87,10 @@ fn input_fault_line(fault: JournalFault) -> ArrayString<ROOM>
         JournalFault::NotAscii(offset) => line_with_number("input: NotAscii at ", offset as u64),
         JournalFault::TooManyRecords => line_of_words("input: TooManyRecords"),
         JournalFault::NotDay => line_of_words("input: NotDay"),
-        JournalFault::FieldCount(record) => line_with_number("input: FieldCount in record ", record as u64),
+        JournalFault::FieldCount(record) => line_with_number(
+            "input: FieldCount in record ",
+            record as u64,
+        ),
         JournalFault::BadField(record, field) => bad_field_line(record, field),
         JournalFault::Memory => line_of_words("memory"),
     }
@@ -116,7 +120,10 @@ pub(crate) fn fault_text(fault: &RunFault) -> ArrayString<ROOM>
         RunFault::Read => line_of_words("device: read"),
         RunFault::Input(fault) => input_fault_line(fault),
         RunFault::TooManyCommands => line_of_words("input: TooManyCommands"),
-        RunFault::CloseGiven(record) => line_with_number("input: CloseGiven in record ", record as u64),
+        RunFault::CloseGiven(record) => line_with_number(
+            "input: CloseGiven in record ",
+            record as u64,
+        ),
         RunFault::TooManyParticipants(record) => {
             line_with_number("input: TooManyParticipants in record ", record as u64)
         }

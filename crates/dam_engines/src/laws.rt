@@ -4,7 +4,7 @@ ghost use Rattle.dam_book.specs.Book.{BookState};
 ghost use Rattle.dam_book.specs.declared.command.Command.{Command};
 ghost use Rattle.dam_blocks.specs.Problem.{ProblemState, IsProblem, problem_of};
 ghost use Rattle.dam_plan.specs.Limits.{most_nodes};
-ghost use Rattle.dam_search.specs.Piece.{all_nodes};
+ghost use Rattle.dam_search.specs.Piece.{node_count};
 ghost use Rattle.dam_plan.specs.Plan.{PlanTerms};
 ghost use Rattle.dam_results.specs.Journal.{IsMadeFrom, ReadsAs};
 ghost use Rattle.dam_results.specs.Replies.{AreReplies};
@@ -72,7 +72,7 @@ pub fn day_is_exact()
 /// of a plan, so neither this limit nor a greater one cuts a search short.
 pub fn greatest_limit_cuts_no_search()
     ensures covers { (problem : ProblemState) → IsProblem problem
-        → all_nodes (length problem.blocks) ≤ most_nodes }
+        → node_count (length problem.blocks) ≤ most_nodes }
     ensures whole { (plan : PlanTerms) (book : BookState) (piece visited : ℕ)
         → IsProblem (problem_of book) → most_nodes ≤ plan.nodes
         → ¬ (IsCutShort plan book piece visited) }

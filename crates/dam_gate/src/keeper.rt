@@ -166,7 +166,10 @@ impl<A: Allocator + Copy> Keeper<A> {
     }
 
     /// Packs the command for its entry, unless the journal is full for it.
-    pub(crate) fn pack_unless_full(&self, command: &Command) -> Result<PackedCommand<A>, KeeperFault>
+    pub(crate) fn pack_unless_full(
+        &self,
+        command: &Command,
+    ) -> Result<PackedCommand<A>, KeeperFault>
         ensures packed { IfOk result (λ packed. packed ≡ command.now) }
         ensures not_full { OnOk result
             (is_journal_full (length self.now.journal.entries) command.now ≡ false) }

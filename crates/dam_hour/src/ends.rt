@@ -40,7 +40,7 @@ fn is_served<A: Allocator>(hour: &Hour<A>, net: i64, limit: Price, before: u64) 
     requires before { before ≤ most_steps * greatest_volume }
     ensures { IsTrue result ↔ IsServed hour.now net limit before }
 {
-    let sells = hour.not_worse(Side::Sell, limit);
+    let sells = hour.volume_not_worse_than(Side::Sell, limit);
     (before as i64) < sells as i64 + net
 }
 
@@ -58,7 +58,7 @@ impl Edge {
         let mut to = buys.len();
         while from < to {
             let middle = from + (to - from) / 2;
-            let (limit, before) = buys.rung(middle);
+            let (limit, before) = buys.limit_and_volume_before(middle);
             if is_served(hour, net, limit, before) {
                 last = limit;
                 from = middle + 1;
@@ -70,13 +70,13 @@ impl Edge {
         Edge {
             last,
             next,
-            volume: buys.sums(from).volume,
+            volume: buys.sums_before(from).volume,
         }
     }
 
     /// The sells that are taken if the last buy is served in full, in tenths of a MW; below 0 if the net
     /// volume is more.
-    fn sells(&self, net: i64) -> i64
+    fn sells_taken(&self, net: i64) -> i64
         requires net { IsNetVolume net }
         requires small { self.now.volume ≤ most_steps * greatest_volume }
         ensures { result ≡ pos self.now.volume -ℤ net }
@@ -93,7 +93,7 @@ impl Edge {
         requires small { self.now.volume ≤ most_steps * greatest_volume }
         ensures { IsLeastHighEnough hour.now net result }
     {
-        let sell = limit_of_sell(hour, self.sells(net));
+        let sell = limit_of_sell(hour, self.sells_taken(net));
         lesser(self.last, greater(self.next, sell))
     }
 
@@ -106,7 +106,7 @@ impl Edge {
         requires small { self.now.volume ≤ most_steps * greatest_volume }
         ensures { IsGreatestLowEnough hour.now net result }
     {
-        lesser(self.last, limit_of_sell(hour, self.sells(net) + 1))
+        lesser(self.last, limit_of_sell(hour, self.sells_taken(net) + 1))
     }
 }
 
@@ -119,10 +119,10 @@ fn limit_of_sell<A: Allocator>(hour: &Hour<A>, unit: i64) -> Price
     if unit < 1 {
         return Price::lowest();
     }
-    if unit as u64 > sells.all().volume {
+    if unit as u64 > sells.total_sums().volume {
         return Price::highest();
     }
-    let (limit, _) = sells.rung(sells.holding(unit as u64));
+    let (limit, _) = sells.limit_and_volume_before(sells.holding(unit as u64));
     limit
 }
 

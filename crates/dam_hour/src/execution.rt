@@ -8,12 +8,12 @@ use std::alloc::{AllocError, Allocator};
 
 /// The volume left at a price for the steps of each side, in tenths of a MW.
 #[derive(Clone, Copy)]
-pub(crate) struct Left {
+pub(crate) struct LeftVolumes {
     pub(crate) buys: u64,
     pub(crate) sells: u64,
 }
 
-impl Left {
+impl LeftVolumes {
     /// The volume left for a step of the side.
     fn on(self, side: Side) -> u64
         ensures { result ≡ total_on side self.buys self.sells }
@@ -25,18 +25,18 @@ impl Left {
     }
 
     /// The volumes left after a step: if its limit is the price, less by its volume.
-    fn after(self, step: Step, price: Price) -> Left
+    fn after(self, step: Step, price: Price) -> LeftVolumes
         ensures buys { result.buys ≡ self.buys - at_part Buy price step }
         ensures sells { result.sells ≡ self.sells - at_part Sell price step }
     {
         let side = step.side;
-        let taken = step.volume_at(price);
+        let taken = step.marginal_volume(price);
         match side {
-            Side::Buy => Left {
+            Side::Buy => LeftVolumes {
                 buys: self.buys.saturating_sub(taken),
                 sells: self.sells,
             },
-            Side::Sell => Left {
+            Side::Sell => LeftVolumes {
                 buys: self.buys,
                 sells: self.sells.saturating_sub(taken),
             },
@@ -50,7 +50,7 @@ pub(crate) fn fill<B: Allocator>(
     alloc: B,
     steps: &[Step],
     price: Price,
-    left: Left,
+    left: LeftVolumes,
 ) -> Result<Vec<u32, B>, AllocError>
     ensures { IfOk result (λ volumes.
         volumes.items ≡ fill price steps.now (λ side. total_on side left.buys left.sells)) }
@@ -58,7 +58,7 @@ pub(crate) fn fill<B: Allocator>(
     let mut volumes = Vec::with_capacity(alloc, steps.len())?;
     let mut left = left;
     for step in steps {
-        let share = step.share(price, left.on(step.side));
+        let share = step.executed_at(price, left.on(step.side));
         volumes.push(share as u32)?;
         left = left.after(*step, price);
     }

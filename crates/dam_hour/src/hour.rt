@@ -13,10 +13,10 @@ ghost use Rattle.dam_hour.specs.inside.Ladder.{AreOfSide, better_surplus};
 ghost use Rattle.dam_hour.specs.inside.Edge.{IsEdge};
 
 use crate::ends::{Edge, is_within_offers, price_between};
-use crate::execution::{Left, fill};
+use crate::execution::{LeftVolumes, fill};
 use crate::ladder::{Ladder, Sums, sort_key_of};
 use crate::step::Step;
-use crate::volumes::{VolumeRange, surplus};
+use crate::volumes::{VolumeRange, full_surplus};
 use dam_book::{GREATEST_VOLUME, MOST_BLOCKS, MOST_HOURLY, Price, Side};
 use std::alloc::{AllocError, Allocator, Global};
 use std::marker::Model;
@@ -84,7 +84,8 @@ struct Matched {
 }
 
 impl Matched {
-    /// At the least supporting price the side that is short executes every order at least as good as it.
+    /// The traded volumes at a net volume, and the ends. At the least supporting price, the scarcer side executes every
+    /// order that is not worse.
     fn of<A: Allocator>(hour: &Hour<A>, net: i64, edge: &Edge) -> Matched
         requires steps { IsHour hour.now }
         requires net { IsNetVolume net }
@@ -117,18 +118,18 @@ impl Matched {
         }
     }
 
-    /// The volume left at the least price for each side once the better steps are executed in full.
-    fn left<A: Allocator>(self, hour: &Hour<A>) -> Left
+    /// The volume that each side has left at the least supporting price, once the better steps are executed in full.
+    fn left<A: Allocator>(self, hour: &Hour<A>) -> LeftVolumes
         ensures buys { result.buys ≡ self.bought - better_volume Buy self.low hour.now }
         ensures sells { result.sells ≡ self.sold - better_volume Sell self.low hour.now }
     {
-        Left {
+        LeftVolumes {
             buys: self
                 .bought
-                .saturating_sub(hour.better(Side::Buy, self.low).volume),
+                .saturating_sub(hour.sums_better_than(Side::Buy, self.low).volume),
             sells: self
                 .sold
-                .saturating_sub(hour.better(Side::Sell, self.low).volume),
+                .saturating_sub(hour.sums_better_than(Side::Sell, self.low).volume),
         }
     }
 
@@ -145,11 +146,11 @@ impl Matched {
 
 /// The welfare of an execution that balances and that the price supports: the surplus at the price,
 /// and the price times the net volume.
-fn welfare_at<A: Allocator>(hour: &Hour<A>, net: i64, price: Price) -> i64
+fn welfare_at_price<A: Allocator>(hour: &Hour<A>, net: i64, price: Price) -> i64
     requires net { IsNetVolume net }
     ensures { result ≡ pos (full_surplus price hour.now) +ℤ price *ℤ net }
 {
-    surplus(hour, price) as i64 + i64::from(price.get()) * net
+    full_surplus(hour, price) as i64 + i64::from(price.get()) * net
 }
 
 impl<A: Allocator + Copy> Hour<A> {
@@ -160,7 +161,7 @@ impl<A: Allocator + Copy> Hour<A> {
     {
         let mut in_range_steps = Vec::with_capacity(alloc, steps.len())?;
         for step in steps {
-            in_range_steps.push(step.in_range())?;
+            in_range_steps.push(step.use_range())?;
         }
         let buys = Ladder::of(alloc, in_range_steps.as_slice(), Side::Buy)?;
         let sells = Ladder::of(alloc, in_range_steps.as_slice(), Side::Sell)?;
@@ -214,8 +215,8 @@ impl<A: Allocator> Hour<A> {
         ensures small { result ≤ most_steps * greatest_volume }
     {
         let ladder = self.side(side);
-        let count = ladder.place(sort_key_of(side, limit, place));
-        ladder.sums(count).volume
+        let count = ladder.count_before(sort_key_of(side, limit, place));
+        ladder.sums_before(count).volume
     }
 
     /// The whole volume of one side, in tenths of a MW.
@@ -224,11 +225,11 @@ impl<A: Allocator> Hour<A> {
         ensures steps { IsHour self.now }
         ensures small { result ≤ most_steps * greatest_volume }
     {
-        self.side(side).all().volume
+        self.side(side).total_sums().volume
     }
 
-    /// The sums of the steps of one side that are better than a price, and their gain there.
-    pub(crate) fn better(&self, side: Side, price: Price) -> Sums
+    /// The sums of the steps of one side that are better than a price.
+    pub(crate) fn sums_better_than(&self, side: Side, price: Price) -> Sums
         ensures volume { result.volume ≡ better_volume side price self.now }
         ensures small { result.volume ≤ most_steps * greatest_volume }
         ensures gain { signed side (result.value -ℤ price *ℤ pos result.volume)
@@ -237,12 +238,12 @@ impl<A: Allocator> Hour<A> {
             ≤ most_steps * (price_span * greatest_volume) }
     {
         let ladder = self.side(side);
-        let count = ladder.place(sort_key_of(side, price, 0));
-        ladder.sums(count)
+        let count = ladder.count_before(sort_key_of(side, price, 0));
+        ladder.sums_before(count)
     }
 
     /// The volume of one side that is not worse than a price, in tenths of a MW.
-    pub(crate) fn not_worse(&self, side: Side, price: Price) -> u64
+    pub(crate) fn volume_not_worse_than(&self, side: Side, price: Price) -> u64
         ensures value { result
             ≡ better_volume side price self.now + at_volume side price self.now }
         ensures small { result ≤ most_steps * greatest_volume }
@@ -290,7 +291,7 @@ impl<A: Allocator> Hour<A> {
     }
 
     /// The price, the totals and the welfare that go with the traded volumes.
-    fn cleared(&self, net: i64, matched: &Matched) -> Cleared
+    fn cleared_from(&self, net: i64, matched: &Matched) -> Cleared
         requires net { IsNetVolume net }
         requires ends { AreEnds self.now net matched.now.low matched.now.high }
         requires totals { AreTotals self.now net matched.now.low
@@ -304,12 +305,16 @@ impl<A: Allocator> Hour<A> {
             price: price_between(matched.low, matched.high),
             bought: matched.bought,
             sold: matched.sold,
-            welfare: welfare_at(self, net, matched.low),
+            welfare: welfare_at_price(self, net, matched.low),
         }
     }
 
     /// The executed volumes that go with the traded volumes.
-    fn filled<B: Allocator>(&self, alloc: B, matched: &Matched) -> Result<Vec<u32, B>, AllocError>
+    fn executed_volumes<B: Allocator>(
+        &self,
+        alloc: B,
+        matched: &Matched,
+    ) -> Result<Vec<u32, B>, AllocError>
         ensures { (net : ℤ)
             → AreTotals self.now net matched.now.low matched.now.bought matched.now.sold
             → IfOk result (λ volumes. IsBest self.now net volumes.items) }
@@ -335,7 +340,7 @@ impl<A: Allocator> Hour<A> {
         ensures welfare { greatest_welfare self.now net ≡ option_map (λ c. c.welfare) result }
     {
         match self.matched(net) {
-            Some(matched) => Some(self.cleared(net, &matched)),
+            Some(matched) => Some(self.cleared_from(net, &matched)),
             None => None,
         }
     }
@@ -375,7 +380,7 @@ impl<A: Allocator> Hour<A> {
         let Some(matched) = self.matched(net) else {
             return Ok(None);
         };
-        let volumes = self.filled(alloc, &matched)?;
-        Ok(Some((self.cleared(net, &matched), volumes)))
+        let volumes = self.executed_volumes(alloc, &matched)?;
+        Ok(Some((self.cleared_from(net, &matched), volumes)))
     }
 }

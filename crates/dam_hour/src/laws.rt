@@ -29,7 +29,7 @@ pub fn limits()
 /// each of them supports the best execution.
 ///
 /// So at the price of the period no hourly order loses, and none that is better than it is cut.
-pub fn exchange()
+pub fn prices_between_ends_support()
     ensures prices { (steps : List Step) (net low high p : ℤ) → AreEnds steps net low high
         → IsSupporting steps net p ↔ ((low ≤ℤ p) × (p ≤ℤ high)) }
     ensures best { (steps : List Step) (net low high p : ℤ) (xs : List ℕ)
@@ -38,7 +38,7 @@ pub fn exchange()
 {}
 
 /// Some execution balances exactly if the net volume is from minus all sells to all buys.
-pub fn balance()
+pub fn balances_within_offers()
     ensures within { (steps : List Step) (net : ℤ) (xs : List ℕ)
         → IsExecution steps xs → Balances steps net xs → IsWithinOffers steps net }
     ensures exists { (steps : List Step) (net : ℤ)
@@ -47,7 +47,7 @@ pub fn balance()
 
 /// For steps whose limits and volumes are in range: if an execution balances, there is a best one, and
 /// there are a least and a greatest supporting price.
-pub fn existence()
+pub fn best_execution_exists()
     ensures ends { (steps : List Step) (net : ℤ)
         → AreInRange steps → IsWithinOffers steps net
         → (low : ℤ) × (high : ℤ) × AreEnds steps net low high }
@@ -57,7 +57,7 @@ pub fn existence()
 {}
 
 /// There is one least and one greatest supporting price, and one best execution.
-pub fn uniqueness()
+pub fn best_execution_is_unique()
     ensures ends { (steps : List Step) (net low high other_low other_high : ℤ)
         → AreEnds steps net low high → AreEnds steps net other_low other_high
         → (low ≡ other_low) × (high ≡ other_high) }
@@ -66,7 +66,7 @@ pub fn uniqueness()
 {}
 
 /// The cases of the period's price, of which one applies; the price lies between the ends.
-pub fn price()
+pub fn price_is_between_ends()
     ensures between { (low high : ℤ) → low ≤ℤ high
         → (low ≤ℤ price_between low high) × (price_between low high ≤ℤ high) }
     ensures low_open { (high : ℤ) → high <ℤ highest_price
@@ -81,7 +81,7 @@ pub fn price()
 
 /// The greatest welfare as a function of the net volume is the best execution's, and there is none
 /// exactly if nothing balances.
-pub fn welfare()
+pub fn best_has_greatest_welfare()
     ensures best { (steps : List Step) (net : ℤ) (xs : List ℕ)
         → IsBest steps net xs → greatest_welfare steps net ≡ Some (welfare_of steps xs) }
     ensures reached { (steps : List Step) (net w : ℤ) → greatest_welfare steps net ≡ Some w
@@ -96,7 +96,7 @@ pub fn welfare()
 
 /// The welfare of a balanced execution is its surplus at any price and that price times the net
 /// volume; and at a price that supports it the surplus is at least 0, and the greatest there is.
-pub fn surplus()
+pub fn supported_surplus_is_greatest()
     ensures welfare { (p net : ℤ) (steps : List Step) (xs : List ℕ)
         → Balances steps net xs → welfare_of steps xs ≡ execution_surplus p steps xs +ℤ p *ℤ net }
     ensures at_least_zero { (p : ℤ) (steps : List Step) (xs : List ℕ)
@@ -110,14 +110,14 @@ pub fn surplus()
 /// each at most the number of steps times the greatest volume. The welfare, in cents per MWh times
 /// tenths of a MW, has at most the size of the number of steps times the greatest price times the
 /// greatest volume, above 0 or below.
-pub fn magnitude()
+pub fn executions_are_small()
     ensures { (steps : List Step) (xs : List ℕ) → AreInRange steps → IsExecution steps xs
         → AreSmall (length steps) (executed_volume Buy steps xs) (executed_volume Sell steps xs)
         (welfare_of steps xs) }
 {}
 
 /// An execution has one volume for each step, and none is greater than its step's own.
-pub fn lengths()
+pub fn executions_fit_steps()
     ensures length { (steps : List Step) (xs : List ℕ)
         → IsExecution steps xs → length xs ≡ length steps }
     ensures at_most { (steps : List Step) (xs : List ℕ) (place : ℕ) (step : Step) (x : ℕ)
@@ -127,7 +127,7 @@ pub fn lengths()
 
 /// The executions of some steps followed by others are an execution of the first, followed by an
 /// execution of the others; their executed volumes and their welfare add up.
-pub fn joining()
+pub fn executions_join()
     ensures joined { (first second : List Step) (xs ys : List ℕ)
         → IsExecution first xs → IsExecution second ys → IsExecution (first ++ second) (xs ++ ys) }
     ensures parted { (first second : List Step) (zs : List ℕ) → IsExecution (first ++ second) zs
@@ -142,7 +142,7 @@ pub fn joining()
 
 /// The price of the period supports the best execution: no hourly order loses at it, and none that is
 /// better than it is cut.
-pub fn support()
+pub fn price_supports_best()
     ensures { (steps : List Step) (net low high : ℤ) (xs : List ℕ)
         → AreEnds steps net low high → IsBest steps net xs
         → Supports (price_between low high) steps xs }
@@ -150,7 +150,7 @@ pub fn support()
 
 /// The prices fall as the net volume rises: no price that supports a balanced execution is above one that supports an
 /// execution at a smaller net volume, and so it is with the prices of the period.
-pub fn falling()
+pub fn prices_fall_as_net_rises()
     ensures supporting { (steps : List Step) (net other p q : ℤ)
         → IsSupporting steps net p → IsSupporting steps other q → net <ℤ other → q ≤ℤ p }
     ensures price { (steps : List Step) (net other low high other_low other_high : ℤ)

@@ -13,7 +13,7 @@ ghost use Rattle.dam_hour.specs.Market.{order_surplus, IsExecutedAt};
 /// at all. So none loses, and no other volume, from 0 to its own, would give it more surplus. Of two
 /// orders of one side and limit, the later in book order gets nothing before the earlier has its whole
 /// volume.
-pub fn fair_in_a_period()
+pub fn a_period_is_fair()
     ensures better { (steps : List Step) (net price : ℤ)
         (place : ℕ) (step : Step) (volume : ℕ)
         → IsExecutedAt steps net price place step volume
@@ -39,9 +39,9 @@ pub fn fair_in_a_period()
 /// execution are the same.
 ///
 /// So the price is the same too. An order that is better or worse than it has its whole volume or none,
-/// in any book order (`fair_in_a_period`). Only orders whose limit is the price, of one side, may get
+/// in any book order (`a_period_is_fair`). Only orders whose limit is the price, of one side, may get
 /// more or less.
-pub fn book_order()
+pub fn book_order_decides_only_ties()
     ensures welfare { (steps others : List Step) (net : ℤ) → IsPermutation steps others
         → greatest_welfare steps net ≡ greatest_welfare others net }
     ensures ends { (steps others : List Step) (net low high : ℤ) → IsPermutation steps others

@@ -20,7 +20,7 @@ pub struct Step {
 
 impl Step {
     /// The cents by which the limit is better than the price: 0 at the price, below 0 if it is worse.
-    pub(crate) fn margin(self, price: Price) -> i32
+    pub(crate) fn margin_at(self, price: Price) -> i32
         ensures value { result ≡ margin_at self price }
         ensures at_least { neg_ℤ (pos price_span) ≤ℤ result }
         ensures at_most { result ≤ℤ pos price_span }
@@ -31,9 +31,8 @@ impl Step {
         }
     }
 
-    /// The step itself. The contract states the ranges of its limit and its volume, which the types
-    /// keep.
-    pub(crate) fn in_range(self) -> Step
+    /// The step itself, for proofs: the contract states the ranges of its limit and volume, which the types keep.
+    pub(crate) fn use_range(self) -> Step
         ensures same { result ≡ self }
         ensures limit { IsPrice result.price }
         ensures volume { IsQuantity result.qty }
@@ -61,22 +60,22 @@ impl Step {
     }
 
     /// The step's volume in tenths of a MW if its limit is the price, and otherwise 0.
-    pub(crate) fn volume_at(&self, price: Price) -> u64
+    pub(crate) fn marginal_volume(&self, price: Price) -> u64
         ensures { result ≡ if_at (margin_at self.now price) self.now.qty }
     {
         let volume = self.volume();
-        let margin = self.margin(price);
+        let margin = self.margin_at(price);
         if margin == 0 { volume } else { 0 }
     }
 
     /// The executed volume at that price, in tenths of a MW: all of a better step, none of a worse one,
     /// and at the price as much as is left for it.
-    pub(crate) fn share(&self, price: Price, left: u64) -> u64
+    pub(crate) fn executed_at(&self, price: Price, left: u64) -> u64
         ensures value { result ≡ share (margin_at self.now price) self.now.qty left }
         ensures small { result ≤ greatest_volume }
     {
         let volume = self.volume();
-        let margin = self.margin(price);
+        let margin = self.margin_at(price);
         if margin > 0 {
             volume
         } else if margin == 0 {

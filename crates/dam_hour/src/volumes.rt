@@ -24,8 +24,8 @@ impl VolumeRange {
         ensures small { result.most ≤ most_steps * greatest_volume }
     {
         VolumeRange {
-            least: hour.better(side, price).volume,
-            most: hour.not_worse(side, price),
+            least: hour.sums_better_than(side, price).volume,
+            most: hour.volume_not_worse_than(side, price),
         }
     }
 }
@@ -41,13 +41,14 @@ fn value_at(price: Price, volume: u64) -> i64
     i64::from(price.get()) * volume as i64
 }
 
-/// The gain of the steps at the price if the better ones are executed in full, in cents per MWh times tenths of a MW.
-pub(crate) fn surplus<A: Allocator>(hour: &Hour<A>, price: Price) -> u64
+/// The surplus of the hour's steps at the price if the better ones are executed in full, in cents per MWh times
+/// tenths of a MW.
+pub(crate) fn full_surplus<A: Allocator>(hour: &Hour<A>, price: Price) -> u64
     ensures value { result ≡ full_surplus price hour.now }
     ensures small { result ≤ 2 * (most_steps * (price_span * greatest_volume)) }
 {
-    let buys = hour.better(Side::Buy, price);
-    let sells = hour.better(Side::Sell, price);
+    let buys = hour.sums_better_than(Side::Buy, price);
+    let sells = hour.sums_better_than(Side::Sell, price);
     let buyers_gain = buys.value - value_at(price, buys.volume);
     let sellers_gain = value_at(price, sells.volume) - sells.value;
     buyers_gain as u64 + sellers_gain as u64

@@ -1,4 +1,4 @@
--- The printed text of a row.
+-- The printed text of a sequence of calls.
 use Rattle.std.specs.Prelude.{◌≡◌, ℕ, List, ◌++◌, true, false, codes, decimal}
 use Rattle.dam_engines.specs.Fault.{fault_text}
 use Rattle.dam_refusals.specs.declared.answer.Answer.{Answer}
@@ -23,11 +23,11 @@ answer_text (Text false) = codes "refused"
 abbrev pub told_text : Told → List ℕ
 told_text told = answer_text told.answer ++ (codes ", " ++ (decimal told.refused ++ codes " calls refused"))
 
--- why a row came to no end
+-- why a sequence of calls came to no end
 abbrev pub stop_text : Stop → List ℕ
 stop_text Memory = codes "memory"
 stop_text Wrong = codes "wrong"
 
--- the row was a day of this number of entries
+-- the sequence was a day of this number of entries
 abbrev pub IsDay : ℕ → Told → Type 0
 IsDay entries told = told.answer ≡ Entries entries

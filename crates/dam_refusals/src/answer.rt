@@ -1,4 +1,4 @@
-//! The printed answer of a row.
+//! The printed answer of a sequence of calls.
 
 use dam_blocks::ProblemFault;
 use dam_engines::RunFault;
@@ -12,10 +12,10 @@ use std::fmt;
 /// The greatest number of tries of a call.
 pub const TRIES: u32 = 10;
 
-/// Why a row stopped before its end.
+/// Why a sequence of calls stopped before its end.
 #[derive(Clone, Copy, PartialEq, Eq)]
 pub enum Stop {
-    /// Memory was refused before the first call of the row.
+    /// Memory was refused before the first call of the sequence.
     Memory,
     /// A call gave a wrong answer, or a refused call changed something.
     Wrong,
@@ -83,7 +83,7 @@ impl fmt::Display for Stop {
     }
 }
 
-/// The answer of a row's last call.
+/// The answer of a sequence's last call.
 #[derive(Clone, Copy, PartialEq, Eq)]
 pub enum Answer {
     /// A journal of this number of entries.
@@ -138,7 +138,7 @@ impl fmt::Display for Answer {
     }
 }
 
-/// The result of a row.
+/// The result of a sequence of calls.
 #[derive(Clone, Copy, PartialEq, Eq)]
 pub struct Told {
     pub answer: Answer,

@@ -38,7 +38,7 @@ impl Pieces {
     }
 
     /// The number of pieces that were ended, if no worker is at one.
-    fn all_ended(&self) -> Option<u32> {
+    fn count_if_all_ended(&self) -> Option<u32> {
         let ended = self.ended.load(Ordering::SeqCst);
         if self.begun.load(Ordering::SeqCst) == ended {
             Some(ended)
@@ -66,11 +66,11 @@ fn search_again<R: Threads + Sync>(
     let pieces = Pieces::new();
     let mut ended = 0;
     for refused in 0..TRIES {
-        if pieces.all_ended() != Some(ended) {
+        if pieces.count_if_all_ended() != Some(ended) {
             return Err(Stop::Wrong);
         }
         let found = search(rt, alloc, problem, plan, &pieces);
-        ended = pieces.all_ended().ok_or(Stop::Wrong)?;
+        ended = pieces.count_if_all_ended().ok_or(Stop::Wrong)?;
         if found != Err(SearchFault::Memory) {
             let answer = answer_of(found);
             return Ok(Told { answer, refused });
@@ -87,14 +87,14 @@ pub fn search_by_line<R: Threads + Sync>(
     words: &[String],
 ) -> Result<Told, Stop> {
     match read_line(alloc, words) {
-        Ok(job) => search_for(rt, alloc, text, job),
+        Ok(job) => search_by_job(rt, alloc, text, job),
         Err(LineFault::Memory) => Err(Stop::Memory),
         Err(LineFault::Refused { .. }) => Err(Stop::Wrong),
     }
 }
 
 /// Does the same for the job that words ask for.
-fn search_for<R: Threads + Sync>(
+fn search_by_job<R: Threads + Sync>(
     rt: &R,
     alloc: Global,
     text: &[u8],

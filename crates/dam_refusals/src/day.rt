@@ -4,7 +4,7 @@ ghost use Rattle.dam_gate.specs.Settled.{IsSettled};
 ghost use Rattle.dam_refusals.specs.Printed.{IsDay};
 
 use crate::answer::{Answer, Stop, TRIES, Told};
-use crate::round::Round;
+use crate::passes::Passes;
 use dam_book::{Command, DayLength, PackedEntry, Seed};
 use dam_gate::{
     Account, DayFault, FreeTurn, Gate, GateName, Journal, Keeper, MOST_PASSES, Mismatch, Opening,
@@ -49,8 +49,9 @@ fn are_equal(entries: &[PackedEntry], others: &[PackedEntry]) -> bool {
             .all(|(entry, other)| entry.equals(other))
 }
 
-/// The day at a gate of this opening, whose book hashes names by the seed, and whose journal has to be the keeper's.
-fn hold_named<J: GateName, R: Wait>(
+/// Holds the keeper's day at a gate of this opening, whose book hashes names by the seed. Its journal has to equal the
+/// keeper's.
+fn hold_at_gate<J: GateName, R: Wait>(
     rt: &R,
     alloc: Global,
     opening: Opening,
@@ -61,15 +62,15 @@ fn hold_named<J: GateName, R: Wait>(
     ensures { IfOk result (IsDay (length keeper.now.journal.entries)) }
 {
     let accounts = Vec::with_capacity(alloc, MOST_PASSES as usize)?;
-    let mut round = Round::<J>::new(alloc)?;
+    let mut passes = Passes::<J>::new(alloc)?;
     let gate = Gate::<J, &R>::begin_seeded(rt, alloc, opening, seed)?;
     for entry in keeper.entries() {
         let command = entry.command().command();
-        round.enter(rt, &gate, &command, entry.number().wrapping_sub(1))?;
+        passes.enter(rt, &gate, &command, entry.number().wrapping_sub(1))?;
     }
     let journal = gate.finish();
-    let refused = round.refused;
-    let accounts = round.into_accounts(accounts)?;
+    let refused = passes.refused;
+    let accounts = passes.into_accounts(accounts)?;
     let (settled, again) = settle_again(alloc, journal, &accounts)?;
     if !are_equal(settled.journal().entries(), keeper.entries()) {
         return Err(Stop::Wrong);
@@ -96,11 +97,11 @@ pub fn hold_day<R: Wait>(
         keeper.apply(command.copy())?;
     }
     keeper.apply(Command::Close)?;
-    hold_named::<Brand, R>(rt, alloc, Opening::new(periods.get()), seed, &keeper)
+    hold_at_gate::<Brand, R>(rt, alloc, Opening::new(periods.get()), seed, &keeper)
 }
 
 /// Has participants enter the commands on threads of their own, at a gate whose book hashes names by the seed.
-pub fn run_again<R: Threads + Wait + Sync>(
+pub fn run_threads_again<R: Threads + Wait + Sync>(
     rt: &R,
     alloc: Global,
     seed: Seed,

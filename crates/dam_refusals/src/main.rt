@@ -1,10 +1,10 @@
 //! Calls that are made again if memory was refused to them: `tests/hostile` refuses each of their calls for memory in
 //! turn.
 //!
-//! The first word names a row of calls, as `told` has them; without a word it is a day at a gate. Standard input is its
-//! journal, if it needs one. The program prints the answer of the last call, and how many calls were refused. It prints
-//! `memory` if memory was refused before the row's first call, and `wrong` if a call gave a wrong answer or a refused
-//! call changed something.
+//! The first word names a sequence of calls, as `run_sequence` has them; without a word it is a day at a gate. Standard
+//! input is its journal, if it needs one. The program prints the answer of the last call, and how many calls were refused.
+//! It prints `memory` if memory was refused before the first call of the sequence, and `wrong` if a call gave a wrong
+//! answer or a refused call changed something.
 //!
 //! The books of gates hash names with a seed of the system's random bytes.
 #![tactic(auto)]
@@ -13,17 +13,17 @@ mod answer;
 mod clearing;
 mod day;
 mod line;
-mod round;
-mod rows;
+mod passes;
+mod refused_calls;
 mod texts;
 
 use answer::{Stop, Told};
 use clearing::search_by_line;
 use dam_book::Seed;
 use dam_results::read_journal;
-use day::{hold_day, run_again};
+use day::{hold_day, run_threads_again};
 use line::read_words_again;
-use rows::{fill_journal, refuse_commands, settle_others};
+use refused_calls::{fill_journal, refuse_commands, settle_others};
 use std::alloc::Global;
 use std::io::Read;
 use std::sync::Wait;
@@ -40,8 +40,8 @@ fn main(rt: HostRuntime) -> io::Result<()> {
     let mut text = Vec::new(alloc);
     rt.stdin().read_to_end(&mut text)?;
     let told = match words.as_slice() {
-        [] => told(&rt, alloc, Seed::drawn(&rt), "day", &[], &text),
-        [row, rest @ ..] => told(&rt, alloc, Seed::drawn(&rt), row.as_str(), rest, &text),
+        [] => run_sequence(&rt, alloc, Seed::drawn(&rt), "day", &[], &text),
+        [name, rest @ ..] => run_sequence(&rt, alloc, Seed::drawn(&rt), name.as_str(), rest, &text),
     };
     match told {
         Ok(told) => println!(rt; "{told}"),
@@ -49,18 +49,18 @@ fn main(rt: HostRuntime) -> io::Result<()> {
     }
 }
 
-/// The result of the row of this name, from the further words and the text.
-fn told<R: Threads + Wait + Sync>(
+/// Makes the calls of the sequence of this name, from the further words and the text.
+fn run_sequence<R: Threads + Wait + Sync>(
     rt: &R,
     alloc: Global,
     seed: Seed,
-    row: &str,
+    name: &str,
     words: &[String],
     text: &[u8],
 ) -> Result<Told, Stop> {
-    match row {
-        "day" => of_commands(rt, alloc, seed, text, false),
-        "threads" => of_commands(rt, alloc, seed, text, true),
+    match name {
+        "day" => hold_day_of_text(rt, alloc, seed, text, false),
+        "threads" => hold_day_of_text(rt, alloc, seed, text, true),
         "filled" => fill_journal(rt, alloc, seed, false),
         "full" => fill_journal(rt, alloc, seed, true),
         "others" => refuse_commands(rt, alloc, seed),
@@ -73,8 +73,8 @@ fn told<R: Threads + Wait + Sync>(
     }
 }
 
-/// A day of the text's commands, by one thread or by one for each participant.
-fn of_commands<R: Threads + Wait + Sync>(
+/// Holds a day of the text's commands, by one thread or by one for each participant.
+fn hold_day_of_text<R: Threads + Wait + Sync>(
     rt: &R,
     alloc: Global,
     seed: Seed,
@@ -83,7 +83,7 @@ fn of_commands<R: Threads + Wait + Sync>(
 ) -> Result<Told, Stop> {
     let read = read_journal(alloc, text)?;
     if on_threads {
-        run_again(rt, alloc, seed, read.periods, &read.commands)
+        run_threads_again(rt, alloc, seed, read.periods, &read.commands)
     } else {
         hold_day(rt, alloc, seed, read.periods, &read.commands)
     }

@@ -61,7 +61,7 @@ pub fn read_again(alloc: Global, text: &[u8]) -> Result<Told, Stop> {
 }
 
 /// The entries, unpacked.
-fn unpacked(alloc: Global, packed: &[PackedEntry]) -> Result<Vec<Entry>, AllocError>
+fn unpack_entries(alloc: Global, packed: &[PackedEntry]) -> Result<Vec<Entry>, AllocError>
     ensures { IfOk result (λ entries. entries.items ≡ packed.now) }
 {
     let mut entries = Vec::with_capacity(alloc, packed.len())?;
@@ -80,7 +80,7 @@ fn write_again(
 ) -> Result<Told, Stop>
     requires { length packed.now ≤ most_entries }
 {
-    let entries = unpacked(alloc, packed)?;
+    let entries = unpack_entries(alloc, packed)?;
     for refused in 0..TRIES {
         let written = (
             journal_text(alloc, periods, &entries),

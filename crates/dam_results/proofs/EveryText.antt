@@ -21,7 +21,7 @@ use Rattle.dam_results.specs.declared.journal.JournalFault.TheVariants.{Memory}
 use Rattle.dam_results.specs.Records.{Fields, day_row, row_of, records_of, kind_field, optional_text, side_word}
 use Rattle.dam_results.specs.Rules.{FieldRule, OneOf, NameOrEmpty, Obeys, IsLeastBroken, word, day_rules, hour_rules, block_rules}
 use Rattle.dam_results.specs.Rules.{amend_rules, cancel_rules, close_rules, command_rules, submit_of, submit_rules}
-use Rattle.dam_results.specs.Journal.{AreRecords, IsCommand, ReadsAs, first_high}
+use Rattle.dam_results.specs.Journal.{AreRecords, IsCommand, ReadsAs, first_non_ascii}
 use Rattle.dam_results.specs.Faults.{IsRecordFault, IsFaultOfRecords, IsJournalFault}
 use Rattle.dam_results.specs.inside.NineFields.{field_or_empty}
 use Rattle.dam_results.proofs.FieldByField.{nine}
@@ -286,7 +286,7 @@ decided_records (row ∷ rest) = first-row row rest (decided_first row)
 
 -- ---- the text
 
-text_fault : (text : List ℕ) (fault : JournalFault) → length text ≤ most_bytes → first_high text ≡ None → IsFaultOfRecords
+text_fault : (text : List ℕ) (fault : JournalFault) → length text ≤ most_bytes → first_non_ascii text ≡ None → IsFaultOfRecords
     (records_of text) fault → fault ≢ Memory → IsJournalFault text fault
 text_fault text TooLong short ascii is other = absurd is.faulty
 text_fault text (NotAscii offset) short ascii is other = absurd is.faulty
@@ -299,17 +299,17 @@ text_fault text Memory short ascii is other = absurd (other refl)
 abbrev Texts : List ℕ → Type 0
 Texts text = ((periods : ℕ) × (commands : List Command) × ReadsAs text periods commands) ⊎ Faulty (IsJournalFault text)
 
-by_records : (text : List ℕ) → length text ≤ most_bytes → first_high text ≡ None → Records (records_of text) → Texts text
+by_records : (text : List ℕ) → length text ≤ most_bytes → first_non_ascii text ≡ None → Records (records_of text) → Texts text
 by_records text short ascii (inl are) = inl (are.0, are.1, record { short = short; ascii = ascii; records = are.2 })
 by_records text short ascii (inr faulty) = inr (faulty.0, text_fault text faulty.0 short ascii faulty.1 faulty.2, faulty.2)
 
-by_bytes : (text : List ℕ) (high : Option ℕ) → length text ≤ most_bytes → first_high text ≡ high → Texts text
+by_bytes : (text : List ℕ) (high : Option ℕ) → length text ≤ most_bytes → first_non_ascii text ≡ high → Texts text
 by_bytes text None short is = by_records text short is (decided_records (records_of text))
 by_bytes text (Some offset) short is = inr (NotAscii offset, (short, is), λ same. cc)
 
 by_length : (text : List ℕ) → (most_bytes < length text) ⊎ (length text ≤ most_bytes) → Texts text
 by_length text (inl long) = inr (TooLong, long, λ is. cc)
-by_length text (inr short) = by_bytes text (first_high text) short refl
+by_length text (inr short) = by_bytes text (first_non_ascii text) short refl
 
 pub decided_text : (text : List ℕ) → Texts text
 decided_text text = by_length text (cases_lt most_bytes (length text))

@@ -9,7 +9,7 @@ use Rattle.dam_results.specs.declared.journal.JournalFault.TheVariants.{TooLong,
 use Rattle.dam_results.specs.declared.journal.JournalFault.TheVariants.{Memory}
 use Rattle.dam_results.specs.Records.{Fields, records_of}
 use Rattle.dam_results.specs.Rules.{FieldRule, IsLeastBroken, rules_of}
-use Rattle.dam_results.specs.Journal.{first_high}
+use Rattle.dam_results.specs.Journal.{first_non_ascii}
 use Rattle.dam_results.specs.Faults.{IsRecordFault, HasFault, IsFaultOfRecords, IsJournalFault}
 use Rattle.dam_results.proofs.JournalsHaveNoFault.{HasFault-none}
 
@@ -137,8 +137,8 @@ causes-alike rows f g (OfRecord h) (OfRecord k) = inl (HasFault-one rows f g h k
 -- a fault of a text: it is too long, a byte of it isn't ASCII, or its records have the fault
 data Source (text : List ℕ) (f : JournalFault) : Type 0 where
   OfLength : most_bytes < length text → f ≡ TooLong → Source text f
-  OfByte : (offset : ℕ) → length text ≤ most_bytes → first_high text ≡ Some offset → f ≡ NotAscii offset → Source text f
-  OfRecords : length text ≤ most_bytes → first_high text ≡ None → Cause (records_of text) f → Source text f
+  OfByte : (offset : ℕ) → length text ≤ most_bytes → first_non_ascii text ≡ Some offset → f ≡ NotAscii offset → Source text f
+  OfRecords : length text ≤ most_bytes → first_non_ascii text ≡ None → Cause (records_of text) f → Source text f
 
 source_of : (text : List ℕ) (f : JournalFault) → IsJournalFault text f → Source text f
 source_of text TooLong h = OfLength h refl

@@ -12,7 +12,7 @@ use Rattle.dam_book.specs.declared.command.Entry.{Entry}
 use Rattle.dam_book.specs.Limits.{most_entries}
 use Rattle.dam_results.specs.Limits.{most_bytes}
 use Rattle.dam_results.specs.Records.{Fields, records_of, day_row, row_of}
-use Rattle.dam_results.specs.Journal.{IsCommand, ReadsAs, first_high}
+use Rattle.dam_results.specs.Journal.{IsCommand, ReadsAs, first_non_ascii}
 use Rattle.dam_results.specs.Spelling.{IsLineEnd, LineFeed, CarriageReturn, Both, IsSpelledField, Bare, Quoted, IsSpelledRow, One, More}
 use Rattle.dam_results.specs.Spelling.{IsSpelled, Nothing, EmptyLine, Record, LastRecord}
 use Rattle.dam_results.specs.Written.{row_line, command_line, written, journal_text}
@@ -113,8 +113,8 @@ all_low (b ∷ x) h =
 not_less : (n : ℕ) → ltb n n ≡ false
 not_less n = grind (arith, nat_tests)
 
-pub first_high-low : (x : List ℕ) → IsLow x → first_high x ≡ None
-first_high-low x h = rw (all_low x h, not_less (length x)) refl
+pub first_non_ascii-low : (x : List ℕ) → IsLow x → first_non_ascii x ≡ None
+first_non_ascii-low x h = rw (all_low x h, not_less (length x)) refl
 
 -- a text that spells a journal's records reads as that journal
 pub reads_spelled : (periods : ℕ) (commands : List Command) (text : List ℕ) → is_day periods ≡ true → AllByRecursion IsCommand commands
@@ -126,7 +126,7 @@ reads_spelled periods commands text day valid few short spelled =
     let read : records_of text ≡ rows = records_of-spelled rows text spelled (plain_rows rows fields) in
     record {
       short = short;
-      ascii = first_high-low text (low_text rows text spelled fields);
+      ascii = first_non_ascii-low text (low_text rows text spelled fields);
       records = record {
         few = let n = ap length read in let m = length-map commands row_of in omega arith;
         day = day;

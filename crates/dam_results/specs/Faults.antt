@@ -8,7 +8,7 @@ use Rattle.dam_results.specs.declared.journal.JournalFault.TheVariants.{TooLong,
 use Rattle.dam_results.specs.declared.journal.JournalFault.TheVariants.{Memory}
 use Rattle.dam_results.specs.Records.{Fields, records_of, kind_field}
 use Rattle.dam_results.specs.Rules.{rules_of, IsLeastBroken}
-use Rattle.dam_results.specs.Journal.{AreRecords, first_high}
+use Rattle.dam_results.specs.Journal.{AreRecords, first_non_ascii}
 
 -- the record of that number is within the limit, and a day if it is the first
 abbrev pub IsInPlace : ℕ → Fields → Type 0
@@ -46,7 +46,7 @@ IsFaultOfRecords rows fault = HasFault rows fault
 -- whole text has no fault of length or bytes
 abbrev pub IsJournalFault : List ℕ → JournalFault → Type 0
 IsJournalFault text TooLong = most_bytes < length text
-IsJournalFault text (NotAscii offset) = (length text ≤ most_bytes) × (first_high text ≡ Some offset)
-IsJournalFault text Memory = (length text ≤ most_bytes) × (first_high text ≡ None)
+IsJournalFault text (NotAscii offset) = (length text ≤ most_bytes) × (first_non_ascii text ≡ Some offset)
+IsJournalFault text Memory = (length text ≤ most_bytes) × (first_non_ascii text ≡ None)
 IsJournalFault text fault =
-    (length text ≤ most_bytes) × (first_high text ≡ None) × IsFaultOfRecords (records_of text) fault
+    (length text ≤ most_bytes) × (first_non_ascii text ≡ None) × IsFaultOfRecords (records_of text) fault

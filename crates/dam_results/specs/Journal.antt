@@ -20,8 +20,8 @@ IsCommand (Cancel who name) = IsParticipant who × IsName name
 IsCommand Close = Unit {0}
 
 -- the offset of the first byte that isn't ASCII
-abbrev pub first_high : List ℕ → Option ℕ
-first_high text = position (nat_lt 127) text
+abbrev pub first_non_ascii : List ℕ → Option ℕ
+first_non_ascii text = position (nat_lt 127) text
 
 -- these records are a day and commands, as many as a text may hold
 pub record AreRecords (rows : List Fields) (periods : ℕ) (commands : List Command) : Type 0 where
@@ -33,7 +33,7 @@ pub record AreRecords (rows : List Fields) (periods : ℕ) (commands : List Comm
 -- the text is a journal of these periods and commands
 pub record ReadsAs (text : List ℕ) (periods : ℕ) (commands : List Command) : Type 0 where
   pub short : length text ≤ most_bytes
-  pub ascii : first_high text ≡ None
+  pub ascii : first_non_ascii text ≡ None
   pub records : AreRecords (records_of text) periods commands
 
 -- the text is a journal, and this is made of its periods and commands

@@ -9,7 +9,8 @@ use dam_blocks::{Best, Problem, Selection, bought_volume, net_volume};
 use dam_book::{Period, Price, laws};
 use std::alloc::{AllocError, Allocator};
 
-/// The clearing of a selection, one of each for every period from the first on.
+/// The clearing of a day under a selection: for each period, from the first on, its result, its price and the executed
+/// volumes.
 #[derive(Drop)]
 pub(crate) struct Clearing<A: Allocator> {
     pub(crate) periods: Vec<PeriodResult, A>,

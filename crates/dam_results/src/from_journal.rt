@@ -19,7 +19,7 @@ pub trait FromJournal: Drop {
         ensures { IfOk result (made_of periods []) };
 
     /// Takes the command of the entry of this number, counted from 1.
-    fn take(&mut self, number: u32, command: &Command) -> Result<(), AllocError>
+    fn take_command(&mut self, number: u32, command: &Command) -> Result<(), AllocError>
         ensures { OnOk result ((periods : ℕ) (commands : List Command)
             → length commands + 1 ≡ number → made_of periods commands self.old
             → made_of periods (commands ++ command.now ∷ []) self.new) };

@@ -12,7 +12,7 @@ ghost use Rattle.dam_results.specs.inside.NineFields.{fields_in, TakesRow};
 use crate::from_journal::FromJournal;
 use crate::laws;
 use crate::limits::{MOST_BYTES, MOST_RECORDS};
-use crate::nine_fields::{NineFields, field_of};
+use crate::nine_fields::{NineFields, field_or_empty};
 use crate::record::{read_command, read_day};
 use crate::records::{Field, Records};
 use dam_book::{Command, DayLength};
@@ -42,7 +42,7 @@ impl FromJournal for JournalRead {
         })
     }
 
-    fn take(&mut self, _number: u32, command: &Command) -> Result<(), AllocError> {
+    fn take_command(&mut self, _number: u32, command: &Command) -> Result<(), AllocError> {
         self.commands.push(command.copy())?;
         Ok(())
     }
@@ -86,8 +86,8 @@ impl From<AllocError> for JournalFault {
     }
 }
 
-fn first_high(text: &[u8]) -> Option<usize>
-    ensures { result ≡ Journal.first_high text.now }
+fn first_non_ascii(text: &[u8]) -> Option<usize>
+    ensures { result ≡ Journal.first_non_ascii text.now }
 {
     if text.is_ascii() {
         return None;
@@ -97,13 +97,13 @@ fn first_high(text: &[u8]) -> Option<usize>
 
 fn check_bytes(text: &[u8]) -> Result<(), JournalFault>
     ensures { MatchResult result
-        (λ _. (length text.now ≤ most_bytes) × (Journal.first_high text.now ≡ None))
+        (λ _. (length text.now ≤ most_bytes) × (Journal.first_non_ascii text.now ≡ None))
         (IsJournalFault text.now) }
 {
     if text.len() > MOST_BYTES {
         return Err(JournalFault::TooLong);
     }
-    match first_high(text) {
+    match first_non_ascii(text) {
         Some(offset) => Err(JournalFault::NotAscii(offset)),
         None => Ok(()),
     }
@@ -112,10 +112,10 @@ fn check_bytes(text: &[u8]) -> Result<(), JournalFault>
 fn kind<'r, 'a>(fields: &'r [Field<'a>]) -> &'r [u8]
     ensures { result.now ≡ kind_field (fields_of fields.entry.now) }
 {
-    field_of(fields, 0)
+    field_or_empty(fields, 0)
 }
 
-fn read_first(fields: &[Field]) -> Result<DayLength, JournalFault>
+fn read_day_fields(fields: &[Field]) -> Result<DayLength, JournalFault>
     ensures { MatchResult result
         (λ periods. (is_day periods ≡ true) × (fields_of fields.now ≡ day_row periods))
         (IsRecordFault 1 (fields_of fields.now)) }
@@ -130,7 +130,10 @@ fn read_first(fields: &[Field]) -> Result<DayLength, JournalFault>
 }
 
 /// The fields of a later record, if its number is within the limit and it has nine.
-fn later_row<'r, 'a>(number: usize, fields: &'r [Field<'a>]) -> Result<NineFields<'r>, JournalFault>
+fn later_fields<'r, 'a>(
+    number: usize,
+    fields: &'r [Field<'a>],
+) -> Result<NineFields<'r>, JournalFault>
     requires { 1 < number }
     ensures { MatchResult result
         (λ row. (number ≤ most_records) × (fields_of fields.entry.now ≡ fields_in row))
@@ -145,20 +148,21 @@ fn later_row<'r, 'a>(number: usize, fields: &'r [Field<'a>]) -> Result<NineField
     Ok(row)
 }
 
-fn next_day(records: &mut Records) -> Result<DayLength, JournalFault>
+/// Reads the next record, which has to be the day's.
+fn read_day_record(records: &mut Records) -> Result<DayLength, JournalFault>
     ensures { MatchResult result
         (λ periods. (is_day periods ≡ true)
         × (rows_left records.old ≡ day_row periods ∷ rows_left records.new))
         (IsFaultOfRecords (rows_left records.old)) }
 {
     if records.read()? {
-        read_first(records.fields())
+        read_day_fields(records.fields())
     } else {
         Err(JournalFault::NotDay)
     }
 }
 
-/// Takes the command of the record of the entry of this number.
+/// Reads the fields of a later record as the entry of this number, and gives its command to the value.
 fn take_record<T: FromJournal>(
     made: &mut T,
     number: u32,
@@ -171,10 +175,10 @@ fn take_record<T: FromJournal>(
         ⊎ IsRecordFault (number + 1) (fields_of fields.now) fault) }
 {
     let record_number = number as usize + 1;
-    let row = later_row(record_number, fields)?;
+    let row = later_fields(record_number, fields)?;
     let mut command = Command::Close;
     match read_command(&row, &mut command) {
-        Ok(()) => made.take(number, &command)?,
+        Ok(()) => made.take_command(number, &command)?,
         Err(field) => return Err(JournalFault::BadField(record_number, field)),
     }
     Ok(())
@@ -208,13 +212,17 @@ fn read_records<T: FromJournal>(
         × AreRecords (rows_left records.old) periods commands × T.made_of periods commands made)
         (IsFaultOfRecords (rows_left records.old)) }
 {
-    let periods = next_day(records)?;
+    let periods = read_day_record(records)?;
     let mut made = T::begin(alloc, seed, periods)?;
     take_records(&mut made, records)?;
     Ok(made)
 }
 
-fn read_text<T: FromJournal>(alloc: Global, seed: T::Seed, text: &[u8]) -> Result<T, JournalFault>
+fn check_and_read<T: FromJournal>(
+    alloc: Global,
+    seed: T::Seed,
+    text: &[u8],
+) -> Result<T, JournalFault>
     ensures ok { IfOk result (IsMadeFrom T.made_of text.now) }
     ensures fault { IfErr result (IsJournalFault text.now) }
 {
@@ -239,7 +247,7 @@ pub fn read_into<T: FromJournal>(
 {
     laws::text_is_one_journal();
     laws::fault_is_no_journal();
-    read_text(alloc, seed, text)
+    check_and_read(alloc, seed, text)
 }
 
 /// The journal that a text says, or the first fault of the text.

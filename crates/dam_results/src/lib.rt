@@ -36,9 +36,9 @@ mod record;
 mod records;
 mod replay;
 mod replies;
+mod results_text;
 mod run;
 pub mod spelling_laws;
-mod text;
 mod writer;
 
 pub use from_journal::FromJournal;
@@ -49,6 +49,6 @@ pub use publish::results;
 pub use published::{PeriodResult, Results, RowResult};
 pub use replay::{replay_commands, replay_text};
 pub use replies::{replies_text, write_reply_line};
+pub use results_text::results_text;
 pub use run::{Run, book_of_text, run_of_text};
-pub use text::results_text;
 pub use writer::{JournalWriter, journal_text, packed_journal_text};

@@ -42,12 +42,12 @@ pub fn published_results_add_up()
     dam_blocks::market::a_closed_book_is_a_problem();
     dam_blocks::market::welfare_is_shared_out();
     dam_blocks::market::money_balances();
-    dam_hour::laws::uniqueness();
+    dam_hour::laws::best_execution_is_unique();
 }
 
 /// An hourly order is published with its execution: at the published price of its period, the best
 /// execution gives it the published volume, at its place among the hourly orders of the period. So
-/// `dam_hour::market::fair_in_a_period` is of each.
+/// `dam_hour::market::a_period_is_fair` is of each.
 pub fn hourly_orders_are_executed()
     ensures executed { (book : BookState) (welfare : ℕ) (periods : List PeriodResult)
         (rows : List RowResult) (clearing : IsClearing book welfare periods rows) (place : ℕ)
@@ -66,7 +66,7 @@ pub fn hourly_orders_are_executed()
 ///
 /// A book that keeps `IsBook` has no block whose parent is missing, so this is of a block without children:
 /// without it, the book keeps `IsBook` (`dam_book::laws::a_book_without_a_childless_order_is_a_book`).
-pub fn a_rejected_block_withdrawn()
+pub fn a_rejected_block_withdrawn_changes_nothing()
     ensures published { (book other : BookState) (place : ℕ) (welfare : ℕ)
         (periods : List PeriodResult) (rows : List RowResult) (who name : List ℕ) (surplus : ℤ)
         → IsBook book → IsBook other → IsWithoutRow book other place
@@ -76,12 +76,12 @@ pub fn a_rejected_block_withdrawn()
 {
     crate::publishing_laws::best_selection_is_result();
     dam_blocks::market::a_closed_book_is_a_problem();
-    dam_blocks::market::a_rejected_block_withdrawn();
+    dam_blocks::market::a_rejected_block_withdrawn_changes_nothing();
 }
 
 /// More blocks, no less welfare: the published welfare of a book is at least the published welfare of the
 /// same book without one of its blocks.
-pub fn a_block_more()
+pub fn a_block_more_never_lowers_welfare()
     ensures welfare { (book other : BookState) (place : ℕ) (key : Key) (order : BlockTerms)
         (welfare other_welfare : ℕ) (periods other_periods : List PeriodResult)
         (rows other_rows : List RowResult) → IsBook book → IsBook other
@@ -93,7 +93,7 @@ pub fn a_block_more()
     crate::publishing_laws::best_selection_is_result();
     dam_blocks::market::a_closed_book_is_a_problem();
     dam_blocks::market::a_changed_book_is_a_changed_problem();
-    dam_blocks::market::a_block_more();
+    dam_blocks::market::a_block_more_never_lowers_welfare();
 }
 
 /// A better limit keeps a block: if a block is published as accepted, then of the same book with a better
@@ -115,7 +115,7 @@ pub fn a_better_limit_keeps_a_block()
 
 /// A rejected block that asks for worse changes nothing: the published results are the same, but for the block's own
 /// surplus.
-pub fn a_rejected_block_that_asks_for_worse()
+pub fn a_worse_limit_keeps_a_rejection()
     ensures published { (book other : BookState) (place : ℕ) (order : BlockTerms) (limit : ℤ)
         (welfare : ℕ) (periods : List PeriodResult) (rows : List RowResult) (who name : List ℕ)
         (surplus : ℤ) → IsWithOtherLimit book other place order limit
@@ -126,5 +126,5 @@ pub fn a_rejected_block_that_asks_for_worse()
 {
     crate::publishing_laws::best_selection_is_result();
     dam_blocks::market::a_changed_book_is_a_changed_problem();
-    dam_blocks::market::a_rejected_block_that_asks_for_worse();
+    dam_blocks::market::a_worse_limit_keeps_a_rejection();
 }

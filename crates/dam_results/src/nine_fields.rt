@@ -19,8 +19,8 @@ pub(crate) struct NineFields<'a> {
     pub(crate) group: &'a [u8],
 }
 
-/// The field at that place, counted from 0, or no byte if the record is shorter.
-pub(crate) fn field_of<'r, 'a>(fields: &'r [Field<'a>], place: usize) -> &'r [u8]
+/// The field at that place, counted from 0, or no bytes if the record is shorter.
+pub(crate) fn field_or_empty<'r, 'a>(fields: &'r [Field<'a>], place: usize) -> &'r [u8]
     ensures { result.now ≡ field_or_empty (fields_of fields.entry.now) place }
 {
     match fields.get(place) {
@@ -40,15 +40,15 @@ impl<'a> NineFields<'a> {
             return None;
         }
         Some(NineFields {
-            kind: field_of(fields, 0),
-            who: field_of(fields, 1),
-            name: field_of(fields, 2),
-            form: field_of(fields, 3),
-            side: field_of(fields, 4),
-            price: field_of(fields, 5),
-            volumes: field_of(fields, 6),
-            parent: field_of(fields, 7),
-            group: field_of(fields, 8),
+            kind: field_or_empty(fields, 0),
+            who: field_or_empty(fields, 1),
+            name: field_or_empty(fields, 2),
+            form: field_or_empty(fields, 3),
+            side: field_or_empty(fields, 4),
+            price: field_or_empty(fields, 5),
+            volumes: field_or_empty(fields, 6),
+            parent: field_or_empty(fields, 7),
+            group: field_or_empty(fields, 8),
         })
     }
 }

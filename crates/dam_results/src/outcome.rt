@@ -12,9 +12,8 @@ use dam_blocks::{Place, Problem, ProblemRow, Selection, surplus};
 use dam_book::Price;
 use std::alloc::{AllocError, Allocator};
 
-/// The surplus of the block at a place at the prices of the periods, in cents per MWh times tenths of a
-/// MW.
-fn surplus_at<B: Allocator>(problem: &Problem<B>, place: usize, prices: &[Price]) -> i64
+/// The surplus of the block at this place, at these prices of the periods, in cents per MWh times tenths of a MW.
+fn block_surplus<B: Allocator>(problem: &Problem<B>, place: usize, prices: &[Price]) -> i64
     requires place { place < length problem.now.blocks }
     requires prices { length prices.now ≤ last_period }
     ensures { HasSurplus problem.now.blocks prices.now place result }
@@ -52,7 +51,7 @@ fn outcome_of<A: Allocator, B: Allocator>(
             who,
             name,
             accepted: selection.has(place),
-            surplus: surplus_at(problem, place, &clearing.prices),
+            surplus: block_surplus(problem, place, &clearing.prices),
         },
     }
 }

@@ -33,7 +33,7 @@ impl FromJournal for PackedJournal {
         })
     }
 
-    fn take(&mut self, _number: u32, command: &Command) -> Result<(), AllocError> {
+    fn take_command(&mut self, _number: u32, command: &Command) -> Result<(), AllocError> {
         let packed = PackedCommand::of(*self.commands.allocator(), command)?;
         self.commands.push(packed)?;
         Ok(())

@@ -15,7 +15,7 @@ pub fn selections_are_published_alike()
         → ArePublished problem sel welfare periods rows → ArePublished problem sel other days others
         → (welfare ≡ other) × (periods ≡ days) × (rows ≡ others) }
 {
-    dam_hour::laws::uniqueness();
+    dam_hour::laws::best_execution_is_unique();
 }
 
 /// The best selection of a problem is its result.
@@ -25,8 +25,8 @@ pub fn best_selection_is_result()
     ensures result { (problem : ProblemState) (sel : List Bool) (welfare : ℤ)
         → IsBestSelection problem sel welfare → IsResult problem sel welfare }
 {
-    dam_blocks::laws::ranking();
-    dam_blocks::laws::verdict();
+    dam_blocks::laws::ranking_is_total();
+    dam_blocks::laws::verdict_tells_eligibility();
 }
 
 /// A closed book is cleared by the published results of its problem.
@@ -47,6 +47,6 @@ pub fn books_are_cleared_alike()
         → (welfare ≡ other) × (periods ≡ days) × (rows ≡ others) }
 {
     best_selection_is_result();
-    dam_blocks::laws::uniqueness();
+    dam_blocks::laws::result_is_unique();
     selections_are_published_alike();
 }

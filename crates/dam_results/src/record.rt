@@ -72,7 +72,7 @@ fn read_side(field: &[u8]) -> Option<Side>
     }
 }
 
-fn read_one_volume(field: &[u8]) -> Option<(Period, Qty)>
+fn read_one_pair(field: &[u8]) -> Option<(Period, Qty)>
     ensures { MatchOption result
         (¬ (Obeys OneVolume field.now))
         (λ pair. IsPeriod pair.0 × IsQuantity pair.1
@@ -110,7 +110,7 @@ pub(crate) fn read_day(row: &NineFields) -> Result<DayLength, usize>
     Ok(periods)
 }
 
-fn read_hour(row: &NineFields, command: &mut Command) -> Result<(), usize>
+fn read_hourly_order(row: &NineFields, command: &mut Command) -> Result<(), usize>
     requires kind { row.now.kind.now ≡ codes "submit" }
     requires form { row.now.form.now ≡ codes "hour" }
     ensures { ReadsCommand (submit_of hour_rules) row.now command.new result }
@@ -119,7 +119,7 @@ fn read_hour(row: &NineFields, command: &mut Command) -> Result<(), usize>
     let name = Name::new(row.name).ok_or(3usize)?;
     let side = read_side(row.side).ok_or(5usize)?;
     let price = read_price(row.price).ok_or(6usize)?;
-    let (period, qty) = read_one_volume(row.volumes).ok_or(7usize)?;
+    let (period, qty) = read_one_pair(row.volumes).ok_or(7usize)?;
     check_no_family(row)?;
     *command = Command::Submit {
         who,
@@ -148,8 +148,8 @@ fn read_block(row: &NineFields, command: &mut Command) -> Result<(), usize>
     Ok(())
 }
 
-/// A submit of something that is no form of an order.
-fn read_no_form(row: &NineFields) -> Result<(), usize>
+/// The number of the least field that breaks its rule, in a submit whose form is neither `hour` nor `block`.
+fn unknown_form_fault(row: &NineFields) -> Result<(), usize>
     requires kind { row.now.kind.now ≡ codes "submit" }
     requires hour { bytes_eq row.now.form.now (codes "hour") ≡ false }
     requires block { bytes_eq row.now.form.now (codes "block") ≡ false }
@@ -166,9 +166,9 @@ fn read_submit(row: &NineFields, command: &mut Command) -> Result<(), usize>
     ensures { ReadsCommand (submit_rules (fields_in row.now)) row.now command.new result }
 {
     match row.form {
-        b"hour" => read_hour(row, command),
+        b"hour" => read_hourly_order(row, command),
         b"block" => read_block(row, command),
-        _ => read_no_form(row),
+        _ => unknown_form_fault(row),
     }
 }
 

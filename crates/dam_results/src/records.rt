@@ -59,7 +59,7 @@ fn row_start(text: &[u8]) -> Option<usize>
 }
 
 /// The place of the first byte that ends a field, outside quotes.
-fn first_mark(text: &[u8]) -> Option<usize>
+fn first_field_end(text: &[u8]) -> Option<usize>
     ensures { result ≡ position ends_field text.now }
 {
     text.iter().position(|byte| ends_field(*byte))
@@ -71,8 +71,8 @@ fn first_quote(text: &[u8]) -> Option<usize>
     text.iter().position(|byte| *byte == b'"')
 }
 
-/// The text after a quote that begins it.
-fn after_quote(text: &[u8]) -> Option<&[u8]>
+/// The text without the quote that begins it, or `None` if none does.
+fn strip_quote(text: &[u8]) -> Option<&[u8]>
     ensures { MatchOption result (IsUnquoted text.entry.now)
         (λ rest. text.entry.now ≡ quote_mark ∷ rest.now) }
 {
@@ -97,7 +97,7 @@ fn bare_part<'a>(text: &'a [u8]) -> (&'a [u8], After<'a>)
         (begun ++ result.0.now) result.1.text.now result.1.goes_on }
     ensures unquoted { result.0.now ≡ [] → IsUnquoted text.entry.now }
 {
-    match first_mark(text) {
+    match first_field_end(text) {
         None => {
             let after = After {
                 text: &[],
@@ -137,7 +137,7 @@ fn join<'a>(
 {
     let mut field = Vec::from_slice(alloc, first)?;
     let mut rest = text;
-    while let Some(doubled) = after_quote(rest) {
+    while let Some(doubled) = strip_quote(rest) {
         let (part, later) = quoted_part(doubled);
         field.push(b'"')?;
         field.extend_from_slice(part)?;
@@ -167,7 +167,7 @@ fn read_field<'a>(alloc: Global, text: &'a [u8]) -> Result<(Field<'a>, After<'a>
     ensures { IfOk result (λ read. EndsField st.StartField [] text.entry.now
         (bytes_of read.0) read.1.text.now read.1.goes_on) }
 {
-    match after_quote(text) {
+    match strip_quote(text) {
         Some(quoted) => read_quoted(alloc, quoted),
         None => {
             let (bare, after) = bare_part(text);

@@ -74,7 +74,7 @@ impl FromJournal for Replay {
         Replay::on(alloc, Book::for_day(alloc, periods, seed))
     }
 
-    fn take(&mut self, number: u32, command: &Command) -> Result<(), AllocError> {
+    fn take_command(&mut self, number: u32, command: &Command) -> Result<(), AllocError> {
         runs_grow();
         self.apply(number, command)
     }

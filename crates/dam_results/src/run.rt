@@ -35,7 +35,7 @@ impl FromJournal for Run {
         Ok(Run { book, refused: 0 })
     }
 
-    fn take(&mut self, _number: u32, command: &Command) -> Result<(), AllocError> {
+    fn take_command(&mut self, _number: u32, command: &Command) -> Result<(), AllocError> {
         runs_grow();
         if let Reply::Refused(_) = self.book.apply(command)? {
             self.refused = self.refused.saturating_add(1);
@@ -56,8 +56,7 @@ pub fn run_of_text(alloc: Global, seed: Seed, text: &[u8]) -> Result<Run, Journa
     read_into(alloc, seed, text)
 }
 
-/// The book that the commands of a journal make of the empty one of its day, from the journal's text, or
-/// the first fault of the text.
+/// The book after all commands of the journal in this text, or the first fault of the text.
 ///
 /// Each command is applied as it is read, and no list of them is kept. The book hashes names by the seed.
 pub fn book_of_text(alloc: Global, seed: Seed, text: &[u8]) -> Result<Book, JournalFault>

@@ -91,7 +91,7 @@ fn put_day(out: &mut Writer<Vec<u8>>, periods: DayLength) -> Result<(), AllocErr
     put_row(out, &[b"day", periods, b"", b"", b"", b"", b"", b"", b""])
 }
 
-fn put_hour(
+fn put_hourly_order(
     alloc: Global,
     out: &mut Writer<Vec<u8>>,
     who: &Participant,
@@ -159,7 +159,7 @@ fn put_command(
             who,
             name,
             order: Order::Hour(order),
-        } => put_hour(alloc, out, who, name, order),
+        } => put_hourly_order(alloc, out, who, name, order),
         Command::Submit {
             who,
             name,
@@ -215,8 +215,8 @@ fn put_packed(
     Ok(())
 }
 
-/// A writer that has written the record of the day.
-fn begun(alloc: Global, periods: DayLength) -> Result<Writer<Vec<u8>>, AllocError>
+/// Begins a writer, and writes the record of the day.
+fn begin_writer(alloc: Global, periods: DayLength) -> Result<Writer<Vec<u8>>, AllocError>
     ensures day { IfOk result (λ out. Wrote out (row_line (day_row periods))) }
     ensures valid { is_day periods ≡ true }
 {
@@ -225,8 +225,8 @@ fn begun(alloc: Global, periods: DayLength) -> Result<Writer<Vec<u8>>, AllocErro
     Ok(out)
 }
 
-/// The written text.
-fn text_of(out: Writer<Vec<u8>>) -> Result<Vec<u8>, AllocError>
+/// What the writer has written.
+fn written_text(out: Writer<Vec<u8>>) -> Result<Vec<u8>, AllocError>
     ensures { IfOk result (λ text. (written : List ℕ) → Wrote out written
         → text.items ≡ written) }
 {
@@ -250,9 +250,9 @@ pub fn journal_text(
     ensures text { IfOk result (λ text. text.items ≡ Written.journal_text periods entries.now) }
     ensures reads { IfOk result (λ text. ReadsAs text.items periods (commands_of entries.now)) }
 {
-    let mut out = begun(alloc, periods)?;
+    let mut out = begin_writer(alloc, periods)?;
     put_entries(alloc, &mut out, entries)?;
-    text_of(out)
+    written_text(out)
 }
 
 /// The written journal of packed entries, as `journal_text` writes it.
@@ -265,9 +265,9 @@ pub fn packed_journal_text(
     ensures text { IfOk result (λ text. text.items ≡ Written.journal_text periods entries.now) }
     ensures reads { IfOk result (λ text. ReadsAs text.items periods (commands_of entries.now)) }
 {
-    let mut out = begun(alloc, periods)?;
+    let mut out = begin_writer(alloc, periods)?;
     put_packed(alloc, &mut out, entries)?;
-    text_of(out)
+    written_text(out)
 }
 
 /// The written journal of a day, which grows by the record of one command after another. A contract sees the text so far.
@@ -278,16 +278,16 @@ pub struct JournalWriter {
 }
 
 impl JournalWriter {
-    /// The record of the day.
+    /// A journal with the record of its day, and no command yet.
     pub fn begin(alloc: Global, periods: DayLength) -> Result<JournalWriter, AllocError>
         ensures { IfOk result (λ writer. HasWritten writer (Written.written periods [])) }
     {
-        let out = begun(alloc, periods)?;
+        let out = begin_writer(alloc, periods)?;
         Ok(JournalWriter { alloc, out })
     }
 
     /// Adds the record of a command.
-    pub fn put(&mut self, command: &Command) -> Result<(), AllocError>
+    pub fn put_command(&mut self, command: &Command) -> Result<(), AllocError>
         ensures { OnOk result ((periods : ℕ) → (commands : List Command)
             → HasWritten self.old (Written.written periods commands)
             → HasWritten self.new (Written.written periods (commands ++ command.now ∷ []))) }
@@ -300,6 +300,6 @@ impl JournalWriter {
         ensures { IfOk result (λ text. (written : List ℕ) → HasWritten self written
             → text.items ≡ written) }
     {
-        text_of(self.out)
+        written_text(self.out)
     }
 }

@@ -14,7 +14,7 @@ use Rattle.dam_blocks.specs.Eligible.{IsEligible}
 use Rattle.dam_blocks.specs.Result.{RanksAtOrBelow, IsResult}
 use Rattle.dam_bound.specs.Prefix.{IsCompletion}
 use Rattle.dam_search.specs.declared.answer.PieceAnswer.{PieceAnswer}
-use Rattle.dam_search.specs.Piece.{IsFind, IsMatched, Rises, welfare_found, all_nodes, HasNeeded, IsSpent}
+use Rattle.dam_search.specs.Piece.{IsFind, IsMatched, Rises, welfare_found, node_count, HasNeeded, IsSpent}
 use Rattle.dam_search.specs.Search.{LimitHasNeeded}
 use Rattle.dam_search.specs.inside.Collect.{IsWorked}
 use Rattle.dam_search.proofs.Walks.{needed_more, all_needed}
@@ -192,9 +192,9 @@ reached_at_most problem value b r result =
 
 -- the limit allows as many nodes as the piece of an answer that is done needs
 pub answer_needed : (problem : ProblemState) (prefix : List Bool) (left nodes visited read : ℕ) (done : Bool) (b : Best)
-    → (nodes < all_nodes left → IsSpent problem prefix left 0 nodes visited read done) → done ≡ true → IsReached problem read
+    → (nodes < node_count left → IsSpent problem prefix left 0 nodes visited read done) → done ≡ true → IsReached problem read
     → IsResult problem b.selection (pos b.welfare) → HasNeeded problem prefix left b.welfare nodes
-answer_needed problem prefix left nodes visited read done b spent is reached result = elim (cases_lt nodes (all_nodes left)) [
+answer_needed problem prefix left nodes visited read done b spent is reached result = elim (cases_lt nodes (node_count left)) [
   | inl few ↦
       (let s = spent few in
       needed_more problem prefix left read b.welfare visited nodes (reached_at_most problem read b reached result) s.within (s.needed is))

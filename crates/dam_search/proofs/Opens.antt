@@ -19,7 +19,7 @@ use Rattle.dam_search.specs.declared.piece.WalkState.{WalkState}
 use Rattle.dam_search.specs.Piece.{IsMatched, Rises, welfare_found}
 use Rattle.dam_search.specs.inside.Collect.{IsLong}
 use Rattle.dam_search.specs.inside.Conflicts.{AcceptsAll, AcceptsNone}
-use Rattle.dam_search.specs.inside.PriceWalk.{IsNode, IsBounded, with_if, with_all, bound_after, IsOpenFind, FindsOpen, CoversOpen, IsReady, IsWalkedOpen}
+use Rattle.dam_search.specs.inside.PriceWalk.{IsNode, IsBounded, with_place_if, with_all, bound_after, IsOpenFind, FindsOpen, CoversOpen, IsReady, IsWalkedOpen}
 use Rattle.dam_search.proofs.Ranks.{IsTransitive, stays, welfare_rises, ranks_with_itself, matched_rises, rises_twice}
 
 -- ---- the places of a node
@@ -55,7 +55,7 @@ accepts_none_rejected taken rejected left selection node is place e =
 -- ---- a decision on the next place
 
 pub node_after : (accept : Bool) (taken rejected : List Bool) (place : ℕ) (left : List ℕ) → IsNode taken rejected (place ∷ left)
-    → IsNode (with_if accept taken place) (with_if (not accept) rejected place) left
+    → IsNode (with_place_if accept taken place) (with_place_if (not accept) rejected place) left
 node_after true taken rejected place left node = record {
   as_long = length-set taken place true ∙ node.as_long;
   free = still_free taken place left node.free.2 node.free.3;
@@ -82,7 +82,7 @@ node_after false taken rejected place left node = record {
 
 pub bounded_after : (accept : Bool) (problem : ProblemState) (prices : PriceBound) (taken rejected : List Bool) (place : ℕ) (left : List ℕ)
     (bound : ℤ) → IsNode taken rejected (place ∷ left) → IsBounded problem prices taken (place ∷ left) bound
-    → IsBounded problem prices (with_if accept taken place) left (bound_after accept bound (slice_index_or prices.gains place (pos 0)))
+    → IsBounded problem prices (with_place_if accept taken place) left (bound_after accept bound (slice_index_or prices.gains place (pos 0)))
 bounded_after true problem prices taken rejected place left bound node is = record {
   is_price_bound = is.is_price_bound;
   most =
@@ -99,30 +99,30 @@ bounded_after false problem prices taken rejected place left bound node is = rec
 -- an open selection is one of either decision
 pub open_by : (first : Bool) (taken rejected : List Bool) (place : ℕ) (left : List ℕ) (selection : List Bool)
     → IsNode taken rejected (place ∷ left) → IsOpen taken (place ∷ left) selection
-    → IsOpen (with_if first taken place) left selection ⊎ IsOpen (with_if (not first) taken place) left selection
+    → IsOpen (with_place_if first taken place) left selection ⊎ IsOpen (with_place_if (not first) taken place) left selection
 open_by first taken rejected place left selection node is = either first (accepts selection place) refl
   where
-    one : accepts selection place ≡ true → IsOpen (with_if true taken place) left selection
+    one : accepts selection place ≡ true → IsOpen (with_place_if true taken place) left selection
     one e = open_accepted taken place left selection node.as_long node.free.0 is e
 
-    other : accepts selection place ≡ false → IsOpen (with_if false taken place) left selection
+    other : accepts selection place ≡ false → IsOpen (with_place_if false taken place) left selection
     other e = open_rejected taken place left selection node.free.1 is e
 
     either : (b c : Bool) → accepts selection place ≡ c
-        → IsOpen (with_if b taken place) left selection ⊎ IsOpen (with_if (not b) taken place) left selection
+        → IsOpen (with_place_if b taken place) left selection ⊎ IsOpen (with_place_if (not b) taken place) left selection
     either true true e = inl (one e)
     either true false e = inr (other e)
     either false true e = inr (one e)
     either false false e = inl (other e)
 
 pub open_any : (accept : Bool) (taken : List Bool) (place : ℕ) (left : List ℕ) (selection : List Bool)
-    → IsOpen (with_if accept taken place) left selection → IsOpen taken (place ∷ left) selection
+    → IsOpen (with_place_if accept taken place) left selection → IsOpen taken (place ∷ left) selection
 open_any true taken place left selection is = accepted_open taken place left selection is
 open_any false taken place left selection is = rejected_open taken place left selection is
 
 -- it has the decision
 pub open_here : (accept : Bool) (taken rejected : List Bool) (place : ℕ) (left : List ℕ) (selection : List Bool)
-    → IsNode taken rejected (place ∷ left) → IsOpen (with_if accept taken place) left selection → accepts selection place ≡ accept
+    → IsNode taken rejected (place ∷ left) → IsOpen (with_place_if accept taken place) left selection → accepts selection place ≡ accept
 open_here true taken rejected place left selection node is =
     is.agrees place node.free.2 ∙ accepts_here taken place (subst (λ (n : ℕ). place < n) (sym node.as_long) node.free.0)
 open_here false taken rejected place left selection node is = is.agrees place node.free.2 ∙ node.free.1
@@ -207,16 +207,16 @@ long_after problem taken left a b long f = elim f.found [
 ]
 
 any_open_find : (accept : Bool) (problem : ProblemState) (taken : List Bool) (place : ℕ) (left : List ℕ) (best : Option Best)
-    → IsOpenFind problem (with_if accept taken place) left best → IsOpenFind problem taken (place ∷ left) best
+    → IsOpenFind problem (with_place_if accept taken place) left best → IsOpenFind problem taken (place ∷ left) best
 any_open_find accept problem taken place left None h = tt
 any_open_find accept problem taken place left (Some b) h = (open_any accept taken place left b.selection h.0, h.1)
 
 finds_either : (one other : Bool) (problem : ProblemState) (taken : List Bool) (place : ℕ) (left : List ℕ) (a b c : Option Best) → IsTransitive
-    → IsLong a → FindsOpen problem (with_if one taken place) left a b → FindsOpen problem (with_if other taken place) left b c
+    → IsLong a → FindsOpen problem (with_place_if one taken place) left a b → FindsOpen problem (with_place_if other taken place) left b c
     → FindsOpen problem taken (place ∷ left) a c
 finds_either one other problem taken place left a b c through long f g =
-    let long_b = long_after problem (with_if one taken place) left a b long f in
-    let long_c = long_after problem (with_if other taken place) left b c long_b g in
+    let long_b = long_after problem (with_place_if one taken place) left a b long f in
+    let long_c = long_after problem (with_place_if other taken place) left b c long_b g in
     record {
       found = elim g.found [
         | inl e ↦ elim f.found [
@@ -237,7 +237,7 @@ covers_later problem taken left a b read next through la lb h more covers sel w 
 
 covers_either : (first : Bool) (problem : ProblemState) (taken rejected : List Bool) (place : ℕ) (left : List ℕ) (best : Option Best) (read : ℕ)
     → IsNode taken rejected (place ∷ left)
-    → CoversOpen problem (with_if first taken place) left best read → CoversOpen problem (with_if (not first) taken place) left best read
+    → CoversOpen problem (with_place_if first taken place) left best read → CoversOpen problem (with_place_if (not first) taken place) left best read
     → CoversOpen problem taken (place ∷ left) best read
 covers_either first problem taken rejected place left best read node one other sel w is e =
     elim (open_by first taken rejected place left sel node is) [ inl a ↦ one sel w a e | inr b ↦ other sel w b e ]
@@ -273,18 +273,18 @@ walked_over problem taken left read offer read' offer' before now ready same mor
 -- both decisions
 pub walked_both : (first : Bool) (problem : ProblemState) (taken rejected : List Bool) (place : ℕ) (left : List ℕ)
     (read₀ offer₀ read₁ offer₁ read₂ offer₂ : ℕ) (a b c : WalkState) → IsTransitive → IsNode taken rejected (place ∷ left) → IsReady read₀ offer₀ a
-    → IsWalkedOpen problem (with_if first taken place) left offer₀ read₁ offer₁ a b
-    → IsWalkedOpen problem (with_if (not first) taken place) left offer₁ read₂ offer₂ b c
+    → IsWalkedOpen problem (with_place_if first taken place) left offer₀ read₁ offer₁ a b
+    → IsWalkedOpen problem (with_place_if (not first) taken place) left offer₁ read₂ offer₂ b c
     → IsWalkedOpen problem taken (place ∷ left) offer₀ read₂ offer₂ a c
 walked_both first problem taken rejected place left read₀ offer₀ read₁ offer₁ read₂ offer₂ a b c through node ready one other =
-    let long_b = long_after problem (with_if first taken place) left a.best b.best ready.long one.finds in
-    let long_c = long_after problem (with_if (not first) taken place) left b.best c.best long_b other.finds in
+    let long_b = long_after problem (with_place_if first taken place) left a.best b.best ready.long one.finds in
+    let long_c = long_after problem (with_place_if (not first) taken place) left b.best c.best long_b other.finds in
     let rises = welfare_rises b.best c.best other.finds.rises in
     let grows = one.grows in let grows' = other.grows in let offered = one.offered in let offered' = other.offered in
     record {
       finds = finds_either first (not first) problem taken place left a.best b.best c.best through ready.long one.finds other.finds;
       covers = covers_either first problem taken rejected place left c.best c.read node
-          (covers_later problem (with_if first taken place) left b.best c.best b.read c.read through long_b long_c other.finds.rises grows' one.covers)
+          (covers_later problem (with_place_if first taken place) left b.best c.best b.read c.read through long_b long_c other.finds.rises grows' one.covers)
           other.covers;
       grows = omega (arith, grows, grows');
       read = other.read;

@@ -9,13 +9,13 @@ use Rattle.dam_book.specs.Limits.{most_blocks}
 use Rattle.dam_blocks.specs.Problem.{ProblemState}
 use Rattle.dam_blocks.specs.Selection.{accepts, padded, choice}
 use Rattle.dam_blocks.specs.Eligible.{IsEligible}
-use Rattle.dam_bound.specs.declared.net_limits.Limit.{Limit}
+use Rattle.dam_bound.specs.declared.net_limits.NetLimit.{NetLimit}
 use Rattle.dam_bound.specs.declared.net_limits.Room.{Room}
 use Rattle.dam_bound.specs.NetLimits.{room_taken, if_open, taken_under, most_limits, limit_in, AreLimits, AreRooms, HasRoom, every_place}
 use Rattle.dam_bound.specs.Open.{is_among, IsOpen}
 use Rattle.dam_bound.specs.Relaxed.{without_rows}
 use Rattle.dam_search.specs.Piece.{IsSound}
-use Rattle.dam_search.specs.inside.PriceWalk.{AgreesUnder, IsNode, IsDecisionOrder, IsRoom, with_if}
+use Rattle.dam_search.specs.inside.PriceWalk.{AgreesUnder, IsNode, IsDecisionOrder, IsRoom, with_place_if}
 use Rattle.dam_search.proofs.FirstNode.{among_first, not_among_before, piece_sound}
 use Rattle.dam_search.proofs.Opens.{finds_none, open_any, open_here}
 
@@ -40,7 +40,7 @@ fewer_taken nets sel f g (suc n) subset =
       ]
     ] refl
 
-pub less_open : (limits : List Limit) (sel : List Bool) (f g : ℕ → Bool) (rooms : List ℤ) → ((place : ℕ) → g place ≡ true → f place ≡ true)
+pub less_open : (limits : List NetLimit) (sel : List Bool) (f g : ℕ → Bool) (rooms : List ℤ) → ((place : ℕ) → g place ≡ true → f place ≡ true)
     → HasRoom limits sel f rooms → HasRoom limits sel g rooms
 less_open limits sel f g rooms subset has k l =
     let most = has k l in let fewer = fewer_taken (limit_in limits k).nets sel f g most_blocks subset in
@@ -73,14 +73,14 @@ pub others_among : (place p : ℕ) (left : List ℕ) → p ≢ place → is_amon
 others_among place p left apart = sym (ap (λ (b : Bool). b || is_among p left) (differ p place apart))
 
 -- how a call lowers the room
-abbrev pub Lowers : List Limit → Room → ℕ → Bool → Room → Type 0
+abbrev pub Lowers : List NetLimit → Room → ℕ → Bool → Room → Type 0
 Lowers limits room place accept next = (sel : List Bool) (before after : ℕ → Bool) → HasRoom limits sel before room.rooms
     → before place ≡ true → after place ≡ false → ((p : ℕ) → p ≢ place → after p ≡ before p) → accepts sel place ≡ accept
     → HasRoom limits sel after next.rooms
 
-room_next : (problem : ProblemState) (limits : List Limit) (accept : Bool) (taken rejected : List Bool) (place : ℕ) (left : List ℕ) (room next : Room)
+room_next : (problem : ProblemState) (limits : List NetLimit) (accept : Bool) (taken rejected : List Bool) (place : ℕ) (left : List ℕ) (room next : Room)
     → IsNode taken rejected (place ∷ left) → AreRooms next.rooms → Lowers limits room place accept next
-    → IsRoom problem limits taken (place ∷ left) room → IsRoom problem limits (with_if accept taken place) left next
+    → IsRoom problem limits taken (place ∷ left) room → IsRoom problem limits (with_place_if accept taken place) left next
 room_next problem limits accept taken rejected place left room next node are lowers is = record {
   rooms = are;
   has = λ sel w opened e.
@@ -89,21 +89,21 @@ room_next problem limits accept taken rejected place left room next node are low
       (λ p apart. others_among place p left apart) (open_here accept taken rejected place left sel node opened);
 }
 
-pub room_after_is : (problem : ProblemState) (limits : List Limit) (accept : Bool) (taken rejected taken' : List Bool) (place : ℕ) (left left' : List ℕ)
-    (room next : Room) → taken' ≡ with_if accept taken place → left' ≡ left
+pub room_after_is : (problem : ProblemState) (limits : List NetLimit) (accept : Bool) (taken rejected taken' : List Bool) (place : ℕ) (left left' : List ℕ)
+    (room next : Room) → taken' ≡ with_place_if accept taken place → left' ≡ left
     → IsNode taken rejected (place ∷ left) → AreRooms next.rooms → Lowers limits room place accept next
     → IsRoom problem limits taken (place ∷ left) room → IsRoom problem limits taken' left' next
 room_after_is problem limits accept taken rejected taken' place left left' room next e f node are lowers is =
     subst (λ (xs : List Bool). IsRoom problem limits xs left' next) (sym e)
-    (subst (λ (xs : List ℕ). IsRoom problem limits (with_if accept taken place) xs next) (sym f)
+    (subst (λ (xs : List ℕ). IsRoom problem limits (with_place_if accept taken place) xs next) (sym f)
     (room_next problem limits accept taken rejected place left room next node are lowers is))
 
 -- no eligible selection has a decision that takes too much
-pub no_room : (problem : ProblemState) (limits : List Limit) (accept : Bool) (taken rejected : List Bool) (place : ℕ) (left : List ℕ) (room : Room)
+pub no_room : (problem : ProblemState) (limits : List NetLimit) (accept : Bool) (taken rejected : List Bool) (place : ℕ) (left : List ℕ) (room : Room)
     (sel : List Bool) (w : ℤ) → IsNode taken rejected (place ∷ left) → IsRoom problem limits taken (place ∷ left) room
     → ((selection : List Bool) (free : ℕ → Bool) → HasRoom limits selection free room.rooms → free place ≡ true
     → accepts selection place ≡ accept → ⊥)
-    → IsOpen (with_if accept taken place) left sel → IsEligible problem sel w → ⊥
+    → IsOpen (with_place_if accept taken place) left sel → IsEligible problem sel w → ⊥
 no_room problem limits accept taken rejected place left room sel w node is none opened e =
     none sel (λ p. is_among p (place ∷ left)) (is.has sel w (open_any accept taken place left sel opened) e) (among_first place left)
     (open_here accept taken rejected place left sel node opened)
@@ -116,7 +116,7 @@ agrees_open depth count taken sel order is opened place l = opened.agrees place 
 past_depth : (depth p : ℕ) → depth ≤ p → not (nat_lt p depth) ≡ true
 past_depth depth p l = grind (arith, nat_tests, l)
 
-pub piece_room : (problem : ProblemState) (limits : List Limit) (depth count : ℕ) (taken : List Bool) (order : List ℕ) (room : Room)
+pub piece_room : (problem : ProblemState) (limits : List NetLimit) (depth count : ℕ) (taken : List Bool) (order : List ℕ) (room : Room)
     → IsDecisionOrder depth count order → AreLimits problem limits → AreRooms room.rooms
     → ((problem : ProblemState) (sel : List Bool) (w : ℤ) → AreLimits problem limits → IsEligible problem sel w → AgreesUnder depth taken sel
     → HasRoom limits sel (λ p. not (nat_lt p depth)) room.rooms)
@@ -129,7 +129,7 @@ piece_room problem limits depth count taken order room is are rooms has = record
       (has problem sel w are e (agrees_open depth count taken sel order is opened));
 }
 
-pub nothing_sound : (problem : ProblemState) (limits : List Limit) (depth piece : ℕ) (taken : List Bool) (order : List ℕ)
+pub nothing_sound : (problem : ProblemState) (limits : List NetLimit) (depth piece : ℕ) (taken : List Bool) (order : List ℕ)
     → taken ≡ padded (choice depth piece) → depth ≤ most_blocks → IsDecisionOrder depth (length problem.blocks) order → AreLimits problem limits
     → ((problem : ProblemState) (sel : List Bool) (w : ℤ) → AreLimits problem limits → IsEligible problem sel w → AgreesUnder depth taken sel → ⊥)
     → IsSound problem (choice depth piece) None 0 true

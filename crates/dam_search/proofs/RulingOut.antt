@@ -11,8 +11,8 @@ use Rattle.dam_blocks.specs.Family.{descends}
 use Rattle.dam_blocks.specs.Eligible.{IsEligible}
 use Rattle.dam_bound.specs.Relaxed.{without_rows}
 use Rattle.dam_bound.specs.NetLimits.{AreLimits}
-use Rattle.dam_bound.specs.declared.net_limits.Limit.{Limit}
-use Rattle.dam_bound.specs.declared.net_limits.Limits.{Limits}
+use Rattle.dam_bound.specs.declared.net_limits.NetLimit.{NetLimit}
+use Rattle.dam_bound.specs.declared.net_limits.NetLimits.{NetLimits}
 use Rattle.dam_search.specs.declared.conflicts.Conflicts.{Conflicts}
 use Rattle.dam_search.specs.inside.Conflicts.{AcceptsAll, AcceptsNone, Needs, IsNeededBy, Excludes, AreConflicts, IsSetOf, are_two_of_group, is_other_of_group}
 use Rattle.dam_search.proofs.Sets.{accepts-none, passes_test}
@@ -181,7 +181,7 @@ conflicts_more laws problem blocks before after place ancestors descendants othe
       (needed_by_descendants laws problem place descendants is
       (subst (λ (bs : List Block). IsSetOf (length bs) (λ at. descends bs place at) descendants) same d)) are.needed_by;
   excludes = one_row_more (Excludes problem) before.excludes after.excludes place others h o are.excludes;
-  limits = subst (λ (l : Limits). AreLimits problem l.limits) (sym kept) are.limits;
+  limits = subst (λ (l : NetLimits). AreLimits problem l.limits) (sym kept) are.limits;
 }
 
 -- ---- what a row forbids
@@ -207,7 +207,7 @@ needed_by_one problem conflicts place j places taken selection w are at among on
 
 -- ---- limits
 -- limits of the problem without its rows are those of the problem
-pub limits_with_rows : (problem priced : ProblemState) (limits : List Limit) → priced ≡ without_rows problem → AreLimits priced limits
+pub limits_with_rows : (problem priced : ProblemState) (limits : List NetLimit) → priced ≡ without_rows problem → AreLimits priced limits
     → AreLimits problem limits
 limits_with_rows problem priced limits same are = record {
   many = are.many;

@@ -12,7 +12,7 @@ use Rattle.std.proofs.lemmas.List.Elements.{All-push, All-append, All-weaker}
 use Rattle.dam_blocks.specs.Problem.{ProblemState}
 use Rattle.dam_search.specs.declared.answer.PieceAnswer.{PieceAnswer}
 use Rattle.dam_search.specs.declared.view.View.{View}
-use Rattle.dam_search.specs.Piece.{all_nodes, welfare_found, IsSound, IsSpent}
+use Rattle.dam_search.specs.Piece.{node_count, welfare_found, IsSound, IsSpent}
 use Rattle.dam_blocks.specs.Selection.{choice}
 use Rattle.dam_search.specs.Answer.{IsReached, greatest_found}
 use Rattle.dam_search.specs.inside.Collect.{IsWorked, answers_about, AreOneEach, IsCollected}
@@ -74,7 +74,7 @@ explored_is problem depth nodes piece told a same within sound spent = record {
 
 -- the answer of a walk to the end of a piece that was drawn, if the limit can't bind
 pub explored_whole : (problem : ProblemState) (depth nodes piece : ℕ) (a : PieceAnswer) → a.piece ≡ piece → piece < 2 ^ depth
-    → IsSound problem (choice depth piece) a.best a.read a.done → a.done ≡ true → all_nodes (length problem.blocks - depth) ≤ nodes
+    → IsSound problem (choice depth piece) a.best a.read a.done → a.done ≡ true → node_count (length problem.blocks - depth) ≤ nodes
     → IsExplored problem depth nodes a
 explored_whole problem depth nodes piece a same within sound done many = record {
   in_cutting = subst (λ (n : ℕ). n < 2 ^ depth) (sym same) within;

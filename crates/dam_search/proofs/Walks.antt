@@ -9,7 +9,7 @@ use Rattle.dam_blocks.specs.Problem.{ProblemState}
 use Rattle.dam_book.specs.Limits.{most_blocks}
 use Rattle.dam_blocks.specs.Selection.{padded, IsAdmissible}
 use Rattle.dam_bound.specs.Relaxed.{relaxed_welfare, reaches, live_count}
-use Rattle.dam_search.specs.Piece.{all_nodes, needed_nodes, AdmitsOnly, HasNeeded, IsSpent}
+use Rattle.dam_search.specs.Piece.{node_count, needed_nodes, AdmitsOnly, HasNeeded, IsSpent}
 use Rattle.dam_search.specs.inside.Walk.{Spends, ReadsIncumbent}
 use Rattle.dam_search.proofs.LastBlock.{still_rejected}
 use Rattle.dam_search.proofs.Prefixes.{length_more}
@@ -279,16 +279,16 @@ some_of true false a b most total h h' le = omega (arith, h, h', le)
 some_of false admitted a b most total h h' le = omega (arith, le)
 
 pub needed_at_most : (problem : ProblemState) (admits : List Bool → Bool) (value : ℕ) (prefix : List Bool) (left : ℕ)
-    → needed_nodes problem admits value prefix left ≤ all_nodes left
+    → needed_nodes problem admits value prefix left ≤ node_count left
 needed_at_most problem admits value prefix zero = omega arith
 needed_at_most problem admits value prefix (suc left) =
     some_of (reaches (relaxed_welfare problem prefix) value) (admits (padded (prefix ++ true ∷ [])))
     (needed_nodes problem admits value (prefix ++ false ∷ []) left) (needed_nodes problem admits value (prefix ++ true ∷ []) left)
-    (all_nodes left) (all_nodes (suc left)) (needed_at_most problem admits value (prefix ++ false ∷ []) left)
+    (node_count left) (node_count (suc left)) (needed_at_most problem admits value (prefix ++ false ∷ []) left)
     (needed_at_most problem admits value (prefix ++ true ∷ []) left) (twice_all left)
 
 -- a limit of as many nodes as there are
-pub all_needed : (problem : ProblemState) (prefix : List Bool) (left read nodes : ℕ) → all_nodes left ≤ nodes → HasNeeded problem prefix left read nodes
+pub all_needed : (problem : ProblemState) (prefix : List Bool) (left read nodes : ℕ) → node_count left ≤ nodes → HasNeeded problem prefix left read nodes
 all_needed problem prefix left read nodes h admissible admits value only le =
     let most = needed_at_most problem admits value prefix left in omega (arith, most, h)
 

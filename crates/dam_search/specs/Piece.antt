@@ -44,8 +44,8 @@ pub record IsSound (problem : ProblemState) (prefix : List Bool) (best : Option 
       → (welfare <ℤ pos read) ⊎ IsMatched welfare sel best
 
 -- how many nodes there are at most if this number of blocks is undecided
-abbrev pub all_nodes : ℕ → ℕ
-all_nodes left = 2 ^ (left + 1) - 1
+abbrev pub node_count : ℕ → ℕ
+node_count left = 2 ^ (left + 1) - 1
 
 -- how many nodes are visited at most if this number of blocks is undecided and the value was read
 -- before
@@ -82,10 +82,10 @@ HasNeeded problem prefix left read nodes = IsAdmissible problem.blocks (padded p
 pub record IsSpent (problem : ProblemState) (prefix : List Bool)
     (left greatest_read nodes visited read : ℕ) (done : Bool) : Type 0 where
   pub within : visited ≤ nodes
-  pub all : visited ≤ all_nodes left
+  pub all : visited ≤ node_count left
   pub live : (value : ℕ) → value ≤ greatest_read → visited ≤ live_nodes problem value prefix left
   pub unfinished : done ≡ false → visited ≡ nodes
-  pub done_by_all : all_nodes left ≤ nodes → done ≡ true
+  pub done_by_all : node_count left ≤ nodes → done ≡ true
   pub done_by_live : (value : ℕ) → value ≤ greatest_read
       → live_nodes problem value prefix left ≤ nodes → done ≡ true
   pub needed : done ≡ true → HasNeeded problem prefix left read visited

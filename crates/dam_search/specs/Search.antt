@@ -2,14 +2,14 @@
 use Rattle.std.specs.Prelude.{◌≡◌, ℕ, ◌-◌, ◌^◌, ◌<◌, length}
 use Rattle.dam_blocks.specs.Problem.{ProblemState}
 use Rattle.dam_blocks.specs.Selection.{choice}
-use Rattle.dam_search.specs.Piece.{all_nodes, live_nodes, HasNeeded}
+use Rattle.dam_search.specs.Piece.{node_count, live_nodes, HasNeeded}
 
 -- a piece of the cutting that visited as many nodes as it may, which is less than either bound on
 -- those that it can need
 pub record IsUnfinished (problem : ProblemState) (depth nodes piece visited : ℕ) : Type 0 where
   pub in_cutting : piece < 2 ^ depth
   pub limit_met : visited ≡ nodes
-  pub over_all : nodes < all_nodes (length problem.blocks - depth)
+  pub over_all : nodes < node_count (length problem.blocks - depth)
   pub over_live : nodes < live_nodes problem 0 (choice depth piece) (length problem.blocks - depth)
 
 -- the limit is at least the number of nodes that each piece of the cutting must visit, even if the result's

@@ -4,7 +4,7 @@ use Rattle.dam_blocks.specs.Problem.{ProblemState}
 use Rattle.dam_blocks.specs.Selection.{choice}
 use Rattle.dam_search.specs.declared.answer.PieceAnswer.{PieceAnswer}
 use Rattle.dam_search.specs.declared.view.View.{View}
-use Rattle.dam_search.specs.Piece.{all_nodes, IsSpent}
+use Rattle.dam_search.specs.Piece.{node_count, IsSpent}
 use Rattle.dam_search.specs.Answer.{IsSoundAnswer, greatest_found}
 
 -- a sound answer about a piece of the cutting. If a piece can have more nodes than the limit, the answer kept to it.
@@ -12,10 +12,10 @@ use Rattle.dam_search.specs.Answer.{IsSoundAnswer, greatest_found}
 pub record IsExplored (problem : ProblemState) (depth nodes : ℕ) (a : PieceAnswer) : Type 0 where
   pub in_cutting : a.piece < 2 ^ depth
   pub sound : IsSoundAnswer problem depth a
-  pub spent : nodes < all_nodes (length problem.blocks - depth)
+  pub spent : nodes < node_count (length problem.blocks - depth)
       → IsSpent problem (choice depth a.piece) (length problem.blocks - depth) 0 nodes
       a.visited a.read a.done
-  pub done : all_nodes (length problem.blocks - depth) ≤ nodes → a.done ≡ true
+  pub done : node_count (length problem.blocks - depth) ≤ nodes → a.done ≡ true
 
 -- a seat for this number of pieces, which drew and offered nothing
 pub record IsFresh (pieces : ℕ) (v : View) : Type 0 where

@@ -5,14 +5,14 @@ ghost use Rattle.dam_plan.specs.Limits.{most_cut};
 ghost use Rattle.dam_search.specs.Piece.{Rises};
 ghost use Rattle.dam_search.specs.Search.{IsUnfinished, LimitHasNeeded};
 ghost use Rattle.dam_search.specs.inside.Collect.{IsWorked, AreOneEach, IsFirstFaulty, AreAnswerCounts};
-ghost use Rattle.dam_search.specs.inside.Collect.{is_lesser, IsLeastUnfinished};
+ghost use Rattle.dam_search.specs.inside.Collect.{is_lesser_unfinished, IsLeastUnfinished};
 ghost use Rattle.dam_search.specs.inside.Collect.{IsLong, IsHighestFound, IsCollected};
 ghost use Rattle.dam_search.specs.Words.{most_pieces};
 
 use crate::answer::PieceAnswer;
 use crate::fault::SearchFault;
 use crate::laws;
-use crate::piece::surpasses;
+use crate::piece::ranks_above_found;
 use crate::space::use_invariant;
 use dam_blocks::{Best, Problem};
 use dam_plan::{MOST_CUT, Nodes};
@@ -22,7 +22,7 @@ use std::alloc::Allocator;
 const MOST_PIECES: usize = 1 << MOST_CUT;
 
 /// The number of pieces of a cutting of this depth.
-pub(crate) fn pieces(depth: usize) -> u32
+pub(crate) fn piece_count(depth: usize) -> u32
     requires { depth ≤ most_cut }
     ensures value { result ≡ 2 ^ depth }
     ensures few { result ≤ most_pieces }
@@ -31,7 +31,7 @@ pub(crate) fn pieces(depth: usize) -> u32
 }
 
 /// The number of answers about each piece, of which there are at most 256.
-fn counts_of(answers: &[PieceAnswer]) -> [usize; MOST_PIECES]
+fn answer_counts(answers: &[PieceAnswer]) -> [usize; MOST_PIECES]
     requires { All (λ a. a.piece < most_pieces) answers.now }
     ensures { AreAnswerCounts answers.now result }
 {
@@ -49,7 +49,7 @@ fn first_faulty(answers: &[PieceAnswer], pieces: u32) -> Option<u32>
     ensures { MatchOption result (AreOneEach answers.now pieces)
         (λ piece. (piece < pieces) × IsFirstFaulty answers.now piece) }
 {
-    let counts = counts_of(answers);
+    let counts = answer_counts(answers);
     for piece in 0..pieces {
         if counts[piece as usize] != 1 {
             return Some(piece);
@@ -59,8 +59,8 @@ fn first_faulty(answers: &[PieceAnswer], pieces: u32) -> Option<u32>
 }
 
 /// Whether the answer isn't done, and is about a lesser piece than the one found so far.
-fn is_lesser(answer: &PieceAnswer, least: &Option<PieceAnswer>) -> bool
-    ensures { result ≡ is_lesser answer.now least.now }
+fn is_lesser_unfinished(answer: &PieceAnswer, least: &Option<PieceAnswer>) -> bool
+    ensures { result ≡ is_lesser_unfinished answer.now least.now }
 {
     match least {
         Some(least) => !answer.done && answer.piece < least.piece,
@@ -74,14 +74,14 @@ fn least_unfinished(answers: &[PieceAnswer]) -> Option<PieceAnswer>
 {
     let mut least = None;
     for answer in answers {
-        if is_lesser(answer, &least) {
+        if is_lesser_unfinished(answer, &least) {
             least = Some(*answer);
         }
     }
     least
 }
 
-/// The better of the earlier finding and the answer's.
+/// The earlier selection or the answer's, whichever ranks higher.
 fn higher(best: Option<Best>, answer: &PieceAnswer) -> Option<Best>
     ensures either { (result ≡ best) ⊎ (result ≡ answer.now.best) }
     ensures before { Rises best result }
@@ -90,7 +90,7 @@ fn higher(best: Option<Best>, answer: &PieceAnswer) -> Option<Best>
     let Some(candidate) = answer.best else {
         return best;
     };
-    if surpasses(&candidate, &best) {
+    if ranks_above_found(&candidate, &best) {
         Some(candidate)
     } else {
         best
@@ -102,7 +102,7 @@ fn highest(answers: &[PieceAnswer]) -> Option<Best>
     requires { All (λ a. IsLong a.best) answers.now }
     ensures { IsHighestFound answers.now result }
 {
-    dam_blocks::laws::ranking();
+    dam_blocks::laws::ranking_is_total();
     let mut best = None;
     for answer in answers {
         best = higher(best, answer);
@@ -130,7 +130,7 @@ pub(crate) fn collected<A: Allocator>(
 {
     laws::collecting();
     use_invariant(problem);
-    if let Some(piece) = first_faulty(answers, pieces(depth)) {
+    if let Some(piece) = first_faulty(answers, piece_count(depth)) {
         return Err(SearchFault::Collected { piece });
     }
     if let Some(answer) = least_unfinished(answers) {

@@ -10,7 +10,7 @@ ghost use Rattle.dam_search.specs.inside.Conflicts.{AcceptsAll, AcceptsNone, Are
 use crate::priced_problem::PricedProblem;
 use dam_blocks::{Block, Problem, Selection, are_of_one_group, descends};
 use dam_book::MOST_BLOCKS;
-use dam_bound::Limits;
+use dam_bound::NetLimits;
 use std::alloc::Allocator;
 
 /// Decisions that rule each other out, by links, by exclusive groups, by prices and by net volumes. A search asks
@@ -24,7 +24,7 @@ pub(crate) struct Conflicts {
     /// For each block the others of its exclusive group, and its rivals by prices. They can't be accepted with it.
     excludes: [Selection; MOST_BLOCKS],
     /// Limits on the net volumes of eligible selections.
-    pub(crate) limits: Limits,
+    pub(crate) limits: NetLimits,
 }
 
 impl Conflicts {
@@ -33,13 +33,13 @@ impl Conflicts {
         requires { P.problem priced.now ≡ without_rows problem.now }
         ensures { AreConflicts problem.now result }
     {
-        dam_blocks::laws::conflicts();
+        dam_blocks::laws::admissible_keeps_ancestors_and_groups();
         let blocks = problem.blocks();
         let mut conflicts = Conflicts {
             needs: [Selection::none(); MOST_BLOCKS],
             needed_by: [Selection::none(); MOST_BLOCKS],
             excludes: [Selection::none(); MOST_BLOCKS],
-            limits: priced.limits(),
+            limits: priced.net_limits(),
         };
         for place in 0..blocks.len() {
             conflicts.needs[place] = ancestors_of(blocks, place);
@@ -82,7 +82,7 @@ impl Conflicts {
     }
 }
 
-/// The places of the blocks that the one at a place descends from.
+/// The places of the blocks from which the block at `place` descends.
 fn ancestors_of(blocks: &[Block], place: usize) -> Selection
     requires { length blocks.now ≤ most_blocks }
     ensures { IsSetOf (length blocks.now) (λ at. descends blocks.now at place) result }
@@ -96,7 +96,7 @@ fn ancestors_of(blocks: &[Block], place: usize) -> Selection
     ancestors
 }
 
-/// The places of the blocks that descend from the one at a place.
+/// The places of the blocks that descend from the block at `place`.
 fn descendants_of(blocks: &[Block], place: usize) -> Selection
     requires { length blocks.now ≤ most_blocks }
     ensures { IsSetOf (length blocks.now) (λ at. descends blocks.now place at) result }
@@ -110,7 +110,7 @@ fn descendants_of(blocks: &[Block], place: usize) -> Selection
     descendants
 }
 
-/// Whether another block of the exclusive group of the one at a place stands here.
+/// Whether the block at `at` is another one of the exclusive group of the block at `place`.
 fn is_other_of_group(blocks: &[Block], place: usize, at: usize) -> bool
     requires place { place < length blocks.now }
     requires at { at < length blocks.now }
@@ -119,7 +119,7 @@ fn is_other_of_group(blocks: &[Block], place: usize, at: usize) -> bool
     at != place && are_of_one_group(&blocks[place], &blocks[at])
 }
 
-/// The places of the other blocks of the exclusive group of the one at a place.
+/// The places of the other blocks in the exclusive group of the block at `place`.
 fn others_of_group(blocks: &[Block], place: usize) -> Selection
     requires few { length blocks.now ≤ most_blocks }
     requires place { place < length blocks.now }
@@ -136,7 +136,7 @@ fn others_of_group(blocks: &[Block], place: usize) -> Selection
 
 /// Whether no eligible selection accepts the blocks at both places, since one of them would then lose. It may be `false`
 /// even if none does.
-fn exclude_each_other<P: PricedProblem>(priced: &P, place: usize, at: usize) -> bool
+fn are_rivals_either_way<P: PricedProblem>(priced: &P, place: usize, at: usize) -> bool
     requires place { place < length (P.problem priced.now).blocks }
     requires at { at < length (P.problem priced.now).blocks }
     ensures { result ≡ true → (selection : List Bool) (w : ℤ)
@@ -146,7 +146,7 @@ fn exclude_each_other<P: PricedProblem>(priced: &P, place: usize, at: usize) -> 
     priced.are_rivals(place, at) || priced.are_rivals(at, place)
 }
 
-/// The places that can't be accepted with a block, with its rivals among the first `count` blocks added.
+/// `others`, and the rivals by prices of the block at `place` among the first `count` blocks.
 fn with_rivals<P: PricedProblem>(
     priced: &P,
     place: usize,
@@ -161,7 +161,7 @@ fn with_rivals<P: PricedProblem>(
 {
     let mut excluded = others;
     for at in 0..count {
-        if exclude_each_other(priced, place, at) {
+        if are_rivals_either_way(priced, place, at) {
             excluded = excluded.with(at);
         }
     }

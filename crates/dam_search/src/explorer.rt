@@ -5,7 +5,7 @@ ghost use Rattle.std.proofs.Props.{props};
 ghost use Rattle.dam_book.specs.Limits.{most_blocks};
 ghost use Rattle.dam_blocks.specs.Problem.{ProblemState};
 ghost use Rattle.dam_bound.specs.Relaxed.{without_rows};
-ghost use Rattle.dam_search.specs.Piece.{all_nodes, welfare_found};
+ghost use Rattle.dam_search.specs.Piece.{node_count, welfare_found};
 ghost use Rattle.dam_search.specs.Work.{IsExplored};
 ghost use Rattle.dam_search.specs.inside.Conflicts.{AreConflicts};
 ghost use Rattle.dam_search.specs.inside.PriceWalk.{AreDistinct-prop, IsDecisionOrder};
@@ -14,9 +14,9 @@ use crate::answer::PieceAnswer;
 use crate::conflicts::Conflicts;
 use crate::incumbent::Incumbent;
 use crate::piece::search_piece;
+use crate::price_walk::explore_by_prices;
 use crate::priced_problem::PricedProblem;
 use crate::space::SearchSpace;
-use crate::walk::explore_by_prices;
 use dam_blocks::Problem;
 use dam_plan::Nodes;
 use std::alloc::Allocator;
@@ -70,9 +70,9 @@ impl<A: Allocator, B: Allocator> Explorer for SearchSpace<'_, A, B> {
 }
 
 /// The most nodes that there are if this number of blocks is undecided.
-fn all_nodes(undecided: usize) -> Nodes
+fn node_count(undecided: usize) -> Nodes
     requires { undecided ≤ most_blocks }
-    ensures { result ≡ all_nodes undecided }
+    ensures { result ≡ node_count undecided }
 {
     (1 << (undecided + 1)) - 1
 }
@@ -80,9 +80,9 @@ fn all_nodes(undecided: usize) -> Nodes
 /// Whether the limit on nodes can bind: a piece of a cutting of this depth can have more nodes.
 pub(crate) fn limit_can_bind<A: Allocator>(problem: &Problem<A>, depth: usize, nodes: Nodes) -> bool
     requires { depth ≤ length problem.now.blocks }
-    ensures { result ≡ nat_lt nodes (all_nodes (length problem.now.blocks - depth)) }
+    ensures { result ≡ nat_lt nodes (node_count (length problem.now.blocks - depth)) }
 {
-    nodes < all_nodes(problem.block_count() - depth)
+    nodes < node_count(problem.block_count() - depth)
 }
 
 /// A problem, and the input of its walks by prices for the pieces of one cutting.
@@ -104,12 +104,12 @@ pub(crate) struct ByPrices<'a, A: Allocator, P: PricedProblem> {
 /// limit that can't bind.
 impl<A: Allocator, P: PricedProblem> Explorer for ByPrices<'_, A, P> {
     ghost use Rattle.std.specs.Prelude.{◌-◌, ◌==◌, ◌&&◌, nat_le, length};
-    ghost use Rattle.dam_search.specs.Piece.{all_nodes};
+    ghost use Rattle.dam_search.specs.Piece.{node_count};
 
     ghost explored = { λ by. by.problem.now };
 
     ghost suits = { λ by depth nodes. (by.depth == depth)
-        && nat_le (all_nodes (length by.problem.now.blocks - depth)) nodes };
+        && nat_le (node_count (length by.problem.now.blocks - depth)) nodes };
 
     fn explore<I: Incumbent>(
         &self,

@@ -50,10 +50,10 @@ pub fn collecting()
         → AreConclusive problem depth answers }
 {
     dam_blocks::laws::empty_is_eligible();
-    dam_blocks::laws::eligible_welfare();
-    dam_blocks::laws::ranking();
-    dam_blocks::laws::existence();
-    dam_blocks::laws::choices();
+    dam_blocks::laws::eligible_welfare_is_not_negative();
+    dam_blocks::laws::ranking_is_total();
+    dam_blocks::laws::result_exists();
+    dam_blocks::laws::choices_are_all_selections();
 }
 
 /// The closing law of the two words. If one seat has all seats joined into it, the claim word is the

@@ -2,7 +2,7 @@ ghost use Rattle.std.specs.Prelude.{◌≡◌, ◌<◌, pos, ◌≤ℤ◌, not, 
 ghost use Rattle.dam_book.specs.Limits.{most_blocks};
 ghost use Rattle.dam_bound.specs.Prices.{greatest_priced_gain};
 ghost use Rattle.dam_blocks.specs.Magnitude.{IsWithin};
-ghost use Rattle.dam_search.specs.inside.PriceWalk.{with_if, with_all, bound_after};
+ghost use Rattle.dam_search.specs.inside.PriceWalk.{with_place_if, with_all, bound_after};
 
 use dam_blocks::Selection;
 
@@ -21,10 +21,10 @@ pub(crate) struct Node<'a> {
     pub(crate) bound: i64,
 }
 
-/// The selection with the block at this place accepted too, if it is so decided.
-fn with_if(decided: bool, selection: Selection, place: usize) -> Selection
+/// The selection, which accepts the block at `place` too if `decided`.
+fn with_place_if(decided: bool, selection: Selection, place: usize) -> Selection
     requires { place < most_blocks }
-    ensures { result ≡ with_if decided selection place }
+    ensures { result ≡ with_place_if decided selection place }
 {
     if decided {
         selection.with(place)
@@ -48,7 +48,7 @@ fn bound_after(accept: bool, bound: i64, gain: i64) -> i64
 
 impl Node<'_> {
     /// The open selection that accepts every block that is left. None ranks above it in the order of ties.
-    pub(crate) fn top(&self) -> Selection
+    pub(crate) fn highest_selection(&self) -> Selection
         requires { All (λ place. place < most_blocks) self.now.left.now }
         ensures { result ≡ with_all self.now.taken self.now.left.now }
     {
@@ -60,7 +60,7 @@ impl Node<'_> {
     }
 
     /// The node with a decision on the block at `place`, which has this gain, and `left` left.
-    pub(crate) fn decided<'b>(
+    pub(crate) fn after_decision<'b>(
         &self,
         place: usize,
         left: &'b [u8],
@@ -70,14 +70,14 @@ impl Node<'_> {
         requires place { place < most_blocks }
         requires bound { pos 0 ≤ℤ self.now.bound }
         requires gain { IsWithin greatest_priced_gain gain }
-        ensures taken { result.taken ≡ with_if accept self.now.taken place }
-        ensures rejected { result.rejected ≡ with_if (not accept) self.now.rejected place }
+        ensures taken { result.taken ≡ with_place_if accept self.now.taken place }
+        ensures rejected { result.rejected ≡ with_place_if (not accept) self.now.rejected place }
         ensures left { result.left.now ≡ left.now }
         ensures bound { result.bound ≡ bound_after accept self.now.bound gain }
     {
         Node {
-            taken: with_if(accept, self.taken, place),
-            rejected: with_if(!accept, self.rejected, place),
+            taken: with_place_if(accept, self.taken, place),
+            rejected: with_place_if(!accept, self.rejected, place),
             left,
             bound: bound_after(accept, self.bound, gain),
         }

@@ -24,19 +24,19 @@ pub(crate) struct WalkState {
 }
 
 /// Whether the candidate ranks above the selection found.
-pub(crate) fn surpasses(candidate: &Best, best: &Option<Best>) -> bool
+pub(crate) fn ranks_above_found(candidate: &Best, best: &Option<Best>) -> bool
     ensures { MatchBool result (Rises best.now (Some candidate.now))
         (IsMatched (pos candidate.now.welfare) candidate.now.selection best.now) }
 {
-    dam_blocks::laws::ranking();
+    dam_blocks::laws::ranking_is_total();
     match best {
         Some(best) => ranks_above(*candidate, *best),
         None => true,
     }
 }
 
-/// Whether the bound is the value.
-pub(crate) fn equals(bound: i64, value: u64) -> bool
+/// Whether the bound equals the value.
+pub(crate) fn bound_equals(bound: i64, value: u64) -> bool
     ensures { IsTrue result ↔ (bound ≡ pos value) }
 {
     bound >= 0 && bound as u64 == value
@@ -73,15 +73,15 @@ impl<A: Allocator, B: Allocator> SearchSpace<'_, A, B> {
         ensures read { found.new.read ≡ found.old.read }
         ensures visited { found.new.visited ≡ found.old.visited }
     {
-        dam_blocks::laws::verdict();
-        dam_bound::laws::completions();
+        dam_blocks::laws::verdict_tells_eligibility();
+        dam_bound::laws::completions_split();
         use_invariant(self.problem);
         let selection = prefix.selection();
         let Verdict::Eligible(welfare) = score(self.problem, selection) else {
             return;
         };
         let candidate = Best { selection, welfare };
-        if welfare < found.read || !surpasses(&candidate, &found.best) {
+        if welfare < found.read || !ranks_above_found(&candidate, &found.best) {
             return;
         }
         found.best = Some(candidate);
@@ -111,9 +111,9 @@ impl<A: Allocator, B: Allocator> SearchSpace<'_, A, B> {
             found.old found.new result }
         ensures kept { I.kept incumbent.new ≡ I.kept incumbent.old }
     {
-        dam_blocks::laws::ranking();
-        dam_bound::laws::bound();
-        dam_bound::laws::completions();
+        dam_blocks::laws::ranking_is_total();
+        dam_bound::laws::relaxed_welfare_bounds_completions();
+        dam_bound::laws::completions_split();
         if !prefix.is_admissible(self.problem) {
             return true;
         }
@@ -129,7 +129,7 @@ impl<A: Allocator, B: Allocator> SearchSpace<'_, A, B> {
         let Some(bound) = self.live_bound(prefix, found.read) else {
             return true;
         };
-        let accept = equals(bound, found.read);
+        let accept = bound_equals(bound, found.read);
         if !self.walk(nodes, &prefix.extended(accept), incumbent, found) {
             return false;
         }

@@ -81,7 +81,7 @@ impl Prefix {
         ensures completions { result ≡ false → (sel : List Bool) → IsCompletion self.now sel
             → ¬ (IsAdmissible problem.now.blocks sel) }
     {
-        dam_blocks::laws::fronts();
+        dam_blocks::laws::fronts_are_admissible();
         use_invariant(problem);
         admissible(problem, self.taken)
     }

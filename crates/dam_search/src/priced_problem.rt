@@ -8,7 +8,7 @@ ghost use Rattle.dam_bound.specs.NetLimits.{AreLimits};
 ghost use Rattle.dam_bound.specs.Prices.{IsPriceBound};
 
 use dam_blocks::Selection;
-use dam_bound::{ClassCurves, ClassPrices, Limits, PriceBound};
+use dam_bound::{ClassCurves, ClassPrices, NetLimits, PriceBound};
 use std::alloc::Allocator;
 
 /// A problem that can be priced: the hourly orders and blocks of a problem, as a walk by prices asks for them.
@@ -16,14 +16,14 @@ pub trait PricedProblem {
     /// The problem, without its rows.
     ghost problem: { Self → ProblemState };
 
-    /// Makes a bound by the prices that suit the selections that accept `taken`, any of the blocks that are left, and
+    /// Writes a bound by the prices that suit the selections that accept `taken`, any of the blocks that are left, and
     /// nothing else.
-    fn bound_by_prices(&self, taken: Selection, left: &[u8], bound: &mut PriceBound)
+    fn write_price_bound(&self, taken: Selection, left: &[u8], bound: &mut PriceBound)
         requires { All (λ place. place < most_blocks) left.now }
         ensures { IsPriceBound (problem self.now) bound.new };
 
     /// The welfare of a selection, unless it has none or less than `least`; and the prices at which it clears.
-    fn welfare(
+    fn clear_selection(
         &self,
         selection: Selection,
         bound: &PriceBound,
@@ -55,25 +55,25 @@ pub trait PricedProblem {
             → accepts selection sell ≡ true → accepts selection buy ≡ false };
 
     /// Limits that every eligible selection keeps.
-    fn limits(&self) -> Limits
+    fn net_limits(&self) -> NetLimits
         ensures { AreLimits (problem self.now) result.limits };
 }
 
 impl<A: Allocator, B: Allocator> PricedProblem for ClassCurves<'_, A, B> {
     ghost problem = { λ problem. problem };
 
-    fn bound_by_prices(&self, taken: Selection, left: &[u8], bound: &mut PriceBound) {
-        self.bound_by_prices(taken, left, bound);
+    fn write_price_bound(&self, taken: Selection, left: &[u8], bound: &mut PriceBound) {
+        self.write_price_bound(taken, left, bound);
     }
 
-    fn welfare(
+    fn clear_selection(
         &self,
         selection: Selection,
         bound: &PriceBound,
         least: i64,
         prices: &mut ClassPrices,
     ) -> Option<i64> {
-        self.welfare(selection, bound, least, prices)
+        self.clear_selection(selection, bound, least, prices)
     }
 
     fn has_loss(&self, selection: Selection, prices: &ClassPrices) -> bool {
@@ -84,7 +84,7 @@ impl<A: Allocator, B: Allocator> PricedProblem for ClassCurves<'_, A, B> {
         self.are_rivals(sell, buy)
     }
 
-    fn limits(&self) -> Limits {
-        self.limits()
+    fn net_limits(&self) -> NetLimits {
+        self.net_limits()
     }
 }

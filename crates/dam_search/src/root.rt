@@ -11,7 +11,7 @@ ghost use Rattle.dam_search.specs.inside.PriceWalk.{AgreesUnder};
 use crate::first::all_places;
 use crate::priced_problem::PricedProblem;
 use dam_blocks::Selection;
-use dam_bound::{Limits, PriceBound, Room};
+use dam_bound::{NetLimits, PriceBound, Room};
 
 /// Writes a bound by prices, and returns its bound of the selections that accept `taken`, any of the places of `order`, and
 /// nothing else. `taken` are decisions on the first `depth` blocks.
@@ -19,7 +19,7 @@ use dam_bound::{Limits, PriceBound, Room};
 /// The prices are those that suit one of the prefixes of these decisions: of all of them, and of none, those with the least
 /// bound. A walk that decides one block after the other has the same bounds on its way. The prices of the whole prefix
 /// alone may be poor ones, if the decisions are far from the best selection.
-pub(crate) fn bound_of_piece<P: PricedProblem>(
+pub(crate) fn write_bound_of_piece<P: PricedProblem>(
     priced: &P,
     taken: Selection,
     order: &[u8],
@@ -34,14 +34,14 @@ pub(crate) fn bound_of_piece<P: PricedProblem>(
 {
     let places = all_places();
     let mut prefix = Selection::none();
-    priced.bound_by_prices(prefix, &places, bound);
+    priced.write_price_bound(prefix, &places, bound);
     let mut most = bound.most(taken, order);
     for at in 0..depth {
         if taken.has(at) {
             prefix = prefix.with(at);
         }
         let mut own_bound = PriceBound::empty();
-        priced.bound_by_prices(prefix, &places[at + 1..], &mut own_bound);
+        priced.write_price_bound(prefix, &places[at + 1..], &mut own_bound);
         let own_most = own_bound.most(taken, order);
         if own_most < most {
             most = own_most;
@@ -52,7 +52,7 @@ pub(crate) fn bound_of_piece<P: PricedProblem>(
 }
 
 /// The room that the decisions of `taken` on the first `depth` blocks leave; `None` only if no eligible selection has them.
-pub(crate) fn room_of_piece(limits: &Limits, taken: Selection, depth: usize) -> Option<Room>
+pub(crate) fn room_of_piece(limits: &NetLimits, taken: Selection, depth: usize) -> Option<Room>
     requires depth { depth ≤ most_blocks }
     requires limits { (problem : ProblemState) × AreLimits problem limits.now.limits }
     ensures none { result ≡ None → (problem : ProblemState) (selection : List Bool) (w : ℤ)

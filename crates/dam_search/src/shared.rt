@@ -87,7 +87,7 @@ impl<'a> Shared<'a> {
     }
 
     /// The number of pieces.
-    pub fn pieces(&self) -> u32
+    pub fn piece_count(&self) -> u32
         ensures { result ≡ (view_of self.now.seat).pieces }
     {
         self.pieces

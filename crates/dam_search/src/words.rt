@@ -91,7 +91,7 @@ pub(crate) struct ClosedWords {
 }
 
 /// Closes the words, of which this seat is the only one left.
-pub(crate) fn close(words: Words, seat: Seat) -> ClosedWords
+pub(crate) fn close_words(words: Words, seat: Seat) -> ClosedWords
     requires seat { seat.table_id ≡ words.shared.table_id }
     requires words { (words.shared.table_id.words ≡ 2) × (words.shared.table_id.slots ≡ 0) }
     requires all { (view_of seat).seats + (view_of seat).seats_left ≡ most_seats }

@@ -44,7 +44,7 @@ pub fn work<A: Allocator, E: Explorer, T: Turnstile>(
     ensures seats_left { (view_of seat.new.seat).seats_left ≡ (view_of seat.old.seat).seats_left }
     ensures table { seat.new.seat.table_id ≡ seat.old.seat.table_id }
 {
-    let mut answers = Vec::with_capacity(alloc, seat.pieces() as usize)?;
+    let mut answers = Vec::with_capacity(alloc, seat.piece_count() as usize)?;
     while let Some(piece) = seat.draw() {
         turnstile.before(piece);
         answers.push_reserved(explorer.explore(piece, depth, nodes, seat));

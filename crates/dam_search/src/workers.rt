@@ -10,7 +10,7 @@ ghost use Rattle.dam_search.specs.Words.{view_of};
 ghost use Rattle.dam_search.specs.inside.Seats.{IsNewSeat, IsWorkedSeat, AreJoined, AreAllAnswers};
 
 use crate::answer::PieceAnswer;
-use crate::collect::{collected, pieces};
+use crate::collect::{collected, piece_count};
 use crate::conflicts::Conflicts;
 use crate::explorer::{ByPrices, Explorer, limit_can_bind};
 use crate::fault::SearchFault;
@@ -20,7 +20,7 @@ use crate::order::decision_order;
 use crate::priced_problem::PricedProblem;
 use crate::shared::Shared;
 use crate::space::SearchSpace;
-use crate::words::{ClosedWords, close, new_words};
+use crate::words::{ClosedWords, close_words, new_words};
 use crate::worker::work;
 use dam_blocks::{Best, Problem};
 use dam_bound::{ClassCurves, Relaxed};
@@ -75,7 +75,7 @@ fn seats_for<'a>(
 }
 
 /// A worker's work at its seat.
-fn worked_seat<'a, E: Explorer, T: Turnstile>(
+fn work_at_seat<'a, E: Explorer, T: Turnstile>(
     task: &Task<E>,
     turnstile: &T,
     seat: Shared<'a>,
@@ -117,13 +117,13 @@ fn work_all<'a, R: Threads + Sync, E: Explorer + Sync, T: Turnstile + Sync>(
             requires { IsNewSeat seat.seat.table_id (2 ^ task.now.depth) seat }
             ensures { IsWorkedSeat task.entry.now.problem.now task.entry.now.depth
                 task.entry.now.nodes seat.entry.seat.table_id result }
-        { worked_seat(task, turnstile, seat) },
+        { work_at_seat(task, turnstile, seat) },
     )
 }
 
 /// Joins the workers' seats into the first one, and their answers into one list, which was made with
 /// room for them before the work.
-fn gathered<'a, E: Explorer>(
+fn join_seats<'a, E: Explorer>(
     task: &Task<E>,
     first: &mut Shared<'a>,
     mut worked: Vec<WorkedSeat<'a>>,
@@ -168,10 +168,10 @@ fn explore_with_workers<'a, R: Threads + Sync, E: Explorer + Sync, T: Turnstile 
         })
         task.now.workers (view_of first.new.seat) answers.items) }
 {
-    let answers = Vec::with_capacity(task.alloc, first.pieces() as usize)?;
+    let answers = Vec::with_capacity(task.alloc, first.piece_count() as usize)?;
     let seats = seats_for(first, task.alloc, task.workers)?;
     let worked = work_all(rt, task, turnstile, seats)?;
-    gathered(task, first, worked, answers)
+    join_seats(task, first, worked, answers)
 }
 
 /// The answers of all workers, and the contents of the words when they were closed.
@@ -193,13 +193,13 @@ pub(crate) fn explore_all<R: Threads + Sync, E: Explorer + Sync, T: Turnstile + 
     ensures { IfOk result (λ explored. AreAllAnswers task.now.problem.now task.now.depth
         task.now.nodes task.now.first_welfare explored.answers.items) }
 {
-    let count = pieces(task.depth);
+    let count = piece_count(task.depth);
     let (words, seat) = new_words(task.alloc, count)?;
     let mut first = Shared::first(&words, seat, count);
     first.offer(task.first_welfare);
     let answers = explore_with_workers(rt, task, turnstile, &mut first)?;
     let seat = first.into_seat();
-    let totals = close(words, seat);
+    let totals = close_words(words, seat);
     Ok(Explored { answers, totals })
 }
 

@@ -23,9 +23,9 @@ abbrev pub is_unsupported : ErrorKind → Bool
 is_unsupported Unsupported = true
 is_unsupported kind = false
 
--- the library refused the kind of a file; an error of the system has a number
-abbrev pub is_other_kind : Error → Bool
-is_other_kind error = is_none (raw_os_error error) && is_unsupported (error_kind error)
+-- the library says that the path is no regular file with one name; an error of the system has a number
+abbrev pub is_not_a_file : Error → Bool
+is_not_a_file error = is_none (raw_os_error error) && is_unsupported (error_kind error)
 
 -- the fault of a call for a file with this error
 abbrev pub of_io : Error → FileFault
@@ -36,7 +36,7 @@ abbrev pub of_open : OpenError → FileFault
 of_open opening.Busy = files.InUse
 of_open opening.HotJournal = files.Database
 of_open opening.OutOfMemory = files.Memory
-of_open (opening.Io error) = if is_other_kind error then files.NotAFile else of_io error
+of_open (opening.Io error) = if is_not_a_file error then files.NotAFile else of_io error
 
 -- a call of the disk failed
 abbrev pub is_failure : StoreFault → Bool

@@ -16,7 +16,7 @@ use crate::store::Store;
 use sqlite_disk::Disk;
 
 /// Writes a batch after the mark at `end` and syncs it, and only then opens the mark and syncs that.
-fn write_lines<D: Disk>(disk: &mut D, end: usize, batch: &Batch) -> Result<(), StoreFault>
+fn commit_batch<D: Disk>(disk: &mut D, end: usize, batch: &Batch) -> Result<(), StoreFault>
     requires synced { IsSynced D.Disk disk.old }
     requires closed { IsTrue (D.Disk.is_clean disk.old) → IsFileAtRest (D.Disk.seen disk.old) end }
     requires some { (length batch.now == 0) ≡ false }
@@ -87,7 +87,7 @@ impl<D: Disk> Store<D> {
             return Err(StoreFault::Full);
         }
         self.is_broken = true;
-        write_lines(&mut self.disk, self.end, batch)?;
+        commit_batch(&mut self.disk, self.end, batch)?;
         self.end += len;
         self.is_broken = false;
         Ok(())

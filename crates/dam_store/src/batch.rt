@@ -76,6 +76,7 @@ impl Batch {
     }
 }
 
+/// Adds a line to the marked lines; after an error they are as before.
 fn add_line(bytes: &mut Vec<u8>, line: &[u8]) -> Result<(), AllocError>
     requires batch { IsBatch bytes.old.items }
     requires line { has_byte 10 line.now ≡ false }
@@ -85,7 +86,7 @@ fn add_line(bytes: &mut Vec<u8>, line: &[u8]) -> Result<(), AllocError>
     ensures err { OnErr result (marked_lines bytes.new.items ≡ marked_lines bytes.old.items) }
 {
     let mark = bytes.len() - 1;
-    match extend(bytes, line) {
+    match append_line_and_mark(bytes, line) {
         Ok(()) => {
             bytes[mark] = b'+';
             Ok(())
@@ -97,7 +98,8 @@ fn add_line(bytes: &mut Vec<u8>, line: &[u8]) -> Result<(), AllocError>
     }
 }
 
-fn extend(bytes: &mut Vec<u8>, line: &[u8]) -> Result<(), AllocError>
+/// Appends a line, its newline and the mark of the next one. After an error, part of these may be there.
+fn append_line_and_mark(bytes: &mut Vec<u8>, line: &[u8]) -> Result<(), AllocError>
     ensures ok { OnOk result (bytes.new.items
         ≡ bytes.old.items ++ (line.now ++ 10 ∷ 45 ∷ [])) }
     ensures err { OnErr result (take (length bytes.old.items) bytes.new.items ≡ bytes.old.items) }

@@ -1,5 +1,5 @@
 ghost use Rattle.std.specs.Prelude.{◌≡◌};
-ghost use Rattle.dam_store.specs.Faults.{is_other_kind};
+ghost use Rattle.dam_store.specs.Faults.{is_not_a_file};
 
 use sqlite_std_file::OpenError;
 use std::alloc::AllocError;
@@ -107,15 +107,15 @@ impl From<OpenError> for FileFault {
             OpenError::Busy => FileFault::InUse,
             OpenError::HotJournal => FileFault::Database,
             OpenError::OutOfMemory => FileFault::Memory,
-            OpenError::Io(error) if is_other_kind(&error) => FileFault::NotAFile,
+            OpenError::Io(error) if is_not_a_file(&error) => FileFault::NotAFile,
             OpenError::Io(error) => FileFault::from(error),
         }
     }
 }
 
-/// Whether the library refused the kind of the file. An error of the system has a number.
-fn is_other_kind(error: &io::Error) -> bool
-    ensures { result ≡ is_other_kind error.now }
+/// Whether the library says that the path is no regular file with one name. An error of the system has a number.
+fn is_not_a_file(error: &io::Error) -> bool
+    ensures { result ≡ is_not_a_file error.now }
 {
     error.raw_os_error().is_none() && error.kind() == ErrorKind::Unsupported
 }

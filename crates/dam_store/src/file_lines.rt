@@ -50,7 +50,7 @@ pub(crate) fn file_lines(alloc: Global, file: &[u8]) -> Result<FileLines, StoreF
 }
 
 /// The lines that a file's bytes stand for, with a newline at the end of each. Nothing is repaired.
-pub fn read_text(alloc: Global, file: &[u8]) -> Result<Vec<u8>, StoreFault>
+pub fn text_of_file_bytes(alloc: Global, file: &[u8]) -> Result<Vec<u8>, StoreFault>
     ensures text { IfOk result (λ text. (lines : List (List ℕ))
         × StandsFor lines file.now × (text.items ≡ text_of lines)) }
     ensures fault { IfErr result (λ fault. (fault ≡ Memory) ⊎ IsRefused file.now fault) }

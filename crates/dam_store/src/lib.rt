@@ -19,6 +19,6 @@ mod store;
 pub use batch::Batch;
 pub use fault::{BatchFault, FileFault, StoreFault};
 pub use file::open_file;
-pub use file_lines::read_text;
+pub use file_lines::text_of_file_bytes;
 pub use limits::MOST_FILE_BYTES;
 pub use store::{Found, Store, Unopened};

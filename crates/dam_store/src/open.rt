@@ -28,7 +28,7 @@ fn keep_from(bytes: &mut Vec<u8>, at: usize)
 }
 
 /// Keeps only the bytes from the end of the lines on; all, if the file was never made whole.
-fn keep_rest(file: &mut Vec<u8>, end: Option<usize>)
+fn keep_after_lines(file: &mut Vec<u8>, end: Option<usize>)
     requires { IsEnd file.old.items end }
     ensures { file.new.items ≡ rest_of file.old.items end }
 {
@@ -63,7 +63,7 @@ fn read_synced<D: Disk>(alloc: Global, disk: &mut D) -> Result<(Vec<u8>, FileLin
     disk.sync().map_err(StoreFault::Sync)?;
     let mut bytes = read_file(alloc, disk)?;
     let lines = file_lines(alloc, &bytes)?;
-    keep_rest(&mut bytes, lines.end);
+    keep_after_lines(&mut bytes, lines.end);
     Ok((bytes, lines))
 }
 

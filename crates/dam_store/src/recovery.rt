@@ -16,6 +16,7 @@ pub(crate) const HEAD_LINE: [u8; 12] = *b"+dam-desk 1\n";
 
 const AFTER_FIRST: [u8; 12] = *b"dam-desk 1\n-";
 
+/// Whether the bytes are of a file that was never made whole: no store holds lines in it yet.
 pub(crate) fn is_unmade(bytes: &[u8]) -> bool
     ensures { result ≡ is_unmade bytes.now }
 {
@@ -34,14 +35,16 @@ fn begins_uncounted_line(bytes: &[u8]) -> bool
     matches!(bytes, [b'-', ..])
 }
 
+/// Whether a newline is among the bytes from `at` on.
 fn has_newline_after(bytes: &[u8], at: usize) -> bool
     ensures { result ≡ has_newline (drop at bytes.now) }
 {
     at < bytes.len() && bytes[at..].contains(&b'\n')
 }
 
-/// Makes the first byte of a file that was never made whole the mark of a line that doesn't count yet.
-fn begin<D: Disk>(disk: &mut D, bytes: &[u8]) -> Result<(), StoreFault>
+/// Writes the mark of a line that doesn't count yet at the first byte of a file that was never made whole, unless it is
+/// there.
+fn write_first_mark<D: Disk>(disk: &mut D, bytes: &[u8]) -> Result<(), StoreFault>
     requires read { IsReadWhole D.Disk disk.old bytes.now }
     requires unmade { is_unmade bytes.now ≡ true }
     ensures synced { OnOk result (IsSynced D.Disk disk.new) }
@@ -79,14 +82,14 @@ fn create<D: Disk>(disk: &mut D, bytes: &[u8]) -> Result<(), StoreFault>
     ensures usable { IfErr result
         (λ fault. D.Disk.is_usable disk.new ≡ not (is_failed_sync fault)) }
 {
-    begin(disk, bytes)?;
+    write_first_mark(disk, bytes)?;
     write_and_sync(disk, 1, &AFTER_FIRST)?;
     write_and_sync(disk, 0, b"+")?;
     Ok(())
 }
 
-/// Replaces the bytes from `at` on with blanks.
-fn clear_after(bytes: &mut Vec<u8>, at: usize) -> Result<(), AllocError>
+/// In memory, replaces the bytes from `at` on with blanks.
+fn fill_with_blanks(bytes: &mut Vec<u8>, at: usize) -> Result<(), AllocError>
     requires { at ≤ length bytes.old.items }
     ensures { OnOk result (bytes.new.items
         ≡ take at bytes.old.items ++ replicate (length bytes.old.items - at) 32) }
@@ -98,7 +101,7 @@ fn clear_after(bytes: &mut Vec<u8>, at: usize) -> Result<(), AllocError>
 }
 
 /// Writes blanks over the bytes after the byte at `end`, if a newline is among them.
-fn blank<D: Disk>(disk: &mut D, end: usize, rest: &mut Vec<u8>) -> Result<(), StoreFault>
+fn write_blanks<D: Disk>(disk: &mut D, end: usize, rest: &mut Vec<u8>) -> Result<(), StoreFault>
     requires { IsReadFrom D.Disk disk.old end rest.old.items }
     ensures read { OnOk result (IsReadFrom D.Disk disk.new end rest.new.items) }
     ensures lines { OnOk result (IsTrue (D.Disk.is_clean disk.new)
@@ -117,13 +120,13 @@ fn blank<D: Disk>(disk: &mut D, end: usize, rest: &mut Vec<u8>) -> Result<(), St
     if !has_newline_after(rest, 1) {
         return Ok(());
     }
-    clear_after(rest, 1)?;
+    fill_with_blanks(rest, 1)?;
     write_and_sync(disk, end + 1, &rest[1..])?;
     Ok(())
 }
 
 /// Writes the mark of a line that doesn't count yet at `end`, unless it is there.
-fn close<D: Disk>(disk: &mut D, end: usize, rest: &[u8]) -> Result<(), StoreFault>
+fn write_end_mark<D: Disk>(disk: &mut D, end: usize, rest: &[u8]) -> Result<(), StoreFault>
     requires read { IsReadFrom D.Disk disk.old end rest.now }
     requires last { has_newline (drop 1 rest.now) ≡ false }
     ensures synced { OnOk result (IsSynced D.Disk disk.new) }
@@ -145,8 +148,8 @@ fn close<D: Disk>(disk: &mut D, end: usize, rest: &[u8]) -> Result<(), StoreFaul
     Ok(())
 }
 
-/// Closes the end of a file that begins with the first line.
-fn close_end<D: Disk>(disk: &mut D, end: usize, mut rest: Vec<u8>) -> Result<(), StoreFault>
+/// Makes the end of the file tidy: no whole line after `end`, and there the mark of a line that doesn't count yet.
+fn tidy_end<D: Disk>(disk: &mut D, end: usize, mut rest: Vec<u8>) -> Result<(), StoreFault>
     requires { IsReadFrom D.Disk disk.old end rest.items }
     ensures synced { OnOk result (IsSynced D.Disk disk.new) }
     ensures opened { OnOk result (IsTrue (D.Disk.is_clean disk.new)
@@ -162,12 +165,12 @@ fn close_end<D: Disk>(disk: &mut D, end: usize, mut rest: Vec<u8>) -> Result<(),
     ensures usable { IfErr result
         (λ fault. D.Disk.is_usable disk.new ≡ not (is_failed_sync fault)) }
 {
-    blank(disk, end, &mut rest)?;
-    close(disk, end, &rest)?;
+    write_blanks(disk, end, &mut rest)?;
+    write_end_mark(disk, end, &rest)?;
     Ok(())
 }
 
-/// Makes a file whole that never was, or closes its end. Returns where its lines end.
+/// Makes a file whole that never was, or makes its end tidy. Returns where its lines end.
 pub(crate) fn repair<D: Disk>(
     disk: &mut D,
     end: Option<usize>,
@@ -191,7 +194,7 @@ pub(crate) fn repair<D: Disk>(
 {
     match end {
         Some(end) => {
-            close_end(disk, end, rest)?;
+            tidy_end(disk, end, rest)?;
             Ok(end)
         }
         None => {

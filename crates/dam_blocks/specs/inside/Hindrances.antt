@@ -16,19 +16,19 @@ abbrev pub parents_of : Block → List Block → List ℕ
 parents_of block blocks = places_where (λ b. names b block) 0 blocks
 
 -- the places of the blocks of its group, its own among them
-abbrev pub group_of : Block → List Block → List ℕ
-group_of block blocks = places_where (λ b. are_of_one_group block b) 0 blocks
+abbrev pub group_members : Block → List Block → List ℕ
+group_members block blocks = places_where (λ b. are_of_one_group block b) 0 blocks
 
 -- how many of the places the selection accepts
-abbrev pub accepted_among : List Bool → List ℕ → ℕ
-accepted_among selection [] = 0
-accepted_among selection (j ∷ places) =
-    (if accepts selection j then 1 else 0) + accepted_among selection places
+abbrev pub count_accepted : List Bool → List ℕ → ℕ
+count_accepted selection [] = 0
+count_accepted selection (j ∷ places) =
+    (if accepts selection j then 1 else 0) + count_accepted selection places
 
 -- the hindrances of the block
 pub record AreHindrancesOf (block : Block) (blocks : List Block) (own : Hindrances) : Type 0 where
   pub parents : own.parents.items ≡ parents_of block blocks
-  pub group : own.group.items ≡ group_of block blocks
+  pub group : own.group.items ≡ group_members block blocks
 
 -- the hindrances of the block at place i
 pub record AreHindrances (blocks : List Block) (i : ℕ) (own : Hindrances) : Type 0 where

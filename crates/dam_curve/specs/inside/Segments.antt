@@ -10,8 +10,8 @@ use Rattle.dam_curve.specs.declared.segment.Segment.{Segment}
 
 -- the segment at a price, after one at the previous price, from the net volume at which this volume is taken of the
 -- supply, at this cost
-abbrev pub segment_of : ℕ → ℕ → ℤ → ℤ → ℕ → ℕ → Segment
-segment_of volume worth previous price before cost = record {
+abbrev pub segment_at_price : ℕ → ℕ → ℤ → ℤ → ℕ → ℕ → Segment
+segment_at_price volume worth previous price before cost = record {
   most = pos volume -ℤ pos before;
   price = price;
   dot = price_between previous price;
@@ -20,9 +20,9 @@ segment_of volume worth previous price before cost = record {
 
 -- a segment for each step, and a last one with all volume taken
 abbrev pub segments_from : ℕ → ℕ → ℤ → ℕ → ℕ → List Step → List Segment
-segments_from volume worth previous before cost [] = segment_of volume worth previous highest_price before cost ∷ []
+segments_from volume worth previous before cost [] = segment_at_price volume worth previous highest_price before cost ∷ []
 segments_from volume worth previous before cost (step ∷ steps) =
-    segment_of volume worth previous step.price before cost
+    segment_at_price volume worth previous step.price before cost
     ∷ segments_from volume worth step.price (before + step.qty) (cost + height_of step.price * step.qty) steps
 
 -- the clearing prices, added up, at a net volume at which no later segment holds
@@ -30,8 +30,8 @@ abbrev pub price_at : Segment → ℤ → ℤ
 price_at segment net = if int_eq segment.most net then segment.dot else segment.price
 
 -- the sum of two segments, at the net volumes at which both hold, up to this one
-abbrev pub joined : Segment → Segment → ℤ → Segment
-joined a b most = record {
+abbrev pub joint_segment : Segment → Segment → ℤ → Segment
+joint_segment a b most = record {
   most = most;
   price = a.price +ℤ b.price;
   dot = price_at a most +ℤ price_at b most;

@@ -9,7 +9,7 @@ use Rattle.dam_blocks.specs.Selection.{choice}
 use Rattle.dam_search.specs.declared.answer.PieceAnswer.{PieceAnswer}
 use Rattle.dam_search.specs.declared.fault.SearchFault.{SearchFault}
 use Rattle.dam_search.specs.declared.fault.SearchFault.TheVariants.{Memory, Collected, Unfinished}
-use Rattle.dam_search.specs.Piece.{all_nodes, IsSpent}
+use Rattle.dam_search.specs.Piece.{node_count, IsSpent}
 use Rattle.dam_search.specs.Answer.{IsSoundAnswer, IsReached, IsHighest}
 use Rattle.dam_search.specs.Words.{most_pieces}
 
@@ -19,10 +19,10 @@ pub record IsWorked (problem : ProblemState) (depth nodes : ℕ) (a : PieceAnswe
   pub in_cutting : a.piece < 2 ^ depth
   pub sound : IsSoundAnswer problem depth a
   pub reached : IsReached problem a.read
-  pub spent : nodes < all_nodes (length problem.blocks - depth)
+  pub spent : nodes < node_count (length problem.blocks - depth)
       → IsSpent problem (choice depth a.piece) (length problem.blocks - depth) 0 nodes
       a.visited a.read a.done
-  pub done : all_nodes (length problem.blocks - depth) ≤ nodes → a.done ≡ true
+  pub done : node_count (length problem.blocks - depth) ≤ nodes → a.done ≡ true
 
 -- how many answers there are about the piece
 abbrev pub answers_about : List PieceAnswer → ℕ → ℕ
@@ -44,9 +44,9 @@ pub record AreAnswerCounts (answers : List PieceAnswer) (counts : List ℕ) : Ty
       → slice_index_or counts piece d ≡ answers_about answers piece
 
 -- whether the answer isn't done, and is about a lesser piece than that one
-abbrev pub is_lesser : PieceAnswer → Option PieceAnswer → Bool
-is_lesser a None = not a.done
-is_lesser a (Some u) = not a.done && nat_lt a.piece u.piece
+abbrev pub is_lesser_unfinished : PieceAnswer → Option PieceAnswer → Bool
+is_lesser_unfinished a None = not a.done
+is_lesser_unfinished a (Some u) = not a.done && nat_lt a.piece u.piece
 
 -- a selection that was found is as long as selections are
 abbrev pub IsLong : Option Best → Type 0

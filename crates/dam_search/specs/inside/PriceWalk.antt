@@ -10,7 +10,7 @@ use Rattle.dam_blocks.specs.Problem.{ProblemState}
 use Rattle.dam_blocks.specs.Selection.{accepts}
 use Rattle.dam_blocks.specs.Eligible.{IsEligible}
 use Rattle.dam_bound.specs.declared.price_bound.PriceBound.{PriceBound}
-use Rattle.dam_bound.specs.declared.net_limits.Limit.{Limit}
+use Rattle.dam_bound.specs.declared.net_limits.NetLimit.{NetLimit}
 use Rattle.dam_bound.specs.declared.net_limits.Room.{Room}
 use Rattle.dam_bound.specs.NetLimits.{AreRooms, HasRoom}
 use Rattle.dam_bound.specs.Open.{is_among, IsOpen, AreFree}
@@ -36,7 +36,7 @@ pub record IsBounded (problem : ProblemState) (prices : PriceBound) (taken : Lis
   pub most : most_of prices taken left ≤ℤ bound
 
 -- what the decisions of each eligible open selection take on the places that are left is no more than the room
-pub record IsRoom (problem : ProblemState) (limits : List Limit) (taken : List Bool) (left : List ℕ) (room : Room)
+pub record IsRoom (problem : ProblemState) (limits : List NetLimit) (taken : List Bool) (left : List ℕ) (room : Room)
     : Type 0 where
   pub rooms : AreRooms room.rooms
   pub has : (selection : List Bool) (w : ℤ) → IsOpen taken left selection → IsEligible problem selection w
@@ -47,9 +47,9 @@ abbrev pub AgreesUnder : ℕ → List Bool → List Bool → Type 0
 AgreesUnder depth taken selection = (place : ℕ) → place < depth → accepts selection place ≡ accepts taken place
 
 -- the places with this one too, if it is so decided
-abbrev pub with_if : Bool → List Bool → ℕ → List Bool
-with_if true taken place = slice_set taken place true
-with_if false taken place = taken
+abbrev pub with_place_if : Bool → List Bool → ℕ → List Bool
+with_place_if true taken place = slice_set taken place true
+with_place_if false taken place = taken
 
 -- the places with all of these too
 abbrev pub with_all : List Bool → List ℕ → List Bool

@@ -4,12 +4,12 @@ use Rattle.std.proofs.lemmas.Bool.Decides.{nat_tests}
 use Rattle.dam_blocks.proofs.Hindering.{allowed_by, parents_accepted, group_within}
 use Rattle.dam_blocks.proofs.links.is_allowed.Goals as goal
 
-pub returns-then-accepted_among-parents : goal.returns-then-accepted_among-parents
-returns-then-accepted_among-parents g c =
+pub returns-then-count_accepted-parents : goal.returns-then-count_accepted-parents
+returns-then-count_accepted-parents g c =
     let blocks = c.args.problem.now.blocks in let own = c.in-Some.hindrances.now in
     let parents = c.as_slice-parents in let group = c.as_slice-group in
-    let all = c.accepted_among.ensures in let some = c.accepted_among-then-accepted_among-parents.ensures in
-    let as_many = c.if-accepted_among-parents.true in (
+    let all = c.count_accepted.ensures in let some = c.count_accepted-then-count_accepted-parents.ensures in
+    let as_many = c.if-count_accepted-parents.true in (
       λ t. allowed_by blocks c.args.selection c.args.place own parents.result.now group.result.now c.in-Some.ensures.some.1
           parents.ensures.value group.ensures.value (sym all ∙ as_many) (grind (arith, nat_tests, some, t)),
       λ allowed.
@@ -17,11 +17,11 @@ returns-then-accepted_among-parents g c =
           grind (arith, nat_tests, some, few)),
     )
 
-pub returns-else-accepted_among-parents : goal.returns-else-accepted_among-parents
-returns-else-accepted_among-parents g c =
+pub returns-else-count_accepted-parents : goal.returns-else-count_accepted-parents
+returns-else-count_accepted-parents g c =
     let blocks = c.args.problem.now.blocks in let own = c.in-Some.hindrances.now in
     let parents = c.as_slice-parents in
-    let all = c.accepted_among.ensures in let fewer = c.if-accepted_among-parents.false in (
+    let all = c.count_accepted.ensures in let fewer = c.if-count_accepted-parents.false in (
       λ t. absurd (grind (arith, nat_tests, fewer, t)),
       λ allowed.
           (let as_many = parents_accepted blocks c.args.selection c.args.place own parents.result.now c.in-Some.ensures.some.1

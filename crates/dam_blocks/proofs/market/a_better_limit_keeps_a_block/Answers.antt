@@ -8,5 +8,5 @@ use Rattle.dam_blocks.proofs.market.a_better_limit_keeps_a_block.Goals as goal
 pub returns : goal.returns
 returns c =
     let laws : ExistenceLaws =
-    record { ends = c.existence.ensures.ends; best = c.existence.ensures.best; welfare = c.welfare.ensures.best } in
-    record { accepted = kept; outcome = same_outcome; worst = worst_limit laws c.balance.ensures.within }
+    record { ends = c.best_execution_exists.ensures.ends; best = c.best_execution_exists.ensures.best; welfare = c.best_has_greatest_welfare.ensures.best } in
+    record { accepted = kept; outcome = same_outcome; worst = worst_limit laws c.balances_within_offers.ensures.within }

@@ -6,5 +6,5 @@ use Rattle.dam_blocks.proofs.market.an_eligible_selection_has_an_outcome.Goals a
 pub returns : goal.returns
 returns c =
     let laws : ExistenceLaws =
-    record { ends = c.existence.ensures.ends; best = c.existence.ensures.best; welfare = c.welfare.ensures.best } in
-    record { some = outcome_found laws c.balance.ensures.within; one = one_outcome c.uniqueness.ensures.best }
+    record { ends = c.best_execution_exists.ensures.ends; best = c.best_execution_exists.ensures.best; welfare = c.best_has_greatest_welfare.ensures.best } in
+    record { some = outcome_found laws c.balances_within_offers.ensures.within; one = one_outcome c.best_execution_is_unique.ensures.best }

@@ -5,7 +5,7 @@ use Rattle.dam_blocks.proofs.market.nobody_loses.Goals as goal
 
 pub returns : goal.returns
 returns c =
-    let laws : GainLaws = record { support = c.support.ensures; at_least_zero = c.surplus.ensures.at_least_zero } in
+    let laws : GainLaws = record { support = c.price_supports_best.ensures; at_least_zero = c.supported_surplus_is_greatest.ensures.at_least_zero } in
     record {
       order = order_at_least_zero laws;
       participant = participant_gains laws;

@@ -6,7 +6,7 @@ use Rattle.dam_blocks.proofs.market.welfare_is_shared_out.Goals as goal
 
 pub returns : goal.returns
 returns c =
-    let laws : SharingLaws = record { best = c.welfare.ensures.best; welfare = c.surplus.ensures.welfare } in
+    let laws : SharingLaws = record { best = c.best_has_greatest_welfare.ensures.best; welfare = c.supported_surplus_is_greatest.ensures.welfare } in
     record {
       shared = λ problem selection prices executions is.
           shared laws problem selection prices executions

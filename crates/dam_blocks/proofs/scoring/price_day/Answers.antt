@@ -4,7 +4,7 @@ use Rattle.std.proofs.lemmas.Int.{ints}
 use Rattle.std.proofs.lemmas.Option.{slice_get_read}
 use Rattle.dam_hour.specs.declared.step.Step.{Step}
 use Rattle.dam_blocks.specs.declared.problem.Block.{Block}
-use Rattle.dam_blocks.specs.Selection.{net_volume, block_value}
+use Rattle.dam_blocks.specs.Selection.{net_volume, accepted_value}
 use Rattle.dam_blocks.specs.Eligible.{ArePrices, welfare_from}
 use Rattle.dam_blocks.proofs.PeriodByPeriod.{period_read, periods_read, cleared_more, all_prices, all_welfare, first_unbalanced}
 use Rattle.dam_blocks.proofs.scoring.price_day.Goals as goal
@@ -23,7 +23,7 @@ overflow_add-welfare g c =
     let at = slice_get_read _ _ c.loop-place.place _ (search rules) c.loop-place-test.true c.index-hours-place.is in
     let hours = c.hours-hours.ensures in
     let w = period_read _ _ _ _ _ _ _ _ hours.value hours.valid.hours hours.valid.few_hourly at c.in-Some.ensures.totals in
-    omega (arith, ints, w.0, w.1, c.block_value.ensures.size.at_least, c.block_value.ensures.size.at_most)
+    omega (arith, ints, w.0, w.1, c.accepted_value.ensures.size.at_least, c.accepted_value.ensures.size.at_most)
 
 pub overflow_add-welfare-in-loop-place : goal.overflow_add-welfare-in-loop-place
 overflow_add-welfare-in-loop-place g c =
@@ -31,7 +31,7 @@ overflow_add-welfare-in-loop-place g c =
     let hours = c.hours-hours.ensures in
     let w = period_read _ _ _ _ _ _ _ _ hours.value hours.valid.hours hours.valid.few_hourly at c.in-Some.ensures.totals in
     let few = periods_read _ _ hours.value (c.days_are_short.ensures.short _ hours.valid.day) in
-    omega (arith, ints, w.0, w.1, c.block_value.ensures.size.at_least, c.block_value.ensures.size.at_most, few)
+    omega (arith, ints, w.0, w.1, c.accepted_value.ensures.size.at_least, c.accepted_value.ensures.size.at_most, few)
 
 pub loop-place-preserved : goal.loop-place-preserved
 loop-place-preserved g c =
@@ -41,10 +41,10 @@ loop-place-preserved g c =
     let few = periods_read _ _ hours.value (c.days_are_short.ensures.short _ hours.valid.day) in
     let net = c.net_volume.ensures.value
     ∙ ap (λ (bs : List Block). net_volume bs c.args.selection c.at-period.result) c.blocks-blocks.ensures.value in
-    let value = c.block_value.ensures.value
-    ∙ ap (λ (bs : List Block). block_value bs c.args.selection c.at-period.result) c.blocks-blocks.ensures.value in
+    let value = c.accepted_value.ensures.value
+    ∙ ap (λ (bs : List Block). accepted_value bs c.args.selection c.at-period.result) c.blocks-blocks.ensures.value in
     cleared_more _ _ _ _ _ _ _ _ _ c.in-Some.cleared.low c.in-Some.cleared.high c.in-Some.cleared.price c.in-Some.cleared.welfare
-    c.block_value.result _
+    c.accepted_value.result _
     at (omega (arith, few)) c.at-period.ensures
     (omega (arith, ints, net, c.net_volume.ensures.valid.at_least, c.net_volume.ensures.valid.at_most))
     c.in-Some.ensures.ends (record {
@@ -54,8 +54,8 @@ loop-place-preserved g c =
       between =
           c.in-Some.ensures.price;
     })
-    c.in-Some.ensures.welfare value w.0 w.1 c.block_value.ensures.size.at_least c.block_value.ensures.size.at_most
-    (omega (arith, ints, w.0, w.1, c.block_value.ensures.size.at_least, c.block_value.ensures.size.at_most, few))
+    c.in-Some.ensures.welfare value w.0 w.1 c.accepted_value.ensures.size.at_least c.accepted_value.ensures.size.at_most
+    (omega (arith, ints, w.0, w.1, c.accepted_value.ensures.size.at_least, c.accepted_value.ensures.size.at_most, few))
     c.loop-place.invariant
 
 pub returns : goal.returns

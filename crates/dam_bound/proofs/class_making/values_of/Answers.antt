@@ -3,7 +3,7 @@ use Rattle.std.proofs.Common.{◌≡◌, ◌∙◌, rules}
 use Rattle.std.proofs.lemmas.Option.{slice_get_read}
 use mir.Syntax.{w64}
 use mir.Val.{to_z, of_z}
-use Rattle.dam_blocks.specs.Selection.{value_of}
+use Rattle.dam_blocks.specs.Selection.{value_in}
 use Rattle.dam_bound.specs.Sums.{over_periods}
 use Rattle.dam_bound.proofs.MakingClasses.{number_more}
 use Rattle.dam_bound.proofs.class_making.values_of.Goals as goal
@@ -11,6 +11,6 @@ use Rattle.dam_bound.proofs.class_making.values_of.Goals as goal
 pub loop-place-preserved : goal.loop-place-preserved
 loop-place-preserved c =
     let narrow : to_z w64 (of_z w64 c.value_over.result) ≡ c.value_over.result = search rules in
-    number_more (λ o. over_periods (λ t. value_of t o) 1 c.args.count) c.args.blocks.now c.loop-place.place c.index-blocks-place.result
+    number_more (λ o. over_periods (λ t. value_in t o) 1 c.args.count) c.args.blocks.now c.loop-place.place c.index-blocks-place.result
     c.loop-place.values _ (slice_get_read _ _ _ _ (search rules) c.loop-place-test.true c.index-blocks-place.is) c.requires.few
     (narrow ∙ c.value_over.ensures.value) c.loop-place.invariant

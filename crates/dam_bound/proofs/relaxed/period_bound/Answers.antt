@@ -14,15 +14,15 @@ returns-clause-value g c =
     let small = c.in_ok-cleared.ensures.small in
     let net = c.net_volume.ensures.value in
     cleared_period c.args.blocks.now c.args.taken c.args.period c.hour-hour.result.now _ _ c.in_ok-cleared.cleared.welfare
-    c.block_value.result _
+    c.accepted_value.result _
     steps (omega (arith, ints, net, c.net_volume.ensures.valid.at_least, c.net_volume.ensures.valid.at_most))
-    c.in_ok-cleared.ensures.welfare c.block_value.ensures.value
+    c.in_ok-cleared.ensures.welfare c.accepted_value.ensures.value
     (omega (
       arith,
       ints,
       few,
       small.welfare_at_least,
       small.welfare_at_most,
-      c.block_value.ensures.size.at_least,
-      c.block_value.ensures.size.at_most,
+      c.accepted_value.ensures.size.at_least,
+      c.accepted_value.ensures.size.at_most,
     ))

@@ -17,16 +17,16 @@ place_of-requires-clause-last c =
     (within_segments c.args.segments.now c.args.net (to_z w64 (of_z w64 c.args.net)) (search rules) c.requires.some c.requires.bottom
     c.requires.top).last
 
-pub value_of-requires-clause-segment : goal.value_of-requires-clause-segment
-value_of-requires-clause-segment c =
+pub welfare_on-requires-clause-segment : goal.welfare_on-requires-clause-segment
+welfare_on-requires-clause-segment c =
     small_wide c.requires.curve.0 c.requires.curve.1 c.requires.curve.2 c.args.segments.now c.place_of.result
     any_segment c.requires.curve.3 c.place_of.ensures.inside
 
 pub returns-clause-welfare : goal.returns-clause-welfare
 returns-clause-welfare c ps least most is =
     let net : to_z w64 (of_z w64 c.args.net) ≡ c.args.net = search rules in
-    let own : to_z w64 (of_z w64 c.value_of.result) ≡ c.value_of.result = search rules in
-    ap (λ (z : ℤ). Some z) (own ∙ c.value_of.ensures)
+    let own : to_z w64 (of_z w64 c.welfare_on.result) ≡ c.welfare_on.result = search rules in
+    ap (λ (z : ℤ). Some z) (own ∙ c.welfare_on.ensures)
     ∙ value_at (joint_welfare ps) c.args.segments.now (to_z w64 (of_z w64 c.args.net)) c.place_of.result
     any_segment is.are_segments
     (within_segments c.args.segments.now c.args.net (to_z w64 (of_z w64 c.args.net)) net c.requires.some c.requires.bottom c.requires.top)

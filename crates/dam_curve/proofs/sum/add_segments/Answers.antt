@@ -8,35 +8,35 @@ use Rattle.dam_curve.proofs.sum.add_segments.Goals.{then-a-at-via-then-a-at, the
 use Rattle.dam_curve.proofs.sum.add_segments.Goals.{then-loop-left-test+else-right-b, else-loop-left-test}
 use Rattle.dam_curve.proofs.sum.add_segments.Goals as goal
 
-pub from_net-left-requires-clause-first : goal.from_net-left-requires-clause-first
-from_net-left-requires-clause-first g c d =
+pub place_at_net-left-requires-clause-first : goal.place_at_net-left-requires-clause-first
+place_at_net-left-requires-clause-first g c d =
     (under_first c.args.a.now c.args.b.now (to_z w32 (of_z w32 c.min-at.result)) any_segment d
     (search rules) (search rules) (search rules)).0
 
-pub from_net-right-requires-clause-first : goal.from_net-right-requires-clause-first
-from_net-right-requires-clause-first g c d =
+pub place_at_net-right-requires-clause-first : goal.place_at_net-right-requires-clause-first
+place_at_net-right-requires-clause-first g c d =
     (under_first c.args.a.now c.args.b.now (to_z w32 (of_z w32 c.min-at.result)) any_segment d
     (search rules) (search rules) (search rules)).1
 
 pub loop-left-init : goal.loop-left-init
 loop-left-init g c =
     rw c.clear.ensures.items
-    (none_added c.args.a.now c.args.b.now (to_z w32 (of_z w32 c.min-at.result)) c.from_net-left.result c.from_net-right.result
-    (place_from c.args.a.now (to_z w32 (of_z w32 c.min-at.result)) c.from_net-left.result
-    any_segment c.from_net-left.ensures.inside (search rules))
-    (place_from c.args.b.now (to_z w32 (of_z w32 c.min-at.result)) c.from_net-right.result
-    any_segment c.from_net-right.ensures.inside (search rules))
+    (none_added c.args.a.now c.args.b.now (to_z w32 (of_z w32 c.min-at.result)) c.place_at_net-left.result c.place_at_net-right.result
+    (place_from c.args.a.now (to_z w32 (of_z w32 c.min-at.result)) c.place_at_net-left.result
+    any_segment c.place_at_net-left.ensures.inside (search rules))
+    (place_from c.args.b.now (to_z w32 (of_z w32 c.min-at.result)) c.place_at_net-right.result
+    any_segment c.place_at_net-right.ensures.inside (search rules))
     (bottom_over c.args.b.now (to_z w32 (of_z w32 c.min-at.result)) any_segment (search rules)
     (search rules))
-    (stands_from c.args.a.now (to_z w32 (of_z w32 c.min-at.result)) c.from_net-left.result c.from_net-left.ensures.holds
-    (λ d l. (let less = c.from_net-left.ensures.last d l in omega (arith, ints, less))))
-    (stands_from c.args.b.now (to_z w32 (of_z w32 c.min-at.result)) c.from_net-right.result c.from_net-right.ensures.holds
-    (λ d l. (let less = c.from_net-right.ensures.last d l in omega (arith, ints, less))))
-    (last_from c.args.a.now (to_z w32 (of_z w32 c.min-at.result)) c.from_net-left.result c.from_net-left.ensures.last)
-    (last_from c.args.b.now (to_z w32 (of_z w32 c.min-at.result)) c.from_net-right.result c.from_net-right.ensures.last))
+    (stands_from c.args.a.now (to_z w32 (of_z w32 c.min-at.result)) c.place_at_net-left.result c.place_at_net-left.ensures.holds
+    (λ d l. (let less = c.place_at_net-left.ensures.last d l in omega (arith, ints, less))))
+    (stands_from c.args.b.now (to_z w32 (of_z w32 c.min-at.result)) c.place_at_net-right.result c.place_at_net-right.ensures.holds
+    (λ d l. (let less = c.place_at_net-right.ensures.last d l in omega (arith, ints, less))))
+    (last_from c.args.a.now (to_z w32 (of_z w32 c.min-at.result)) c.place_at_net-left.result c.place_at_net-left.ensures.last)
+    (last_from c.args.b.now (to_z w32 (of_z w32 c.min-at.result)) c.place_at_net-right.result c.place_at_net-right.ensures.last))
 
-pub joined-requires : goal.joined-requires
-joined-requires g c = (
+pub joint_segment-requires : goal.joint_segment-requires
+joint_segment-requires g c = (
   c.requires.0,
   c.requires.1,
   small_at c.requires.0 c.args.a.now c.loop-left.left _ c.requires.2 c.loop-left.invariant.left_is.inside,
@@ -44,8 +44,8 @@ joined-requires g c = (
   c.requires.4,
 )
 
-pub joined-requires-2 : goal.joined-requires-2
-joined-requires-2 g c = (
+pub joint_segment-requires-2 : goal.joint_segment-requires-2
+joint_segment-requires-2 g c = (
   c.requires.0,
   c.requires.1,
   small_at c.requires.0 c.args.a.now c.loop-left.left _ c.requires.2 c.loop-left.invariant.left_is.inside,
@@ -55,33 +55,33 @@ joined-requires-2 g c = (
 
 pub loop-left-smaller : goal.loop-left-smaller
 loop-left-smaller g c =
-    shorter c.args.a.now c.args.b.now (to_z w32 (of_z w32 c.max-at.result)) c.loop-left.left c.loop-left.right c.past-left.result c.past-right.result
-    any_segment (search rules) (search rules) (search rules) c.past-left.ensures c.past-right.ensures
+    shorter c.args.a.now c.args.b.now (to_z w32 (of_z w32 c.max-at.result)) c.loop-left.left c.loop-left.right c.place_past-left.result c.place_past-right.result
+    any_segment (search rules) (search rules) (search rules) c.place_past-left.ensures c.place_past-right.ensures
 
 pub loop-left-preserved : goal.loop-left-preserved
 loop-left-preserved g c =
-    rw (c.in_ok-push.ensures.items, c.joined.ensures)
+    rw (c.in_ok-push.ensures.items, c.joint_segment.ensures)
     (next_added c.args.a.now c.args.b.now c.loop-left.sum.items (to_z w32 (of_z w32 c.min-at.result)) (to_z w32 c.loop-left.at-bits)
-    (to_z w32 (of_z w32 c.max-at.result)) c.loop-left.left c.loop-left.right c.past-left.result c.past-right.result
+    (to_z w32 (of_z w32 c.max-at.result)) c.loop-left.left c.loop-left.right c.place_past-left.result c.place_past-right.result
     any_segment c.loop-left.invariant (search rules) (search rules) (search rules)
-    c.past-left.ensures c.past-right.ensures)
+    c.place_past-left.ensures c.place_past-right.ensures)
 
 pub returns-clause-segments : goal.returns-clause-segments
 returns-clause-segments g c f h s t =
-    rw (c.in_ok-push-2.ensures.items, c.joined-2.ensures)
+    rw (c.in_ok-push-2.ensures.items, c.joint_segment-2.ensures)
     (all_segments f h c.args.a.now c.args.b.now c.loop-left.sum.items (to_z w32 (of_z w32 c.min-at.result))
     (to_z w32 c.loop-left.at-bits) c.loop-left.left
     c.loop-left.right any_segment c.loop-left.invariant s t)
 
 pub returns-clause-within : goal.returns-clause-within
 returns-clause-within g c h least most t within =
-    rw (c.in_ok-push-2.ensures.items, c.joined-2.ensures)
+    rw (c.in_ok-push-2.ensures.items, c.joint_segment-2.ensures)
     (all_within h c.args.a.now c.args.b.now c.loop-left.sum.items (to_z w32 (of_z w32 c.min-at.result)) (to_z w32 c.loop-left.at-bits) least most
     c.loop-left.left c.loop-left.right any_segment c.loop-left.invariant t (search rules) within)
 
 pub returns-clause-small : goal.returns-clause-small
 returns-clause-small g c n m s t =
-    rw (c.in_ok-push-2.ensures.items, c.joined-2.ensures)
+    rw (c.in_ok-push-2.ensures.items, c.joint_segment-2.ensures)
     (small_added n m c.args.a.now c.args.b.now c.loop-left.sum.items (to_z w32 (of_z w32 c.min-at.result)) (to_z w32 c.loop-left.at-bits) c.loop-left.left
     c.loop-left.right any_segment c.loop-left.invariant s t)
 
@@ -103,17 +103,17 @@ returns-clause-outside g c f h net s t o =
       | else-loop-left-test w ↦ inl (let inside = c.loop-left.invariant.left_is.inside in search rules)
     ])
     (search rules)
-    (rw (← c.joined-2.ensures, ← c.in_ok-push-2.ensures.items) o)
+    (rw (← c.joint_segment-2.ensures, ← c.in_ok-push-2.ensures.items) o)
 
 pub returns-clause-under : goal.returns-clause-under
 returns-clause-under g c f h s t =
-    rw (c.in_ok-push-2.ensures.items, c.joined-2.ensures)
+    rw (c.in_ok-push-2.ensures.items, c.joint_segment-2.ensures)
     (under_added f h c.args.a.now c.args.b.now c.loop-left.sum.items (to_z w32 (of_z w32 c.min-at.result)) (to_z w32 c.loop-left.at-bits)
     c.loop-left.left c.loop-left.right any_segment c.loop-left.invariant s t)
 
 pub returns-clause-priced : goal.returns-clause-priced
 returns-clause-priced g c f h ss ps s t p q =
-    rw (c.in_ok-push-2.ensures.items, c.joined-2.ensures)
+    rw (c.in_ok-push-2.ensures.items, c.joint_segment-2.ensures)
     (all_priced f h ss ps c.args.a.now c.args.b.now c.loop-left.sum.items (to_z w32 (of_z w32 c.min-at.result))
     (to_z w32 c.loop-left.at-bits) c.loop-left.left c.loop-left.right
     any_segment c.loop-left.invariant s t p q)

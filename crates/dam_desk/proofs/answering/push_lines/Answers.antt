@@ -13,7 +13,7 @@ loop-line-preserved c ended =
     let after = c.in-Some.after.now in
     let first = c.in-Some.ensures.first in (
       sym (ended_after line after) ∙ ap is_ended (sym first.split) ∙ so_far.0,
-      ap (λ (ls : List (List ℕ)). text_of ls ++ after) c.in_ok-push.ensures ∙ ap (λ (t : List ℕ). t ++ after) (text_snoc lines line)
+      ap (λ (ls : List (List ℕ)). text_of ls ++ after) c.in_ok-push_line.ensures ∙ ap (λ (t : List ℕ). t ++ after) (text_snoc lines line)
           ∙ append_assoc (text_of lines) (line ++ 10 ∷ []) after
           ∙ ap (λ (t : List ℕ). text_of lines ++ t) (append_assoc line (10 ∷ []) after ∙ sym first.split) ∙ so_far.1,
     )

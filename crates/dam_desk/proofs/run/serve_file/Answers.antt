@@ -5,5 +5,5 @@ use Rattle.dam_desk.proofs.run.serve_file.Goals as goal
 pub returns-clause-faulty : goal.returns-clause-faulty
 returns-clause-faulty g c =
     let opened = c.in_ok-disk.ensures in
-    err_then c.run.result.done _ _ (λ why end.
-    at_rest c.in_ok-disk.disk c.run.result.disk g.S.Start.db why _ _ _ _ _ opened.seen opened.synced opened.no_fault end) c.run.ensures.faulty
+    err_then c.run_desk.result.done _ _ (λ why end.
+    at_rest c.in_ok-disk.disk c.run_desk.result.disk g.S.Start.db why _ _ _ _ _ opened.seen opened.synced opened.no_fault end) c.run_desk.ensures.faulty

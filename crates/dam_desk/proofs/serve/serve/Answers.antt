@@ -105,37 +105,37 @@ returns-clause-faulty g c state begun is =
       served_so_far c.loop.desk state (begun ++ so_far.0) c.args.replies.now old now now Read 0 so_far.2.takes tt [] (inl refl) (Appends-nil now),
     )
 
-pub returns-in-Ok-end-clause-done : goal.returns-in-Ok-end-clause-done
-returns-in-Ok-end-clause-done g c state begun is =
+pub returns-in-Ok-answer_cut_short-clause-done : goal.returns-in-Ok-answer_cut_short-clause-done
+returns-in-Ok-answer_cut_short-clause-done g c state begun is =
     let so_far = c.loop.invariant.taken state begun is in
     let takes = so_far.2.takes in
     let old = g.W.Write.contents c.args.writer.now in
     let mid = g.W.Write.contents c.loop.writer in
-    let new = g.W.Write.contents c.end.new.writer in
+    let new = g.W.Write.contents c.answer_cut_short.new.writer in
     let room : 0 < length c.read.new.buf = omega (arith, c.read.auto.buf, c.loop.invariant.chunk) in (
       so_far.0,
       all_given (g.R.Read.remaining c.args.reader.now) (g.R.Read.remaining c.loop.reader) (g.R.Read.remaining c.read.new.self) so_far.0
           c.read.new.buf c.in-Ok.count so_far.1 c.in-Ok.ensures.bytes.0 c.if-count-eq0.true (c.in-Ok.ensures.bytes.1 c.if-count-eq0.true room),
       finishes c.loop.desk state (begun ++ so_far.0) c.args.replies.now old mid new takes
           (subst (λ (n : ℕ). Appends mid new (end_answer (next n) takes.begun)) takes.now.intake.answered
-          (c.in-Ok-end.ensures.ok takes.begun takes.now.intake.line)),
+          (c.in-Ok-answer_cut_short.ensures.ok takes.begun takes.now.intake.line)),
     )
 
-pub returns-in-Err-end-clause-faulty : goal.returns-in-Err-end-clause-faulty
-returns-in-Err-end-clause-faulty g c state begun is =
+pub returns-in-Err-answer_cut_short-clause-faulty : goal.returns-in-Err-answer_cut_short-clause-faulty
+returns-in-Err-answer_cut_short-clause-faulty g c state begun is =
     let so_far = c.loop.invariant.taken state begun is in
     let takes = so_far.2.takes in
     let old = g.W.Write.contents c.args.writer.now in
     let mid = g.W.Write.contents c.loop.writer in
-    let new = g.W.Write.contents c.end.new.writer in
+    let new = g.W.Write.contents c.answer_cut_short.new.writer in
     let ending = end_answer (next takes.last.answered) takes.begun in
-    let part = c.in-Err-end.ensures.err takes.begun takes.now.intake.line in
-    let said = says_after (length (c.args.replies.now ++ takes.answers)) part.0 c.loop.printed c.in-Err-end.fault so_far.2.count part.2 in (
+    let part = c.in-Err-answer_cut_short.ensures.err takes.begun takes.now.intake.line in
+    let said = says_after (length (c.args.replies.now ++ takes.answers)) part.0 c.loop.printed c.in-Err-answer_cut_short.fault so_far.2.count part.2 in (
       so_far.0,
       nothing_more (g.R.Read.remaining c.args.reader.now) (g.R.Read.remaining c.loop.reader) (g.R.Read.remaining c.read.new.self) so_far.0
           c.read.new.buf c.in-Ok.count so_far.1 c.in-Ok.ensures.bytes.0 c.if-count-eq0.true,
-      subst (λ (why : DeskFault). Served state (begun ++ so_far.0) c.args.replies.now why old new (MayLeave c.loop.desk)) (sym c.after.ensures)
-          (served_so_far c.loop.desk state (begun ++ so_far.0) c.args.replies.now old mid new (fault_after c.loop.printed c.in-Err-end.fault) part.0
+      subst (λ (why : DeskFault). Served state (begun ++ so_far.0) c.args.replies.now why old new (MayLeave c.loop.desk)) (sym c.with_bytes_before.ensures)
+          (served_so_far c.loop.desk state (begun ++ so_far.0) c.args.replies.now old mid new (fault_after c.loop.printed c.in-Err-answer_cut_short.fault) part.0
           takes said ending (inr (takes.begun, takes.split, refl))
           (subst (λ (n : ℕ). Appends mid new (take part.0 (end_answer (next n) takes.begun))) takes.now.intake.answered part.1)),
     )
@@ -154,7 +154,7 @@ returns-in-Err-serve_batch-clause-faulty g c state begun is =
       so_far.0 ++ more,
       Consumes-trans input (g.R.Read.remaining c.loop.reader) left so_far.0 more so_far.1 c.in-Ok.ensures.bytes.0,
       subst (λ (why : DeskFault). Served state (begun ++ (so_far.0 ++ more)) c.args.replies.now why old new (MayLeave c.serve_batch.new.self))
-          (sym c.after-in-Err-serve_batch.ensures)
+          (sym c.with_bytes_before-in-Err-serve_batch.ensures)
           (subst (λ (given : List ℕ).
           Served state given c.args.replies.now (fault_after c.loop.printed fault) old new (MayLeave c.serve_batch.new.self))
           (append_assoc begun so_far.0 more)
@@ -175,14 +175,14 @@ pub returns-clause-answered : goal.returns-clause-answered
 returns-clause-answered g c state begun is failed =
     let so_far = c.loop.invariant.taken state begun is in (so_far.0, so_far.1, so_far.2.takes)
 
-pub returns-in-Err-end-clause-cause : goal.returns-in-Err-end-clause-cause
-returns-in-Err-end-clause-cause g c state begun is =
+pub returns-in-Err-answer_cut_short-clause-cause : goal.returns-in-Err-answer_cut_short-clause-cause
+returns-in-Err-answer_cut_short-clause-cause g c state begun is =
     let before = g.D.Disk.faults (disk_of c.args.desk.now.store) in
     let after = g.D.Disk.faults (disk_of c.loop.desk.store) in
     let clean = g.D.Disk.is_clean (disk_of c.loop.desk.store) in
-    subst (IsEndFault clean before after) (sym c.after.ensures)
-    (end_after clean before after c.loop.printed c.in-Err-end.fault
-    (subst (λ (n : ℕ). IsEndFault clean before n c.in-Err-end.fault) (sym c.loop.invariant.no_fault) (c.in-Err-end.ensures.cause clean before)))
+    subst (IsEndFault clean before after) (sym c.with_bytes_before.ensures)
+    (end_after clean before after c.loop.printed c.in-Err-answer_cut_short.fault
+    (subst (λ (n : ℕ). IsEndFault clean before n c.in-Err-answer_cut_short.fault) (sym c.loop.invariant.no_fault) (c.in-Err-answer_cut_short.ensures.cause clean before)))
 
 pub returns-in-Err-serve_batch-clause-cause : goal.returns-in-Err-serve_batch-clause-cause
 returns-in-Err-serve_batch-clause-cause g c state begun is =
@@ -190,7 +190,7 @@ returns-in-Err-serve_batch-clause-cause g c state begun is =
     let before = g.D.Disk.faults (disk_of c.args.desk.now.store) in
     let after = g.D.Disk.faults (disk_of c.serve_batch.new.self.store) in
     let clean = g.D.Disk.is_clean (disk_of c.serve_batch.new.self.store) in
-    subst (IsEndFault clean before after) (sym c.after-in-Err-serve_batch.ensures)
+    subst (IsEndFault clean before after) (sym c.with_bytes_before-in-Err-serve_batch.ensures)
     (end_after clean before after c.loop.printed c.in-Err-serve_batch.fault
     (end_counts c.in-Err-serve_batch.fault refl c.loop.invariant.no_fault refl
     (c.in-Err-serve_batch.ensures.cause takes.last takes.begun takes.now c.loop.invariant.ready)))
@@ -198,4 +198,4 @@ returns-in-Err-serve_batch-clause-cause g c state begun is =
 pub returns-in-Err-serve_batch-clause-usable : goal.returns-in-Err-serve_batch-clause-usable
 returns-in-Err-serve_batch-clause-usable g c =
     c.in-Err-serve_batch.ensures.usable c.loop.invariant.ready
-    ∙ ap not (sym (sync_after c.loop.printed c.in-Err-serve_batch.fault) ∙ ap is_failed_sync (sym c.after-in-Err-serve_batch.ensures))
+    ∙ ap not (sym (sync_after c.loop.printed c.in-Err-serve_batch.fault) ∙ ap is_failed_sync (sym c.with_bytes_before-in-Err-serve_batch.ensures))

@@ -6,15 +6,15 @@ use Rattle.dam_hour.proofs.Ladders.{offered_total}
 use Rattle.dam_hour.proofs.Rungs.{limit_past_all, limit_of_rung}
 use Rattle.dam_hour.proofs.ends.limit_of_sell.Goals as goal
 
-pub returns-then-unit-all : goal.returns-then-unit-all
-returns-then-unit-all g c =
-    let more = c.if-unit-all.true in
-    limit_past_all c.args.hour.now c.args.unit c.highest.result c.all.result.volume c.highest.ensures
-    (c.all.ensures ∙ c.side-sells.ensures.side.sums (λ sort_key s. s.qty) ∙ offered_total Sell 0 c.args.hour.now) (omega (arith, ints))
+pub returns-then-unit-total_sums : goal.returns-then-unit-total_sums
+returns-then-unit-total_sums g c =
+    let more = c.if-unit-total_sums.true in
+    limit_past_all c.args.hour.now c.args.unit c.highest.result c.total_sums.result.volume c.highest.ensures
+    (c.total_sums.ensures ∙ c.side-sells.ensures.side.sums (λ sort_key s. s.qty) ∙ offered_total Sell 0 c.args.hour.now) (omega (arith, ints))
 
 pub returns : goal.returns
 returns g c =
     let under = c.holding.ensures.under in let up_to = c.holding.ensures.up_to in
     limit_of_rung c.side-sells.result.now c.args.hour.now c.args.unit _ c.holding.result c.side-sells.ensures.side
-    c.side-sells.ensures.steps c.rung-limit.ensures.limit
+    c.side-sells.ensures.steps c.limit_and_volume_before-limit.ensures.limit
     (omega (arith, ints, under)) (omega (arith, ints, up_to))

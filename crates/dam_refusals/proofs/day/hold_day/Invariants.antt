@@ -5,5 +5,5 @@ use Rattle.dam_refusals.proofs.day.hold_day.Given as goal
 abbrev pub invariant-loop-command : goal.invariant-loop-command
 invariant-loop-command g l = length l.keeper.journal.entries ≡ l.command-index
 
-abbrev pub ghosts-hold_named : goal.ghosts-hold_named
-ghosts-hold_named g a = record { opening = a.opening }
+abbrev pub ghosts-hold_at_gate : goal.ghosts-hold_at_gate
+ghosts-hold_at_gate g a = record { opening = a.opening }

@@ -5,4 +5,4 @@ use Rattle.dam_results.proofs.FieldByField.{first_kind}
 use Rattle.dam_results.proofs.journal.kind.Goals as goal
 
 pub returns : goal.returns
-returns c = c.field_of.ensures ∙ first_kind (fields_of c.args.fields.now)
+returns c = c.field_or_empty.ensures ∙ first_kind (fields_of c.args.fields.now)

@@ -8,6 +8,6 @@ returns c =
       problem = c.a_closed_book_is_a_problem.ensures.problem;
       shared = c.welfare_is_shared_out.ensures.orders;
       balance = c.money_balances.ensures.volume;
-      best = c.uniqueness.ensures.best;
+      best = c.best_execution_is_unique.ensures.best;
     } in
     record { welfare = welfare_adds_up laws; volume = volume_adds_up laws; traded = traded_is laws }

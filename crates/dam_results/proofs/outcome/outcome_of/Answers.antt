@@ -15,11 +15,11 @@ returns-in-Some g c =
     c.requires.place c.requires.cleared.are_best c.executed.ensures in
     (c.copy-who.ensures, c.copy-name.ensures, (c.in-Hour.period, c.in-Hour.place, c.in-Hour.is, rw c.in-Some.is at found))
 
-pub surplus_at-requires-clause-place : goal.surplus_at-requires-clause-place
-surplus_at-requires-clause-place g c = block_at c.args.problem.now c.in-Block.place c.args.row.now c.in-Block.is c.requires.place
+pub block_surplus-requires-clause-place : goal.block_surplus-requires-clause-place
+block_surplus-requires-clause-place g c = block_at c.args.problem.now c.in-Block.place c.args.row.now c.in-Block.is c.requires.place
 
-pub surplus_at-requires-clause-prices : goal.surplus_at-requires-clause-prices
-surplus_at-requires-clause-prices g c =
+pub block_surplus-requires-clause-prices : goal.block_surplus-requires-clause-prices
+block_surplus-requires-clause-prices g c =
     let few = few_prices c.args.problem.now.blocks c.args.selection c.args.problem.now.hours c.args.clearing.now.periods.items
     c.args.clearing.now.prices.items _ c.periods-limits.ensures.valid.day c.requires.cleared in
     let same = ap length c.deref.ensures.value in

@@ -5,21 +5,21 @@ use Rattle.dam_results.proofs.publishing_laws.best_selection_is_result.Goals as 
 pub returns-clause-best : goal.returns-clause-best
 returns-clause-best c = result-best
     (record {
-      either = c.ranking.ensures.either;
-      apart = c.ranking.ensures.apart;
-      itself = c.ranking.ensures.itself;
+      either = c.ranking_is_total.ensures.either;
+      apart = c.ranking_is_total.ensures.apart;
+      itself = c.ranking_is_total.ensures.itself;
       same =
-          c.ranking.ensures.same;
-      one = c.verdict.ensures.one;
+          c.ranking_is_total.ensures.same;
+      one = c.verdict_tells_eligibility.ensures.one;
     })
 
 pub returns-clause-result : goal.returns-clause-result
 returns-clause-result c = best-result
     (record {
-      either = c.ranking.ensures.either;
-      apart = c.ranking.ensures.apart;
-      itself = c.ranking.ensures.itself;
+      either = c.ranking_is_total.ensures.either;
+      apart = c.ranking_is_total.ensures.apart;
+      itself = c.ranking_is_total.ensures.itself;
       same =
-          c.ranking.ensures.same;
-      one = c.verdict.ensures.one;
+          c.ranking_is_total.ensures.same;
+      one = c.verdict_tells_eligibility.ensures.one;
     })

@@ -5,7 +5,7 @@ use Rattle.dam_results.proofs.publishing_laws.books_are_cleared_alike.Goals as g
 pub returns : goal.returns
 returns c = cleared-alike (record {
   best = c.best_selection_is_result.ensures.result;
-  result = c.uniqueness.ensures;
+  result = c.result_is_unique.ensures;
   published =
       c.selections_are_published_alike.ensures;
 })

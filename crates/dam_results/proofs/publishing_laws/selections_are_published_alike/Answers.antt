@@ -3,4 +3,4 @@ use Rattle.dam_results.proofs.PublishedOnce.{published-one}
 use Rattle.dam_results.proofs.publishing_laws.selections_are_published_alike.Goals as goal
 
 pub returns : goal.returns
-returns c = published-one (record { ends = c.uniqueness.ensures.ends; best = c.uniqueness.ensures.best })
+returns c = published-one (record { ends = c.best_execution_is_unique.ensures.ends; best = c.best_execution_is_unique.ensures.best })

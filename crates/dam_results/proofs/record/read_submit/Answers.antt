@@ -8,7 +8,7 @@ use Rattle.dam_results.proofs.record.read_submit.Goals as goal
 pub returns-in-hour : goal.returns-in-hour
 returns-in-hour c =
     let form : c.args.row.now.form.now ≡ codes "hour" = grind (arith, common_steps) in
-    other_fault c.read_hour.result _ _ _ (λ (n : ℕ). hour_broken (fields_in c.args.row.now) n form) c.read_hour.ensures
+    other_fault c.read_hourly_order.result _ _ _ (λ (n : ℕ). hour_broken (fields_in c.args.row.now) n form) c.read_hourly_order.ensures
 
 pub returns-in-block : goal.returns-in-block
 returns-in-block c =

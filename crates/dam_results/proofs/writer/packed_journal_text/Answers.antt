@@ -8,12 +8,12 @@ use Rattle.dam_results.proofs.writer.packed_journal_text.Goals as goal
 pub returns-clause-text : goal.returns-clause-text
 returns-clause-text c =
     let wrote = c.in_ok-put_packed.ensures.lines (row_line (day_row c.args.periods)) c.in_ok-out.ensures.day in
-    IfOk-weaker c.text_of.result _ _ (λ text is. is (journal_text c.args.periods c.args.entries.now) wrote) c.text_of.ensures
+    IfOk-weaker c.written_text.result _ _ (λ text is. is (journal_text c.args.periods c.args.entries.now) wrote) c.written_text.ensures
 
 pub returns-clause-reads : goal.returns-clause-reads
 returns-clause-reads c =
     let wrote = c.in_ok-put_packed.ensures.lines (row_line (day_row c.args.periods)) c.in_ok-out.ensures.day in
-    IfOk-weaker c.text_of.result _ _
+    IfOk-weaker c.written_text.result _ _
     (λ text is. wrote_reads text.items c.args.periods c.args.entries.now (is (journal_text c.args.periods c.args.entries.now) wrote)
-    c.begun.ensures.valid c.requires c.in_ok-put_packed.ensures.valid)
-    c.text_of.ensures
+    c.begin_writer.ensures.valid c.requires c.in_ok-put_packed.ensures.valid)
+    c.written_text.ensures

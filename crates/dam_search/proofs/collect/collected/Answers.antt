@@ -7,14 +7,14 @@ use Rattle.dam_search.proofs.collect.collected.Goals as goal
 
 pub first_faulty-requires-clause-in_cutting : goal.first_faulty-requires-clause-in_cutting
 first_faulty-requires-clause-in_cutting g c =
-    all_in_cutting c.args.problem.now c.args.depth c.args.nodes c.pieces.result c.args.answers.now
-    c.pieces.ensures.value c.pieces.ensures.few
+    all_in_cutting c.args.problem.now c.args.depth c.args.nodes c.piece_count.result c.args.answers.now
+    c.piece_count.ensures.value c.piece_count.ensures.few
     c.requires.worked
 
 pub unreachable-requires : goal.unreachable-requires
 unreachable-requires g c =
     let problem = c.args.problem.now in let depth = c.args.depth in let answers = c.args.answers.now in
-    let one : AreOneEach answers (2 ^ depth) = subst (λ (n : ℕ). AreOneEach answers n) c.pieces.ensures.value c.in_default.ensures in
+    let one : AreOneEach answers (2 ^ depth) = subst (λ (n : ℕ). AreOneEach answers n) c.piece_count.ensures.value c.in_default.ensures in
     let are = conclusive problem depth c.args.nodes answers c.use_invariant.ensures c.requires.depth c.requires.worked one
     c.in_default-least_unfinished.ensures in
     c.collecting.ensures.found problem depth answers are c.in-None.ensures
@@ -22,7 +22,7 @@ unreachable-requires g c =
 pub returns-clause-ok : goal.returns-clause-ok
 returns-clause-ok g c =
     let problem = c.args.problem.now in let depth = c.args.depth in let answers = c.args.answers.now in
-    let one : AreOneEach answers (2 ^ depth) = subst (λ (n : ℕ). AreOneEach answers n) c.pieces.ensures.value c.in_default.ensures in
+    let one : AreOneEach answers (2 ^ depth) = subst (λ (n : ℕ). AreOneEach answers n) c.piece_count.ensures.value c.in_default.ensures in
     let are = conclusive problem depth c.args.nodes answers c.use_invariant.ensures c.requires.depth c.requires.worked one
     c.in_default-least_unfinished.ensures in
     c.collecting.ensures.result problem depth answers c.in-Some-highest.best are c.in-Some-highest.ensures
@@ -30,7 +30,7 @@ returns-clause-ok g c =
 pub returns-clause-needed : goal.returns-clause-needed
 returns-clause-needed g c =
     let problem = c.args.problem.now in let depth = c.args.depth in let answers = c.args.answers.now in
-    let one : AreOneEach answers (2 ^ depth) = subst (λ (n : ℕ). AreOneEach answers n) c.pieces.ensures.value c.in_default.ensures in
+    let one : AreOneEach answers (2 ^ depth) = subst (λ (n : ℕ). AreOneEach answers n) c.piece_count.ensures.value c.in_default.ensures in
     let are = conclusive problem depth c.args.nodes answers c.use_invariant.ensures c.requires.depth c.requires.worked one
     c.in_default-least_unfinished.ensures in
     limit_needed problem depth c.args.nodes answers c.in-Some-highest.best c.requires.worked are.answered

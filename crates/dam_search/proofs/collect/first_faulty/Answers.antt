@@ -9,4 +9,4 @@ loop-piece-preserved c =
     let inside = c.loop-piece-test.true in let pieces = c.requires.few in
     let few : c.loop-piece.piece < most_pieces = omega (arith, inside, pieces) in
     below_more (λ (q : ℕ). answers_about c.args.answers.now q ≡ 1) c.loop-piece.piece c.loop-piece.invariant
-    (sym (c.counts_of-counts.ensures.each c.loop-piece.piece _ few) ∙ c.if-counts-piece-ne1.false)
+    (sym (c.answer_counts-counts.ensures.each c.loop-piece.piece _ few) ∙ c.if-counts-piece-ne1.false)

@@ -8,9 +8,9 @@ use Rattle.dam_search.proofs.collect.higher.Goals as goal
 pub returns-in_default-clause-before : goal.returns-in_default-clause-before
 returns-in_default-clause-before c = stays c.args.best
 
-pub returns-then-surpasses-clause-answer : goal.returns-then-surpasses-clause-answer
-returns-then-surpasses-clause-answer c =
+pub returns-then-ranks_above_found-clause-answer : goal.returns-then-ranks_above_found-clause-answer
+returns-then-ranks_above_found-clause-answer c =
     subst (λ (o : Option Best). Rises o (Some c.in-Some.candidate)) (sym c.in-Some.is) (stays (Some c.in-Some.candidate))
 
-pub returns-else-surpasses-clause-before : goal.returns-else-surpasses-clause-before
-returns-else-surpasses-clause-before c = stays c.args.best
+pub returns-else-ranks_above_found-clause-before : goal.returns-else-ranks_above_found-clause-before
+returns-else-ranks_above_found-clause-before c = stays c.args.best

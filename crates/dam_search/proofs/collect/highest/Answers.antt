@@ -17,7 +17,7 @@ loop-answer-preserved c =
     (All-get_or (λ (x : PieceAnswer). IsLong x.best) answers i a c.loop-answer-test.true c.requires) in
     let long = long_from c.loop-answer.best a.best c.higher-best.result before.1 long_a c.higher-best.ensures.either in (
       subst (λ (xs : List PieceAnswer). IsHighestFound xs c.higher-best.result) (sym more)
-          (highest_step (take i answers) a c.loop-answer.best c.higher-best.result c.ranking.ensures.transitive
+          (highest_step (take i answers) a c.loop-answer.best c.higher-best.result c.ranking_is_total.ensures.transitive
           (All-take (λ (x : PieceAnswer). IsLong x.best) i answers c.requires) before.1 long before.0
           c.higher-best.ensures.either c.higher-best.ensures.before c.higher-best.ensures.answer),
       long,

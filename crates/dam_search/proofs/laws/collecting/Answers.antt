@@ -8,16 +8,16 @@ use Rattle.dam_search.proofs.laws.collecting.Goals as goal
 zero_reached : (c : goal.After-choices) (problem : ProblemState) → IsProblem problem → IsReached problem 0
 zero_reached c problem is =
     let empty = c.empty_is_eligible.ensures problem is in
-    reached_zero problem _ empty.0 empty.1 (c.eligible_welfare.ensures problem _ empty.0 is empty.1)
+    reached_zero problem _ empty.0 empty.1 (c.eligible_welfare_is_not_negative.ensures problem _ empty.0 is empty.1)
 
 pub returns-clause-result : goal.returns-clause-result
 returns-clause-result c problem depth answers b are highest =
-    collected problem depth answers b c.existence.ensures c.choices.ensures.each c.ranking.ensures.transitive are.is_problem are.in_blocks
+    collected problem depth answers b c.result_exists.ensures c.choices_are_all_selections.ensures.each c.ranking_is_total.ensures.transitive are.is_problem are.in_blocks
     are.answered are.reached highest
 
 pub returns-clause-found : goal.returns-clause-found
 returns-clause-found c problem depth answers are none =
-    some_found problem depth answers c.existence.ensures c.choices.ensures.each are.is_problem are.in_blocks are.answered are.reached none
+    some_found problem depth answers c.result_exists.ensures c.choices_are_all_selections.ensures.each are.is_problem are.in_blocks are.answered are.reached none
 
 pub returns-clause-conclusive : goal.returns-clause-conclusive
 returns-clause-conclusive c problem depth answers is deep are reads =

@@ -18,7 +18,7 @@ loop-piece-init g c = record {
   seats = refl;
   seats_left = refl;
   table = refl;
-  room = (let room = c.in_ok-answers.ensures.capacity in let count = c.pieces.ensures in let pieces = c.requires.fresh.pieces_are in omega
+  room = (let room = c.in_ok-answers.ensures.capacity in let count = c.piece_count.ensures in let pieces = c.requires.fresh.pieces_are in omega
       (arith, room, count, pieces));
 }
 

@@ -13,30 +13,30 @@ explore_with_workers-requires-clause-pieces g c κs within =
     let is = ap (λ (x : View × TableId). x.0) c.offer.ensures.kept in
     let first = ap (λ (s : Seat (Unit {0}) View). s.me.0) c.first-first.ensures
     ∙ ap (λ (m : Me (Unit {0}) View). m.0) c.in_ok-words.ensures.seat.1 in
-    (begun c.pieces-count.result c.first-first.result.seat.me.0 c.offer.new.self.seat.me.0 first is).pieces_are
-    ∙ c.pieces-count.ensures.value
+    (begun c.piece_count-count.result c.first-first.result.seat.me.0 c.offer.new.self.seat.me.0 first is).pieces_are
+    ∙ c.piece_count-count.ensures.value
 
 pub explore_with_workers-requires-clause-undrawn : goal.explore_with_workers-requires-clause-undrawn
 explore_with_workers-requires-clause-undrawn g c κs within =
     let is = ap (λ (x : View × TableId). x.0) c.offer.ensures.kept in
     let first = ap (λ (s : Seat (Unit {0}) View). s.me.0) c.first-first.ensures
     ∙ ap (λ (m : Me (Unit {0}) View). m.0) c.in_ok-words.ensures.seat.1 in
-    (begun c.pieces-count.result c.first-first.result.seat.me.0 c.offer.new.self.seat.me.0 first is).undrawn
+    (begun c.piece_count-count.result c.first-first.result.seat.me.0 c.offer.new.self.seat.me.0 first is).undrawn
 
 pub explore_with_workers-requires-clause-left : goal.explore_with_workers-requires-clause-left
 explore_with_workers-requires-clause-left g c κs within =
     let is = ap (λ (x : View × TableId). x.0) c.offer.ensures.kept in
     let first = ap (λ (s : Seat (Unit {0}) View). s.me.0) c.first-first.ensures
     ∙ ap (λ (m : Me (Unit {0}) View). m.0) c.in_ok-words.ensures.seat.1 in
-    let left = (begun c.pieces-count.result c.first-first.result.seat.me.0 c.offer.new.self.seat.me.0 first is).seats_left in
+    let left = (begun c.piece_count-count.result c.first-first.result.seat.me.0 c.offer.new.self.seat.me.0 first is).seats_left in
     let few = c.requires.few_workers in omega (arith, left, few)
 
-pub close-totals-requires-clause-all : goal.close-totals-requires-clause-all
-close-totals-requires-clause-all g c =
+pub close_words-totals-requires-clause-all : goal.close_words-totals-requires-clause-all
+close_words-totals-requires-clause-all g c =
     let is = ap (λ (x : View × TableId). x.0) c.offer.ensures.kept in
     let first = ap (λ (s : Seat (Unit {0}) View). s.me.0) c.first-first.ensures
     ∙ ap (λ (m : Me (Unit {0}) View). m.0) c.in_ok-words.ensures.seat.1 in
-    let b = begun c.pieces-count.result c.first-first.result.seat.me.0 c.offer.new.self.seat.me.0 first is in let one = b.seats in
+    let b = begun c.piece_count-count.result c.first-first.result.seat.me.0 c.offer.new.self.seat.me.0 first is in let one = b.seats in
     let most = b.seats_left in
     let last = ap (λ (s : Seat (Unit {0}) View). s.me.0) c.into_seat-seat.ensures in
     let seats = ap (λ (x : View). x.seats) last in let left = ap (λ (x : View). x.seats_left) last in
@@ -50,12 +50,12 @@ returns g c =
     let is = ap (λ (x : View × TableId). x.0) c.offer.ensures.kept in
     let first = ap (λ (s : Seat (Unit {0}) View). s.me.0) c.first-first.ensures
     ∙ ap (λ (m : Me (Unit {0}) View). m.0) c.in_ok-words.ensures.seat.1 in
-    let b = begun c.pieces-count.result c.first-first.result.seat.me.0 v first is in
+    let b = begun c.piece_count-count.result c.first-first.result.seat.me.0 v first is in
     let last = ap (λ (s : Seat (Unit {0}) View). s.me.0) c.into_seat-seat.ensures in
-    let key = c.in_ok-words.ensures.words.2 in let count = c.pieces-count.ensures.value in
+    let key = c.in_ok-words.ensures.words.2 in let count = c.piece_count-count.ensures.value in
     let top = c.offer.ensures.greatest_offer in let none = ap (λ (x : View). x.greatest_offer) first in
-    let totals = c.close-totals.result.draws ∷ c.close-totals.result.offered ∷ [] in
-    let closed = subst (λ (x : View). AreClosedWords c.in_ok-words.words.shared.key totals x) last c.close-totals.ensures in
+    let totals = c.close_words-totals.result.draws ∷ c.close_words-totals.result.offered ∷ [] in
+    let closed = subst (λ (x : View). AreClosedWords c.in_ok-words.words.shared.key totals x) last c.close_words-totals.ensures in
     whole task.problem.now task.depth task.nodes task.first_welfare task.workers c.in_ok-words.words.shared.key totals
     (record v { seats_left = v.seats_left - task.workers }) c.explore_with_workers.new.first.seat.me.0 c.in_ok-answers.answers.items
     c.in_ok-answers.ensures.joined b.going (omega (arith, top, none)) c.requires.some_worker (key ∙ count) closed

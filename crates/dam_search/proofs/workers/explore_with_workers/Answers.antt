@@ -7,8 +7,8 @@ use Rattle.dam_search.specs.declared.workers.WorkedSeat.{WorkedSeat}
 use Rattle.dam_search.specs.inside.Seats.{IsNewSeat, IsWorkedSeat}
 use Rattle.dam_search.proofs.workers.explore_with_workers.Goals as goal
 
-pub gathered-requires-clause-worked : goal.gathered-requires-clause-worked
-gathered-requires-clause-worked g c =
+pub join_seats-requires-clause-worked : goal.join_seats-requires-clause-worked
+join_seats-requires-clause-worked g c =
     let task = c.args.task.now in let table = c.args.first.now.seat.table_id in
     let new = subst (λ (n : ℕ). All (λ (s : Shared). IsNewSeat table n s) c.in_ok-seats.seats.items) c.requires.pieces
     c.in_ok-seats.ensures.seats in

@@ -6,7 +6,7 @@ use Rattle.dam_blocks.proofs.selection.Selection.choice.Goals.{then-rest-half, e
 
 pub loop-place-preserved : goal.loop-place-preserved
 loop-place-preserved c =
-    let is = half_is c.args.count c.loop-place.place _ c.choices-half.ensures in
+    let is = half_is c.args.count c.loop-place.place _ c.choice_count-half.ensures in
     elim c.if-rest-half.branch [
       | then-rest-half w ↦
           (let h : c.loop-place.rest < 2 ^ (c.args.count - (c.loop-place.place + 1)) = omega (arith, is, w.if-rest-half.true) in

@@ -20,7 +20,7 @@ returns-in_default g c day priced =
     let begun = subst (IsFamilySum c.args.self.now c.args.selection c.args.place 0) (sym held)
     (own_sum c.args.self.now c.args.selection c.args.place c.gain_at-own.result c.gain_at-own.ensures.size
     (λ day priced. c.gain_at-own.ensures.value c.args.selection day c.requires.prices priced)) in
-    lone_sum c.descendants.ensures c.args.self.now c.args.selection c.args.place _ day
+    lone_sum c.accepted_descendants_descend.ensures c.args.self.now c.args.selection c.args.place _ day
     (subst (IsFamily blocks c.args.place) c.in_default.is family) priced begun
 
 pub loop-at-init : goal.loop-at-init
@@ -68,7 +68,7 @@ loop-at-preserved g c =
     let size = c.counted_gain-total.ensures.size in let d = size.at_least in let e = size.at_most in
     let sum = ap (λ (z : ℤ). to_z w64 (of_z w64 (total +ℤ z))) held
     ∙ to_z-of_z w64 (total +ℤ part) (omega (arith, ints, a, b, d, e, inside, few)) in
-    member_sum c.descendants.ensures c.args.self.now c.args.selection c.in-Some.family c.args.place c.loop-at.at
+    member_sum c.accepted_descendants_descend.ensures c.args.self.now c.args.selection c.in-Some.family c.args.place c.loop-at.at
     c.has.result c.has-in-loop-at.result (to_z w64 c.loop-at.total-bits) c.counted_gain-total.result _ inside
     (subst (IsFamily blocks c.args.place) c.in-Some.is family) c.has.ensures.value c.has-in-loop-at.ensures.value
     c.counted_gain-total.ensures.size (λ day priced. c.counted_gain-total.ensures.value c.args.selection day c.requires.prices priced)

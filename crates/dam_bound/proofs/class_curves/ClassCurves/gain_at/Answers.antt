@@ -87,7 +87,7 @@ returns-clause-value g c sel day priced are_day =
     let long = ap (λ (xs : List Class). length xs) c.deref-class-items.ensures.value in
     let past = c.loop-class-test.false in
     let many = as_many c.args.self.now _ _ are.classes_are in
-    whole_gain c.uniqueness.ensures.ends c.args.self.now sel c.args.prices.now.prices day c.loop-class.class-index c.args.place _
+    whole_gain c.best_execution_is_unique.ensures.ends c.args.self.now sel c.args.prices.now.prices day c.loop-class.class-index c.args.place _
     c.requires.place (omega (arith, past, long, many)) priced are_day c.loop-class.invariant
 
 pub returns-clause-size : goal.returns-clause-size

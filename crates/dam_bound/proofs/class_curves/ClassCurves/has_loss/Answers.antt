@@ -20,7 +20,7 @@ returns g c prices priced =
       λ e. record {
         gains = λ i accepted. elim (cases_lt i (length c.args.self.now.blocks)) [
           | inl less ↦ c.loop-place.invariant prices priced i (omega (arith, less, many, end, past)) accepted
-          | inr beyond ↦ past_surplus c.descendants.ensures c.args.self.now.blocks c.args.selection prices i beyond
+          | inr beyond ↦ past_surplus c.accepted_descendants_descend.ensures c.args.self.now.blocks c.args.selection prices i beyond
         ];
       },
       λ no_loss. refl,

@@ -2,7 +2,7 @@
 use Rattle.std.proofs.Common.{◌≡◌, ◌∙◌, ℕ, length, List, ap₂, subst, arith}
 use Rattle.dam_book.specs.Limits.{most_blocks}
 use Rattle.dam_blocks.specs.declared.problem.Block.{Block}
-use Rattle.dam_blocks.specs.Selection.{value_of}
+use Rattle.dam_blocks.specs.Selection.{value_in}
 use Rattle.dam_bound.specs.Sums.{at_places, over_periods}
 use Rattle.dam_bound.specs.inside.Families.{AreFamilies}
 use Rattle.dam_bound.proofs.Ranges.{day_small}
@@ -18,7 +18,7 @@ invariant_of-result g c =
       blocks_are = c.periods.ensures.valid.blocks;
       classes_are = c.in_ok-classes.ensures;
       values_are = c.values_of-values.ensures
-          ∙ ap₂ (λ (bs : List Block) (n : ℕ). at_places most_blocks (λ o. over_periods (λ t. value_of t o) 1 n) bs) c.blocks-2.ensures.value count;
+          ∙ ap₂ (λ (bs : List Block) (n : ℕ). at_places most_blocks (λ o. over_periods (λ t. value_in t o) 1 n) bs) c.blocks-2.ensures.value count;
       families_are = subst (λ (bs : List Block). AreFamilies bs c.in_ok-families.families.items) c.blocks-3.ensures.value
           c.in_ok-families.ensures;
     }

@@ -52,7 +52,7 @@ returns-in_err-welfare g c prefix depth is =
     ∙ none_bound c.args.self.now.blocks c.args.taken (drop c.args.depth c.args.self.now.blocks)
     c.args.self.now.hours c.loop-place.place c.at-period.result (last_steps c.levels-item.result) _
     there c.at-period.ensures none c.loop-place.invariant
-    ∙ padded_welfare (record { parted = c.sums.ensures.parted; padded = c.sums.ensures.padded })
+    ∙ padded_welfare (record { parted = c.sums_split_at_fronts.ensures.parted; padded = c.sums_split_at_fronts.ensures.padded })
     c.args.self.now.blocks prefix c.args.taken c.args.depth c.args.self.now.hours depth is
 
 pub returns : goal.returns
@@ -61,5 +61,5 @@ returns g c prefix depth is =
     ∙ sym (ap length c.deref-levels-items.ensures.value) in
     all_bound c.args.self.now.blocks c.args.taken (drop c.args.depth c.args.self.now.blocks) c.args.self.now.hours c.loop-place.place _
     (omega (arith, hours, c.loop-place-test.false)) c.loop-place.invariant
-    ∙ padded_welfare (record { parted = c.sums.ensures.parted; padded = c.sums.ensures.padded })
+    ∙ padded_welfare (record { parted = c.sums_split_at_fronts.ensures.parted; padded = c.sums_split_at_fronts.ensures.padded })
     c.args.self.now.blocks prefix c.args.taken c.args.depth c.args.self.now.hours depth is

@@ -4,8 +4,8 @@ use Rattle.dam_curve.specs.Curve.{segments_at, IsCurve}
 use Rattle.dam_curve.proofs.LookingUp.{ordered_there, nearest, ends_there}
 use Rattle.dam_curve.proofs.curves.Curves.line_near.Goals as goal
 
-pub near-requires-clause-least : goal.near-requires-clause-least
-near-requires-clause-least g c =
+pub place_near-requires-clause-least : goal.place_near-requires-clause-least
+place_near-requires-clause-least g c =
     let some : 0 < c.args.curve.count = search rules in
     let ordered = ordered_there _ c.args.curve _ _ _ c.requires.3 some in
     (nearest c.args.curve.bottom c.args.curve.top (to_z w64 (of_z w64 c.args.net)) (to_z w64 (of_z w64 c.from.result))

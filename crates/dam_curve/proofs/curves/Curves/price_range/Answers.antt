@@ -10,7 +10,7 @@ any = record { most = pos 0; price = pos 0; dot = pos 0; surplus = pos 0 }
 
 pub returns-then-curve-eq0-clause-prices : goal.returns-then-curve-eq0-clause-prices
 returns-then-curve-eq0-clause-prices g c ps least most is =
-    none_in c.welfare.ensures.some c.args.self.now c.args.curve ps least most (record { lowest = pos 0; highest = pos 0 }) is (search rules)
+    none_in c.best_has_greatest_welfare.ensures.some c.args.self.now c.args.curve ps least most (record { lowest = pos 0; highest = pos 0 }) is (search rules)
 
 pub returns-clause-prices : goal.returns-clause-prices
 returns-clause-prices g c ps least most is =
@@ -19,7 +19,7 @@ returns-clause-prices g c ps least most is =
     let segments : ls ≡ segments_at c.args.self.now.segments c.args.curve = search rules in
     let curve = subst (IsCurve ps least most) (sym segments) is.is_curve in
     let last = last_there c.args.self.now c.args.curve ps least most ls is some segments in
-    ends_in c.falling.ensures c.welfare.ensures.some c.args.self.now c.args.curve ps least most _ ls (length ls - 1) any is some segments last
+    ends_in c.prices_fall_as_net_rises.ensures c.best_has_greatest_welfare.ensures.some c.args.self.now c.args.curve ps least most _ ls (length ls - 1) any is some segments last
     (dot_narrow ps least most ls 0 any curve (omega (arith, last))).2
     (dot_narrow ps least most ls (length ls - 1) any curve (omega (arith, last))).2
 

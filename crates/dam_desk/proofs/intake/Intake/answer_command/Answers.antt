@@ -11,12 +11,12 @@ returns-clause-step c before journal at =
     let day = c.in-Some.day in
     let command = c.args.command.now in
     let same = c.entered-number.ensures in
-    on_ok_all c.enter.result _ _ _ _ _ (λ book entered entries replies.
-    command_entered c.args.self.now _ before journal day c.enter.new.self command at c.in-Some.is refl (record {
+    on_ok_all c.apply_and_keep.result _ _ _ _ _ (λ book entered entries replies.
+    command_entered c.args.self.now _ before journal day c.apply_and_keep.new.self command at c.in-Some.is refl (record {
       room = sym c.is_full.ensures.value ∙ c.if-is_full.false;
-      periods = c.enter.ensures.periods;
+      periods = c.apply_and_keep.ensures.periods;
       book = λ cs is. book ∙ ap (λ b. book_after b command) is ∙ sym (c.runs_grow.ensures.book day.periods cs command);
       entered = entered ∙ ap (λ (n : ℕ). n + 1) same;
     }) refl entries
     (replies ∙ ap (λ (n : ℕ). c.args.self.now.answers.items ++ reply_line (n + 1) (reply_to day.book command)) same))
-    c.enter.ensures.book c.enter.ensures.entered c.enter.ensures.entries c.enter.ensures.replies
+    c.apply_and_keep.ensures.book c.apply_and_keep.ensures.entered c.apply_and_keep.ensures.entries c.apply_and_keep.ensures.replies

@@ -9,4 +9,4 @@ loop-line-preserved c state given read =
     (subst (HasRead c.loop-line.self state given) first.split (c.loop-line.invariant state given read))
 
 pub returns : goal.returns
-returns c state given read = c.begin_line.ensures state given c.in_default.ensures.first (c.loop-line.invariant state given read)
+returns c state given read = c.extend_line.ensures state given c.in_default.ensures.first (c.loop-line.invariant state given read)

@@ -9,9 +9,9 @@ use Rattle.dam_hour.proofs.ends.Edge.high.Goals as goal
 
 pub returns : goal.returns
 returns g c =
-    let small = c.requires.small in let taken = c.sells.ensures in
+    let small = c.requires.small in let taken = c.sells_taken.ensures in
     let least = c.requires.net.at_least in let most = c.requires.net.at_most in
-    let unit : to_z w64 (of_z w64 (to_z w64 (of_z w64 c.sells.result) +ℤ pos 1)) ≡ (pos c.args.self.now.volume -ℤ c.args.net) +ℤ pos 1 =
+    let unit : to_z w64 (of_z w64 (to_z w64 (of_z w64 c.sells_taken.result) +ℤ pos 1)) ≡ (pos c.args.self.now.volume -ℤ c.args.net) +ℤ pos 1 =
     omega (arith, ints, small, taken, least, most) in
     high_is_greatest c.args.hour.now c.args.net c.args.self.now.last c.args.self.now.next c.lesser.result c.limit_of_sell.result
     c.args.self.now.volume

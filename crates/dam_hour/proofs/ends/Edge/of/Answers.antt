@@ -16,7 +16,7 @@ loop-from-init g c =
 
 pub is_served-requires-clause-before : goal.is_served-requires-clause-before
 is_served-requires-clause-before g c =
-    let before = c.rung-limit.ensures.before in
+    let before = c.limit_and_volume_before-limit.ensures.before in
     let at = c.loop-from.from + (c.loop-from.to - c.loop-from.from) / 2 in
     let within : at ≤ length c.side-buys.result.now = search rules in
     let small = volume_small Buy c.side-buys.result.now c.args.hour.now at c.side-buys.ensures.side c.side-buys.ensures.steps within in
@@ -28,9 +28,9 @@ loop-from-preserved-then-is_served g c =
     record {
       ordered = search rules;
       within = search rules;
-      around = around_served c.args.hour.now c.side-buys.result.now _ c.loop-from.last c.loop-from.next c.rung-limit.result.0
-          c.loop-from.from c.loop-from.to at (at + 1) c.rung-limit.result.1
-          c.side-buys.ensures.side c.side-buys.ensures.steps c.rung-limit.ensures.limit c.rung-limit.ensures.before (omega arith)
+      around = around_served c.args.hour.now c.side-buys.result.now _ c.loop-from.last c.loop-from.next c.limit_and_volume_before-limit.result.0
+          c.loop-from.from c.loop-from.to at (at + 1) c.limit_and_volume_before-limit.result.1
+          c.side-buys.ensures.side c.side-buys.ensures.steps c.limit_and_volume_before-limit.ensures.limit c.limit_and_volume_before-limit.ensures.before (omega arith)
           (c.if-is_served.ensures.0 refl) c.loop-from.invariant.around;
     }
 
@@ -40,15 +40,15 @@ loop-from-preserved g c =
     record {
       ordered = search rules;
       within = search rules;
-      around = around_unserved c.args.hour.now c.side-buys.result.now _ c.loop-from.last c.loop-from.next c.rung-limit.result.0
-          c.loop-from.from c.loop-from.to at c.rung-limit.result.1
-          c.side-buys.ensures.side c.side-buys.ensures.steps c.rung-limit.ensures.limit c.rung-limit.ensures.before
+      around = around_unserved c.args.hour.now c.side-buys.result.now _ c.loop-from.last c.loop-from.next c.limit_and_volume_before-limit.result.0
+          c.loop-from.from c.loop-from.to at c.limit_and_volume_before-limit.result.1
+          c.side-buys.ensures.side c.side-buys.ensures.steps c.limit_and_volume_before-limit.ensures.limit c.limit_and_volume_before-limit.ensures.before
           (λ served. (let never = c.if-is_served.ensures.1 served in cc)) c.loop-from.invariant.around;
     }
 
 pub returns-clause-small : goal.returns-clause-small
 returns-clause-small g c =
-    let volume = c.sums.ensures.volume in
+    let volume = c.sums_before.ensures.volume in
     let small = volume_small Buy c.side-buys.result.now c.args.hour.now c.loop-from.from c.side-buys.ensures.side c.side-buys.ensures.steps
     (search rules) in
     omega (arith, volume, small)

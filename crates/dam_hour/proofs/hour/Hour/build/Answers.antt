@@ -12,6 +12,6 @@ loop-step-preserved g c =
     record {
       items = grind (arith, common_steps);
       in_range = subst (λ (ss : List Step). AreInRange ss) (sym pushed)
-          (in_range_push c.loop-step.in_range_steps.items c.in_range.result c.loop-step.invariant.in_range c.in_range.ensures.limit
-          c.in_range.ensures.volume);
+          (in_range_push c.loop-step.in_range_steps.items c.use_range.result c.loop-step.invariant.in_range c.use_range.ensures.limit
+          c.use_range.ensures.volume);
     }

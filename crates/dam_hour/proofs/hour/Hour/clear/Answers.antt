@@ -10,9 +10,9 @@ use Rattle.dam_hour.proofs.hour.Hour.clear.Goals as goal
 
 pub returns-in-Some-clause-totals : goal.returns-in-Some-clause-totals
 returns-in-Some-clause-totals g c =
-    let cleared = c.cleared.result in
+    let cleared = c.cleared_from.result in
     subst (λ (z : ℤ). AreBestTotals c.args.self.now z cleared.bought cleared.sold cleared.welfare)
-    (to_z-of_z w64 c.args.net c.ranges.net) c.cleared.ensures.totals
+    (to_z-of_z w64 c.args.net c.ranges.net) c.cleared_from.ensures.totals
 
 pub returns-in-Some-clause-welfare : goal.returns-in-Some-clause-welfare
 returns-in-Some-clause-welfare g c = totals_welfare c.args.self.now c.args.net _ _ _ (returns-in-Some-clause-totals g c)

@@ -10,7 +10,7 @@ pub returns : goal.returns
 returns g c =
     let steps = c.args.self.now in let matched = c.in-Some.matched in
     let same = to_z-of_z w64 c.args.net c.ranges.net in (
-      subst (λ (z : ℤ). IsClearedAt steps z c.cleared.result) same c.cleared.ensures,
+      subst (λ (z : ℤ). IsClearedAt steps z c.cleared_from.result) same c.cleared_from.ensures,
       c.in_ok-volumes.ensures c.args.net
           (subst (λ (z : ℤ). AreTotals steps z matched.low matched.bought matched.sold) same c.in-Some.ensures.totals),
     )

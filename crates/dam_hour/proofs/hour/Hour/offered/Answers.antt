@@ -5,7 +5,7 @@ use Rattle.dam_hour.proofs.Positions.{offered_small}
 use Rattle.dam_hour.proofs.hour.Hour.offered.Goals as goal
 
 pub returns-clause-value : goal.returns-clause-value
-returns-clause-value g c = c.all.ensures ∙ c.side.ensures.side.sums (λ sort_key s. s.qty) ∙ offered_total c.args.side 0 c.args.self.now
+returns-clause-value g c = c.total_sums.ensures ∙ c.side.ensures.side.sums (λ sort_key s. s.qty) ∙ offered_total c.args.side 0 c.args.self.now
 
 pub returns-clause-small : goal.returns-clause-small
 returns-clause-small g c =

@@ -7,9 +7,9 @@ use Rattle.dam_hour.proofs.hour.Hour.volume_before.Goals as goal
 
 pub returns-clause-value : goal.returns-clause-value
 returns-clause-value g c =
-    let cut = subst (λ (n : ℕ). IsCut n c.place-count.result c.side-ladder.result.now) c.sort_key_of.ensures.sort_key c.place-count.ensures.cut in
-    c.sums.ensures.volume
-    ∙ volume_before c.args.side c.args.limit c.args.place c.place-count.result c.side-ladder.result.now c.args.self.now
+    let cut = subst (λ (n : ℕ). IsCut n c.count_before-count.result c.side-ladder.result.now) c.sort_key_of.ensures.sort_key c.count_before-count.ensures.cut in
+    c.sums_before.ensures.volume
+    ∙ volume_before c.args.side c.args.limit c.args.place c.count_before-count.result c.side-ladder.result.now c.args.self.now
     c.side-ladder.ensures.side c.side-ladder.ensures.steps c.sort_key_of.ensures.limit c.requires cut
 
 pub returns-clause-small : goal.returns-clause-small

@@ -90,7 +90,7 @@ returns-in_default-clause-walked g t c =
     record {
       finds = finds_nothing problem prefix found.best;
       covers = λ done sel w whole e.
-          (let most = c.bound.ensures.most problem prefix sel w whole e.welfare_is in
+          (let most = c.relaxed_welfare_bounds_completions.ensures.most problem prefix sel w whole e.welfare_is in
           inl (less w most.0 least most.2 (subst (λ (bound : Option ℤ). reaches bound least ≡ false) most.1 none)));
       spends =
           spends_one problem prefix left (told c.args.incumbent.now) c.args.nodes found.visited
@@ -117,7 +117,7 @@ from_next problem next prefix nodes told top told' top' before after done seen e
 pub returns-then-not-walk-clause-walked : goal.returns-then-not-walk-clause-walked
 returns-then-not-walk-clause-walked g t c =
     let problem = c.args.self.now.problem.now in let prefix = c.args.prefix.now in let n = length problem.blocks in
-    let first = c.equals-accept.result in let nodes = c.args.nodes in let told = g.I.Incumbent.greatest_read in
+    let first = c.bound_equals-accept.result in let nodes = c.args.nodes in let told = g.I.Incumbent.greatest_read in
     let inside =
     undecided prefix c.depth.result c.block_count.result n c.depth.ensures.value c.block_count.ensures.value
     c.requires.depth c.if-depth-block_count.false in
@@ -147,7 +147,7 @@ returns-then-not-walk-clause-walked g t c =
 pub returns-clause-walked : goal.returns-clause-walked
 returns-clause-walked g t c =
     let problem = c.args.self.now.problem.now in let prefix = c.args.prefix.now in let n = length problem.blocks in
-    let first = c.equals-accept.result in
+    let first = c.bound_equals-accept.result in
     let nodes = c.args.nodes in let told = g.I.Incumbent.greatest_read in
     let inside =
     undecided prefix c.depth.result c.block_count.result n c.depth.ensures.value c.block_count.ensures.value
@@ -169,12 +169,12 @@ returns-clause-walked g t c =
     let top = w.offered in let top' = v.offered in
     record {
       finds =
-          finds_twice problem prefix a b z c.ranking.ensures.transitive c.requires.going.best
+          finds_twice problem prefix a b z c.ranking_is_total.ensures.transitive c.requires.going.best
           (finds_shorter problem prefix (first ∷ []) a b w.finds)
           (finds_shorter problem prefix (not first ∷ []) b z v.finds);
       covers = λ done.
-          covers_both problem prefix first a b z c.walk.new.found.read c.walk-2.new.found.read c.ranking.ensures.transitive
-          c.completions.ensures.extended few c.requires.going.best w.finds
+          covers_both problem prefix first a b z c.walk.new.found.read c.walk-2.new.found.read c.ranking_is_total.ensures.transitive
+          c.completions_split.ensures.extended few c.requires.going.best w.finds
           (w.covers refl) v.finds (v.covers done) grows';
       spends =
           spends_both problem prefix first n (told c.args.incumbent.now) least later nodes before middle after c.walk-2.result inside

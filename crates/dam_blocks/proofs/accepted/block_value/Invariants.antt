@@ -1,8 +1,0 @@
--- The sum so far; each block adds at most a greatest value.
-use Rattle.dam_hour.specs.Limits.{greatest_value}
-use Rattle.dam_blocks.specs.Selection.{value_of}
-use Rattle.dam_blocks.proofs.RunningSums.{IsSumSoFar}
-use Rattle.dam_blocks.proofs.accepted.block_value.Given as goal
-
-abbrev pub invariant-loop-place : goal.invariant-loop-place
-invariant-loop-place l = IsSumSoFar (value_of l.period) greatest_value l.blocks l.selection l.place l.total

@@ -1,6 +1,0 @@
--- The order's two cases, and the result ranks above each other eligible selection.
-use Rattle.dam_blocks.proofs.BestSelection.{above_cases, best_cases}
-use Rattle.dam_blocks.proofs.laws.best.Goals as goal
-
-pub returns : goal.returns
-returns c = record { above = above_cases; others = best_cases }

@@ -1,6 +1,0 @@
--- The number of a choice can be read off it.
-use Rattle.dam_blocks.proofs.Choices.{some_choice, admissible_choice, choice_once}
-use Rattle.dam_blocks.proofs.laws.choices.Goals as goal
-
-pub returns : goal.returns
-returns c = record { each = some_choice; admissible = admissible_choice; once = choice_once }

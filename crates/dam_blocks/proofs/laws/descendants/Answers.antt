@@ -1,6 +1,0 @@
--- Place by place.
-use Rattle.dam_blocks.proofs.Families.{accepts_descendant}
-use Rattle.dam_blocks.proofs.laws.descendants.Goals as goal
-
-pub returns : goal.returns
-returns c = accepts_descendant

@@ -1,6 +1,0 @@
--- Sums over a front and the rest.
-use Rattle.dam_blocks.proofs.Sums.{over_accepted-append, over_accepted-padded}
-use Rattle.dam_blocks.proofs.laws.sums.Goals as goal
-
-pub returns : goal.returns
-returns c = record { parted = over_accepted-append; padded = over_accepted-padded }

@@ -1,6 +1,0 @@
--- Each step adds at most the greatest volume and the greatest value.
-use Rattle.dam_hour.proofs.Magnitude.{execution_small}
-use Rattle.dam_hour.proofs.laws.magnitude.Goals as goal
-
-pub returns : goal.returns
-returns c = execution_small

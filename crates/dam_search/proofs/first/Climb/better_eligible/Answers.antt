@@ -1,0 +1,28 @@
+-- A welfare greater than another one is above 0, and the selection is eligible with it.
+use Rattle.std.proofs.Common.{ℤ, pos, List, Bool, ◌∙◌, sym, subst, rules, arith}
+use Rattle.std.proofs.lemmas.Int.{ints, to_z-of_z}
+use mir.Syntax.{w64}
+use mir.Val.{SFits}
+use Rattle.dam_blocks.specs.Eligible.{IsEligible}
+use Rattle.dam_search.proofs.Opens.{eligible_leaf, with_rows}
+use Rattle.dam_search.proofs.first.Climb.better_eligible.Goals as goal
+
+pub least_welfare_above-least-requires : goal.least_welfare_above-least-requires
+least_welfare_above-least-requires g c =
+    let within = c.selection_welfare_is_small.ensures c.args.self.now.problem.now c.args.best.selection (pos c.args.best.welfare) c.use_invariant.ensures
+    c.requires.eligible.welfare_is in
+    let most = within.at_most in
+    omega (arith, ints, most)
+
+pub returns-clause-eligible : goal.returns-clause-eligible
+returns-clause-eligible g c =
+    let problem = c.args.self.now.problem.now in let relaxed = g.P.PricedProblem.problem c.args.self.now.priced.now in
+    let selection = c.args.selection in
+    let w = c.in-Some.welfare in
+    let fits : SFits w64 w = search rules in
+    let value = to_z-of_z w64 w fits in
+    let welfare = with_rows problem relaxed selection w c.args.self.now.same c.in-Some.ensures.some.0 in
+    let is = eligible_leaf problem relaxed selection c.has_loss.result w c.args.self.now.same c.requires.long c.if-has_loss.false
+    c.has_loss.ensures (c.admissible.ensures.0 (search rules)) welfare (c.balanced_selections_have_prices.ensures problem selection w c.use_invariant.ensures welfare) in
+    subst (λ (z : ℤ). IsEligible problem c.best_from_parts.result.selection z) (sym (c.best_from_parts.ensures.welfare ∙ value))
+    (subst (λ (xs : List Bool). IsEligible problem xs w) (sym c.best_from_parts.ensures.selection) is)

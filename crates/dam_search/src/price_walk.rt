@@ -1,0 +1,399 @@
+//! The walk by prices, with which a search explores a piece if its limit on nodes can't bind.
+
+ghost use Rattle.std.specs.Prelude.{◌≡◌, ◌^◌, ◌<◌, ◌≤◌, ◌⊎◌, max, ℕ, ℤ, pos, ◌≤ℤ◌, ◌<ℤ◌, true, false, not};
+ghost use Rattle.std.specs.Prelude.{Some, List, Bool, [], ◌∷◌, length, IsTrue, ◌↔◌, IfSome, IfNone};
+ghost use Rattle.dam_book.specs.Limits.{most_blocks};
+ghost use Rattle.dam_blocks.specs.Selection.{accepts, choice};
+ghost use Rattle.dam_blocks.specs.Eligible.{IsEligible};
+ghost use Rattle.dam_bound.specs.Relaxed.{without_rows};
+ghost use Rattle.dam_bound.specs.Open.{IsOpen};
+ghost use Rattle.dam_search.specs.Piece.{IsMatched, Rises, welfare_found, IsSound};
+ghost use Rattle.dam_search.specs.inside.Conflicts.{AcceptsAll, AcceptsNone, AreConflicts};
+ghost use Rattle.dam_search.specs.inside.PriceWalk.{IsNode, IsBounded, IsReady, IsRoom, IsWalkedOpen, IsDecisionOrder, with_place_if};
+
+use crate::answer::PieceAnswer;
+use crate::conflicts::Conflicts;
+use crate::incumbent::Incumbent;
+use crate::node::Node;
+use crate::piece::{WalkState, bound_equals, ranks_above_found};
+use crate::priced_problem::PricedProblem;
+use crate::root::{room_of_piece, write_bound_of_piece};
+use crate::space::use_invariant;
+use dam_blocks::{Best, Problem, Selection, admissible, ranks_above};
+use dam_bound::{ClassPrices, PriceBound, Room};
+use std::alloc::Allocator;
+
+/// The least number of places left for which a node gets prices of its own.
+const LEAST_LEFT_TO_REPRICE: usize = 10;
+
+/// The input of a walk by prices.
+#[derive(Drop)]
+struct PriceWalk<'a, A: Allocator, P: PricedProblem> {
+    problem: &'a Problem<A>,
+    priced: &'a P,
+    conflicts: &'a Conflicts,
+    ghost same: { P.problem priced.now ≡ without_rows problem.now },
+    ghost are_conflicts: { AreConflicts problem.now conflicts.now },
+}
+
+/// Whether the bound is at least the value.
+fn bound_reaches(bound: i64, value: u64) -> bool
+    ensures { IsTrue result ↔ (pos value ≤ℤ bound) }
+{
+    bound >= 0 && value <= bound as u64
+}
+
+/// The selection with its welfare, if that is at least the value read and the selection, if it is eligible, is the best
+/// so far. The welfare of an eligible selection is never below 0.
+fn better_than_found(selection: Selection, welfare: i64, found: &WalkState) -> Option<Best>
+    ensures none { IfNone result
+        ((welfare <ℤ pos found.now.read) ⊎ IsMatched welfare selection found.now.best) }
+    ensures some { IfSome result (λ b. (b.selection ≡ selection) × (pos b.welfare ≡ welfare)
+        × Rises found.now.best (Some b)) }
+{
+    if welfare < 0 {
+        return None;
+    }
+    let best = Best {
+        selection,
+        welfare: welfare as u64,
+    };
+    if found.read <= best.welfare && ranks_above_found(&best, &found.best) {
+        Some(best)
+    } else {
+        None
+    }
+}
+
+/// Whether a node is passed over, since no open selection can change the find: its bound is less than the value read,
+/// or it is the welfare of the selection found, and no open selection ranks above that one in the order of ties.
+fn is_passed(node: &Node, found: &WalkState) -> bool
+    requires { IsNode node.now.taken node.now.rejected node.now.left.now }
+    ensures passed { result ≡ true → (selection : List Bool) (w : ℤ)
+        → IsOpen node.now.taken node.now.left.now selection → w ≤ℤ node.now.bound
+        → (w <ℤ pos found.now.read) ⊎ IsMatched w selection found.now.best }
+    ensures reached { result ≡ false
+        → (pos found.now.read ≤ℤ node.now.bound) × (found.now.read < 2 ^ 63) }
+{
+    if !bound_reaches(node.bound, found.read) {
+        return true;
+    }
+    let Some(best) = found.best else {
+        return false;
+    };
+    if !bound_equals(node.bound, best.welfare) {
+        return false;
+    }
+    let top = Best {
+        selection: node.highest_selection(),
+        welfare: best.welfare,
+    };
+    !ranks_above(top, best)
+}
+
+impl<A: Allocator, P: PricedProblem> PriceWalk<'_, A, P> {
+    /// Takes the selection of a node that leaves no place, and offers its welfare, if it is eligible and the best so
+    /// far.
+    fn try_selection<I: Incumbent>(
+        &self,
+        taken: Selection,
+        bound: &PriceBound,
+        incumbent: &mut I,
+        found: &mut WalkState,
+    )
+        requires long { length taken ≡ most_blocks }
+        requires fits { found.old.read < 2 ^ 63 }
+        requires bounded { (most : ℤ)
+            × IsBounded (P.problem self.now.priced.now) bound.now taken [] most }
+        requires ready { IsReady
+            (I.greatest_read incumbent.old) (I.greatest_offer incumbent.old) found.old }
+        ensures walked { IsWalkedOpen self.now.problem.now taken []
+            (I.greatest_offer incumbent.old)
+            (I.greatest_read incumbent.new) (I.greatest_offer incumbent.new)
+            found.old found.new }
+        ensures kept { I.kept incumbent.new ≡ I.kept incumbent.old }
+    {
+        dam_blocks::laws::ranking_is_total();
+        dam_bound::laws::balanced_selections_have_prices();
+        use_invariant(self.problem);
+        let mut prices = ClassPrices::empty();
+        let Some(welfare) = self
+            .priced
+            .clear_selection(taken, bound, found.read as i64, &mut prices)
+        else {
+            return;
+        };
+        let Some(best) = better_than_found(taken, welfare, found) else {
+            return;
+        };
+        if !admissible(self.problem, taken) {
+            return;
+        }
+        if self.priced.has_loss(taken, &prices) {
+            return;
+        }
+        let offer = best.welfare;
+        found.best = Some(best);
+        incumbent.offer(offer);
+    }
+
+    /// Whether no eligible open selection of the node has this decision on the block at the place.
+    fn forbids(&self, node: &Node, place: usize, accept: bool) -> bool
+        requires { place < most_blocks }
+        ensures { result ≡ true → (selection : List Bool) (w : ℤ)
+            → IsEligible self.now.problem.now selection w
+            → AcceptsAll node.now.taken selection → AcceptsNone node.now.rejected selection
+            → accepts selection place ≡ not accept }
+    {
+        if accept {
+            self.conflicts
+                .forbids_accepting(place, node.taken, node.rejected)
+        } else {
+            self.conflicts.forbids_rejecting(place, node.taken)
+        }
+    }
+
+    /// Visits a node: reads the incumbent, and explores the node unless it is passed over.
+    #[cycle(visit)]
+    #[inline(always)]
+    fn visit<I: Incumbent>(
+        &self,
+        node: &Node,
+        bound: &PriceBound,
+        room: &Room,
+        incumbent: &mut I,
+        found: &mut WalkState,
+    )
+        requires node { IsNode node.now.taken node.now.rejected node.now.left.now }
+        requires bounded { IsBounded (P.problem self.now.priced.now) bound.now
+            node.now.taken node.now.left.now node.now.bound }
+        requires room { IsRoom self.now.problem.now self.now.conflicts.now.limits.limits
+            node.now.taken node.now.left.now room.now }
+        requires ready { IsReady
+            (I.greatest_read incumbent.old) (I.greatest_offer incumbent.old) found.old }
+        ensures walked { IsWalkedOpen self.now.problem.now node.now.taken node.now.left.now
+            (I.greatest_offer incumbent.old)
+            (I.greatest_read incumbent.new) (I.greatest_offer incumbent.new)
+            found.old found.new }
+        ensures kept { I.kept incumbent.new ≡ I.kept incumbent.old }
+    {
+        dam_bound::laws::most_bounds_open_selections();
+        found.visited = found.visited.saturating_add(1);
+        found.read = incumbent.read();
+        if is_passed(node, found) {
+            return;
+        }
+        if node.left.len() < LEAST_LEFT_TO_REPRICE {
+            self.branch(node, bound, room, incumbent, found);
+            return;
+        }
+        self.explore_repriced(node, bound, room, incumbent, found);
+    }
+
+    /// Explores a node with prices of its own, if they give it a lesser bound.
+    ///
+    /// It isn't inlined, since the prices take room on the stack.
+    #[cycle(visit)]
+    #[inline(never)]
+    fn explore_repriced<I: Incumbent>(
+        &self,
+        node: &Node,
+        bound: &PriceBound,
+        room: &Room,
+        incumbent: &mut I,
+        found: &mut WalkState,
+    )
+        requires node { IsNode node.now.taken node.now.rejected node.now.left.now }
+        requires bounded { IsBounded (P.problem self.now.priced.now) bound.now
+            node.now.taken node.now.left.now node.now.bound }
+        requires room { IsRoom self.now.problem.now self.now.conflicts.now.limits.limits
+            node.now.taken node.now.left.now room.now }
+        requires reached { (pos found.old.read ≤ℤ node.now.bound) × (found.old.read < 2 ^ 63) }
+        requires ready { IsReady
+            (I.greatest_read incumbent.old) (I.greatest_offer incumbent.old) found.old }
+        ensures walked { IsWalkedOpen self.now.problem.now node.now.taken node.now.left.now
+            (I.greatest_offer incumbent.old)
+            (I.greatest_read incumbent.new) (I.greatest_offer incumbent.new)
+            found.old found.new }
+        ensures kept { I.kept incumbent.new ≡ I.kept incumbent.old }
+    {
+        dam_bound::laws::most_bounds_open_selections();
+        let mut own_bound = PriceBound::empty();
+        self.priced
+            .write_price_bound(node.taken, node.left, &mut own_bound);
+        let most = own_bound.most(node.taken, node.left);
+        if most >= node.bound {
+            self.branch(node, bound, room, incumbent, found);
+            return;
+        }
+        let node = Node {
+            taken: node.taken,
+            rejected: node.rejected,
+            left: node.left,
+            bound: most,
+        };
+        if is_passed(&node, found) {
+            return;
+        }
+        self.branch(&node, &own_bound, room, incumbent, found);
+    }
+
+    /// Explores both decisions on the next place, first the one that the sign of the block's gain is for. If no place
+    /// is left, it tries the selection.
+    #[cycle(visit)]
+    fn branch<I: Incumbent>(
+        &self,
+        node: &Node,
+        bound: &PriceBound,
+        room: &Room,
+        incumbent: &mut I,
+        found: &mut WalkState,
+    )
+        requires node { IsNode node.now.taken node.now.rejected node.now.left.now }
+        requires bounded { IsBounded (P.problem self.now.priced.now) bound.now
+            node.now.taken node.now.left.now node.now.bound }
+        requires room { IsRoom self.now.problem.now self.now.conflicts.now.limits.limits
+            node.now.taken node.now.left.now room.now }
+        requires reached { (pos found.old.read ≤ℤ node.now.bound) × (found.old.read < 2 ^ 63) }
+        requires ready { IsReady
+            (I.greatest_read incumbent.old) (I.greatest_offer incumbent.old) found.old }
+        ensures walked { IsWalkedOpen self.now.problem.now node.now.taken node.now.left.now
+            (I.greatest_offer incumbent.old)
+            (I.greatest_read incumbent.new) (I.greatest_offer incumbent.new)
+            found.old found.new }
+        ensures kept { I.kept incumbent.new ≡ I.kept incumbent.old }
+    {
+        dam_blocks::laws::ranking_is_total();
+        let Some((place, left)) = node.left.split_first() else {
+            self.try_selection(node.taken, bound, incumbent, found);
+            return;
+        };
+        let place = usize::from(*place);
+        let accept = bound.gains[place] >= 0;
+        self.decide(node, place, left, accept, bound, room, incumbent, found);
+        self.decide(node, place, left, !accept, bound, room, incumbent, found);
+    }
+
+    /// Explores the node with this decision on the block at `place`, unless no eligible selection has it, by the conflicts
+    /// or by the room that it leaves. `left` are the places that are left then.
+    #[cycle(visit)]
+    fn decide<I: Incumbent>(
+        &self,
+        node: &Node,
+        place: usize,
+        left: &[u8],
+        accept: bool,
+        bound: &PriceBound,
+        room: &Room,
+        incumbent: &mut I,
+        found: &mut WalkState,
+    )
+        requires split { node.now.left.now ≡ place ∷ left.now }
+        requires node { IsNode node.now.taken node.now.rejected node.now.left.now }
+        requires bounded { IsBounded (P.problem self.now.priced.now) bound.now
+            node.now.taken node.now.left.now node.now.bound }
+        requires room { IsRoom self.now.problem.now self.now.conflicts.now.limits.limits
+            node.now.taken node.now.left.now room.now }
+        requires reached { pos 0 ≤ℤ node.now.bound }
+        requires ready { IsReady
+            (I.greatest_read incumbent.old) (I.greatest_offer incumbent.old) found.old }
+        ensures walked { IsWalkedOpen self.now.problem.now
+            (with_place_if accept node.now.taken place) left.now
+            (I.greatest_offer incumbent.old)
+            (I.greatest_read incumbent.new) (I.greatest_offer incumbent.new)
+            found.old found.new }
+        ensures kept { I.kept incumbent.new ≡ I.kept incumbent.old }
+    {
+        if self.forbids(node, place, accept) {
+            return;
+        }
+        let limits = &self.conflicts.limits;
+        let Some(room) = limits.room_after(room, place, accept) else {
+            return;
+        };
+        let next = node.after_decision(place, left, accept, bound.gains[place]);
+        self.visit(&next, bound, &room, incumbent, found);
+    }
+}
+
+/// The places under `depth` that the selection rejects.
+fn rejected_under(depth: usize, selection: Selection) -> Selection
+    requires { depth ≤ most_blocks }
+    ensures { (place : ℕ) → accepts result place ≡ true
+        → (place < depth) × (accepts selection place ≡ false) }
+{
+    let mut rejected = Selection::none();
+    for place in 0..depth {
+        if !selection.has(place) {
+            rejected = rejected.with(place);
+        }
+    }
+    rejected
+}
+
+/// Explores a piece of the cutting that decides the first `depth` blocks, and finds its best eligible selection, apart
+/// from those with less welfare than was read of the incumbent. The answer is always done.
+///
+/// The other blocks are decided in this order. A node is visited when the incumbent is read for it, and its bound is
+/// compared with that.
+pub(crate) fn explore_by_prices<A: Allocator, P: PricedProblem, I: Incumbent>(
+    problem: &Problem<A>,
+    priced: &P,
+    conflicts: &Conflicts,
+    order: &[u8],
+    piece: u32,
+    depth: usize,
+    incumbent: &mut I,
+) -> PieceAnswer
+    requires same { P.problem priced.now ≡ without_rows problem.now }
+    requires conflicts { AreConflicts problem.now conflicts.now }
+    requires order { IsDecisionOrder depth (length problem.now.blocks) order.now }
+    requires depth { depth ≤ length problem.now.blocks }
+    requires piece { piece < 2 ^ depth }
+    ensures piece { result.piece ≡ piece }
+    ensures sound { IsSound problem.now (choice depth piece) result.best result.read result.done }
+    ensures done { result.done ≡ true }
+
+    // The incumbent after the call.
+    ensures offered { I.greatest_offer incumbent.new
+        ≡ max (I.greatest_offer incumbent.old) (welfare_found result.best) }
+    ensures greatest_read { I.greatest_read incumbent.new
+        ≡ max (I.greatest_read incumbent.old) result.read }
+    ensures kept { I.kept incumbent.new ≡ I.kept incumbent.old }
+{
+    dam_blocks::laws::fronts_are_admissible();
+    use_invariant(problem);
+    let taken = Selection::choice(depth, piece);
+    if !admissible(problem, taken) {
+        return PieceAnswer::nothing(piece);
+    }
+    let Some(room) = room_of_piece(&conflicts.limits, taken, depth) else {
+        return PieceAnswer::nothing(piece);
+    };
+    let mut bound = PriceBound::empty();
+    let most = write_bound_of_piece(priced, taken, order, depth, &mut bound);
+    let node = Node {
+        taken,
+        rejected: rejected_under(depth, taken),
+        left: order,
+        bound: most,
+    };
+    let mut found = WalkState {
+        best: None,
+        read: incumbent.read(),
+        visited: 0,
+    };
+    let walk = PriceWalk {
+        problem,
+        priced,
+        conflicts,
+    };
+    walk.visit(&node, &bound, &room, incumbent, &mut found);
+    PieceAnswer {
+        piece,
+        best: found.best,
+        read: found.read,
+        visited: found.visited,
+        done: true,
+    }
+}
