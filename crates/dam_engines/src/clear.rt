@@ -67,7 +67,7 @@ fn clear_text<H: Threads + Sync, T: Watch + Sync>(
 {
     let run = run_of_journal(alloc, seed, text.as_slice())?;
     drop(text);
-    watch.commands_refused(run.commands_refused);
+    watch.commands_refused(run.refused);
     clear_book(rt, alloc, &run.book, plan, watch)
 }
 

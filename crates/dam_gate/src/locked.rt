@@ -207,7 +207,7 @@ impl<J: GateName, R: Wait + Drop> Locked<J, R> {
             start,
             answered,
             rest,
-        } = opening.named::<J>();
+        } = opening.into_named::<J>();
         let (slot, shown) = filled_slot(alloc, version_of(alloc, &keeper, &start)?)?;
         let writer = writer_from(rt, alloc, &slot)?;
         Ok(Locked {
