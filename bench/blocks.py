@@ -1,6 +1,6 @@
 #!/usr/bin/env python3
-"""The search on books with 24 blocks, on days of 24 and of 96 periods: 60 with realistic blocks and 3,800 hourly orders, and 28 of
-families that are hard for a search, half of them with 500 hourly orders, half with 4,000. All of them are called deep here.
+"""The search on books with 24 blocks, on days of 24 and 96 periods: 60 with realistic blocks and 3,800 hourly orders, and 28 of families
+hard for a search, half with 500 hourly orders, half with 4,000. All are called deep here.
 
 The blocks are base (baseload), peaks (base, peak and night), shaped (an hourly profile), odd (one odd profile among baseload) and random (a
 random volume in each period), with limits within 5 to 1,000 cents of the mean price.

@@ -42,20 +42,20 @@ CELLS = {
 # The figures of many books together, which the page shows of any part.
 TOGETHER = r"(?:deep|all thin) books together: .*"
 PICTURES = {
-    "growth": "The nodes are the twin's. A node stands for all selections with its decisions. The further a family lies below the dashed\n"
-    "line, the more is left out.\n\n"
+    "growth": "The nodes are the twin's, each for all selections with its decisions. The further a family lies below the dashed line, the more\n"
+    "is left out.\n\n"
     "![Nodes of each family by the number of blocks, compared with 2^n](growth.svg)\n"
 }
 UNITS = {"ns": 1e-9, "us": 1e-6, "ms": 1e-3}  # of a second
 HEAD = """# Measured figures
 
-`bench/run` runs the benchmarks, and `bench/page.py` writes this page. A time is the median of several runs. In `blocks` and `thin`, a
-program that took over a second isn't run again; an office's whole day is run once. Compared programs run alternately. `A compared with B`
-is A's time, rate or memory divided by B's. The docstring of each part's script describes its method. The load is the average of the minute
-before. The baseline and the twin are [plain Rust programs](../crates/NOTES.md#words).
+`bench/run` runs the benchmarks and writes this page. Times are medians of several runs. In `blocks` and `thin`, a program that takes over a
+second runs once, as does an office's whole day. Compared programs run alternately. `A compared with B` is A's time, rate or memory divided
+by B's. Each part's script describes its method. The load is averaged over the minute before. The baseline and the twin are
+[plain Rust programs](../crates/NOTES.md#words).
 
-A CSV file has every figure of a part, with its target; this page shows some, and the missed targets by kind.
-`grep MISSED bench/measured/*.csv` prints each.
+A part's CSV file has all its figures and targets; this page shows some, and missed targets by kind; `grep MISSED bench/measured/*.csv`
+prints all.
 """
 
 
