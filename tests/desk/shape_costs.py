@@ -14,6 +14,7 @@ import shapes
 from preload import Program, Refusal
 
 COUNTED = Path(__file__).with_name("counted.csv")
+HELD, AT_ONCE = 1_000, 64  # orders, and bytes of a read
 SEED = costs.FIXED._replace(first=3)  # a file draws twice before
 
 
@@ -23,6 +24,16 @@ def journals():
         first, kinds = list(shape.first()), list(shapes.commands(shape))
         for about, records in kinds if shape is shapes.LONG else kinds[-1:]:
             yield f"{shape.periods}: {about}", costs.journal([*first, *itertools.islice(records, shapes.COMMANDS)], True, shape.periods)
+
+
+def small_reads(program, desk):
+    """Yields the runs of a desk that gets a few lines at a time, with a book of many orders after a cancel: it draws its own seeds."""
+    shape = shapes.SHORT
+    amends = dict(shapes.commands(shape))["hourly orders amended"]
+    records = [*shape.first(HELD), shape.cancel(shape.named(1)), *itertools.islice(amends, shapes.COMMANDS)]
+    data, file = costs.journal(records, True, shape.periods), desk.folder() / "day.desk"
+    found = costs.instructions(program, [file], data, Refusal("read", most=AT_ONCE))
+    yield f"new, {AT_ONCE} bytes a read", found, 0
 
 
 def of_journal(program, desk, about, data):
@@ -39,7 +50,8 @@ def of_journal(program, desk, about, data):
 def costs_of(desk):
     program, tried = Program(desk.words[0], desk.room), list(journals())
     with ThreadPoolExecutor() as pool:
-        return list(itertools.chain.from_iterable(pool.map(lambda it: list(of_journal(program, desk, *it)), tried)))
+        found = list(itertools.chain.from_iterable(pool.map(lambda it: list(of_journal(program, desk, *it)), tried)))
+    return [*found, *small_reads(program, desk)]
 
 
 def count(desk):

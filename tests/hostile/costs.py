@@ -36,9 +36,9 @@ SECONDS = 1_200  # for a run of some seconds, on a machine that has much else to
 DRAWN = Refusal("random")
 FIXED = Refusal("random", first=1, error=errno.ENOSYS)
 # Each engine by its words, and the two calls of the gate that take a seed by those of `dam_refusals`; those of `OPEN` take no close.
-ENGINES = [["replay"], ["clear"], ["day"]]
+ENGINES = [["replay"], ["clear"], ["day"], ["clear", "--nodes", "20"], ["clear", "--workers", "1"], ["day", "--cut", "0"]]
 GATES = {"begin_seeded": [], "run_commands": ["threads"]}
-OPEN = [["day"], *GATES.values()]
+OPEN = [*(words for words in ENGINES if words[0] == "day"), *GATES.values()]
 LOOKS = 49.7  # millions of instructions of the calls of `dam_refusals` up to a full journal, each with a look after it
 COUNTED = re.compile(r"I +refs: +([\d,]+)")
 
@@ -72,7 +72,7 @@ def colliding_names(room):
 def names(runs):
     """Tries each engine and each call of the gate with a seed that is drawn and with the fixed one."""
     refusals = Program(REFUSALS, runs.program.room)
-    tried = [(words[0], runs.program, words) for words in ENGINES] + [(call, refusals, words) for call, words in GATES.items()]
+    tried = [(" ".join(words), runs.program, words) for words in ENGINES] + [(call, refusals, words) for call, words in GATES.items()]
     lists = submits(ordinary_names()), submits(colliding_names(runs.program.room))
     asked = [
         (program, words, journal(records, words not in OPEN), refusal)

@@ -308,11 +308,14 @@ def seeds(runs):
 
 def threads(runs):
     """A search starts a thread for each worker but one, whose work the calling thread does, and so does a day for its participants."""
-    for word, data, others in [("clear", AUCTION, 0), ("day", ONE_PARTICIPANT, 0), ("day", OPEN_AUCTION, 7)]:
-        for workers in (1, 3, 8):
+    lines = [b"cancel,%c,X,,,,,,\n" % ord(code) for code in "ABCDEFGH"[: rules.MOST_DAY_PARTICIPANTS]]
+    days = [(others, DAY + b"".join(lines[: others + 1])) for others in range(len(lines))]
+    tried = [("clear", AUCTION, 0, range(1, 9)), ("day", OPEN_AUCTION, 7, (1, 3, 8)), *(("day", data, others, (1,)) for others, data in days)]
+    for word, data, others, counts in tried:
+        for workers in counts:
             words = [word, "--workers", str(workers), "--cut", "8"]
             _, started = runs.program.run(words, data, Refusal("thread"))
-            runs.check(f"{' '.join(words)} starts {started} threads", started == workers - 1 + others)
+            runs.check(f"{' '.join(words)}, {others} participants more: {started} threads", started == workers - 1 + others)
 
 
 def strays(runs):

@@ -30,7 +30,10 @@ TIMES = 1.25
 ROOM = 16 << 10  # bytes that a run may hold beyond
 HOURS, BLOCKS = 100, rules.MOST_BLOCKS - 4  # of a book before the commands that are counted
 COMMANDS = 400
+FULL_HOURS, FULL_COMMANDS = rules.MOST_HOURLY - 10, 2_000  # of a full book, but for the orders that the commands submit
 SEARCHED = full.Size(480, 14, 1_000)
+WHOLE = full.Size(rules.MOST_HOURLY, rules.MOST_BLOCKS, rules.MOST_RECORDS)
+LONG_TEXT = 2 << 20
 KINDS = ["base", "peaks", "shaped", "odd", "random", "mixed", "wide"]
 FAMILIES = ["market", "paradox", "spread", "nearties", "links", "groups", "ties"]
 
@@ -64,9 +67,9 @@ class Shape(NamedTuple):
     def cancel(self, name):
         return f"cancel,{self.who},{name},,,,,,\n"
 
-    def first(self):
+    def first(self, hours=HOURS):
         """The submits of a book: hourly orders, and blocks, of which every second one is a child of the one before, in one group."""
-        yield from (self.hour(number) for number in range(HOURS))
+        yield from (self.hour(number if number < HOURS else 1_000_000 + number) for number in range(hours))
         for number in range(BLOCKS):
             parent = self.named(9_000 + number - 1) if number % 2 else ""
             yield self.block(number, parent=parent, group="G" if number % 2 else "")
@@ -150,7 +153,15 @@ def days():
 
 
 def full_books():
-    """Yields the runs on full books that refuse orders."""
+    """Yields the runs on full books: with commands of each kind, by one participant, and with orders that they refuse."""
+    first = list(SHORT.first(FULL_HOURS))
+    for about, records in commands(SHORT):
+        if about != "hourly orders":
+            records = [*first, SHORT.cancel(SHORT.named(1)), *itertools.islice(records, FULL_COMMANDS)]
+            yield f"replay of a full book: {about}", Run(REPLAY, journal(records))
+    *_, (about, records) = commands(SHORT)
+    records = [*first, SHORT.cancel(SHORT.named(1)), *itertools.islice(records, rules.MOST_DAY_COMMANDS - len(first) - 1)]
+    yield f"day of a full journal of one participant: {about}", Run(DAY, journal(records, False))
     for shape in (SHORT, LONG):
         hours = [shape.hour(number) for number in range(rules.MOST_HOURLY)]
         refused = [shape.hour(5_000 + number) for number in range(COMMANDS)]
@@ -184,6 +195,32 @@ def blocks():
         yield f"clear: {kind}, {24 * parts} periods, {bonds}", Run(CLEAR, made("make_blocks.py", kind, 50, 1, parts, 12, 400, bonds))
     for family in FAMILIES:
         yield f"clear: {family}", Run(CLEAR, made("make_family.py", family, 400, 12))
+    for periods in (24, 96):
+        drawn = full.Drawn(random.Random(f"whole {periods}"), periods, "large", WHOLE, True, "free")
+        yield f"clear: a full book of large blocks, {periods} periods", Run(CLEAR, drawn.text())
+
+
+def filled(begin, part, end=b""):
+    """A long text, with that part as often as it fits."""
+    return begin + part * ((LONG_TEXT - len(begin) - len(end)) // len(part)) + end
+
+
+def long_texts():
+    """Yields the runs on long texts: most aren't journals."""
+    day, close = b"day,24,,,,,,,\n", b"close,,,,,,,,\n"
+    yield "replay of empty lines", Run(REPLAY, filled(day, b"\n", close))
+    yield "replay of empty lines that end with CR", Run(REPLAY, filled(day.replace(b"\n", b"\r"), b"\r", close))
+    faulty = {
+        "a text without a day": filled(b"", b"x\n"),
+        "one long field": filled(day, b"A"),
+        "one long quoted field": filled(day + b'"', b"A", b'"'),
+        "doubled quotes": filled(day + b'"', b'""', b'"'),
+        "commas": filled(day, b","),
+        "a last byte that isn't ASCII": filled(day, b"\n", b"\xff"),
+        "many records": filled(day, close),
+    }
+    for about, data in faulty.items():
+        yield f"replay of {about}", Run(REPLAY, data, (1,))
 
 
 def texts():
@@ -202,7 +239,7 @@ def texts():
 
 
 def every():
-    return dict(itertools.chain(days(), full_books(), searches(), blocks(), texts()))
+    return dict(itertools.chain(days(), full_books(), searches(), blocks(), texts(), long_texts()))
 
 
 def cost(program, run):
@@ -238,6 +275,6 @@ def compare(counts, path, rows):
         then, held_then = counted.pop(about)
         counts.check(f"{about}: {took:,} instructions, {TIMES} times {then:,} or more", took < TIMES * then)
         counts.check(f"{about}: {held:,} bytes were held, {TIMES} times {held_then:,} or more", held < TIMES * held_then + ROOM)
-        most = [max(most[0], took / then), max(most[1], held / held_then)]
+        most = [max(most[0], took / then), max(most[1], held / max(held_then, 1))]
     counts.check(f"runs that were counted, and aren't there: {[*counted]}", not counted)
     print("shapes: at most {:.2f} times the instructions that were counted, and {:.2f} times the bytes".format(*most), flush=True)

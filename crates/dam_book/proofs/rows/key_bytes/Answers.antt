@@ -12,5 +12,5 @@ placed first second zeros e =
 pub returns : goal.returns
 returns c =
     placed c.copy_from_slice.new.self c.copy_from_slice-2.new.self (replicate 16 0) (search rules)
-    ∙ ap₂ (λ (a b : List ℕ). a ++ (b ++ replicate 4 0)) (c.copy_from_slice.ensures.after ∙ c.with_zeros.ensures)
+    ∙ ap₂ (λ (a b : List ℕ). a ++ (b ++ replicate 4 0)) (c.copy_from_slice.ensures.after ∙ c.as_padded_bytes.ensures)
     (c.copy_from_slice-2.ensures.after ∙ c.as_padded_bytes-2.ensures)

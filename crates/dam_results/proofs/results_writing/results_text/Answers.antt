@@ -4,7 +4,7 @@ use Rattle.std.proofs.Common.{◌∙◌, sym, refl, arith, rules}
 use Rattle.dam_results.specs.declared.published.PeriodResult.{PeriodResult}
 use Rattle.dam_results.specs.Replies.{day_line}
 use Rattle.dam_results.specs.Published.{welfare_line, period_line, period_lines}
-use Rattle.dam_results.proofs.results_text.results_text.Goals as goal
+use Rattle.dam_results.proofs.results_writing.results_text.Goals as goal
 
 -- the line of the period at place k comes last
 lines_push : (t k n : ℕ) (rs : List PeriodResult) (r : PeriodResult) → k < length rs → r ≡ get_or rs k r → n ≡ t + k

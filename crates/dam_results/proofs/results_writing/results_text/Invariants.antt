@@ -3,7 +3,7 @@ use Rattle.std.proofs.Common.{◌≡◌, ◌++◌, take, length}
 use Rattle.std.specs.List.{flat_map}
 use Rattle.dam_results.specs.Replies.{day_line}
 use Rattle.dam_results.specs.Published.{welfare_line, period_lines, row_result_line}
-use Rattle.dam_results.proofs.results_text.results_text.Given as goal
+use Rattle.dam_results.proofs.results_writing.results_text.Given as goal
 
 abbrev pub invariant-loop-place : goal.invariant-loop-place
 invariant-loop-place g l = l.text.items ≡ day_line (length l.results.periods.items) ++
