@@ -49,7 +49,7 @@ pub fn a_changed_book_is_a_changed_problem()
         → HasBlocksReordered (problem_of book) (problem_of other) }
 {}
 
-/// A book satisfies the book invariant if its rows stand in another order, each parent still before its children.
+/// A book whose rows are reordered, each parent still before its children, still satisfies the book invariant.
 pub fn a_reordered_book_is_a_book()
     ensures book { (book other : BookState) → IsBook book → IsPermutation book.rows other.rows
         → other.periods ≡ book.periods → are_linked [] other.rows ≡ true → IsBook other }

@@ -10,7 +10,7 @@ ghost use Rattle.dam_bound.specs.NetLimits.{most_limits, limit_in, room_taken, g
 
 use dam_book::MOST_BLOCKS;
 
-/// The number of limits.
+/// The greatest number of limits.
 pub const MOST_LIMITS: usize = 32;
 
 /// A limit that every eligible selection keeps: the decisions on all blocks together take no more than its room.

@@ -49,7 +49,8 @@ pub enum StoreFault {
     /// The file is longer than a journal may be.
     #[error("the file has more than {MOST_FILE_BYTES} bytes")]
     TooLong,
-    /// The journal has no room for the lines. Nothing was written, and fewer lines may still fit.
+    /// The journal has no room for the lines. Nothing was written, and fewer lines may still fit. Or the lines of a file that is
+    /// read leave no room for the mark after them.
     #[error("the journal is full")]
     Full,
     /// Memory ran out.

@@ -1,2 +1,2 @@
-/// Bytes of a file, with the marks of its lines.
+/// The most bytes of a file, with the marks of its lines.
 pub const MOST_FILE_BYTES: usize = 16_777_216;
