@@ -1,5 +1,3 @@
-ghost use Rattle.std.specs.Prelude.{◌≡◌, None, true};
-
 use dam_blocks::Best;
 use dam_plan::Nodes;
 
@@ -21,23 +19,4 @@ pub struct PieceAnswer {
     pub visited: Nodes,
     /// Whether no node is left to visit. It is false only if `visited` is the limit.
     pub done: bool,
-}
-
-impl PieceAnswer {
-    /// The answer of a piece in which no selection is eligible, without a visit.
-    pub(crate) fn nothing(piece: u32) -> PieceAnswer
-        ensures piece { result.piece ≡ piece }
-        ensures best { result.best ≡ None }
-        ensures read { result.read ≡ 0 }
-        ensures visited { result.visited ≡ 0 }
-        ensures done { result.done ≡ true }
-    {
-        PieceAnswer {
-            piece,
-            best: None,
-            read: 0,
-            visited: 0,
-            done: true,
-        }
-    }
 }

@@ -365,10 +365,22 @@ pub(crate) fn explore_by_prices<A: Allocator, P: PricedProblem, I: Incumbent>(
     use_invariant(problem);
     let taken = Selection::choice(depth, piece);
     if !admissible(problem, taken) {
-        return PieceAnswer::nothing(piece);
+        return PieceAnswer {
+            piece,
+            best: None,
+            read: 0,
+            visited: 0,
+            done: true,
+        };
     }
     let Some(room) = room_of_piece(&conflicts.limits, taken, depth) else {
-        return PieceAnswer::nothing(piece);
+        return PieceAnswer {
+            piece,
+            best: None,
+            read: 0,
+            visited: 0,
+            done: true,
+        };
     };
     let mut bound = PriceBound::empty();
     let most = write_bound_of_piece(priced, taken, order, depth, &mut bound);

@@ -5,7 +5,7 @@ use Rattle.dam_search.specs.Answer.{IsReached, greatest_found}
 use Rattle.dam_search.proofs.Collecting.{collected, some_found, reached_zero, reached_greater, reached_greatest, all_reached}
 use Rattle.dam_search.proofs.laws.collecting.Goals as goal
 
-zero_reached : (c : goal.After-choices) (problem : ProblemState) → IsProblem problem → IsReached problem 0
+zero_reached : (c : goal.After-choices_are_all_selections) (problem : ProblemState) → IsProblem problem → IsReached problem 0
 zero_reached c problem is =
     let empty = c.empty_is_eligible.ensures problem is in
     reached_zero problem _ empty.0 empty.1 (c.eligible_welfare_is_not_negative.ensures problem _ empty.0 is empty.1)
