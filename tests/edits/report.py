@@ -21,7 +21,7 @@ CLOSURE = re.compile(r"::fn::(\S+?)::[^\s:+]+(?:\+Fn(?:Mut|Once)?::\w+)?$")
 GONE = re.compile(r"has no field|is not in scope|has no `")
 RESTS = re.compile(r"was not admitted|rejected, (?:was|were) not checked")
 UNREAD = re.compile(r"is not in scope|has no field|is no name|operand is missing|expected the end|cannot continue")
-WIDTH = 160
+WIDTH = 300
 TOO = " (and a proof of the function cites a name that went)"
 
 

@@ -198,7 +198,8 @@ class Facts(unittest.TestCase):
     def test_the_shown_wrong_body(self):
         text = (TOP / "docs/CONTRIBUTING.md").read_text()
         name, path, edit = re.search(r"This is `(\w+)` of `(\S+)`:\n\n```text\n(.*?)```", text, re.DOTALL).groups()
-        self.assertIn(f"name: {name}\n{edit}", (TOP / path).read_text())
+        self.assertTrue(edit.startswith(f"name: {name}\n"))
+        self.assertIn(edit, (TOP / path).read_text())
 
     def test_the_first_task(self):
         """The quoted contract, code, edit and line are those of the function."""

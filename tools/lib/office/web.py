@@ -70,8 +70,12 @@ OPENAPI = Path(__file__).with_name("openapi.json")
 
 
 def description(is_demo):
-    """The requests of an office or of a demo, as OpenAPI. The file has both; it marks those that only a demo answers."""
-    api = json.loads(OPENAPI.read_text(encoding="utf-8"))
+    """The requests of an office or of a demo, as OpenAPI. The file has both; it marks those that only a demo answers. It names the limits on
+    prices, whose numbers are those of the rules."""
+    words = OPENAPI.read_text(encoding="utf-8")
+    for name in ("LEAST_PRICE", "GREATEST_PRICE"):
+        words = words.replace(f'"{name}"', str(getattr(rules, name)))
+    api = json.loads(words)
     api["paths"] = {path: methods for path, methods in api["paths"].items() if is_demo or not methods.get("x-demo")}
     return json.dumps(api, indent=1) + "\n"
 
