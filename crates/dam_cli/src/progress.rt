@@ -21,7 +21,7 @@ struct Count {
 
 impl Count {
     /// Nothing is counted yet.
-    fn new() -> Count
+    fn zero() -> Count
         ensures { result ≡ record { ended = 0; pieces = 0; refused = 0 } }
     {
         Count {
@@ -107,7 +107,7 @@ impl<'a, R: Wait + Eprint + Clock> Progress<'a, R> {
     /// Shows nothing, unless `is_shown`.
     pub fn new(rt: &'a R, is_shown: bool) -> Progress<'a, R> {
         let state = State {
-            count: Count::new(),
+            count: Count::zero(),
             begun: None,
             is_written: false,
         };

@@ -41,8 +41,8 @@ impl<J: GateName> Passes<J> {
         })
     }
 
-    /// Takes another pass of this holder, and returns its place.
-    pub fn take_pass<H: Wait + Drop>(
+    /// Asks the gate for another pass of this holder, adds it, and returns its place.
+    pub fn add_pass<H: Wait + Drop>(
         &mut self,
         rt: &impl Wait,
         gate: &Gate<J, H>,
@@ -79,7 +79,7 @@ impl<J: GateName> Passes<J> {
     }
 
     /// The place of the pass of this holder, which is a new one if there is none.
-    fn find_or_take_pass<H: Wait + Drop>(
+    fn find_or_add_pass<H: Wait + Drop>(
         &mut self,
         rt: &impl Wait,
         gate: &Gate<J, H>,
@@ -91,7 +91,7 @@ impl<J: GateName> Passes<J> {
             .position(|pass| pass.holder().as_ref() == holder)
         {
             Some(place) => Ok(place),
-            None => self.take_pass(rt, gate, holder),
+            None => self.add_pass(rt, gate, holder),
         }
     }
 
@@ -104,7 +104,7 @@ impl<J: GateName> Passes<J> {
         command: &Command,
         earlier: u32,
     ) -> Result<(), Stop> {
-        let place = self.find_or_take_pass(rt, gate, command.participant())?;
+        let place = self.find_or_add_pass(rt, gate, command.participant())?;
         let pass = self.passes.get_mut(place).ok_or(Stop::Wrong)?;
         let mut before = VisibleState::of(pass);
         for _ in 0..TRIES {

@@ -116,10 +116,10 @@ fn refuse_at_gate<J: GateName, R: Wait>(
     let mut passes = Passes::<J>::new(alloc)?;
     let gate = Gate::<J, &R>::begin_seeded(rt, alloc, opening, seed)?;
     let who = Participant::new(b"A").ok_or(Stop::Wrong)?;
-    passes.take_pass(rt, &gate, Some(&who))?;
-    passes.take_pass(rt, &gate, None)?;
+    passes.add_pass(rt, &gate, Some(&who))?;
+    passes.add_pass(rt, &gate, None)?;
     for _ in 2..MOST_PASSES {
-        passes.take_pass(rt, &gate, Some(&who))?;
+        passes.add_pass(rt, &gate, Some(&who))?;
     }
     if !has_given_all(rt, &gate, &who) {
         return Err(Stop::Wrong);
