@@ -8,16 +8,18 @@ one again if no answer comes: the office enters it once.
 from __future__ import annotations
 
 import asyncio
+import functools
+import http.client
 import json
 import ssl
 import time
-import urllib.error
 import urllib.request
 from typing import Any, NamedTuple
 
 RETRIES = 8
 FIRST_PAUSE, LONGEST_PAUSE = 0.2, 5.0  # seconds before a request is sent again
 AGAIN = (429, 502, 503, 504)  # statuses after which the same request may do
+DONE = 200  # the status of each success
 
 
 class OfficeFault(Exception):
@@ -41,8 +43,23 @@ def fault_of(status: int, data: bytes) -> OfficeFault:
     try:
         found = json.loads(data)
         return OfficeFault(found.pop("fault"), found.pop("words"), status, found)
-    except (ValueError, KeyError, TypeError, AttributeError):
-        return OfficeFault("Unknown", f"the answer has the status {status}", status)
+    except (ValueError, KeyError, TypeError, AttributeError, RecursionError):
+        which = ": it redirects, which no office does" if 300 <= status < 400 else ""
+        return OfficeFault("Unknown", f"the answer has the status {status}{which}", status)
+
+
+def strange() -> OfficeFault:
+    """The fault of a success that no office sends, such as a proxy's page."""
+    return OfficeFault("Unknown", f"the answer has the status {DONE}, but isn't an office's", DONE)
+
+
+def value_of(data: bytes, member: str | None = None) -> Any:
+    """The value of an answer in JSON, or a member of it."""
+    try:
+        found = json.loads(data)
+        return found if member is None else found[member]
+    except (ValueError, KeyError, TypeError, RecursionError):
+        raise strange() from None
 
 
 def pauses():
@@ -63,7 +80,23 @@ def body_of(commands: tuple) -> tuple[bytes, str]:
 
 
 def receipts_of(data: bytes) -> list[dict]:
-    return [json.loads(line) for line in data.splitlines()]
+    """The receipts of an answer, at least one."""
+    made = [value_of(line) for line in data.splitlines()]
+    if not made:
+        raise strange()
+    return made
+
+
+def prices_of(data: bytes) -> list[tuple[int, int, int]]:
+    """The numbers of an answer's lines of periods, at least one."""
+    try:
+        lines = data.decode().splitlines()
+        made = [tuple(map(int, line.split(",")[1:4])) for line in lines if line.startswith("period,")]
+    except ValueError:
+        raise strange() from None
+    if not made:
+        raise strange()
+    return made
 
 
 class Calls:
@@ -91,18 +124,32 @@ class Calls:
         return {**made, "Content-Type": asked.kind} if asked.body is not None else made
 
 
+class EachAnswer(urllib.request.HTTPErrorProcessor):
+    """Takes each answer as it is: a redirect isn't followed, because its target would get the token."""
+
+    def http_response(self, _, response):
+        return response
+
+    https_response = http_response
+
+
 class Office(Calls):
     """A client whose calls wait for the answer."""
+
+    @functools.cached_property
+    def opener(self) -> urllib.request.OpenerDirector:
+        return urllib.request.build_opener(EachAnswer, urllib.request.HTTPSHandler(context=self.context))
 
     def once(self, asked: Asked) -> bytes:
         made = urllib.request.Request(self.url + asked.path, asked.body, self.headers(asked), method=asked.method)
         try:
-            with urllib.request.urlopen(made, timeout=self.timeout, context=self.context) as answer:
-                return answer.read()
-        except urllib.error.HTTPError as fault:
-            raise fault_of(fault.code, fault.read()) from None
-        except (OSError, urllib.error.URLError) as fault:
+            with self.opener.open(made, timeout=self.timeout) as answer:
+                status, data = answer.status, answer.read()
+        except (OSError, http.client.HTTPException) as fault:
             raise OfficeFault("Unreached", f"no answer came: {fault}") from None
+        if status != DONE:
+            raise fault_of(status, data)
+        return data
 
     def ask(self, asked: Asked) -> bytes:
         """The answer to a request, which is sent again if none comes, or the office can't answer yet."""
@@ -115,16 +162,16 @@ class Office(Calls):
             time.sleep(pause)
         return self.once(asked)
 
-    def get(self, path: str) -> Any:
-        return json.loads(self.ask(Asked("GET", path)))
+    def get(self, path: str, member: str | None = None) -> Any:
+        return value_of(self.ask(Asked("GET", path)), member)
 
     def days(self) -> list[dict]:
         """The days of the office, with their states."""
-        return self.get("/days")["days"]
+        return self.get("/days", "days")
 
     def next(self, day: str) -> int:
         """The number of the next command."""
-        return self.get(f"{self.own(day, 'commands')}?since=99999")["next"]
+        return self.get(f"{self.own(day, 'commands')}?since=99999", "next")
 
     def enter(self, day: str, *commands: str | dict) -> list[dict]:
         """Enters commands, and returns the receipt of each once it is on the office's disk. Its `reply` is the book's. If no answer comes
@@ -142,11 +189,11 @@ class Office(Calls):
 
     def commands(self, day: str) -> list[dict]:
         """Each command so far: its number, its entry in the journal, its record and the reply."""
-        return self.get(self.own(day, "commands"))["commands"]
+        return self.get(self.own(day, "commands"), "commands")
 
     def orders(self, day: str) -> list[dict]:
         """The orders in the book."""
-        return self.get(self.own(day, "orders"))["orders"]
+        return self.get(self.own(day, "orders"), "orders")
 
     def receipts(self, day: str) -> bytes:
         """The receipts of all commands under the newest head, for `dam-receipts verify`."""
@@ -159,16 +206,15 @@ class Office(Calls):
     def table(self, day: str, data: bytes) -> list[str]:
         """The records that a table of orders or commands (CSV or Excel) makes; `enter` enters them."""
         asked = Asked("POST", self.own(day, "tables"), data, "application/octet-stream")
-        return json.loads(self.ask(asked))["records"]
+        return value_of(self.ask(asked), "records")
 
     def prices(self, day: str) -> list[tuple[int, int, int]]:
         """After the close, each period's number, price in cents per MWh and volume in tenths of a MW."""
-        lines = self.ask(Asked("GET", f"/days/{day}/prices")).decode().splitlines()
-        return [tuple(map(int, line.split(",")[1:4])) for line in lines if line.startswith("period,")]
+        return prices_of(self.ask(Asked("GET", f"/days/{day}/prices")))
 
     def statement(self, day: str) -> list[dict]:
         """After the close, what became of each command, and why."""
-        return self.get(self.own(day, "statement"))["rows"]
+        return self.get(self.own(day, "statement"), "rows")
 
     def text(self, day: str, name: str) -> bytes:
         """`results`, `journal` or `replies`, if the operator has published the journal."""
@@ -190,13 +236,13 @@ class AsyncOffice(Calls):
         await self.session.close()
 
     async def once(self, asked: Asked) -> bytes:
-        how = {"data": asked.body, "headers": self.headers(asked), "ssl": self.context}
+        how = {"data": asked.body, "headers": self.headers(asked), "ssl": self.context, "allow_redirects": False}
         try:
             async with self.session.request(asked.method, self.url + asked.path, **how) as answer:
                 data = await answer.read()
         except self.faults as fault:
             raise OfficeFault("Unreached", f"no answer came: {fault}") from None
-        if answer.status >= 300:
+        if answer.status != DONE:
             raise fault_of(answer.status, data)
         return data
 
@@ -210,11 +256,11 @@ class AsyncOffice(Calls):
             await asyncio.sleep(pause)
         return await self.once(asked)
 
-    async def get(self, path: str) -> Any:
-        return json.loads(await self.ask(Asked("GET", path)))
+    async def get(self, path: str, member: str | None = None) -> Any:
+        return value_of(await self.ask(Asked("GET", path)), member)
 
     async def next(self, day: str) -> int:
-        return (await self.get(f"{self.own(day, 'commands')}?since=99999"))["next"]
+        return await self.get(f"{self.own(day, 'commands')}?since=99999", "next")
 
     async def enter(self, day: str, *commands: str | dict) -> list[dict]:
         body, kind = body_of(commands)
@@ -229,13 +275,13 @@ class AsyncOffice(Calls):
         return made
 
     async def commands(self, day: str) -> list[dict]:
-        return (await self.get(self.own(day, "commands")))["commands"]
+        return await self.get(self.own(day, "commands"), "commands")
 
     async def orders(self, day: str) -> list[dict]:
-        return (await self.get(self.own(day, "orders")))["orders"]
+        return await self.get(self.own(day, "orders"), "orders")
 
     async def receipts(self, day: str) -> bytes:
         return await self.ask(Asked("GET", self.own(day, "receipts")))
 
     async def statement(self, day: str) -> list[dict]:
-        return (await self.get(self.own(day, "statement")))["rows"]
+        return await self.get(self.own(day, "statement"), "rows")

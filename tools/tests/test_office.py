@@ -1138,18 +1138,23 @@ class Requests(unittest.TestCase):
 
 
 class Answers(http.server.BaseHTTPRequestHandler):
-    """An office that answers as a test has planned: None ends the connection without an answer."""
+    """An office that answers as a test has planned: None ends the connection without an answer, and bytes are the whole answer."""
 
     def do_PUT(self):
         self.rfile.read(int(self.headers["Content-Length"]))
         self.server.asked.append(self.path)
         answer = self.server.planned.pop(0)
-        if answer is not None:
+        if isinstance(answer, bytes):
+            self.wfile.write(answer)
+        elif answer is not None:
             self.say(*answer)
 
     def do_GET(self):
         self.server.asked.append(self.path)
-        self.say(200, {"next": self.server.next})
+        if self.server.whole:
+            self.wfile.write(self.server.whole)
+        else:
+            self.say(200, {"next": self.server.next})
 
     def say(self, status, value):
         body = json.dumps(value).encode() + b"\n"
@@ -1169,7 +1174,7 @@ class Clients(unittest.TestCase):
         if aiohttp is None:
             self.skipTest("python3-aiohttp is missing")
         self.server = http.server.ThreadingHTTPServer(("127.0.0.1", 0), Answers)
-        self.server.asked, self.server.planned, self.server.next = [], [], 4
+        self.server.asked, self.server.planned, self.server.next, self.server.whole = [], [], 4, None
         threading.Thread(target=self.server.serve_forever, daemon=True).start()
         self.addCleanup(self.server.server_close)
         self.addCleanup(self.server.shutdown)
@@ -1210,6 +1215,49 @@ class Clients(unittest.TestCase):
         self.server.next = 5  # it was entered
         self.enter(found, "a")
         self.assertEqual([path.rpartition("/")[2] for path in self.server.asked if "since" not in path], ["4"] * 4)
+
+    def test_a_redirect_is_a_fault(self):
+        """Its target would get the token."""
+        target = f"http://localhost:{self.server.server_port}/elsewhere"
+        self.server.whole = f"HTTP/1.0 302 Found\r\nLocation: {target}\r\nContent-Length: 0\r\n\r\n".encode()
+        with self.assertRaisesRegex(client.OfficeFault, "^the answer has the status 302: it redirects, which no office does$") as caught:
+            self.enter(self.made(), "a")
+        self.assertEqual((caught.exception.fault, caught.exception.status), ("Unknown", 302))
+        self.assertEqual(self.server.asked, [f"/days/{DAY}/commands/GAS?since=99999"])
+
+    def test_answers_that_no_office_sends(self):
+        """One that breaks off or isn't HTTP is none, and so the request is sent again."""
+        head = b"HTTP/1.0 %s\r\nContent-Length: %d\r\n\r\n%s"
+        for whole, fault, status, count in (
+            (head % (b"200 OK", 100, b'{"next":'), "Unreached", None, 3),
+            (head % (b"404 Not Found", 100, b'{"fault":'), "Unreached", None, 3),
+            (b"220 mail.example ESMTP\r\n\r\n", "Unreached", None, 3),
+            (head % (b"200 OK", 6, b"<html>"), "Unknown", 200, 1),
+            (head % (b"200 OK", 2, b"{}"), "Unknown", 200, 1),
+            (head % (b"200 OK", 2, b"[]"), "Unknown", 200, 1),
+            (head % (b"200 OK", 1, b"\xff"), "Unknown", 200, 1),
+            (head % (b"204 No Content", 0, b""), "Unknown", 204, 1),
+        ):
+            self.server.whole = whole
+            self.server.asked.clear()
+            with self.subTest(whole=whole), self.assertRaises(client.OfficeFault) as caught:
+                self.enter(self.made(), "a")
+            self.assertEqual((caught.exception.fault, caught.exception.status, len(self.server.asked)), (fault, status, count))
+
+    def test_a_command_without_a_receipt_keeps_its_number(self):
+        found = self.made()
+        self.server.planned = [*(b"HTTP/1.0 200 OK\r\n\r\n" + body for body in (b"", b"<html>\n")), (200, {"reply": "done"})]
+        for _ in range(2):
+            with self.assertRaisesRegex(client.OfficeFault, "^the answer has the status 200, but isn't an office's$"):
+                self.enter(found, "a")
+        self.assertEqual(self.enter(found, "a"), [{"reply": "done"}])
+        self.assertEqual([path.rpartition("/")[2] for path in self.server.asked if "since" not in path], ["4"] * 3)
+
+    def test_prices(self):
+        self.assertEqual(client.prices_of(b"day,24\nperiod,1,500,30\nperiod,2,-1,0\n"), [(1, 500, 30), (2, -1, 0)])
+        for data in (b"", b"<html>", b"period,1,x,1\n", b"\xff"):
+            with self.subTest(data=data), self.assertRaisesRegex(client.OfficeFault, "isn't an office's"):
+                client.prices_of(data)
 
 
 class AsyncClients(Clients):
