@@ -1067,6 +1067,20 @@ class Requests(unittest.TestCase):
             with self.assertRaisesRegex(requests.Wrong, words):
                 requests.table_records(data, "GAS", 24)
 
+    def test_only_the_first_faults_of_a_table_are_told(self):
+        """However many it has, the answer is short."""
+        heads = "what,participant,order,kind,side,price_eur_mwh,periods,volume_mw,parent,group"
+        for data, count in (
+            (f"{heads}\n" + f"amend{',x' * 9}\n" * 4_000, 36_000),
+            (f"{heads}\n" + "move\n" * 21, 21),
+            (",".join([heads, *["what"] * 4_000]), 4_000),
+            (heads.replace(",group", f"{',' * 4_001}group") + "\n" + ",".join(["x"] * 4_010), 4_000),
+        ):
+            with self.subTest(data=data[:80], count=count), self.assertRaises(requests.Wrong) as caught:
+                requests.table_records(data.encode(), "GAS", 24)
+            lines = str(caught.exception).split("\n")
+            self.assertEqual((len(lines), lines[-1]), (21, f"and {count - 20} more"))
+
     def test_a_table_links_to_orders_in_the_book(self):
         row = "participant,order,kind,side,price_eur_mwh,periods,volume_mw,parent\nGAS,KID%d,block,sell,50,15-16,5,BASE\n"
         read = lambda *orders: requests.table_records((row % 2).encode(), "GAS", 24, orders)[0]

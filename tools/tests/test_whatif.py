@@ -398,8 +398,11 @@ class Tools(unittest.TestCase):
         said = "whatif: standard input: line 2, column periods: the day has periods 1 to 24, so there is no period 25 (PeriodOutOfDay)\n"
         said += "  line 4, column what: 'move' should be submit, amend or cancel\n"
         self.assertEqual(self.whatif("change", self.journal, "-", data=table), (3, b"", said))
-        *_, last = self.whatif("change", self.journal, "-", data=TABLE + b"move,A,X,hour,buy,1,1,1\n" * 9)[2].splitlines()
-        self.assertEqual(last, "  and 4 more")
+        for head, row in ((TABLE, b"move,A,X%d,hour,buy,1,1,1\n"), (TABLE.removeprefix(b"what,"), b"A,X%d,hour,buy,1,25,1\n")):
+            for count in (9, 20, 21, 22, 100):
+                data = head + b"".join(row % at for at in range(count))
+                *lines, last = self.whatif("change", self.journal, "-", data=data)[2].splitlines()
+                self.assertEqual((len(lines), last), (5, f"  and {count - 5} more"))
 
     def test_notes_say_how_a_table_was_read(self):
         amended = self.whatif("change", self.journal, "-", data=b"amend,GEN,UNIT,,,6000,1:20,,\n")[1]

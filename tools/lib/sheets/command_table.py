@@ -89,11 +89,18 @@ def read_command(row, what):
 def read_commands(given, periods):
     """The commands of a table by its cells, each with its line; and notes on the table. Their faults, a line each, are
     `order_table.Wrong`."""
-    columns, found, wrong = Columns(given, ()), [], []
+    found, wrong = [], order_table.Faults()
+    try:
+        columns = Columns(given, ())
+    except order_table.Wrong as fault:
+        for line in str(fault).split("\n"):
+            wrong.add(line)
+        raise wrong.wrong() from None
     for line, cells in columns.table.rows:
         command, faults = columns.read(cells, periods)
         found += [(line, command)] if command else []
-        wrong += [order_table.of_line(line, words) for words in faults]
-    if wrong:
-        raise order_table.Wrong("\n".join(wrong))
+        for words in faults:
+            wrong.add(order_table.of_line(line, words))
+    if wrong.count:
+        raise wrong.wrong()
     return found, columns.table.notes

@@ -42,7 +42,12 @@ GROUPED = re.compile(r"(?P<whole>-?[0-9]{1,3}([.,' \u00a0\u202f])[0-9]{3}(?:\2[0
 
 
 class Wrong(Exception):
-    """A fault of a cell, or of a table."""
+    """A fault of a cell, or of a table; or several, a line each."""
+
+    def __init__(self, words, more=0):
+        """`more`: how many faults a line only counts."""
+        super().__init__(words)
+        self.more = more
 
 
 def columns_of(line, header, needed, further):
@@ -464,9 +469,10 @@ class Faults:
         if self.count <= MOST_ERRORS:
             self.first.append(words)
 
-    def lines(self):
+    def wrong(self, notes=()):
+        """All of them as one, with notes."""
         more = self.count - len(self.first)
-        return self.first + ([f"and {more} more"] if more else [])
+        return Wrong("\n".join([*self.first, *([f"and {more} more"] if more else []), *notes]), more)
 
 
 class Orders(NamedTuple):
@@ -511,7 +517,7 @@ def read_tables(sources, periods, who=None, raises=False, held=None):
         notes += [table.told(in_capitals(raised))] if raised else []
     if wrong.count:
         read = [table.told(note) for table in tables for note in table.read]
-        raise Wrong("\n".join(wrong.lines() + read))
+        raise wrong.wrong(read)
     return Orders(submits, notes, others)
 
 

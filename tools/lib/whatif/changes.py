@@ -73,9 +73,9 @@ def differing(before, after, but=None):
 
 
 def in_few_lines(fault):
-    """The first lines of the faults, and how many more there are."""
-    lines = str(fault).split("\n")
-    more = len(lines) - MOST_LINES
+    """The first lines of the faults, and how many more there are, also those that one of the lines counts."""
+    lines, counted = str(fault).split("\n"), getattr(fault, "more", 0)
+    more = len(lines) + max(counted - 1, 0) - MOST_LINES
     return "\n  ".join(lines[:MOST_LINES] + ([f"and {more} more"] if more > 0 else []))
 
 
