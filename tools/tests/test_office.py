@@ -31,7 +31,7 @@ from dam_tools import office as client
 from lib.base import rules
 from lib.journal import book, journal
 from lib.seal import heads, merkle
-from lib.sheets import tables
+from lib.sheets import sheets, tables
 from lib.tool import command
 
 try:
@@ -1580,10 +1580,13 @@ class Setup(Office):
         self.assertEqual((status, [line[:5] for line in out.splitlines()[-1:]]), (command.DONE, [b"WIND."]))
         self.assertEqual(sorted(self.office.days()), ["2099-11-29", "2099-11-30"])
 
+    @property
+    def table(self):
+        return self.office.path.parent / "p.csv"
+
     def participants(self, text):
-        path = self.office.path.parent / "p.csv"
-        path.write_text(text)
-        return setup.participants_read(path)
+        self.table.write_text(text)
+        return setup.participants_read(self.table)
 
     def test_a_public_key_of_another_key_is_seen(self):
         """By a start, and by a further day before it is made and a token is printed."""
@@ -1624,18 +1627,74 @@ class Setup(Office):
             with self.subTest(text=text), self.assertRaises(command.Stop):
                 self.participants(text)
 
+    def test_no_cell_of_the_participants_is_lost(self):
+        for table in (
+            "participant, commands\nGAS, 10\n WIND ,\n",
+            " Participant,COMMANDS\n\nGAS,10\n,\nWIND\n",
+            "commands\tparticipant\n10\tGAS\n\tWIND\n",
+        ):
+            with self.subTest(table=table):
+                self.assertEqual(self.participants(table), {"GAS": 10, "WIND": None})
+        columns, number = "the columns are participant, commands", "should be a whole number of at most 5 digits, such as 500"
+        for table, words in (
+            ("participant,max_commands\nGAS,10\n", f"line 1, column 2: 'max_commands' is not a column; {columns}"),
+            ("participant,participant\nGAS,COAL\n", "line 1, column 2: the column 'participant' appears twice"),
+            ("participant,commands,Commands\nGAS,10,20\n", "line 1, column 3: the column 'commands' appears twice"),
+            ("participant,,commands\nGAS,10,20\n", "line 2, column 2: '10' is in a column without a name: write one, or remove it"),
+            ("participant,commands\nGAS,1,500\nWIND,20\n", "line 2: it has 3 cells, but the header has 2"),
+            ("participant\nGAS,10\n", "line 2: it has 2 cells, but the header has 1"),
+            (
+                "participant,commands\nGAS,10\vOIL,5\n",
+                f"line 2: it has 3 cells, but the header has 2\n  line 2, column commands: '10\\x0bOIL' {number}",
+            ),
+            ("participant,commands\nGAS,1.5\n", f"line 2, column commands: '1.5' {number}"),
+            (
+                'participant,commands\n"GA\nS","1\n0"\n',
+                "line 2, column 1: a quote begins a cell that doesn't end on its line: write it on one line, or remove the quote",
+            ),
+            (
+                "participant\n\n\nGAS\n\nx\nGAS\n",
+                "line 6, column participant: 'x' should be 1 to 8 capitals A to Z: write X\n"
+                "  line 7, column participant: GAS is in line 4 too",
+            ),
+            ("%PDF-1.4\n", None),
+        ):
+            said = f"{self.table}: {words}" if words else f"{self.table} is a PDF: save the table as .xlsx or as CSV"
+            with self.subTest(table=table), self.assertRaises(command.Stop) as caught:
+                self.participants(table)
+            self.assertEqual(str(caught.exception), said)
+
     def test_a_table_of_excel_is_read(self):
         for text in ("\ufeffparticipant,commands\r\nA,100\r\nGAS,\r\n", "\ufeffparticipant;commands\r\nA;100\r\nGAS;\r\n"):
             self.assertEqual(self.participants(text), {"A": 100, "GAS": None})
-        with self.assertRaisesRegex(command.Stop, "commands '²' should be a number"):
+        with self.assertRaisesRegex(command.Stop, "column commands: '²' should be a whole number"):
             self.participants("participant,commands\nA,²\n")
         path = self.office.path.parent / "p.xlsx"
         path.write_bytes(b"PK\x03\x04\xff")
-        with self.assertRaisesRegex(command.Stop, "isn't a CSV file in UTF-8"):
+        with self.assertRaisesRegex(command.Stop, "p.xlsx: line 1: the Excel workbook can't be read"):
+            setup.participants_read(path)
+
+    def test_a_workbook_of_participants_is_read(self):
+        if not command.has("openpyxl"):
+            self.skipTest("python3-openpyxl is missing")
+        made, path = sheets.writer().Workbook(), self.office.path.parent / "p.xlsx"
+        for row in (["Participant", "commands"], ["A", 100], [], ["GAS"]):
+            made.active.append(row)
+        made.create_sheet("notes", 0).append(["x"])
+        made.save(path)
+        words = ["--day", "2099-11-29", "--close", "12:00", "--participants", path, "--json"]
+        status, out, err = tool("office", "init", self.office.path, *words)
+        self.assertEqual((status, err), (command.DONE, f"office: note: {path}: of 2 sheets, 'Sheet' was read\n"))
+        self.assertEqual(list(json.loads(out)["tokens"]), ["A", "GAS"])
+        self.assertEqual(self.office.days()["2099-11-29"].terms().shares, {"A": 100, "GAS": 9_899})
+        made["Sheet"].append(["OIL", "=1+1"])
+        made.save(path)
+        said = "line 5, column commands: '=1\\+1' is a formula that was saved without its value: .*\n  of 2 sheets, 'Sheet' was read$"
+        with self.assertRaisesRegex(command.Stop, said):
             setup.participants_read(path)
 
     def test_a_table_without_the_column_is_named(self):
-        for text in ("GAS\nWIND\n", "name,commands\nGAS,1\n", "", "Participant\nGAS\n"):
+        for text in ("GAS\nWIND\n", "name,commands\nGAS,1\n", "", "participants\nGAS\n"):
             with self.subTest(text=text), self.assertRaisesRegex(command.Stop, "no column participant"):
                 self.participants(text)
 

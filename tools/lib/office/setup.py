@@ -1,7 +1,6 @@
 """Making the folder of an office, its participants and its days."""
 
 import contextlib
-import csv
 import datetime
 import os
 import re
@@ -11,12 +10,13 @@ import zoneinfo
 
 from ..base import rules, text
 from ..seal import heads, sealing, signing
-from ..sheets import shapes
+from ..sheets import kinds, order_table, shapes, sheets
 from ..tool import command
 from . import folder, tokens
 
 CLOCK = re.compile(r"([01][0-9]|2[0-3]):[0-5][0-9]")
 DAY_BEFORE = datetime.timedelta(days=1)
+WHO, SHARE = "participant", "commands"  # the columns of a table of participants
 
 
 def day_of(words):
@@ -72,31 +72,62 @@ def closes_late(terms):
 
 
 def participants_read(path):
-    """The participants of a table with the column participant, and how many commands each may enter, if a column commands says it. Excel
-    writes it with a byte order mark, and in many languages with semicolons."""
+    """The participants of a table, CSV or Excel, with the column participant; and how many commands each may enter, if a column commands
+    says it."""
+    data, notes = command.read_bytes(path), []
+    kind = kinds.kind_of(data)
+    if kind in kinds.FILES - {kinds.EXCEL}:
+        raise command.Stop(f"{command.shown(path)} is {kind}: save the table as .xlsx or as CSV")
     try:
-        lines = command.read_bytes(path).decode("utf-8-sig").splitlines()
-        table = csv.DictReader(lines, delimiter=";" if lines and ";" in lines[0] else ",", strict=True)
-        rows, columns = list(table), table.fieldnames or ()
-    except UnicodeDecodeError:
-        raise command.Stop(f"{command.shown(path)} isn't a CSV file in UTF-8") from None
-    except csv.Error as fault:
-        raise command.Stop(f"{command.shown(path)} isn't a CSV file: {fault}") from None
-    if "participant" not in columns:
-        raise command.Stop(f"{command.shown(path)} has no column participant: name it in the first line")
-    found = {}
-    for line, row in enumerate(rows, 2):
-        who = (row.get("participant") or "").strip()
-        if text.participant(who.encode()) is None or who in found:
-            words = "comes twice" if who in found else f"should be {text.A_PARTICIPANT}"
-            raise command.Stop(f"{command.shown(path)} line {line}: the participant {text.quoted(who)} {words}")
-        share = (row.get("commands") or "").strip()
-        if share and not (share.isascii() and share.isdigit() and len(share) < 6):
-            raise command.Stop(f"{command.shown(path)} line {line}: commands {text.quoted(share)} should be a number")
-        found[who] = int(share) if share else None
+        found = participants_of(data, notes)
+    except (sheets.Wrong, order_table.Wrong) as fault:
+        lines = "\n  ".join([*str(fault).split("\n"), *notes])
+        raise command.Stop(f"{command.shown(path)}: {lines}") from None
     if not 0 < len(found) <= folder.MOST_COMMANDS:
         raise command.Stop(f"{command.shown(path)} has no participant, or more than {folder.MOST_COMMANDS:,}")
+    for note in notes:
+        command.tell("office", f"note: {command.shown(path)}: {note}")
     return found
+
+
+def participants_of(data, notes):
+    """The same of a table's bytes. A cell that would be lost is a fault. Notes say how the table was read."""
+    (line, header), *rows = list(sheets.rows_of(data, [WHO], notes, folder.MOST_COMMANDS)[0]) or [(1, [])]
+    table = order_table.Table("", rows, columns_of(line, header), len(header), False, [], notes)
+    order_table.refuse_unnamed(header, rows)
+    found, lines, wrong = {}, {}, order_table.Faults()
+    for line, cells in rows:
+        row = order_table.Row(cells, table, None)
+        who, share = row.read(WHO, order_table.read_participant), row.read(SHARE, read_share)
+        if who and who in lines:
+            row.wrong.append(f"column {WHO}: {who} is in line {lines[who]} too")
+        found[who] = share
+        lines.setdefault(who, line)
+        for words in row.wrong:
+            wrong.add(order_table.of_line(line, words))
+    if wrong.count:
+        raise wrong.wrong()
+    return found
+
+
+def columns_of(line, header):
+    """Where the columns of a table of participants stand. It has no others."""
+    names, columns = [cell.strip().lower() for cell in header], f"the columns are {WHO}, {SHARE}"
+    if WHO not in names:
+        raise order_table.Wrong(f"line {line}: there is no column {WHO}; {columns}")
+    for at, name in enumerate(names):
+        if name and name in names[:at]:
+            raise order_table.Wrong(f"line {line}, column {at + 1}: the column {text.quoted(name)} appears twice")
+        if name not in (WHO, SHARE, ""):
+            raise order_table.Wrong(f"line {line}, column {at + 1}: {text.quoted(header[at])} is not a column; {columns}")
+    return {name: at for at, name in enumerate(names) if name}
+
+
+def read_share(cell):
+    """How many commands a participant may enter; None if its cell is empty."""
+    if cell and not (cell.isascii() and cell.isdigit() and len(cell) < 6):
+        raise order_table.Wrong(f"{text.quoted(cell)} should be a whole number of at most 5 digits, such as 500")
+    return int(cell) if cell else None
 
 
 def shares_of(given):
