@@ -17,6 +17,7 @@ import re
 import shutil
 import signal
 import stat
+import subprocess
 import tempfile
 import threading
 import tracemalloc
@@ -1587,6 +1588,21 @@ class Setup(Office):
     def participants(self, text):
         self.table.write_text(text)
         return setup.participants_read(self.table)
+
+    def test_tokens_that_can_not_be_printed(self):
+        """The day is there, so it is said how the participants get others."""
+        self.participants("participant\nGAS\n")
+        words = ["init", self.office.path, "--close", "12:00", "--participants", self.table, "--day"]
+        closed, pipe = os.pipe()
+        os.close(closed)
+        full = os.open("/dev/full", os.O_WRONLY)
+        told = b"office: standard output can't be written: No space left on device"
+        for day, stdout, more, last in (("2099-11-28", full, [], [told]), ("2099-11-29", pipe, ["--json"], [])):
+            ran = subprocess.run([TOOLS / "office", *words, day, *more], stdout=stdout, stderr=subprocess.PIPE)
+            os.close(stdout)
+            said = b"%s was made; renew prints a new token for each participant whose token wasn't printed" % day.encode()
+            self.assertEqual((ran.returncode, ran.stderr.splitlines()), (command.NO_INPUT, [b"office: " + said, *last]))
+            self.assertIn(day, self.office.days())
 
     def test_a_public_key_of_another_key_is_seen(self):
         """By a start, and by a further day before it is made and a token is printed."""
