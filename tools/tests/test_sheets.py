@@ -211,6 +211,19 @@ class ForSpreadsheets(unittest.TestCase):
             (line,), _ = made(f"A,K,block,buy,1,8-9,{volumes},,")
             self.assertEqual(line.count(":"), 2)
 
+    def test_an_empty_part_of_a_list(self):
+        """One volume is for all periods, but not if others may have stood next to it."""
+        for periods, volumes, column, at, cell in (
+            ("8-9", "5;", "volume_mw", 2, "5;"),
+            ("8-9", ";5", "volume_mw", 1, ";5"),
+            ("8-9", "5; ;6", "volume_mw", 2, "5; ;6"),
+            ("8", ";", "volume_mw", 1, ";"),
+            ("8;", "5", "periods", 2, "8;"),
+            ("07:00-08:00;;09:00-10:00", "5", "periods", 2, "07:00-08:00;;09:00-10:00"),
+        ):
+            said = f"line 2, column {column}: part {at} of '{cell}' is empty: write it, or remove its semicolon"
+            self.assertEqual(wrong(f"A,K,block,buy,1,{periods},{volumes},,"), [said])
+
     def test_a_decimal_comma(self):
         status, out, _ = tool("table", "--decimal-comma", "--rows", "orders", *TEXTS)
         rows = list(csv.reader(io.StringIO(out.decode()), delimiter=";"))

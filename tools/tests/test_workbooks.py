@@ -524,9 +524,9 @@ class Long(unittest.TestCase):
     def test_each_column(self):
         for column, cell, said in (
             ("periods", "7:00" + " " * 30_000 + "x", "should be two clock times"),
-            ("periods", "1-100;" * 5_000, "has 5,000 parts: a day has at most 100 periods"),
+            ("periods", "1-100" + ";1-100" * 4_999, "has 5,000 parts: a day has at most 100 periods"),
             ("periods", "07:00-08:00 " * 2_500, "has 2,500 parts: a day has at most 100 periods"),
-            ("volume_mw", "5;" * 15_000, "there are 15000 volumes for 1 period: give one, or one for each"),
+            ("volume_mw", "5" + ";5" * 14_999, "there are 15000 volumes for 1 period: give one, or one for each"),
         ):
             cells = dict(zip(order_table.ORDER, "A,K1,block,buy,1,8,5,,".split(",")), **{column: cell})
             began = time.process_time()

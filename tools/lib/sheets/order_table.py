@@ -129,9 +129,18 @@ def parts(cell):
     return [part for part in re.split(r"[;\s]+", cell) if part]
 
 
+def refuse_empty(cell):
+    """Refuses a list with an empty part: what should stand there may be lost, as by a formula that joins cells."""
+    found = cell.split(";")
+    for number, part in enumerate(found if len(found) > 1 else [], 1):
+        if not part.strip():
+            raise Wrong(f"part {number} of {text.quoted(cell)} is empty: write it, or remove its semicolon")
+
+
 def read_periods(cell, periods):
     """Periods and runs of periods of the day by increasing number, such as `8`, `8-20` or `1;3;5-7`, or clock times, such as
     `07:00-08:00`. A dash may be of any kind, with spaces around it."""
+    refuse_empty(cell)
     cell = spans.dashed(cell)
     if not parts(cell):
         raise Wrong("it should name a period, such as 8, or several, such as 8-20 or 1;3;5-7, or times, such as 07:00-20:00")
@@ -202,6 +211,7 @@ def refuse_thousands(cell):
 
 def read_volumes(cell, numbers, decimal_comma):
     """One volume for all periods, or one for each, separated by `;`."""
+    refuse_empty(cell)
     refuse_thousands(cell)
     found = parts(cell)
     values = [scaled(part, 10, 1, rules.GREATEST_VOLUME, "MW", decimal_comma) for part in found[: rules.GREATEST_PERIOD]]
