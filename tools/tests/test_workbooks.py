@@ -354,6 +354,7 @@ class Unlike(unittest.TestCase):
 
     HEADS = made.OPEN.replace(b"</row>", b"<c t='str'><v>note</v></c></row>")
     COLUMNS = dict(zip("ABCDEFGHIJ", [*order_table.ORDER, "note"]))
+    PERCENTAGE = "'{}' is a number that Excel shows as a percentage: give its cell the format General"
 
     def read(self, parts=(), **cells):
         """The order of a workbook, of which some cells are given by their column, and the first line of its faults."""
@@ -426,15 +427,29 @@ class Unlike(unittest.TestCase):
                     self.assertIn("7", (found.name, found.order.group), number)
                 elif number not in numbers[:6]:
                     shown, kind = ("1900-01-07", "a date or a time") if number in numbers[-3:] else ("7", "a number with a format")
-                    self.assertEqual(fault, f"line 2, column {name}: '{shown}' is {kind}: make the cell one of text", number)
+                    said = f"'{shown}' is {kind}: make the cell one of text"
+                    self.assertEqual(fault, f"line 2, column {name}: {said if number != 10 else self.PERCENTAGE.format(7)}", number)
             for cell, shown, kind in (
                 ("<c t='b'><v>1</v></c>", "TRUE", "a truth value"),
                 ("<c t='d'><v>2026-08-20T06:00:00</v></c>", "2026-08-20", "a date or a time"),
             ):
                 _, fault = self.read(styles, **{letter: cell})
                 self.assertEqual(fault, f"line 2, column {name}: '{shown}' is {kind}: make the cell one of text")
-        found, _ = self.read(styles, E='<c s="7"><v>7</v></c>', F='<c s="8"><v>7</v></c>')  # a number is what it is
+        found, _ = self.read(styles, E='<c s="6"><v>7</v></c>', F='<c s="8"><v>7</v></c>')  # a number is what it is
         self.assertEqual((found.order.price, found.order.volumes), (700, ((7, 50),)))
+
+    def test_percentages(self):
+        """Excel shows a price of 0.95 as 95%, so either may be meant."""
+        codes = "0%", "[Red]0.0%;-0.0%", "# %", "0\\%", "0&quot;%&quot;", "0_%"
+        formats = "".join(f'<numFmt numFmtId="{164 + at}" formatCode="{code}"/>' for at, code in enumerate(codes))
+        numbers = 9, 10, *range(164, 164 + len(codes))
+        cells = "".join(f'<xf numFmtId="{number}"/>' for number in numbers)
+        styles = f'<styleSheet xmlns="{made.MAIN[0]}"><numFmts>{formats}</numFmts><cellXfs>{cells}</cellXfs></styleSheet>'
+        for style, number in enumerate(numbers):
+            for letter, value in (("E", 0.95), ("F", 8), ("G", 0.9)):
+                found, fault = self.read({"xl/styles.xml": styles.encode()}, **{letter: f'<c s="{style}"><v>{value}</v></c>'})
+                said = f"line 2, column {self.COLUMNS[letter]}: {self.PERCENTAGE.format(value)}"
+                self.assertEqual((fault, found is None), (said, True) if number < 167 else (None, False), number)
 
     def test_names_of_many_digits(self):
         """Excel shows 123456789012 as 1.23457E+11, unless its format is 0."""

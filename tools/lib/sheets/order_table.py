@@ -84,14 +84,13 @@ def meant_by(name, missing, needed):
 
 def unlike(cell):
     """The words on a cell of a workbook that isn't what Excel shows."""
-    is_formula = isinstance(cell, workbooks.Uncomputed)
-    remedy = "open the workbook in Excel, and save it" if is_formula else "make the cell one of text"
-    return f"{text.quoted(cell)} is {cell.kind}: {remedy}"
+    return f"{text.quoted(cell)} is {cell.kind}: {cell.remedy}"
 
 
 def refuse_unlike(cell, is_name):
-    """Refuses a cell of a workbook that isn't what Excel shows: a formula without its value, or in a column of names also a date."""
-    if isinstance(cell, workbooks.Uncomputed) or is_name and isinstance(cell, workbooks.Unlike):
+    """Refuses a cell of a workbook that isn't what Excel shows: a formula without its value, a percentage, or in a column of names also a
+    date."""
+    if isinstance(cell, (workbooks.Uncomputed, workbooks.Percentage)) or is_name and isinstance(cell, workbooks.Unlike):
         raise Wrong(unlike(cell))
 
 

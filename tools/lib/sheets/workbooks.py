@@ -58,6 +58,7 @@ DATE = re.compile(r"([0-9]{4}-[0-9]{2}-[0-9]{2})(?:T[0-9:.]*Z?)?")
 CLOCK = re.compile(r"T?([0-9]{2}:[0-9]{2})(?::[0-9.]*)?Z?")
 # The numbers of Excel's own formats of dates and times, and what in another format isn't one: texts, and a condition or colour.
 DATE_FORMATS = {*range(14, 23), *range(27, 37), *range(45, 48), *range(50, 59)}
+PERCENT_FORMATS = "9", "10"  # the numbers of Excel's own
 MOST_DIGITS = 11  # that Excel shows of a number in the format General
 PIECE = re.compile(r'"[^"]*"|\\.|_.|\*.|\[[^\]\[]*\]|.')  # of a format
 UNSEEN = ("_", "*", "[", " ")  # begin a piece that adds no character
@@ -73,7 +74,7 @@ class Unlike(str):
     """The text of a cell that Excel shows in another way than it is read."""
 
     __slots__ = ()
-    kind = ""
+    kind, remedy = "", "make the cell one of text"
 
 
 class Date(Unlike):
@@ -84,6 +85,13 @@ class Date(Unlike):
 class Formatted(Unlike):
     __slots__ = ()
     kind = "a number with a format"
+
+
+class Percentage(Unlike):
+    """A number of which Excel shows a hundred times as much."""
+
+    __slots__ = ()
+    kind, remedy = "a number that Excel shows as a percentage", "give its cell the format General"
 
 
 class Styled(Unlike):
@@ -111,7 +119,7 @@ class Uncomputed(Unlike):
     """The formula of a cell that was saved without its value."""
 
     __slots__ = ()
-    kind = "a formula that was saved without its value"
+    kind, remedy = "a formula that was saved without its value", "open the workbook in Excel, and save it"
 
 
 def general(number):
@@ -545,7 +553,7 @@ def is_due(attributes):
 
 
 class Styles(Part):
-    """For each format of cells how it shows a number: as a `Date`, `Formatted`, `general`, or as it is (`str`)."""
+    """For each format of cells how it shows a number: as a `Date`, `Percentage`, `Formatted`, `general`, or as it is (`str`)."""
 
     ROOT = "styleSheet"
     PLACES = {"": ROOT, ROOT: "numFmts cellXfs extLst", "numFmts": "numFmt*", "cellXfs": "xf*"}
@@ -557,7 +565,7 @@ class Styles(Part):
 
     def __init__(self):
         super().__init__()
-        self.shown = {**PLAIN_FORMATS, **{str(number): Date for number in DATE_FORMATS}}
+        self.shown = {**PLAIN_FORMATS, **{str(number): Date for number in DATE_FORMATS}, **dict.fromkeys(PERCENT_FORMATS, Percentage)}
         self.formats, self.own = [], 0
         self.styled = set()  # the numbers of formats that show texts in another way
 
@@ -566,7 +574,8 @@ class Styles(Part):
         if len(code) > LONGEST_NAME:
             raise broken(f"a format has more than {LONGEST_NAME:,} characters")
         is_date = re.search("[dmyhs]", NO_DATE.sub("", code).split(";")[0], re.IGNORECASE)
-        self.shown[number[:10]] = PLAIN_CODES.get(code.strip().lower(), Date if is_date else Formatted)
+        other = Date if is_date else Percentage if "%" in PIECE.findall(code) else Formatted
+        self.shown[number[:10]] = PLAIN_CODES.get(code.strip().lower(), other)
         if not shows_texts(code):
             self.styled.add(number[:10])
         self.own += 1
@@ -661,7 +670,7 @@ class Kept:
 
 
 # The kinds of cells: before each cell of a packed row stands a half of a character, which no text has, and says its kind.
-CELLS = str, int, StyledString, Uncomputed, Date, Formatted, Styled, Shortened, Truth
+CELLS = str, int, StyledString, Uncomputed, Date, Formatted, Percentage, Styled, Shortened, Truth
 HALVES = {kind: chr(0xD800 + at) for at, kind in enumerate(CELLS)}
 PACKED = re.compile("([\ud800-\udfff])([^\ud800-\udfff]*)")
 
