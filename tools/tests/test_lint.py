@@ -2,6 +2,7 @@
 
 import hashlib
 import json
+import os
 import random
 import re
 import time
@@ -306,6 +307,14 @@ class CommandLine(unittest.TestCase):
         with unittest.mock.patch("lib.lint.lint.faults", side_effect=MemoryError):
             status, made, err = self.record(AUCTION)
         self.assertEqual((status, made["verdict"], made["message"], err), (command.FAILED, "failed", "out of memory", "lint: out of memory\n"))
+
+    def test_a_name_with_bytes_that_are_not_utf_8(self):
+        """No reader of JSON has to take half of a character."""
+        path = support.new_folder(self) / os.fsdecode(b"\xff.csv")
+        for status, verdict in ((command.NO_INPUT, "unread"), (command.DONE, "right")):
+            found, made, _ = self.record(path)
+            self.assertEqual((found, made["verdict"], made["inputs"][0]["file"]), (status, verdict, f"{path.parent}/\\xff.csv"))
+            path.write_bytes(GOOD)
 
     def test_other_tools_say_the_same(self):
         data = journal_of("submit,NORD,WIND-8,hour,sell,12.50,8:450,,", *["x,,,,,,,,"] * 6)

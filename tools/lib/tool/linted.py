@@ -2,6 +2,7 @@
 
 import hashlib
 
+from ..base import text
 from ..lint import lint
 from . import command
 from ..base.progress import Bar
@@ -17,7 +18,7 @@ class Linted:
 
     def __init__(self, path, purpose, quiet=False):
         self.path, self.purpose, self.quiet = path, purpose, quiet
-        self.input = {"role": "journal", "file": path, "bytes": None, "sha256": None}
+        self.input = {"role": "journal", "file": text.for_json(path), "bytes": None, "sha256": None}
         self.found = []
 
     def run(self):
