@@ -74,6 +74,15 @@ class Files(unittest.TestCase):
         self.assertEqual(out.read_text(), "old")
         self.assertEqual(sorted(path.name for path in self.folder.iterdir()), ["a.csv", "day.csv", "results.txt"])
 
+    def test_the_name_of_a_folder_is_none_of_a_file(self):
+        """Also if no folder has it; and a slash after the name of an input doesn't hide that it would be lost."""
+        before = self.journal.read_bytes()
+        for out in ("dir/", "a.csv/", "a.csv/.", "a.xlsx/", "day.csv/", "day.csv/.", "."):
+            said = f"table: {self.folder}/{out} can't be written: Is a directory\n"
+            self.assertEqual(tool("table", "--quiet", self.journal, self.results, "-o", f"{self.folder}/{out}"), (command.NO_INPUT, b"", said))
+        self.assertEqual(self.journal.read_bytes(), before)
+        self.assertEqual(sorted(path.name for path in self.folder.iterdir()), ["day.csv", "results.txt"])
+
     @unittest.skipUnless(command.has("openpyxl"), "openpyxl is missing (Debian's python3-openpyxl)")
     def test_a_workbook_whose_temporary_files_cant_be_written(self):
         small = {"preexec_fn": lambda: resource.setrlimit(resource.RLIMIT_FSIZE, (1_000, 1_000))}

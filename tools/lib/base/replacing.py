@@ -25,7 +25,8 @@ def ready(path, data, ends):
     if it isn't put."""
     target = end_of(str(Path(path)))
     old = stat_of(target) if target is not None else None
-    if old is not None and stat.S_ISDIR(old.st_mode):
+    # `Path` leaves out a slash or dot at the end, which only a folder has
+    if os.path.basename(path) in ("", ".") or old is not None and stat.S_ISDIR(old.st_mode):
         raise IsADirectoryError(errno.EISDIR, os.strerror(errno.EISDIR))
     if target is None or old is not None and not stat.S_ISREG(old.st_mode):
         return functools.partial(Path(path).write_bytes, data)
