@@ -18,6 +18,8 @@ from lib.sheets import order_table, sheets
 from lib.tool import command
 from lib.whatif import changes, scenarios
 from lib.journal.book import Book
+from lib.journal.journal import Order, Submit
+from lib.office import requests
 
 UP = "up to this line: delete those that it doesn't need"
 LIMITED = "the sheet has more than 300,000 cells before this one: delete those that the table doesn't need"
@@ -558,6 +560,33 @@ class Long(unittest.TestCase):
             with self.assertRaises(engine.Fault):
                 read(data, 24)
         self.assertLess(time.process_time() - began, 5)
+
+    def test_commands_of_many_periods_take_little_memory(self):
+        """A row of a few bytes makes a pair for each period."""
+        rows = "".join(f"amend,GAS,B,1,1-96,{number / 10}\n" for number in range(1, 3_001))
+        data = f"what,participant,order,price_eur_mwh,periods,volume_mw\n{rows}".encode()
+        held = Book(96)
+        held.change(Submit("GAS", "B", Order("block", "sell", 1, ())))
+
+        def amended():
+            return changes.entered(held, changes.read_changes(data, 96)[0]).rows["GAS", "B"].volumes[::95]
+
+        def entered():
+            return [line.rpartition(":")[2] for line in requests.table_records(data, "GAS", 96)[0]][::2_999]
+
+        for call, wanted in ((amended, ((1, 3_000), (96, 3_000))), (entered, ["1,,", "3000,,"])):
+            tracemalloc.start()
+            found = call()
+            most = tracemalloc.get_traced_memory()[1]
+            tracemalloc.stop()
+            self.assertEqual(found, wanted)
+            self.assertLess(most, 10 << 20)
+
+    def test_equal_volumes_are_read_once(self):
+        data = b"what,participant,order,price_eur_mwh,periods,volume_mw\namend,A,K,1,1-96,5\namend,A,L,2,1-96,5\namend,A,L,2,2-97,5\n"
+        first, same, other = (command.volumes for _, command in changes.read_changes(data, 100)[0])
+        self.assertTrue(first is same)
+        self.assertEqual((first[0], other[0]), ((1, 50), (2, 50)))
 
     def test_periods_with_spaces_are_no_more_parts(self):
         quarters = ";".join(f"{at // 4:02}:{at % 4 * 15:02} - {(at + 1) // 4:02}:{(at + 1) % 4 * 15:02}" for at in range(96))

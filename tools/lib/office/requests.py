@@ -126,18 +126,20 @@ def table_records(data, who, periods, orders=()):
         cells = order_table.cells_of(data)
         if command_table.is_command_table(cells):
             placed, notes = command_table.read_commands(cells, periods)
-            commands = [command for _, command in placed]
         else:
             orders = order_table.read_tables([("", cells)], periods, held=(who, orders))
-            commands, notes = [submit for _, submit in orders.submits], orders.notes
-            if not commands:
+            placed, notes = orders.submits, orders.notes
+            if not placed:
                 raise Wrong("the table has no order below its first line")
     except order_table.Wrong as fault:
         raise Wrong(CODE.sub("", str(fault))) from None
-    others = [command for command in commands if command.who != who]
+    records, others = [], []
+    for _, command in placed:
+        records.append(journal.command_line(command))
+        others += [] if command.who == who else [f"{command.name} of {command.who}"]
     if others:
         of_others = f"the table has {text.counted(len(others), 'command')} of other participants than {who}"
-        raise Wrong(f"{of_others}: the first one is for {others[0].name} of {others[0].who}")
-    if not commands:
+        raise Wrong(f"{of_others}: the first one is for {others[0]}")
+    if not records:
         raise Wrong("the table has no command")
-    return list(map(journal.command_line, commands)), notes
+    return records, notes

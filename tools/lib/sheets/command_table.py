@@ -86,10 +86,24 @@ def read_command(row, what):
     return None
 
 
+class Commands:
+    """The commands of a table without faults, each with its line. None is kept, since a row of a few bytes may name all periods: a caller
+    that goes through them again reads the rows again."""
+
+    def __init__(self, columns, periods):
+        self.columns, self.periods = columns, periods
+
+    def __iter__(self):
+        for line, cells in self.columns.table.rows:
+            command, _ = self.columns.read(cells, self.periods)
+            if command:
+                yield line, command
+
+
 def read_commands(given, periods):
     """The commands of a table by its cells, each with its line; and notes on the table. Their faults, a line each, are
     `order_table.Wrong`."""
-    found, wrong = [], order_table.Faults()
+    wrong = order_table.Faults()
     try:
         columns = Columns(given, ())
     except order_table.Wrong as fault:
@@ -97,10 +111,9 @@ def read_commands(given, periods):
             wrong.add(line)
         raise wrong.wrong() from None
     for line, cells in columns.table.rows:
-        command, faults = columns.read(cells, periods)
-        found += [(line, command)] if command else []
+        _, faults = columns.read(cells, periods)
         for words in faults:
             wrong.add(order_table.of_line(line, words))
     if wrong.count:
         raise wrong.wrong()
-    return found, columns.table.notes
+    return Commands(columns, periods), columns.table.notes

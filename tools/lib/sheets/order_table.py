@@ -23,6 +23,7 @@ COMMANDS_ALONE = ("amend", "cancel", "close")
 MOST_ERRORS = 20
 MOST_ROWS = rules.MOST_RECORDS - 1  # after the first one: as many as a journal has commands
 MOST_KEPT = 2**12  # cells whose values are kept, since those of a table are often alike
+MOST_LISTS = 2**8  # the same of cells with volumes, whose values take more
 ALIKE = 0.75  # a column whose name is at least so similar to one that is missing is probably meant to be that
 TIMES = re.compile(r"([0-9]{1,2}:[0-9]{2})-([0-9]{1,2}:[0-9]{2})")
 TIME = re.compile(r"([0-9]{1,2}):([0-5][0-9])")
@@ -208,6 +209,7 @@ def refuse_thousands(cell):
             raise Wrong(f"{text.quoted(part.strip())} may be one number or {len(numbers)}: {either}")
 
 
+@functools.lru_cache(MOST_LISTS)
 def read_volumes(cell, numbers, decimal_comma):
     """One volume for all periods, or one for each, separated by `;`."""
     refuse_empty(cell)

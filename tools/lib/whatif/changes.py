@@ -81,14 +81,14 @@ def in_few_lines(fault):
 
 def read_changes(data, periods):
     """Further commands for a day: records of a journal, with the records `day` and `close` or without them; a table of commands; or one of
-    orders, each a submit. They are pairs of where each stands and a command; with notes on the table."""
+    orders, each a submit. They are pairs of where each stands and a command, to go through once; with notes on the table."""
     try:
         if sent.WORDS.match(data.removeprefix(text.MARK)):
             return [(f"record {entry.record}", entry.command) for entry in sent.read_records(data, periods)], []
         table = order_table.cells_of(data)
         if command_table.is_command_table(table):
             commands, notes = command_table.read_commands(table, periods)
-            return [(f"line {line}", command) for line, command in commands], notes
+            return ((f"line {line}", command) for line, command in commands), notes
         orders = order_table.read_tables([("", table)], periods)
         return [(f"order {number}", submit) for number, submit in orders.submits], orders.notes
     except (sent.Wrong, order_table.Wrong) as fault:
