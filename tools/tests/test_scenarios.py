@@ -303,6 +303,14 @@ class Tool(unittest.TestCase):
             said = f"whatif: {self.table}: line 3, column scenario: 'a{text.escaped(character)}b' has a control character: remove it\n"
             self.assertEqual(tool("whatif", "scenarios", "--program", "/bin/true", self.journal, self.table), (command.NO_INPUT, b"", said))
 
+    def test_a_name_that_no_cell_holds(self):
+        """An apostrophe, or the escape of an escape, makes it longer than it was in the table."""
+        for name in ("=" + "x" * 32_766, "_x0041_" + "x" * 32_755):
+            self.table.write_text(f"{COMMANDS}{name[:-1]},,,,,,,,,,\n{name},,,,,,,,,,\n")
+            said = f"line 3, column scenario: '{name[:80]}..' ({len(name):,} characters) would be too long for a cell of the output: shorten it"
+            found = tool("whatif", "scenarios", "--program", "/bin/true", self.journal, self.table)
+            self.assertEqual(found, (command.NO_INPUT, b"", f"whatif: {self.table}: {said}\n"))
+
     def test_notes_come_before_a_fault(self):
         self.table.write_text(self.table.read_text().replace("group", "group,note"))
         note = f"whatif: {self.table}: the column 'note' isn't used\n"

@@ -187,6 +187,11 @@ def cell(kind, value, decimal_comma):
     return str(value).replace(".", ",") if decimal_comma and kind in ("number", "array") else value
 
 
+def fits(words):
+    """Whether words, as they are written in a text or a workbook, aren't longer than a cell may be."""
+    return max(len(cell("string", words, False)), len(workbooks.escaped(words))) <= workbooks.LONGEST_CELL
+
+
 def unescaped(cell):
     """A cell that was read, without the apostrophes that keep it from being taken for a formula."""
     return ESCAPED.sub(r"\1", cell) if "'" in cell else cell

@@ -9,7 +9,7 @@ from fractions import Fraction
 from typing import NamedTuple
 
 from ..base import rules, text
-from ..sheets import order_table
+from ..sheets import order_table, sheets
 from . import changes
 from ..runs.cleared import NO_RESULTS, book_text
 from ..sheets.command_table import Columns
@@ -132,6 +132,9 @@ class Table:
                 raise Fault(f"{self.name}: line {first[0]}, column {SCENARIO}: it should name the scenario")
             if CONTROL.search(scenario):
                 words = f"{text.quoted(scenario)} has a control character: remove it"
+                raise Fault(f"{self.name}: line {first[0]}, column {SCENARIO}: {words}")
+            if not sheets.fits(scenario):
+                words = f"{text.quoted(scenario)} would be too long for a cell of the output: shorten it"
                 raise Fault(f"{self.name}: line {first[0]}, column {SCENARIO}: {words}")
             if scenario in seen:
                 words = f"line {first[0]}: there is a scenario {text.quoted(scenario)} in line {seen[scenario]}"
