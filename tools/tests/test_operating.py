@@ -10,7 +10,7 @@ import time
 import unittest
 from pathlib import Path
 
-from support import AUCTION, AUCTION_RESULTS, TOOLS, TOP, new_folder, printed
+from support import AUCTION, AUCTION_RESULTS, TOOLS, TOP, heed_interrupts, new_folder, printed
 
 from lib.journal import book, journal
 from lib.runs import engine
@@ -93,6 +93,24 @@ class Day(unittest.TestCase):
         self.assertEqual(self.run_once()[:2], (10, ["no journal"]), "an older journal isn't cleared in place of the desk's")
         self.assertNotIn("results.txt", self.names())
 
+    def test_a_desk_that_is_a_link_to_a_missing_file(self):
+        """Such as one on a disk that isn't mounted: an older journal isn't cleared in place of it."""
+        Path(self.day, "day.desk").symlink_to("/nonexistent/desk")
+        self.script("dam-desk", 'cat "$2" || exit 4')
+        self.assertEqual(self.run_once()[:2], (10, ["desk: 4"]))
+        self.assertNotIn("results.txt", self.names())
+
+    def test_files_that_cannot_be_removed_or_moved(self):
+        """Old results that stay are never taken for those of the run."""
+        self.assertEqual(self.run_once()[0], 0)
+        before = self.names()
+        self.script("rm", "exit 1")
+        self.assertEqual((self.run_once()[0], self.names()), (10, before))
+        (self.bin / "rm").unlink()
+        self.script("mv", 'case $1 in */results.txt) exit 1 ;; *) exec /bin/mv "$@" ;; esac')
+        self.assertEqual(self.run_once()[0], 10)
+        self.assertNotIn("results.txt", self.names())
+
     def test_two_runs_at_once(self):
         """The second one ends, says why, and spoils nothing of the first."""
         go = self.bin / "go"
@@ -136,6 +154,27 @@ class Day(unittest.TestCase):
         self.assertNotIn("results.txt", self.names())
         (self.bin / "dam-audit").write_text(before)
         self.assertEqual((self.run_once()[0], self.names()), (0, ["day.csv", "replies.txt", "results.txt"]))
+
+    def test_a_signal_ends_a_step_too(self):
+        """Ctrl-C goes to the group of the script, which `timeout` isn't in; other signals to the script alone. The lock is free at once."""
+        heed_interrupts(self)
+        begun = self.bin / "begun"
+        for name, line in (("dam", '[ "$1" = replay ] || '), ("dam-audit", "")):
+            before = (self.bin / name).read_text()
+            self.script(name, f'{line}{{ touch "{begun}"; exec sleep 60; }}')
+            for number, send in ((signal.SIGINT, os.killpg), (signal.SIGTERM, os.kill), (signal.SIGHUP, os.kill)):
+                with self.subTest(name, number=number):
+                    run = self.start(self.day)
+                    self.addCleanup(kill, run)
+                    while not begun.exists():
+                        time.sleep(0.05)
+                    send(run.pid, number)
+                    self.assertEqual(run.wait(timeout=SECONDS / 5), 10)
+                    self.assertEqual(subprocess.run(["flock", "-n", self.day / "lock", "true"]).returncode, 0)
+                    run.communicate()
+                    self.assertNotIn("results.txt", self.names())
+                begun.unlink()
+            (self.bin / name).write_text(before)
 
     def test_a_folder_that_is_not_there(self):
         self.day = self.day / "none"
