@@ -49,7 +49,7 @@ from .checks import (
     whatif_change,
     whatif_limit,
 )
-from .given import JournalSource, Source, as_faults, as_journal, bytes_of, is_text, read_journal, text_of
+from .given import JournalSource, Source, as_faults, as_journal, bytes_of, is_text, one_of_many, read_journal
 from .lib.journal import book, journal
 from .lib.runs import engine
 from .lib.sheets import order_table, shapes, tables
@@ -204,7 +204,7 @@ def days_of(journals: Iterable[JournalSource], quiet: bool, answers: Any) -> Ite
         for source in journals:
             text: bytes | Fault
             try:
-                text = text_of(source)
+                text = one_of_many(source)
             except Fault as fault:
                 text = fault
             kept.append(source if isinstance(source, Journal) else text)

@@ -45,15 +45,21 @@ def bytes_of(source: Source) -> bytes:
         return source.encode(errors="surrogatepass")
     if source == "":
         raise Fault("a file with an empty name can't be read")
-    try:
-        return Path(source).read_bytes()
-    except OSError as fault:
-        raise Fault(f"{source} can't be read: {fault.strerror}") from None
+    with as_faults():
+        return command.read_bytes(Path(source))
 
 
 def text_of(source: JournalSource) -> bytes:
     """The bytes of a journal."""
     return journal.journal_text(source).encode() if isinstance(source, Journal) else bytes_of(source)
+
+
+def one_of_many(source: JournalSource) -> bytes:
+    """The bytes of a journal for which others wait, so that a device or a pipe, which may have no end, is a fault."""
+    is_file = not isinstance(source, Journal) and not is_text(source) and source != ""
+    if is_file and (said := command.unread_file(source)):
+        raise Fault(said)
+    return text_of(source)
 
 
 def read_journal(source: Source) -> Journal:

@@ -5,6 +5,7 @@ import functools
 import json
 import os
 import resource
+import shutil
 import signal
 import subprocess
 import sys
@@ -194,6 +195,21 @@ class Days(unittest.TestCase):
         self.assertTrue(empty.endswith("its row names no journal"), empty)
         self.assertTrue(folder.endswith(f"{self.folder} can't be read: Is a directory"), folder)
         self.assertTrue(alone.endswith(f"its row names no results, and {self.folder / 'a.csv'} has no line 'results'"), alone)
+
+    def test_a_name_that_the_locale_lacks(self):
+        """A manifest is in UTF-8, but the names of files are in the encoding of the locale."""
+        if not shutil.which("localedef"):
+            self.skipTest("localedef is missing")
+        locale = self.folder / "en_US.ISO-8859-1"
+        if subprocess.run(["localedef", "-i", "en_US", "-f", "ISO-8859-1", locale], capture_output=True).returncode:
+            self.skipTest("the sources of locales are missing")
+        self.write(a=(DATA, TEXT))
+        (self.folder / "list").write_text("day,journal,results\nlacks,\u65e5.csv,a.txt\nright,a.csv,a.txt\n", "utf-8")
+        own = {**os.environ, "LOCPATH": str(self.folder), "LC_ALL": locale.name}
+        ran = subprocess.run([sys.executable, "-I", TOOLS / "audit", "--days", self.folder / "list"], env=own, capture_output=True)
+        lacks, right = ran.stdout.decode().splitlines()[1:3]
+        self.assertEqual((ran.returncode, ran.stderr, right.split()[1]), (command.NO_INPUT, b"", verdict.RIGHT))
+        self.assertTrue(lacks.endswith(".csv can't be read: its name has a NUL, or a character that this locale lacks"), lacks)
 
     def test_a_process_that_cannot_be_started(self):
         pair, full = days.Pair("a", Path("a.csv"), Path("a.txt")), OSError(errno.EMFILE, os.strerror(errno.EMFILE))

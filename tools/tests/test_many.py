@@ -74,7 +74,7 @@ class Many(unittest.TestCase):
         self.assertEqual([day.problem.periods for day in found[::2]], [24, 24, 96])
         self.assertEqual([day.wrong for day in found[::2]], [[], [], []])
         self.assertEqual(dam_tools.records(found[0], "orders"), dam_tools.records(dam_tools.clear(AUCTION, self.program), "orders"))
-        said = ["input: StillOpen", "/nowhere/a.csv can't be read: No such file or directory", "input: NotDay"]
+        said = ["input: StillOpen", "/nowhere/a.csv is missing", "input: NotDay"]
         self.assertEqual([str(fault) for fault in found[1::2]], said)
         self.assertEqual([fault.status for fault in found[1::2]], [1, None, 1])
         with self.assertRaises(AttributeError):
@@ -85,6 +85,25 @@ class Many(unittest.TestCase):
         given = [f"{seconds}\n".encode() for seconds in ("0.3", "0.01", "0.02", "0.15", "0")]
         wanted = [b"day,24\nwelfare,0\n" + text for text in given]
         self.assertEqual([day.text for day in dam_tools.clear_many(given, 3, program=slow)], wanted)
+
+    def test_a_path_without_a_file_ends_nothing(self):
+        """Nor does a file without an end, or one that is larger than the memory."""
+        pipe, large = (Path(self.folder, name) for name in ("pipe", "large"))
+        os.mkfifo(pipe)
+        large.touch()
+        os.truncate(large, 8 << 30)
+        bad = ["", "a\0b.csv", "\ud800.csv", self.folder, large, pipe, "/dev/zero"]
+        given = [source for one in bad for source in (one, AUCTION)]
+        found = list(dam_tools.clear_many(given, program=self.program))
+        self.assertEqual([day.text for day in found[1::2]], [printed(AUCTION)] * len(bad))
+        name = "can't be read: its name has a NUL, or a character that this locale lacks"
+        said = ["a file with an empty name can't be read", f"a\\x00b.csv {name}", f"\\ud800.csv {name}"]
+        said += [f"{self.folder} can't be read: Is a directory", f"{large} has more than 67,108,864 bytes"]
+        said += [f"{path} is a device or a pipe, and should be a file" for path in (pipe, "/dev/zero")]
+        self.assertEqual([str(fault) for fault in found[::2]], said)
+        for one in bad[1:5]:
+            with self.assertRaises(dam_tools.Fault):
+                dam_tools.read_journal(one)
 
     def test_journals_are_taken_as_they_are_needed(self):
         taken = []

@@ -179,11 +179,17 @@ def read_bytes(path):
     try:
         with contextlib.nullcontext(bytes_of(sys.stdin)) if path == "-" else open(path, "rb", opener=without_waiting) as file:
             data = first_bytes(file, MOST_BYTES + 1)
-    except OSError as fault:
-        raise Stop(f"{shown(path)} can't be read: {fault.strerror}") from None
+    except (OSError, ValueError) as fault:
+        raise Stop(cannot_be_read(path, fault)) from None
     if len(data) > MOST_BYTES:
         raise Stop(f"{shown(path)} has more than {MOST_BYTES:,} bytes")
     return data
+
+
+def cannot_be_read(path, fault):
+    """The message about a file that can't be read. Python has a ValueError for a name that no file can have."""
+    why = fault.strerror if isinstance(fault, OSError) else "its name has a NUL, or a character that this locale lacks"
+    return f"{shown(path)} can't be read: {why}"
 
 
 def without_waiting(path, flags):
@@ -197,8 +203,8 @@ def unread_file(path):
         mode = os.stat(path).st_mode
     except FileNotFoundError:
         return f"{shown(path)} is a link to a file that is missing" if os.path.islink(path) else f"{shown(path)} is missing"
-    except OSError as fault:
-        return f"{shown(path)} can't be read: {fault.strerror}"
+    except (OSError, ValueError) as fault:
+        return cannot_be_read(path, fault)
     if stat.S_ISDIR(mode):
         return f"{shown(path)} can't be read: {os.strerror(errno.EISDIR)}"
     return None if stat.S_ISREG(mode) else f"{shown(path)} is a device or a pipe, and should be a file"
