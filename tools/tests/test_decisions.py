@@ -200,7 +200,7 @@ class Hand(unittest.TestCase):
         page = (TOP / "docs" / "TABLES.md").read_text()
         names = [name for name in vars(decisions) if name.isupper() and isinstance(getattr(decisions, name), str)]
         codes = {getattr(decisions, name) for name in names} - {decisions.ACCEPTED, decisions.REJECTED, decisions.PARADOX}
-        self.assertEqual(set(re.findall(r"^\| `([a-z-]+)` \| an? (?:hourly|accepted|rejected|block)", page, re.MULTILINE)), codes)
+        self.assertEqual(set(re.findall(r"^\| `([a-z-]+)` \| (?:hourly order|(?:accepted |rejected )?block) \|", page, re.MULTILINE)), codes)
         found = set()
         for data, _, best in drawn(400):
             day = problem(data)
