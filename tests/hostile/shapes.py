@@ -16,7 +16,7 @@ import sys
 from pathlib import Path
 from typing import NamedTuple
 
-from costs import UNFINISHED, FIXED, instructions, journal, volumes
+from costs import FIXED, UNFINISHED, crowded, instructions, journal, volumes
 from preload import Refusal  # by which `lib` is found
 from lib.base import rules
 
@@ -198,6 +198,7 @@ def blocks():
     for periods in (24, 96):
         drawn = full.Drawn(random.Random(f"whole {periods}"), periods, "large", WHOLE, True, "free")
         yield f"clear: a full book of large blocks, {periods} periods", Run(CLEAR, drawn.text())
+    yield "clear of a crowded period up to a node", Run([*CLEAR, "--nodes", "1"], journal(crowded()), (UNFINISHED,))
 
 
 def filled(begin, part, end=b""):
