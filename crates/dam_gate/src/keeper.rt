@@ -206,7 +206,8 @@ impl<A: Allocator + Copy> Keeper<A> {
         command: &Command,
     ) -> Result<Ready<A>, AllocError>
         requires packed { packed ≡ command.now }
-        requires not_full { is_journal_full (length self.old.journal.entries) command.now ≡ false }
+        requires not_full { is_journal_full (length self.old.journal.entries) command.now
+            ≡ false }
         ensures ready { IfOk result (IsReadyFor self.new command.now) }
         ensures journal { self.new.journal ≡ self.old.journal }
         ensures room { self.old.room ≤ self.new.room }

@@ -315,7 +315,8 @@ impl<J: GateName, R: Wait + Drop> Locked<J, R> {
         part: &mut LedgerPart<Answered<J>>,
         command: &PackedCommand,
     ) -> Result<((u32, Reply), History<J>), GateFault>
-        requires not_full { is_journal_full (length self.old.journal.entries) command.now ≡ false }
+        requires not_full { is_journal_full (length self.old.journal.entries) command.now
+            ≡ false }
         requires part { 0 < part.old.parts }
         ensures entry { IfOk result (λ r.
             entry_of command.now r.0 ≡ next_entry self.old.journal command.now) }

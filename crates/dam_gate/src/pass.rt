@@ -220,7 +220,8 @@ impl<J: GateName> Pass<J> {
         command: &PackedCommand,
     ) -> Result<(u32, Reply), GateFault>
         requires own { is_own self.old.account.holder command.now ≡ true }
-        requires not_full { is_journal_full (length locked.old.journal.entries) command.now ≡ false }
+        requires not_full { is_journal_full (length locked.old.journal.entries) command.now
+            ≡ false }
         ensures entry { IfOk result (λ answer.
             entry_of command.now answer ≡ next_entry locked.old.journal command.now) }
         ensures journal { OnOk result

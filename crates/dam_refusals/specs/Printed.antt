@@ -23,7 +23,7 @@ answer_text (Text false) = codes "refused"
 abbrev pub told_text : Told → List ℕ
 told_text told = answer_text told.answer ++ (codes ", " ++ (decimal told.refused ++ codes " calls refused"))
 
--- why a sequence of calls came to no end
+-- why a sequence of calls stopped before its end
 abbrev pub stop_text : Stop → List ℕ
 stop_text Memory = codes "memory"
 stop_text Wrong = codes "wrong"

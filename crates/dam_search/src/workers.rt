@@ -174,7 +174,7 @@ fn explore_with_workers<'a, R: Threads + Sync, E: Explorer + Sync, T: Turnstile 
     join_seats(task, first, worked, answers)
 }
 
-/// The answers of all workers, and the contents of the words when they were closed, which only proofs and tests use.
+/// The answers of all workers, and the contents of the words when they were closed, which only a test reads.
 #[derive(Drop)]
 pub(crate) struct Explored {
     pub(crate) answers: Vec<PieceAnswer>,
