@@ -3,14 +3,15 @@
 It takes turns with itself on the same book without its blocks, with the program of before, with other programs of a part, and with an
 enumeration of all selections with numpy, `tools/audit --best` by four threads, which also checks the results. Then it takes turns with
 HiGHS and CBC, where they are installed; peer.py describes their model. The time of a peer is that of its solver, and that of `dam clear`
-is from its start to its last byte. A run ends after 60 s, and a peer's after 20 s, or after the seconds of LIMIT and HIGHS_LIMIT in the
+is from its start to its last byte. A run ends after 60 s, and a peer's after 20 s, or after the seconds of LIMIT and PEER_LIMIT in the
 environment. A run that didn't end counts as these in a sum. A peer that gave up meets its target if these seconds are enough for that. A
 program that takes longer than 1 s isn't run again."""
 
 import statistics
 import sys
 
-from figures import BEFORE, DAM, HIGHS_LIMIT, LIMIT, at_most, by_turns, line, ratio, seconds, times, write
+from figures import BEFORE, DAM, PEER_LIMIT, LIMIT, by_turns, multiple_text, run_to_file, seconds_text
+from figures import record_at_most, record_figure, record_ratio
 
 MOST_OF_DEEP = 0.15  # seconds
 MOST_OF_BEFORE = 2  # times as long as the program before
@@ -44,7 +45,7 @@ def answer_of(asked):
         return None, f"is left out: {text.removeprefix('missing: ')} is missing"
     if text == "failed":
         return None, text
-    return (None, f"gave up after {HIGHS_LIMIT:g} s") if text == "gave up" else (int(text), "")
+    return (None, f"gave up after {PEER_LIMIT:g} s") if text == "gave up" else (int(text), "")
 
 
 class Book:
@@ -53,7 +54,7 @@ class Book:
     def __init__(self, part, drawn):
         self.drawn, self.name, self.walls = drawn, drawn.name, {}
         words = drawn.words, drawn.words_without_blocks
-        self.path, self.alone = (write(f"out/{part}-{'-'.join(each)}.csv", drawn.script, *each) for each in words)
+        self.path, self.alone = (run_to_file(f"out/{part}-{'-'.join(each)}.csv", drawn.script, *each) for each in words)
 
     @property
     def what(self):
@@ -79,39 +80,39 @@ class Book:
     def show(self, most, others):
         """Prints the seconds of `dam clear`, which may be `most`, and how many times as long as other programs it takes; `others` has how
         many times that may be."""
-        median, target = self.median("dam"), f"at most {seconds(most)}"
+        median, target = self.median("dam"), f"at most {seconds_text(most)}"
         if median is None:
-            line(self.what, f"> {LIMIT:g} s", target, False)
+            record_figure(self.what, f"> {LIMIT:g} s", target, False)
             return
-        line(self.what, seconds(median), target, median <= most)
+        record_figure(self.what, seconds_text(median), target, median <= most)
         for name, most_times in others.items():
             what = f"{self.what} compared with {OTHERS.get(name, name)}"
             if self.walls.get(name):
                 note = self.drawn.note if name == "enumeration" else ""
-                ratio(what, self.walls["dam"], self.walls[name], most_times, note=note)
+                record_ratio(what, self.walls["dam"], self.walls[name], most_times, note=note)
             elif name in self.walls:
-                line(what, "?", detail=f"it didn't end in {LIMIT:g} s")
+                record_figure(what, "?", detail=f"it didn't end in {LIMIT:g} s")
 
     def peers(self):
-        """Runs `dam clear` and its peers by turns, and prints how many times as long each takes. The details have the time that the blocks add
-        to `dam clear`, which is nearer to that of a solver, since the rest reads and prints."""
+        """Runs `dam clear` and its peers by turns, and prints how many times as long each takes. The details have the time that the blocks
+        add to `dam clear`, which is nearer to that of a solver, since the rest reads and prints."""
         if not self.walls.get("dam"):
             return
-        runs = self.in_turns({peer: ["./peer.py", peer, self.path, str(HIGHS_LIMIT)] for peer in PEERS}, max(LIMIT, HIGHS_LIMIT + SPARE))
+        runs = self.in_turns({peer: ["./peer.py", peer, self.path, str(PEER_LIMIT)] for peer in PEERS}, max(LIMIT, PEER_LIMIT + SPARE))
         walls, welfare = walls_of(runs), welfare_of(runs["dam"][0])
         added = max(statistics.median(walls["dam"]) - statistics.median(walls["alone"]), 0)
         for peer, name in PEERS.items():
             what = f"{self.name}: {name} compared with dam clear"
             found, why = answer_of(runs[peer][0] if runs[peer] else None)
             if found is None:
-                is_slow = why.startswith("gave up") and HIGHS_LIMIT >= LEAST_OF_PEER * statistics.median(walls["dam"])
-                line(what, "?", f"at least {times(LEAST_OF_PEER)}" if is_slow else "", is_slow or None, f"it {why}")
+                is_slow = why.startswith("gave up") and PEER_LIMIT >= LEAST_OF_PEER * statistics.median(walls["dam"])
+                record_figure(what, "?", f"at least {multiple_text(LEAST_OF_PEER)}" if is_slow else "", is_slow or None, f"it {why}")
             elif found > welfare:
-                line(what, "?", f"welfare {welfare}", False, f"it finds {found}")
+                record_figure(what, "?", f"welfare {welfare}", False, f"it finds {found}")
             else:
                 note = f"; it finds less welfare, {found} of {welfare}" if found < welfare else ""
                 lasted = [each.lap(peer) for each in runs[peer]]
-                ratio(what, lasted, walls["dam"], least=LEAST_OF_PEER, note=f"the blocks add {seconds(added)}{note}")
+                record_ratio(what, lasted, walls["dam"], least=LEAST_OF_PEER, note=f"the blocks add {seconds_text(added)}{note}")
 
 
 class Together:
@@ -130,15 +131,15 @@ class Together:
             return
         lasted = self.lasted(self.books, "dam")
         slowest = max(range(len(lasted)), key=lasted.__getitem__)
-        line(f"{self.name}: dam clear", seconds(sum(lasted)), detail=f"{len(lasted)} books")
-        at_most(f"{self.name}: dam clear, the slowest", lasted[slowest], most, detail=self.books[slowest].name)
+        record_figure(f"{self.name}: dam clear", seconds_text(sum(lasted)), detail=f"{len(lasted)} books")
+        record_at_most(f"{self.name}: dam clear, the slowest", lasted[slowest], most, detail=self.books[slowest].name)
         for name, most_times in others.items():
             run_on = self.run_on(name)
             if run_on:
                 ones, others = (sum(self.lasted(run_on, each)) for each in ("dam", name))
                 late = sum(book.median(name) is None for book in run_on)
                 note = f"{late} of {len(run_on)} didn't end in {LIMIT:g} s" if late else ""
-                ratio(f"{self.name}: dam clear compared with {OTHERS.get(name, name)}", [ones], [others], most_times, note=note)
+                record_ratio(f"{self.name}: dam clear compared with {OTHERS.get(name, name)}", [ones], [others], most_times, note=note)
 
     def run_on(self, name):
         """The books on which a program was run."""
@@ -152,4 +153,4 @@ class Together:
         if books:
             most = len(books) // part
             what = f"{self.name}: books slower than by the program before"
-            line(what, f"{len(slower)} of {len(books)}", f"at most {most}", len(slower) <= most, "; ".join(slower))
+            record_figure(what, f"{len(slower)} of {len(books)}", f"at most {most}", len(slower) <= most, "; ".join(slower))

@@ -18,7 +18,7 @@ import time
 from concurrent.futures import ThreadPoolExecutor
 from pathlib import Path
 
-from figures import DAM, DESK, MIB, PER_SECOND, at_most, compare, in_turns, peak, ratio, run, write
+from figures import DAM, DESK, MIB, PER_SECOND, in_turns, peak_memory, record_at_most, record_ratio, record_times, run, run_to_file
 
 sys.path.insert(0, str(Path(__file__).resolve().parent.parent / "tests" / "desk"))
 
@@ -53,13 +53,13 @@ def writing(folder):
     desk, replay = next_to_replay(lambda _: run([DESK, new_in(folder)], JOURNAL))
     if desk[0].text != replay[0].text:
         sys.exit("the desk and dam replay print different texts")
-    compare("dam replay compared with a desk in memory, 10,000 records", replay, desk, least=0.5)
+    record_times("dam replay compared with a desk in memory, 10,000 records", replay, desk, least=0.5)
 
 
 def opening(folder, medium):
     file = new_in(folder)
     run([DESK, file], JOURNAL)
-    compare(f"opening 10,000 records {medium} compared with dam replay", *next_to_replay(lambda _: run([DESK, file])), 2)
+    record_times(f"opening 10,000 records {medium} compared with dam replay", *next_to_replay(lambda _: run([DESK, file])), 2)
 
 
 def keeping(folder):
@@ -69,7 +69,7 @@ def keeping(folder):
         programs = {"desk": lambda _: count / kept(folder, batches), "rows": lambda _: count / rows(folder, size)}
         rates = in_turns(programs, DISK_TURNS, seconds=60)
         what = f"records that a desk keeps compared with sqlite3, batches of {size:,}"
-        ratio(what, rates["desk"], rates["rows"], least=least, shown=PER_SECOND)
+        record_ratio(what, rates["desk"], rates["rows"], least=least, shown=PER_SECOND)
 
 
 def kept(folder, batches):
@@ -120,13 +120,13 @@ def rows(folder, size):
 
 
 def memory(folder):
-    write(BLOCKS, "./make_journal.py", "blocks")
+    run_to_file(BLOCKS, "./make_journal.py", "blocks")
     for about, journal in [("10,000 records", JOURNAL), ("10,000 blocks of 100 volumes", BLOCKS)]:
-        replay = peak([DAM, "replay"], journal)
+        replay = peak_memory([DAM, "replay"], journal)
         file = new_in(folder)
         for what, given in [("a desk", journal), ("an opening", os.devnull)]:
-            more = peak([DESK, file], given) - replay
-            at_most(f"memory of {what} above dam replay's, {about}", more, 10, shown=MIB, detail=f"dam replay has {MIB(replay)}")
+            more = peak_memory([DESK, file], given) - replay
+            record_at_most(f"memory of {what} above dam replay's, {about}", more, 10, shown=MIB, detail=f"dam replay has {MIB(replay)}")
 
 
 def main():

@@ -24,9 +24,9 @@ TWIN = "out/twin"
 BEFORE = os.environ.get("BEFORE")  # a program that was built before a change, which takes turns with `dam`; None if none is named
 FIGURES = f"out/{Path(sys.argv[0]).stem}.tsv"
 
-# The seconds after which a run is ended, and those that HiGHS gets for a book.
+# The seconds after which a run is ended, and those that HiGHS and CBC each get for a book.
 LIMIT = float(os.environ.get("LIMIT", "60"))
-HIGHS_LIMIT = float(os.environ.get("HIGHS_LIMIT", "20"))
+PEER_LIMIT = float(os.environ.get("PEER_LIMIT", "20"))
 
 # By how many bytes a program's stack moves from turn to turn, and over how many places.
 STACKS, PLACES = 32, 32
@@ -68,7 +68,7 @@ def run(words, given=os.devnull, limit=LIMIT, padding=0):
     return done
 
 
-def write(path, *words):
+def run_to_file(path, *words):
     """Writes the output of a program to a file, and returns its path."""
     with open(path, "wb") as made:
         made.write(run(words).text)
@@ -107,7 +107,7 @@ def by_turns(programs, given=os.devnull, most=31, seconds=5.0, once=math.inf, in
     return in_turns({name: runs(name, words) for name, words in programs.items()}, most, seconds, once)
 
 
-def peak(words, given):
+def peak_memory(words, given):
     """The peak memory of a program in MiB. (The system's report on a child of this process also counts this process's pages.)"""
     with open(given, "rb") as text, tempfile.NamedTemporaryFile("r") as used:
         timed = ["/usr/bin/time", "-f", "%M", "-o", used.name, *words]
@@ -115,7 +115,7 @@ def peak(words, given):
         return int(used.read()) / 1024
 
 
-def seconds(value):
+def seconds_text(value):
     """A time with a unit that suits it."""
     for unit, size in (("s", 1), ("ms", 1e-3), ("us", 1e-6)):
         if value >= 0.9995 * size:  # which rounds to it
@@ -123,7 +123,7 @@ def seconds(value):
     return f"{value / 1e-9:.3g} ns"
 
 
-def line(what, shown, target="", holds=None, detail=""):
+def record_figure(what, shown, target="", holds=None, detail=""):
     """Prints a figure, and keeps it for `page.py`. `holds` is None if there is no target."""
     verdict = {None: "", True: "holds", False: "MISSED"}[holds]
     print(f"{what:<76} {shown:>10}  {target:<18} {verdict:<7} {detail}".rstrip(), flush=True)
@@ -134,36 +134,36 @@ def line(what, shown, target="", holds=None, detail=""):
 MIB, PER_SECOND = "{:.1f} MiB".format, "{:,.0f} a second".format
 
 
-def at_most(what, value, target, shown=seconds, detail=""):
-    line(what, shown(value), f"at most {shown(target)}", value <= target, detail)
+def record_at_most(what, value, target, shown=seconds_text, detail=""):
+    record_figure(what, shown(value), f"at most {shown(target)}", value <= target, detail)
 
 
-def times(value, digits=2):
+def multiple_text(value, digits=2):
     """A multiple, with at least this number of digits that aren't 0."""
     return f"{value:.{digits}g} x" if value < 0.1 else f"{value:.{digits}f} x" if value < 100 else f"{value:,.0f} x"
 
 
-def ratio(what, ones, others, most=None, least=None, shown=seconds, note=""):
+def record_ratio(what, ones, others, most=None, least=None, shown=seconds_text, note=""):
     """Prints the median of `ones` as a multiple of `others`' median; the details have both, and the multiple for the least of both."""
     one, other = statistics.median(ones), statistics.median(others)
     value = one / other
     bound = most or least
     holds = None if not bound else value <= most if most else value >= least
     # a missed target has no equal figure
-    digits = 3 if holds is False and times(value) == times(bound) else 2
-    target = f"at most {times(most, digits)}" if most else f"at least {times(least, digits)}" if least else ""
+    digits = 3 if holds is False and multiple_text(value) == multiple_text(bound) else 2
+    target = f"at most {multiple_text(most, digits)}" if most else f"at least {multiple_text(least, digits)}" if least else ""
     detail = f"{shown(one)} and {shown(other)}"
     if len(ones) > 1:
-        detail += f"; of the least {times(min(ones) / min(others))}"
+        detail += f"; of the least {multiple_text(min(ones) / min(others))}"
     if note:
         detail += f"; {note}"
-    line(what, times(value, digits), target, holds, detail)
+    record_figure(what, multiple_text(value, digits), target, holds, detail)
 
 
-def compare(what, ones, others, most=None, least=None):
+def record_times(what, ones, others, most=None, least=None):
     """Prints the wall and the processor time of runs as multiples of those of others."""
     for field in ("wall", "processor"):
-        ratio(f"{what}, {field} time", *([getattr(each, field) for each in runs] for runs in (ones, others)), most, least)
+        record_ratio(f"{what}, {field} time", *([getattr(each, field) for each in runs] for runs in (ones, others)), most, least)
 
 
 def enumeration(path):

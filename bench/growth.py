@@ -10,7 +10,7 @@ import sys
 
 import make_blocks
 import make_family
-from figures import TWIN, line, run, write
+from figures import TWIN, record_figure, run, run_to_file
 
 BLOCKS = (8, 12, 16, 20, 24)
 MOST = 2 ** (BLOCKS[-1] + 1) // 100  # nodes
@@ -24,7 +24,7 @@ def counted(family, periods, blocks):
     """The nodes of a book; None if the twin didn't end in time."""
     usual = ["./make_blocks.py", BASE, str(make_blocks.USUAL), "1", PERIODS[periods], str(blocks)]
     words = usual if family == BASE else ["./make_family.py", family, "500", str(blocks), PERIODS[periods]]
-    path = write(f"out/growth-{family}-{periods}-{blocks}.csv", *words)
+    path = run_to_file(f"out/growth-{family}-{periods}-{blocks}.csv", *words)
     searched = run([TWIN, "1", "0"], path)
     return searched and int(searched.text.split()[-1])
 
@@ -34,7 +34,7 @@ def show(family, periods, counts):
     *smaller, most = ("?" if nodes is None else f"{nodes:,}" for nodes in counts)
     holds = counts[-1] is not None and counts[-1] <= MOST
     detail = "; ".join(f"{nodes} with {blocks}" for blocks, nodes in zip(BLOCKS, smaller))
-    line(f"{family}, {periods} periods: nodes with {BLOCKS[-1]} blocks", most, f"at most {MOST:,}", holds, detail)
+    record_figure(f"{family}, {periods} periods: nodes with {BLOCKS[-1]} blocks", most, f"at most {MOST:,}", holds, detail)
     return counts
 
 

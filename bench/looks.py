@@ -6,7 +6,7 @@ The plain program looks at a version through a lock-free pointer, and copies its
 
 import statistics
 
-from figures import MEASURES, at_most, by_turns, ratio, seconds, write
+from figures import MEASURES, by_turns, record_at_most, record_ratio, run_to_file, seconds_text
 
 PLAIN = "out/looks"
 LOOKS, CALLS = 1_000_000, 2_000
@@ -20,8 +20,8 @@ def timed(words, repeats, book, most):
 
 for others in (0, 1, 3):
     found = timed(["looks", str(others), str(LOOKS)], LOOKS, "out/hourly.csv", most=9)
-    ratio(f"a look compared with a plain one, while {others} threads call and look", *found, 3)
+    record_ratio(f"a look compared with a plain one, while {others} threads call and look", *found, 3)
 for orders in (100, 1_000, 4_000):
-    book = write(f"out/hourly-{orders}.csv", "./make_family.py", "market", str(orders), "0")
+    book = run_to_file(f"out/hourly-{orders}.csv", "./make_family.py", "market", str(orders), "0")
     one, other = map(statistics.median, timed(["calls", str(CALLS)], CALLS, book, most=5))
-    at_most(f"a call, {orders:,} orders held", one, 150e-6, detail=f"a plain one {seconds(other)}")
+    record_at_most(f"a call, {orders:,} orders held", one, 150e-6, detail=f"a plain one {seconds_text(other)}")

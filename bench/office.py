@@ -1,6 +1,6 @@
 #!/usr/bin/env python3
 """The office under load: 50 connections, each of a participant that sends its commands one after the other, and waits for each receipt. In
-turns with it, a plain office (plain_office.py) of aiohttp and SQLite gives the same replies without receipts. Then one office takes a whole
+turns with it, a plain office (plain/office.py) of aiohttp and SQLite gives the same replies without receipts. Then one office takes a whole
 day of 9,950 commands; it is started again after a crash, and closes."""
 
 import asyncio
@@ -10,7 +10,7 @@ import subprocess
 import sys
 from pathlib import Path
 
-from figures import DAM, DESK, PER_SECOND, at_most, command, in_turns, line, ratio
+from figures import DAM, DESK, PER_SECOND, command, in_turns, record_at_most, record_figure, record_ratio
 
 HERE = Path(__file__).resolve().parent
 sys.path.insert(0, str(HERE.parent / "tests" / "office"))
@@ -28,7 +28,7 @@ class Plain(Served):
     is_ready = Served.listens
 
     def begin(self):
-        words = [sys.executable, "-B", HERE / "plain_office.py", f"{self.room.name}/rows", str(self.port)]
+        words = [sys.executable, "-B", HERE / "plain" / "office.py", f"{self.room.name}/rows", str(self.port)]
         self.process = subprocess.Popen(words, env=self.environment)
 
 
@@ -49,8 +49,8 @@ def compare():
     found = in_turns({"ours": lambda _: under_load(Served), "theirs": lambda _: under_load(Plain)}, TURNS, math.inf)
     (our_rates, our_times), (their_rates, their_times) = (zip(*results) for results in found.values())
     what = f"an office compared with a plain one, {CONNECTIONS} connections"
-    ratio(f"{what}, commands a second", our_rates, their_rates, least=1, shown=PER_SECOND)
-    ratio(f"{what}, time of a command", our_times, their_times, most=1)
+    record_ratio(f"{what}, commands a second", our_rates, their_rates, least=1, shown=PER_SECOND)
+    record_ratio(f"{what}, time of a command", our_times, their_times, most=1)
 
 
 def whole_day():
@@ -58,15 +58,15 @@ def whole_day():
     with served(DAM, DESK, count=CONNECTIONS) as office:
         office.start()
         rate, _ = loaded(office, WHOLE_DAY)
-        line(f"commands that an office takes, {commands:,} of a day", PER_SECOND(rate), f"at least {PER_SECOND(1_000)}", rate >= 1_000)
+        record_figure(f"commands that an office takes, {commands:,} of a day", PER_SECOND(rate), f"at least {PER_SECOND(1_000)}", rate >= 1_000)
         office.kill("office", "desk")
-        at_most(f"a start of an office after a crash, {commands:,} entries", office.start(), 1.0)
-        at_most(f"from the close to the results, {commands:,} entries", office.close_day(), 2.0)
+        record_at_most(f"a start of an office after a crash, {commands:,} entries", office.start(), 1.0)
+        record_at_most(f"from the close to the results, {commands:,} entries", office.close_day(), 2.0)
 
 
 def main():
     if not all(map(command.has, ("aiohttp", "cryptography", "jinja2"))):
-        line("the office: python3-aiohttp, python3-cryptography or python3-jinja2 is missing", "")
+        record_figure("the office: python3-aiohttp, python3-cryptography or python3-jinja2 is missing", "")
         return
     compare()
     whole_day()

@@ -23,12 +23,12 @@ WRITTEN = ["docs/MEASURED.md", "docs/growth.svg", "bench/measured"]  # by the be
 PARTS = ["quick", "blocks", "thin", "growth", "workers", "looks", "desk", "office"]
 COLUMNS = ["what", "figure", "target", "holds", "details"]
 RUN_COLUMNS = ["part", "date", "commit", "machine", "load", "kit", "notes"]
-# The figures that the page shows of each part, apart from those that miss a target; the others stand in the files alone. Of two groups the
-# first names the row of a table, and the second its column.
+# The figures that the page shows of each part, apart from those that miss a target; the others stand in the files alone. Of the groups the
+# first names the row of a table, the second its column, and a third is the spread that the cell names.
 SHOWN = {
     "quick": r"(?:dam (?:replay|clear)|settle) .*(?:wall time|plain pass)|dam day compared with the baseline.*processor time",
     "blocks": r"(\w+) (\d+), spread 50, seed 1: dam clear",
-    "thin": r"(base|peaks|shaped|odd|random) 96, (500|1,500) orders, spread (?:0|20|50), seed 1: dam clear",
+    "thin": r"(base|peaks|shaped|odd|random) 96, (500|1,500) orders, spread (0|20|50), seed 1: dam clear",
     "workers": r"(?:base|odd) .*the rate of 4 workers compared with 1",
     "looks": r"a look compared with a plain one, while [03] threads.*|a call, 4,000 orders held",
     "desk": r"dam replay compared with a desk.*wall time|records that a desk keeps.*|opening .* on disk.*wall time|memory of a desk.*records",
@@ -36,8 +36,8 @@ SHOWN = {
 }
 # The contents of the cells of such a table, and the names of its columns.
 CELLS = {
-    "blocks": ("`dam clear` by the default plan, spread 50", "{} periods"),
-    "thin": ("`dam clear` by the default plan, 96 periods, mixed spreads", "{} hourly orders"),
+    "blocks": ("`dam clear` by the default plan, spread 50, seed 1", "{} periods"),
+    "thin": ("`dam clear` by the default plan, 96 periods, seed 1", "{} hourly orders"),
 }
 # The figures of many books together, which the page shows of any part.
 TOGETHER = r"(?:deep|all thin) books together: .*"
@@ -54,8 +54,8 @@ second runs once, as does an office's whole day. Compared programs run alternate
 by B's. Each part's script describes its method. The load is averaged over the minute before. The baseline and the twin are
 [plain Rust programs](../crates/NOTES.md#words).
 
-A part's CSV file has all its figures and targets; this page shows some, and missed targets by kind; `grep MISSED bench/measured/*.csv`
-prints all.
+A part's CSV file has all figures with a target ([some set later](../bench/NOTES.md)). This page shows some, and missed targets by kind;
+`grep MISSED bench/measured/*.csv` prints all.
 """
 
 
@@ -73,7 +73,7 @@ def run_of(part):
     if printed("git", "status", "--porcelain", "--", ":/", *(f":(top,exclude){name}" for name in WRITTEN)):
         commit += " with changes"
     processors = re.findall(r"(?m)^model name\s*: (.*)", Path("/proc/cpuinfo").read_text()) or [os.uname().machine]
-    load, limit, before = (os.environ.get(name, "") for name in ("LOAD", "HIGHS_LIMIT", "BEFORE_IS"))
+    load, limit, before = (os.environ.get(name, "") for name in ("LOAD", "PEER_LIMIT", "BEFORE_IS"))
     notes = [f"HiGHS and CBC each had {limit} s for each book"] if limit and part in ("blocks", "thin") else []
     notes += [f"the program before is {before}"] if before else []
     machine = f"{os.cpu_count()} processors ({processors[0]})"
@@ -121,7 +121,8 @@ def shown(part, rows):
     """The figures that the page shows of a part."""
     if part not in CELLS:
         return held(SHOWN.get(part, ""), rows)
-    cells = {match.groups(): figure for name, figure, *_ in rows if (match := re.fullmatch(SHOWN[part], name))}
+    found = [(match.groups(), figure) for name, figure, *_ in rows if (match := re.fullmatch(SHOWN[part], name))]
+    cells = {groups[:2]: " ".join([figure, *(f"(spread {it})" for it in groups[2:])]) for groups, figure in found}
     names, columns = (list(dict.fromkeys(pair[at] for pair in cells)) for at in (0, 1))
     what, column = CELLS[part]
     lines = [[name, *(cells.get((name, each), "") for each in columns)] for name in names]

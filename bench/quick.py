@@ -7,7 +7,7 @@ compares each receipt with its entry. The times that are compared also have the 
 
 import sys
 
-from figures import BASELINE, DAM, MEASURES, MIB, by_turns, compare, peak, ratio
+from figures import BASELINE, DAM, MEASURES, MIB, by_turns, peak_memory, record_ratio, record_times
 
 JOURNAL, HOURLY, DAY = "out/journal.csv", "out/hourly.csv", "out/day.csv"
 
@@ -17,7 +17,7 @@ def programs(what, words, others, journal, most, same=False):
     ones, others = by_turns({"one": words, "other": others}, journal, seconds=30).values()
     if same and len({each.text for each in ones + others}) > 1:
         sys.exit(f"{what}: they print different texts")
-    compare(what, ones, others, most)
+    record_times(what, ones, others, most)
 
 
 def journals():
@@ -27,10 +27,10 @@ def journals():
     programs("dam day compared with the baseline with threads, 9,999 commands", day, baseline, DAY, 1.2)
     what = "dam day compared with the baseline with threads, peak memory"
     note = "the baseline keeps one book, and a gate that shows versions two; each entry and order has room for 100 volumes"
-    ratio(what, [peak(day, DAY)], [peak(baseline, DAY)], 1.5, shown=MIB, note=note)
+    record_ratio(what, [peak_memory(day, DAY)], [peak_memory(baseline, DAY)], 1.5, shown=MIB, note=note)
 
 
 journals()
 laps = by_turns({"": [MEASURES, "settlement"]}, DAY)[""]
 what = "settle of 10,000 entries and 9 passes compared with a plain pass"
-ratio(what, *([each.lap(part) for each in laps] for part in ("settle", "receipts")), 3)
+record_ratio(what, *([each.lap(part) for each in laps] for part in ("settle", "receipts")), 3)

@@ -7,7 +7,7 @@ win back. The size of a program's environment moves its stack, and with that the
 at another place."""
 
 import make_family
-from figures import LIMIT, MEASURES, by_turns, ratio, write
+from figures import LIMIT, MEASURES, by_turns, record_ratio, run_to_file
 from make_blocks import book
 
 CUT = "8"
@@ -27,22 +27,22 @@ def searched(plans, book, most):
 def speed(name, book):
     found = searched([(workers, CUT) for workers in ("1", *LEAST)], book, most=8)
     for workers, least in LEAST.items():
-        ratio(f"{name}, cut {CUT}: the rate of {workers} workers compared with 1", found["1", CUT], found[workers, CUT], least=least)
+        record_ratio(f"{name}, cut {CUT}: the rate of {workers} workers compared with 1", found["1", CUT], found[workers, CUT], least=least)
 
 
 def default(name, book):
     found = searched([DEFAULT, ONE], book, most=32)
-    ratio(f"{name}: the search by the default plan compared with 1 worker", found[DEFAULT], found[ONE], 1)
+    record_ratio(f"{name}: the search by the default plan compared with 1 worker", found[DEFAULT], found[ONE], 1)
 
 
 def main():
     for drawn in LONG:
-        name, book = drawn.name, write(f"out/workers-{'-'.join(drawn.words)}.csv", drawn.script, *drawn.words)
+        name, book = drawn.name, run_to_file(f"out/workers-{'-'.join(drawn.words)}.csv", drawn.script, *drawn.words)
         speed(name, book)
         default(name, book)
     for family in make_family.FAMILIES:
         for orders in ORDERS:
-            default(f"{family} {orders}", write(f"out/{family}-{orders}.csv", "./make_family.py", family, orders))
+            default(f"{family} {orders}", run_to_file(f"out/{family}-{orders}.csv", "./make_family.py", family, orders))
 
 
 main()

@@ -112,25 +112,27 @@ def thousands(amount):
     return amount / 1_000_000
 
 
-def draw_prices(axes, day, prices, pictures):
-    axes.step(list(prices), [pictures.eur(price) for price in prices.values()], where="mid", color=pictures.COLOURS["ink"], linewidth=1.4)
+def draw_prices(axes, day, prices, canvas):
+    axes.step(list(prices), [canvas.eur(price) for price in prices.values()], where="mid", color=canvas.COLOURS["ink"], linewidth=1.4)
     axes.set_title("one price for each period, EUR/MWh", loc="left", fontsize=9)
     axes.set_xlabel("period")
     axes.set_xlim(0.5, day.periods + 0.5)
 
 
-def draw_gains(axes, day, bound, order, pictures):
+def draw_gains(axes, day, bound, order, canvas):
     gains = [thousands(bound.gains[place]) for place in order]
-    colours = [pictures.COLOURS["sell" if gain >= 0 else "paradox"] for gain in gains]
-    axes.barh(range(len(order)), gains, color=colours, edgecolor=pictures.COLOURS["ink"], linewidth=0.6)
+    colours = [canvas.COLOURS["sell" if gain >= 0 else "paradox"] for gain in gains]
+    axes.barh(range(len(order)), gains, color=colours, edgecolor=canvas.COLOURS["ink"], linewidth=0.6)
     axes.set_yticks(range(len(order)), [f"{day.blocks[place].who} {day.blocks[place].name}" for place in order], fontsize=8)
     axes.invert_yaxis()
-    axes.axvline(0, color=pictures.COLOURS["ink"], linewidth=0.8)
+    axes.axvline(0, color=canvas.COLOURS["ink"], linewidth=0.8)
     axes.set_title("the blocks' gains at these prices, 1,000 EUR", loc="left", fontsize=9)
 
 
-def draw_tree(axes, found, least, pictures):
+def draw_tree(axes, found, least, canvas):
     """Each node at its depth and bound, with a line to its parent."""
+    from lib.pictures import drawing
+
     height = {node.decisions: thousands(node.bound - least) for node in found}
     for letter, style in (("a", "-"), ("r", ":")):
         lines = [
@@ -138,12 +140,12 @@ def draw_tree(axes, found, least, pictures):
             for word in (node.decisions for node in found)
             if word.endswith(letter)
         ]
-        axes.add_collection(pictures.LineCollection(lines, linestyle=style, color=pictures.COLOURS["soft"], linewidth=0.7, zorder=1))
+        axes.add_collection(drawing.LineCollection(lines, linestyle=style, color=canvas.COLOURS["soft"], linewidth=0.7, zorder=1))
     for is_cut, colour in ((False, "sell"), (True, "paradox")):
         words = [node.decisions for node in found if node.is_cut == is_cut]
-        axes.scatter([len(word) for word in words], [height[word] for word in words], s=18, color=pictures.COLOURS[colour],
-                     edgecolor=pictures.COLOURS["ink"], linewidth=0.5, zorder=2)
-    axes.axhline(0, color=pictures.COLOURS["ink"], linewidth=0.8)
+        axes.scatter([len(word) for word in words], [height[word] for word in words], s=18, color=canvas.COLOURS[colour],
+                     edgecolor=canvas.COLOURS["ink"], linewidth=0.5, zorder=2)
+    axes.axhline(0, color=canvas.COLOURS["ink"], linewidth=0.8)
     blocks = max(map(len, height))
     axes.set_title(f"the bounds of {len(found)} of {2 ** (blocks + 1) - 1:,} nodes, over the result's welfare, 1,000 EUR", loc="left",
                    fontsize=9)
@@ -151,23 +153,23 @@ def draw_tree(axes, found, least, pictures):
 
 
 def figure():
-    from lib.pictures import pictures
+    from lib.pictures import canvas
 
     day = problem()
     prices = prices_of(day)
     bound, order = bound_by(day, prices), order_of(day)
     least = result(day, bound, order)
     found = list(nodes(day, bound, order, lambda: least))
-    with pictures.matplotlib.rc_context(pictures.STYLE):
-        drawn, axes = pictures.pyplot.subplot_mosaic([["prices", "gains"], ["tree", "tree"]], figsize=(pictures.BROAD, 6))
-        draw_prices(axes["prices"], day, prices, pictures)
-        draw_gains(axes["gains"], day, bound, order, pictures)
-        draw_tree(axes["tree"], found, least, pictures)
+    with canvas.matplotlib.rc_context(canvas.STYLE):
+        drawn, axes = canvas.pyplot.subplot_mosaic([["prices", "gains"], ["tree", "tree"]], figsize=(canvas.BROAD, 6))
+        draw_prices(axes["prices"], day, prices, canvas)
+        draw_gains(axes["gains"], day, bound, order, canvas)
+        draw_tree(axes["tree"], found, least, canvas)
         drawn.tight_layout(w_pad=2)
     return drawn
 
 
 if __name__ == "__main__":
-    from lib.pictures import pictures
+    from lib.pictures import canvas
 
-    sys.stdout.buffer.write(pictures.picture(figure(), "svg"))
+    sys.stdout.buffer.write(canvas.picture(figure(), "svg"))

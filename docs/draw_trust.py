@@ -116,9 +116,9 @@ def say_effect(day):
     name = f"{' '.join(BLOCK)}, {text.shown_volume(max(found.volumes)).removesuffix('.0')} MW"
     yield f"{name:<20}{'rejected':>10}{'accepted':>12}"
     for number, *prices in zip(found.periods, *found.prices):
-        yield f"price of hour {number:<4}" + "".join(f"{text.cents(price):>12}" for price in prices)
+        yield f"price of hour {number:<4}" + "".join(f"{text.eur_per_mwh(price):>12}" for price in prices)
     yield f"{'their average':<18}" + "".join(f"{text.shown_price(average):>12}" for average in found.averages())
-    yield f"{'its limit':<18}" + f"{text.cents(found.limit):>12}" * 2
+    yield f"{'its limit':<18}" + f"{text.eur_per_mwh(found.limit):>12}" * 2
     yield f"{'its gain, EUR':<18}" + "".join(f"{day.euros(gain):>12}" for gain in found.gains)
     yield f"the best permitted selection with {BLOCK[1]} has {day.euros(counts.less)} EUR less welfare"
 
@@ -134,17 +134,17 @@ def say_selections(day):
 
 def draw_effect(day):
     """The prices of the block's periods without it and with it, and its limit."""
-    from lib.pictures import pictures
+    from lib.pictures import canvas
 
     found = effect(day, counted(day)[1])
     edges = [found.periods[0] - 1, *found.periods]
-    with pictures.matplotlib.rc_context(pictures.STYLE):
-        drawn, axes = pictures.pyplot.subplots(figsize=(pictures.BROAD * 0.7, 3))
-        looks = {"color": pictures.COLOURS["sell"], "linewidth": 2.2}, {"color": pictures.COLOURS["ink"], "linewidth": 1.6, "linestyle": "--"}
+    with canvas.matplotlib.rc_context(canvas.STYLE):
+        drawn, axes = canvas.pyplot.subplots(figsize=(canvas.BROAD * 0.7, 3))
+        looks = {"color": canvas.COLOURS["sell"], "linewidth": 2.2}, {"color": canvas.COLOURS["ink"], "linewidth": 1.6, "linestyle": "--"}
         for prices, look, words in zip(found.prices, looks, ("UNIT-7 is rejected", "UNIT-7 is accepted")):
-            axes.stairs([pictures.eur(price) for price in prices], edges, baseline=None, label=f"price if {words}", **look)
-        axes.axhline(pictures.eur(found.limit), color=pictures.COLOURS["soft"], linewidth=1)
-        axes.annotate(f"its limit: {pictures.eur(found.limit):g}", (edges[0], pictures.eur(found.limit)), (3, 4), textcoords="offset points")
+            axes.stairs([canvas.eur(price) for price in prices], edges, baseline=None, label=f"price if {words}", **look)
+        axes.axhline(canvas.eur(found.limit), color=canvas.COLOURS["soft"], linewidth=1)
+        axes.annotate(f"its limit: {canvas.eur(found.limit):g}", (edges[0], canvas.eur(found.limit)), (3, 4), textcoords="offset points")
         axes.set_xticks([edge + 0.5 for edge in edges[:-1]], [f"hour {number}" for number in found.periods])
         axes.set_ylabel("EUR/MWh")
         axes.set_ylim(0)
@@ -155,14 +155,14 @@ def draw_effect(day):
 
 def draw_selections(day):
     """How many selections each rule leaves, as bars on a logarithmic scale."""
-    from lib.pictures import pictures
+    from lib.pictures import canvas
 
     rows = list(steps(counted(day)[0]))
-    with pictures.matplotlib.rc_context({**pictures.STYLE, "axes.grid": False}):
-        drawn, axes = pictures.pyplot.subplots(figsize=(pictures.BROAD * 0.7, 3.2))
+    with canvas.matplotlib.rc_context({**canvas.STYLE, "axes.grid": False}):
+        drawn, axes = canvas.pyplot.subplots(figsize=(canvas.BROAD * 0.7, 3.2))
         axes.set_xscale("log")
         for at, (count, words) in enumerate(rows):
-            axes.barh(-at, count - LEFT, left=LEFT, height=0.3, color=pictures.COLOURS["sell"])
+            axes.barh(-at, count - LEFT, left=LEFT, height=0.3, color=canvas.COLOURS["sell"])
             axes.annotate(f"{count:,} {words}", (LEFT, 0.18 - at), (1, 1), textcoords="offset points")
         axes.set_xlim(LEFT, rows[0][0])
         ticks = [10**digits for digits in range(len(str(rows[0][0])))]
@@ -187,9 +187,9 @@ def main():
         print(*say(problem()), sep="\n")
         return
     command.need("matplotlib")
-    from lib.pictures import pictures
+    from lib.pictures import canvas
 
-    sys.stdout.buffer.write(pictures.picture(draw(problem()), "svg"))
+    sys.stdout.buffer.write(canvas.picture(draw(problem()), "svg"))
 
 
 if __name__ == "__main__":

@@ -30,6 +30,17 @@ READS = 70_000  # more than 16 bits count
 LENGTHS = [round(1.5**power) for power in range(1, 29)]  # of lines, up to one that is too long
 MEMORY = 256 << 20  # bytes of addresses, for the longest inputs
 USAGE = b"command line\nUsage: dam-desk "
+HELP = b"""\
+Usage: dam-desk FILE < COMMANDS
+       dam-desk --journal FILE
+
+Keeps the journal of a day in FILE. Each line of standard input is a record
+of the journal, with the day first if FILE is new. Each line is answered on
+standard output once its record is safe in FILE.
+
+      --journal FILE  prints the journal in FILE, also while a desk has it
+      --help          prints this help
+"""
 
 
 def error(number):
@@ -156,6 +167,16 @@ class Files:
         self.counts.check("no file was made", {it.name for it in folder.iterdir()} == {"plain"})
         self.link()
         self.long_path()
+        self.odd_names()
+
+    def odd_names(self):
+        """The journals of files whose names are like options, or have one character, and the same names after `./`."""
+        for name in ("-x.desk", "--help", "--journal", "-", "x", " ", "\n", "\U0001f4a1", "..."):
+            folder = self.desk.folder()
+            file = desk_file(folder, lines(DAY)).rename(folder / name)
+            self.check(f"--journal {name!r}", self.given(["--journal", name], b"", cwd=folder), 0, DAY, b"")
+            self.check(f"./{name!r}", self.given([f"./{name}"], cwd=folder), 0, b"day,24\n1,done\n", b"")
+            self.counts.check(f"the file {name!r}", file.read_bytes() == lines(DAY, CLOSE))
 
     def long_path(self):
         """A file under a long path with spaces and letters outside ASCII, and by its name alone."""
@@ -211,7 +232,7 @@ class Files:
             self.counts.check(f"the words {words} make no file", not list(folder.iterdir()))
         self.counts.check("no file's name is empty", self.given([""]).status in (2, 4))
         got = self.given(["--help"])
-        self.counts.check(f"the help: {got!r:.100}", got.status == 0 and got.stdout.startswith(b"Usage: dam-desk ") and not got.stderr)
+        self.check("the help", got, 0, HELP, b"")
 
     def other_day(self):
         """Another day's record enters nothing."""

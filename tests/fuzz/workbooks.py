@@ -21,7 +21,7 @@ from typing import NamedTuple
 sys.dont_write_bytecode = True
 sys.path[:0] = [str(Path(__file__).resolve().parents[2] / folder) for folder in ("tools", "tests")]
 
-from lib.sheets import order_table, sheets, workbooks
+from lib.sheets import order_table, sheets
 from shared.arguments import of_cases
 from shared.counts import Counts
 

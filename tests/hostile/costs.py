@@ -70,22 +70,24 @@ def colliding_names(room):
 
 
 def names(runs):
-    """Tries each engine and each call of the gate with a seed that is drawn and with the fixed one."""
+    """Tries each engine and each call of the gate with a seed that is drawn and with the fixed one, and with a drawn one on a longer day
+    with a second participant too."""
     refusals = Program(REFUSALS, runs.program.room)
     tried = [(" ".join(words), runs.program, words) for words in ENGINES] + [(call, refusals, words) for call, words in GATES.items()]
     lists = submits(ordinary_names()), submits(colliding_names(runs.program.room))
     asked = [
-        (program, words, journal(records, words not in OPEN), refusal)
+        (program, words, journal(more + records, words not in OPEN, periods), refusal)
         for _, program, words in tried
-        for refusal in (DRAWN, FIXED)
+        for refusal, periods, more in ((DRAWN, 24, []), (FIXED, 24, []), (DRAWN, 96, ["submit,B,N-1,hour,buy,0,1:1,,\n"]))
         for records in lists
     ]
     counts = list(runs.pool.map(lambda it: instructions(*it), asked))
     for at, (about, _, _) in enumerate(tried):
-        drawn, fixed = (counts[4 * at + seed + 1] / counts[4 * at + seed] for seed in (0, 2))
+        drawn, fixed, long = (counts[6 * at + pair + 1] / counts[6 * at + pair] for pair in (0, 2, 4))
         took = f"{drawn:.1f} times the instructions of others, {fixed:.1f} times with the fixed seed"
         print(f"{about}, names that collide: {took}", flush=True)
         runs.check(f"{about}: names that collide take {drawn:.1f} times the instructions of others", drawn < TIMES)
+        runs.check(f"{about}, quarter-hours: names that collide take {long:.1f} times the instructions of others", long < TIMES)
         runs.check(f"{about}: with the fixed seed, names that collide take only {fixed:.1f} times those of others", fixed > TIMES)
 
 
@@ -193,6 +195,7 @@ def works():
         "clear of a full book": Work(24, book(24), clear, 18.5),
         "clear of a full book of quarter-hours": Work(96, book(96), clear, 24.2),
         "clear of 12 blocks within 8,000 nodes": Work(24, book(24, orders=480, blocks=12), [*limited, "8000"], 60.9),
+        "clear of 24 blocks by 4 workers": Work(24, book(24, orders=480), ["clear", "--workers", "4"], 3.94, SEARCH_TIMES),
         "clear of a crowded period up to 2,000 nodes": Work(24, crowded(), [*limited, "2000"], 83.1, SEARCH_TIMES, UNFINISHED),
         "day of a full journal": Work(24, full_journal(), day, 96.5),
         "day of a full book and refused commands": Work(24, refused_commands(), day, 54.3),

@@ -24,7 +24,7 @@ class Answer:
         self.program = program
         self.data = data
         self.usual, _ = program.run(words, data, NOTHING_REFUSED)
-        self.is_day = words[:1] == ["day"] and self.usual.status == 0
+        self.is_day = words[:1] == ["day"] and "--help" not in words and self.usual.status == 0
         self.texts = {}
         self.lock = threading.Lock()
 

@@ -5,7 +5,8 @@ are joined in a block of their own, which moves as it grows, and is at most as l
 have grown to twice its length. So a text and its longest field take at most TIMES the text's bytes, however many fields a record has.
 
 ROOM is for a book at its limits, the journal of a day and the search, which take 5 MiB with the shortest text of such a book. With that
-text, and with a text of as many short commands as a day takes, each engine holds at most MORE times what it held with a full book."""
+text, and with a text of as many short commands as a day takes, each engine holds at most MORE times what it held with a full book; with a
+few commands it holds at most LITTLE."""
 
 from preload import Refusal  # by which `lib` is found
 from shared.printed import Printed
@@ -14,6 +15,7 @@ from lib.base import rules
 TIMES, ROOM = 4, 8 << 20
 HELD, MORE = {"replay": 2.5, "clear": 2.8, "day": 4.9}, 1.5  # the megabytes that were held with a full book; a copy of the book takes 2
 SHORT = 1 << 20  # a text of fewer bytes isn't a long one
+FEW, LITTLE = 1 << 10, 64 << 10  # the bytes of a text of a few commands, and the most that is held then
 LONGEST = rules.MOST_BYTES
 ENGINES = [["replay"], ["clear", "--workers", "8", "--cut", "8"], ["day", "--workers", "8", "--cut", "8"]]
 REPLAY, CLEAR, DAY = ENGINES
@@ -77,6 +79,9 @@ def journals():
     yield "a full book", short, [REPLAY, DAY]
     yield "a full book, closed", short + CLOSE, [REPLAY, CLEAR]
     yield "short commands", DAY_RECORD + b"cancel,A,X,,,,,,\n" * rules.MOST_DAY_COMMANDS, [REPLAY, DAY]
+    few = b"".join([DAY_RECORD, *(b"cancel,%c,X,,,,,,\n" % code for code in b"ABCDEFGH"[: rules.MOST_DAY_PARTICIPANTS])])
+    yield "a command of each participant", few, [REPLAY, DAY]
+    yield "a command of each participant, closed", few + CLOSE, [REPLAY, CLEAR]
     yield "a close after empty lines", filled(DAY_RECORD, b"\n", CLOSE), [REPLAY, CLEAR]
 
 
@@ -96,7 +101,7 @@ def peaks(runs):
         for word, got, peak in found:
             is_right = got == Printed(1, b"", line) if line else got.status == 0 and got.stdout != b""
             runs.check(f"{word} of {about}: status {got.status}, {got.stderr[:80]!r}", is_right)
-            fits = 0 < peak <= (HELD[word] * MORE * 1e6 if len(text) < SHORT else TIMES * len(text) + ROOM)
+            fits = 0 < peak <= (LITTLE if len(text) < FEW else HELD[word] * MORE * 1e6 if len(text) < SHORT else TIMES * len(text) + ROOM)
             runs.check(f"{word} of {about}: {peak:,} bytes were held, and the text has {len(text):,}", fits)
             most = max(most, peak)
         runs.program.given(text).unlink()

@@ -67,6 +67,7 @@ def worked_cases():
 
 AUCTION = records("auction-day.csv")
 FIRST = records("first-day.csv")
+QUARTERS = records("quarter-hours.csv")
 OPEN_AUCTION = records("auction-day.csv", is_command)
 OPEN_FIRST = records("first-day.csv", is_command)
 ONE_PARTICIPANT = records("auction-day.csv", lambda record: b",GAS," in record)
@@ -310,10 +311,18 @@ def threads(runs):
     """A search starts a thread for each worker but one, whose work the calling thread does, and so does a day for its participants."""
     lines = [b"cancel,%c,X,,,,,,\n" % ord(code) for code in "ABCDEFGH"[: rules.MOST_DAY_PARTICIPANTS]]
     days = [(others, DAY + b"".join(lines[: others + 1])) for others in range(len(lines))]
-    tried = [("clear", AUCTION, 0, range(1, 9)), ("day", OPEN_AUCTION, 7, (1, 3, 8)), *(("day", data, others, (1,)) for others, data in days)]
-    for word, data, others, counts in tried:
+    many = b"day,96,,,,,,,\n" + 40 * b"".join(lines)
+    tried = [
+        ("clear", AUCTION, 0, range(1, 9), []),
+        ("clear", AUCTION, 0, (1, 8), ["--nodes", "67108863"]),
+        ("clear", QUARTERS, 0, (1, 2, 8), []),
+        ("day", OPEN_AUCTION, 7, (1, 3, 8), []),
+        ("day", many, len(lines) - 1, (1,), []),
+        *(("day", data, others, (1,), []) for others, data in days),
+    ]
+    for word, data, others, counts, more in tried:
         for workers in counts:
-            words = [word, "--workers", str(workers), "--cut", "8"]
+            words = [word, "--workers", str(workers), "--cut", "8", *more]
             _, started = runs.program.run(words, data, Refusal("thread"))
             runs.check(f"{' '.join(words)}, {others} participants more: {started} threads", started == workers - 1 + others)
 

@@ -401,7 +401,7 @@ def check_published(args, counts, office):
         len(rows) == client.next(office.day) - 1 and {row["participant"] for row in rows} <= {who},
     )
     first = heads.extension_read(heads.json.loads(client.head(office.day, 1)))
-    counts.check("the last head goes on from the first", first.is_right() and first.new.size == len(office.journal()))
+    counts.check("the last head goes on from the first", first.is_valid() and first.new.size == len(office.journal()))
 
 
 def routes(args, counts):

@@ -142,7 +142,7 @@ def clear(
 
 def printed(read: Journal, words: list[Any], timeout: float | None) -> bytes:
     """The output of a run of the program for a journal."""
-    return engine.printed(words, journal.journal_text(read).encode(), timeout)
+    return engine.output_of(words, journal.journal_text(read).encode(), timeout)
 
 
 class LateDay(Day):

@@ -24,7 +24,7 @@ from lib.results import check, period, results, selection
 from lib.sheets import sheets, tables
 from lib.tool import command
 from lib.base.progress import Progress
-from lib.base.text import exact_euros
+from lib.base.text import exact_eur
 
 NOT_COMPARED = f"{verdict.NOT_COMPARED}\n"
 NUMBER = re.compile(rb"(?<=,)-?\d+(?=[,\n])")
@@ -671,7 +671,7 @@ class CommandLine(unittest.TestCase):
             (10, Fraction(1, 4), "0.0025"),
             (12_394_787_000, Fraction(1, 4), "3,098,696.75"),
         ):
-            self.assertEqual(exact_euros(amount, hours), said)
+            self.assertEqual(exact_eur(amount, hours), said)
 
     def test_amounts_of_quarter_hours(self):
         _, out, _ = audit(QUARTERS.read_bytes(), printed(QUARTERS))

@@ -42,7 +42,7 @@ class Together(unittest.TestCase):
     def test_a_missed_multiple_has_no_equal_figure(self):
         """And one that holds has two digits."""
         for value, shown in ((0.1734, ["0.173 x", "at most 0.167 x", "MISSED"]), (0.1634, ["0.16 x", "at most 0.17 x", "holds"])):
-            ((_, *fields, _),) = self.printed(lambda value=value: figures.ratio("a sum", [value], [1], 1 / 6))
+            ((_, *fields, _),) = self.printed(lambda value=value: figures.record_ratio("a sum", [value], [1], 1 / 6))
             self.assertEqual(fields, shown)
 
     def test_sums_and_the_slowest(self):

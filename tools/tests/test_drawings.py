@@ -132,9 +132,9 @@ class Bound(unittest.TestCase):
 
     @NEEDS_MATPLOTLIB
     def test_what_the_picture_says(self):
-        from lib.pictures import pictures
+        from lib.pictures import canvas
 
-        drawn = pictures.picture(draw_bound.figure(), "svg", words_as_text=True).decode()
+        drawn = canvas.picture(draw_bound.figure(), "svg", words_as_text=True).decode()
         for words in ("COAL BASE", "gains at these prices", "of 8,191 nodes", "accepted (solid)"):
             self.assertIn(words, drawn)
 
@@ -143,9 +143,9 @@ class Hour(unittest.TestCase):
     @NEEDS_MATPLOTLIB
     def test_what_the_picture_says(self):
         """The numbers of GUIDE.md's first step."""
-        from lib.pictures import pictures
+        from lib.pictures import canvas
 
-        drawn = pictures.picture(draw_hour.figure(), "svg", words_as_text=True).decode()
+        drawn = canvas.picture(draw_hour.figure(), "svg", words_as_text=True).decode()
         for words in ("WIND: 45 MW", "executed in full", "GAS: 50 MW", "35 MW executed", "not executed", "the price: 60.00", "TOWN buys 80 MW"):
             self.assertIn(words, drawn)
 
@@ -158,11 +158,11 @@ class Office(unittest.TestCase):
 class Trust(unittest.TestCase):
     @NEEDS_MATPLOTLIB
     def test_what_the_pictures_say(self):
-        from lib.pictures import pictures
+        from lib.pictures import canvas
 
         day = draw_trust.problem()
         for draw, words in (draw_trust.draw_effect, ["hour 19", "its limit: 130"]), (draw_trust.draw_selections, ["4,096 ways", "207 of"]):
-            drawn = pictures.picture(draw(day), "svg", words_as_text=True).decode()
+            drawn = canvas.picture(draw(day), "svg", words_as_text=True).decode()
             for word in words:
                 self.assertIn(word, drawn)
 

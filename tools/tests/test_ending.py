@@ -69,14 +69,14 @@ from pathlib import Path
 from lib.base import ending
 ending.watch("audit")
 from lib.audit import days
-from lib.base.progress import Bar
+from lib.base.progress import StepBar
 from lib.pictures import drawing
 from lib.tool import command
 days.TOOL = Path(sys.argv[1])
 pairs = [days.Pair(str(number), Path(sys.argv[1]), None) for number in range(8)]
 def main():
     with drawing.apart():
-        days.audit_all(pairs, [], 3, Bar("audit", 8, "days"))
+        days.audit_all(pairs, [], 3, StepBar("audit", 8, "days"))
 command.run("audit", main)
 """
 WORKER = "import os, sys, time; open(os.path.dirname(sys.argv[0]) + '/pids', 'a').write(f'{os.getpid()}\\n'); time.sleep(600)"
@@ -326,7 +326,7 @@ class Interrupted(unittest.TestCase):
         found = []
 
         def run():
-            with running.started(["/bin/sleep", "600"]) as process:
+            with running.start(["/bin/sleep", "600"]) as process:
                 found.append(process)
                 process.wait()
 
@@ -337,7 +337,7 @@ class Interrupted(unittest.TestCase):
             running.end()
         thread.join(SECONDS)
         self.assertEqual([process.returncode for process in found], [-signal.SIGKILL])
-        with self.assertRaisesRegex(engine.Fault, "^/bin/sleep isn't run any more$"), running.started(["/bin/sleep", "600"]):
+        with self.assertRaisesRegex(engine.Fault, "^/bin/sleep isn't run any more$"), running.start(["/bin/sleep", "600"]):
             pass
 
     def test_copies_of_a_tool_end_without_a_word(self):
@@ -492,9 +492,9 @@ class Children(unittest.TestCase):
         """A process that isn't a tool's can't see it, and so doesn't begin a run."""
         self.addCleanup(signal.signal, signal.SIGCHLD, signal.signal(signal.SIGCHLD, signal.SIG_IGN))
         with self.assertRaisesRegex(engine.Fault, "^/bin/false can't be run: this process ignores SIGCHLD"):
-            engine.ran(["/bin/false"], b"")
+            engine.run_program(["/bin/false"], b"")
         children.heed()
-        self.assertEqual(engine.ran(["/bin/false"], b"")[0], 1)
+        self.assertEqual(engine.run_program(["/bin/false"], b"")[0], 1)
 
 
 class Start(unittest.TestCase):

@@ -355,7 +355,7 @@ class Facts(unittest.TestCase):
         bench = TOP / "bench"
         with mock.patch.object(sys, "path", [str(bench), *sys.path]):
             drawn = runpy.run_path(str(bench / "make_blocks.py"))
-        said = re.search(r"for (\d+) such books of 24 blocks, and with `--thin` (\d+) others, most of them thin", plain(TOP / "docs" / "CHECK.md"))
+        said = re.search(r"for (\d+) such books of 24 blocks, and with `--thin` instead (\d+) others, most of them thin", plain(TOP / "docs" / "CHECK.md"))
         self.assertEqual([found(number) for number in said.groups()], [len(drawn["BOOKS"]), len(drawn["MORE"])])
         self.assertGreater(sum(made.is_thin for made in drawn["MORE"]), len(drawn["MORE"]) / 2)
 

@@ -81,7 +81,7 @@ class Measured(unittest.TestCase):
             (here / "blocks.py").write_text('"""Hard books.\n\nMore."""\n')
             (here / "out" / "blocks.tsv").write_text("".join("\t".join(row) + "\n" for row in ROWS))
             with unittest.mock.patch.multiple(page, HERE=here, KEPT=here / "measured"):
-                with unittest.mock.patch.dict("os.environ", {"HIGHS_LIMIT": "5", "BEFORE_IS": "that of yesterday"}):
+                with unittest.mock.patch.dict("os.environ", {"PEER_LIMIT": "5", "BEFORE_IS": "that of yesterday"}):
                     page.take_over(["blocks"])
                     of_peers = [page.run_of(part)[-1] for part in ("blocks", "thin")]
                 text = page.page()
@@ -89,7 +89,7 @@ class Measured(unittest.TestCase):
         self.assertIn("Notes: (1) HiGHS and CBC each had 5 s for each book; (2) the program before is that of yesterday.", " ".join(text.split()))
         self.assertRegex(text, r"\| blocks \| \[5\]\(../bench/measured/blocks.csv\) \| 2 of 3 \| .* \| \(1\) \(2\) \|\n")
         self.assertIn("Hard books.\n", text)
-        self.assertIn("| `dam clear` by the default plan, spread 50 | 24 periods | 96 periods |\n|---|---|---|\n| links | 2 ms | 8 ms |\n", text)
+        self.assertIn("| `dam clear` by the default plan, spread 50, seed 1 | 24 periods | 96 periods |\n|---|---|---|\n| links | 2 ms | 8 ms |\n", text)
         self.assertIn("| deep books together: dam clear | 10 ms |  |\n", text)
         kind = "dam clear compared with the twin"
         self.assertIn(f"| blocks | {kind} | 2 of 2 | 2.46 to 2.70 x | at most 2.00 x | links 24, spread 50, seed 1 |\n", text)

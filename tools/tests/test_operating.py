@@ -169,7 +169,7 @@ class Day(unittest.TestCase):
                     while not begun.exists():
                         time.sleep(0.05)
                     send(run.pid, number)
-                    self.assertEqual(run.wait(timeout=SECONDS / 5), 10)
+                    self.assertEqual(run.wait(timeout=SECONDS / 2), 10)
                     self.assertEqual(subprocess.run(["flock", "-n", self.day / "lock", "true"]).returncode, 0)
                     run.communicate()
                     self.assertNotIn("results.txt", self.names())

@@ -50,69 +50,69 @@ class Missing(unittest.TestCase):
 @unittest.skipUnless(command.has("matplotlib"), "matplotlib is missing (Debian's python3-matplotlib)")
 class Pictures(unittest.TestCase):
     def test_days_with_little_in_them(self):
-        from lib.pictures import pictures
+        from lib.pictures import canvas, pictures
 
         few = ["empty", "buy-block", "too-large-block", "floor-of-negative"]
         for name, data, text in (case for case in support.cleared_cases() if case[0] in few):
             day = day_of(data, text)
             for figure in (pictures.day_picture(day), pictures.period_picture(day, 1)):
                 with self.subTest(name):
-                    drawn = pictures.picture(figure, "svg", words_as_text=True).decode()
+                    drawn = canvas.picture(figure, "svg", words_as_text=True).decode()
                     for words in ("EUR/MWh", "MW"):
                         self.assertIn(words, drawn)
 
     def test_what_the_pictures_of_the_auction_day_say(self):
-        from lib.pictures import pictures
+        from lib.pictures import canvas, pictures
 
         day = day_of(AUCTION.read_bytes(), support.printed(AUCTION))
-        drawn = pictures.picture(pictures.day_picture(day), "svg", words_as_text=True).decode()
+        drawn = canvas.picture(pictures.day_picture(day), "svg", words_as_text=True).decode()
         said = ["GAS EVENING", "sell 90 MW at 93.00 EUR/MWh", "paradoxically rejected", "surplus at these prices, EUR"]
         said += ["supporting prices", ">24<", ">23:00<"]
         for words in said:
             self.assertIn(words, drawn)
-        drawn = pictures.picture(pictures.period_picture(day, 19), "svg", words_as_text=True).decode()
+        drawn = canvas.picture(pictures.period_picture(day, 19), "svg", words_as_text=True).decode()
         for words in ("165.00", "accepted blocks sell 350.0 MW net", "730.0 MW of hourly buys are executed", "volume, MW"):
             self.assertIn(words, drawn)
 
     def test_what_the_pictures_of_a_quarter_hour_day_say(self):
-        from lib.pictures import pictures
+        from lib.pictures import canvas, pictures
 
         day = day_of(QUARTERS.read_bytes(), support.printed(QUARTERS))
-        drawn = pictures.picture(pictures.day_picture(day), "svg", words_as_text=True).decode()
+        drawn = canvas.picture(pictures.day_picture(day), "svg", words_as_text=True).decode()
         for words in ("GAS RAMP", "900.00", ">00:00<", ">93<", ">23:00<"):
             self.assertIn(words, drawn)
         for words in ("3,600.00", ">94<", ">23:15<"):
             self.assertNotIn(words, drawn)
-        drawn = pictures.picture(pictures.period_picture(day, 75), "svg", words_as_text=True).decode()
+        drawn = canvas.picture(pictures.period_picture(day, 75), "svg", words_as_text=True).decode()
         for words in ("Period 75, 18:30 to 18:45", "165.00", "726.0 MW of hourly buys are executed"):
             self.assertIn(words, drawn)
 
     def test_periods_without_trade_do_not_set_the_scale(self):
-        from lib.pictures import pictures
+        from lib.pictures import canvas, pictures
 
         day = day_of(FIRST, results_of(FIRST, frozenset()))
         figure = pictures.prices_picture(day)
         least, most = figure.axes[0].get_ylim()
         self.assertTrue(50 < least < 68 < most < 90, (least, most))
-        drawn = pictures.picture(figure, "svg", words_as_text=True).decode()
+        drawn = canvas.picture(figure, "svg", words_as_text=True).decode()
         self.assertEqual(drawn.count(">no trade<"), 2)
 
     def test_a_used_sheet_draws_what_a_new_one_does(self):
-        from lib.pictures import pictures
+        from lib.pictures import canvas, curves, pictures
 
         data = journal_of("submit,A,B1,hour,buy,9000,8:8,,", "submit,B,S1,hour,sell,8000,8:8,,")
         auction = day_of(AUCTION.read_bytes(), support.printed(AUCTION))
         few = day_of(data, results_of(data, frozenset()))
-        for width in pictures.WIDTHS.values():
-            sheet = pictures.CurveSheet(width)
+        for width in canvas.WIDTHS.values():
+            sheet = curves.CurveSheet(width)
             # With many orders and few, none, and then many again; with accepted blocks that sell, and without.
             for day, number in ((auction, 19), (few, 8), (few, 19), (auction, 19), (auction, 3), (few, 19)):
                 for words_as_text in (True, False):
-                    fresh = pictures.picture(pictures.period_picture(day, number, width), "svg", words_as_text)
-                    self.assertEqual(pictures.picture(sheet.drawn(day, number), "svg", words_as_text), fresh, (number, width))
+                    fresh = canvas.picture(pictures.period_picture(day, number, width), "svg", words_as_text)
+                    self.assertEqual(canvas.picture(sheet.drawn(day, number), "svg", words_as_text), fresh, (number, width))
 
     def test_the_axes_of_small_volumes_and_of_no_orders(self):
-        from lib.pictures import pictures
+        from lib.pictures import canvas, pictures
 
         data = journal_of("submit,A,B1,hour,buy,9000,8:8,,", "submit,B,S1,hour,sell,8000,8:8,,")
         day = day_of(data, results_of(data, frozenset()))
@@ -124,21 +124,21 @@ class Pictures(unittest.TestCase):
 
         self.assertEqual(ticks(8)[0][:6], ["0.0", "0.2", "0.4", "0.6", "0.8", "1.0"])
         self.assertEqual(ticks(19), [[], []])
-        drawn = pictures.picture(pictures.period_picture(day, 19), "svg", words_as_text=True).decode()
+        drawn = canvas.picture(pictures.period_picture(day, 19), "svg", words_as_text=True).decode()
         self.assertIn("no hourly orders", drawn)
 
     def test_links_groups_and_surpluses_of_blocks(self):
-        from lib.pictures import pictures
+        from lib.pictures import canvas, pictures
 
         day = day_of(AUCTION.read_bytes(), support.printed(AUCTION))
-        for width in pictures.WIDTHS.values():
+        for width in canvas.WIDTHS.values():
             figure = pictures.blocks_picture(day, width)
             (axes,) = figure.axes
             # The two links: START to STAY, and STAY to EVENING.
             arrows = [note for note in axes.texts if getattr(note, "arrow_patch", None)]
             self.assertEqual([tuple(note.xy)[0] for note in arrows], [10.5, 16.5])
             self.assertEqual([text.get_text() for text in axes.texts].count("FILL"), 1)
-            drawn = pictures.picture(figure, "svg", words_as_text=True).decode()
+            drawn = canvas.picture(figure, "svg", words_as_text=True).decode()
             for words in ("-8,960.00", "146,520.00", "GAS START", "sell 80 MW at 120.00 EUR/MWh"):
                 self.assertIn(words, drawn)
 
@@ -154,14 +154,14 @@ class Pictures(unittest.TestCase):
             self.assertEqual(len(pictures.blocks_picture(day).axes[0].patches), len(day.problem.blocks))
 
     def test_the_same_day_gives_the_same_bytes(self):
-        from lib.pictures import pictures
+        from lib.pictures import canvas, pictures
 
         day = day_of(AUCTION.read_bytes(), support.printed(AUCTION))
-        one, other = (pictures.picture(pictures.day_picture(day), "svg") for _ in range(2))
+        one, other = (canvas.picture(pictures.day_picture(day), "svg") for _ in range(2))
         self.assertEqual(one, other)
 
     def test_what_matters_differs_in_lightness(self):
-        from lib.pictures.pictures import COLOURS
+        from lib.pictures.canvas import COLOURS
 
         def lightness(name):
             red, green, blue = (int(COLOURS[name][at : at + 2], 16) for at in (1, 3, 5))

@@ -7,7 +7,7 @@ from unittest import mock
 
 import support  # noqa: F401 (it makes lib found)
 
-from lib.base.progress import Bar, Progress
+from lib.base.progress import StepBar, Progress
 
 
 class Terminal(io.StringIO):
@@ -39,7 +39,7 @@ class Bars(unittest.TestCase):
     def told(self, stream, seconds, **more):
         """The bar of ten steps, which take this many seconds each."""
         with mock.patch("sys.stderr", stream), mock.patch("time.monotonic", side_effect=(seconds * at for at in range(99))):
-            bar = Bar("audit", 10, "days", **more)
+            bar = StepBar("audit", 10, "days", **more)
             for _ in range(10):
                 bar.step(1, "1 wrong")
             bar.end()

@@ -73,7 +73,7 @@ class Receipts(unittest.TestCase):
         self.assertEqual(len(seal.receipt(1, head).path), heads.LONGEST_PATH)
         old = max(range(1, head.size), key=lambda size: len(seal.tree.consistency(size)))
         found, _ = heads.parsed(heads.line(seal.extension(seal.head(old), head)), heads.extension_read)
-        self.assertEqual((len(found.path), found.is_right()), (heads.LONGEST_PROOF, True))
+        self.assertEqual((len(found.path), found.is_valid()), (heads.LONGEST_PROOF, True))
 
     def test_every_change_of_a_byte_is_found(self):
         """Changed bytes of receipts, of the published head and of the public key."""
@@ -332,7 +332,7 @@ class Receipts(unittest.TestCase):
         words = "The path of the extension from two entries to three is the second hash above. The root and the signature of its `from` are"
         root, signature = re.search(rf"{words}\n\n```text\n(\S+)\n(\S+)\n```", page).groups()
         extension = seal.extension(seal.head(2), seal.head())
-        self.assertTrue(extension.is_right())
+        self.assertTrue(extension.is_valid())
         self.assertEqual((heads.packed(extension.old.root), heads.packed(extension.old.signature)), (root, signature))
         self.assertEqual(extension.path, receipt.path[1:])
 

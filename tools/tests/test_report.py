@@ -239,14 +239,14 @@ class Page(unittest.TestCase):
 
     def test_the_axis_is_cut_about_the_price(self):
         """The limits go from -40 to 3,000 EUR/MWh; those far from the price are said in words."""
-        from lib.pictures import pictures
+        from lib.pictures import canvas, curves, pictures
 
         day = day_of(SUNNY.read_bytes(), printed(SUNNY))
         for number in (13, 20):
-            drawn = pictures.picture(pictures.period_picture(day, number), "svg", words_as_text=True).decode()
+            drawn = canvas.picture(pictures.period_picture(day, number), "svg", words_as_text=True).decode()
             self.assertIn("limits go up to 3,000.00 EUR/MWh", drawn)
-            demand, supply = pictures.steps(day.problem.orders[number], "buy", 0), pictures.steps(day.problem.orders[number], "sell", 0)
-            bottom, top = pictures.price_range(day, number, (demand, supply))
+            demand, supply = curves.steps(day.problem.orders[number], "buy", 0), curves.steps(day.problem.orders[number], "sell", 0)
+            bottom, top = curves.price_range(day, number, (demand, supply))
             self.assertLess(top - bottom, 700)
             self.assertTrue(bottom < day.said.prices[number - 1] / 100 < top)
 

@@ -465,7 +465,7 @@ class Tools(unittest.TestCase):
                     scenarios.read_table("a", f"scenario,{data[:-1].replace(chr(10), chr(10) + 'S,')}".encode(), held)
 
     def test_bad_words_and_bad_comparisons(self):
-        for word in ("abc", text.cents(rules.GREATEST_PRICE + 1), "1e3", "0.001"):
+        for word in ("abc", text.eur_per_mwh(rules.GREATEST_PRICE + 1), "1e3", "0.001"):
             status, _, err = self.whatif("limit", self.journal, "--participant", "CITY", "--order", "TOWN", "--from", word)
             self.assertEqual((status, word in err), (2, True))
         days = AUCTION, AUCTION_RESULTS, QUARTERS, QUARTERS_RESULTS

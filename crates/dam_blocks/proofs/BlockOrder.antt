@@ -12,7 +12,7 @@ use Rattle.dam_book.specs.Terms.{BlockTerms}
 use Rattle.dam_hour.specs.declared.step.Step.{Step}
 use Rattle.dam_blocks.specs.declared.problem.Block.{Block}
 use Rattle.dam_blocks.specs.Problem.{ProblemState, IsProblem, IsParent}
-use Rattle.dam_blocks.specs.Selection.{accepts, over_accepted, net_volume_of, value_in, are_of_one_group, accepted_of_group}
+use Rattle.dam_blocks.specs.Selection.{accepts, over_accepted, net_volume_of_block, value_in, are_of_one_group, accepted_of_group}
 use Rattle.dam_blocks.specs.Selection.{IsAllowed, IsAdmissible}
 use Rattle.dam_blocks.specs.Family.{descends, accepted_where, accepted_descendants, IsChildAt, Descends, Child, OfChild}
 use Rattle.dam_blocks.specs.Eligible.{ArePrices, surplus_of, surplus_at, HasNoLoss, welfare_from, IsEligible}
@@ -331,7 +331,7 @@ counterpart problem other xs w is_one is_other change e =
     let ys = found.0 in let m = found.1 in
     let prices_are : (prices : List ℤ) → ArePrices problem.blocks xs 1 problem.hours prices → ArePrices other.blocks ys 1 other.hours prices =
     λ prices are. subst (λ (hours : List (List Step)). ArePrices other.blocks ys 1 hours prices) (sym change.hours)
-    (prices_transfer problem.blocks other.blocks xs ys 1 problem.hours prices (λ t. m.sum (net_volume_of t)) are) in (
+    (prices_transfer problem.blocks other.blocks xs ys 1 problem.hours prices (λ t. m.sum (net_volume_of_block t)) are) in (
       ys,
       record {
         same = unique_acceptances problem other xs ys two m;
@@ -343,7 +343,7 @@ counterpart problem other xs w is_one is_other change e =
           are_prices = prices_are e.prices e.are_prices;
           no_loss = counterpart_no_loss problem other xs ys e.prices two again room m e.admissible e.no_loss;
           welfare_is = ap (λ (hours : List (List Step)). welfare_from other.blocks ys 1 hours) change.hours
-              ∙ sym (welfare_transfer problem.blocks other.blocks xs ys 1 problem.hours (λ t. m.sum (net_volume_of t))
+              ∙ sym (welfare_transfer problem.blocks other.blocks xs ys 1 problem.hours (λ t. m.sum (net_volume_of_block t))
               (λ t. m.sum (value_in t)))
               ∙ e.welfare_is;
         };

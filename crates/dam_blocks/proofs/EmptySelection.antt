@@ -9,7 +9,7 @@ use Rattle.dam_hour.specs.Price.{AreEnds, price_between}
 use Rattle.dam_hour.specs.Best.{IsBest, welfare_of, greatest_welfare}
 use Rattle.dam_blocks.specs.declared.problem.Block.{Block}
 use Rattle.dam_blocks.specs.Problem.{ProblemState, AreHoursInRange}
-use Rattle.dam_blocks.specs.Selection.{accepts, empty_selection, net_volume_of, net_volume, accepted_value, IsAdmissible}
+use Rattle.dam_blocks.specs.Selection.{accepts, empty_selection, net_volume_of_block, net_volume, accepted_value, IsAdmissible}
 use Rattle.dam_blocks.specs.Eligible.{ArePrices, added, period_welfare, welfare_from, IsEligible}
 use Rattle.dam_blocks.proofs.Sums.{over_accepted-replicate}
 use Rattle.dam_blocks.proofs.Choices.{accepts-replicate}
@@ -30,7 +30,7 @@ empty_admissible : (blocks : List Block) → IsAdmissible blocks empty_selection
 empty_admissible blocks = record { each = λ i e. absurd (empty_accepted i e) }
 
 empty_net : (blocks : List Block) (t : ℕ) → net_volume blocks empty_selection t ≡ pos 0
-empty_net blocks t = over_accepted-replicate (net_volume_of t) blocks most_blocks
+empty_net blocks t = over_accepted-replicate (net_volume_of_block t) blocks most_blocks
 
 -- each net volume is within the offers of its period, from period t on
 abbrev pub AreWithin : List Block → List Bool → ℕ → List (List Step) → Type 0

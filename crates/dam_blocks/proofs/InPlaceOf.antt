@@ -16,7 +16,7 @@ use Rattle.dam_hour.specs.Price.{IsBetter}
 use Rattle.dam_hour.specs.Best.{signed, greatest_welfare}
 use Rattle.dam_blocks.specs.declared.problem.Block.{Block}
 use Rattle.dam_blocks.specs.Problem.{ProblemState, IsParent, IsBlock, AreBlocks, IsProblem}
-use Rattle.dam_blocks.specs.Selection.{accepts, volume_in, over_accepted, net_volume_of, value_in, net_volume, accepted_value, IsAllowed, IsAdmissible}
+use Rattle.dam_blocks.specs.Selection.{accepts, volume_in, over_accepted, net_volume_of_block, value_in, net_volume, accepted_value, IsAllowed, IsAdmissible}
 use Rattle.dam_blocks.specs.Family.{descends, accepted_descendants, IsChildAt, Descends, Child, OfChild}
 use Rattle.dam_blocks.specs.Eligible.{surplus_of, surplus_at, family_surplus, HasNoLoss, added, period_welfare, welfare_from, IsEligible}
 use Rattle.dam_blocks.specs.Result.{IsResult}
@@ -161,8 +161,8 @@ sum_exchanged problem i j b c xs f two d =
 same_net : (problem : ProblemState) (i j : ℕ) (b c : Block) (xs : List Bool) (t : ℕ) → AreTwo problem i j b c → AreDecided xs i j
     → net_volume problem.blocks xs t ≡ net_volume problem.blocks (exchanged xs i j) t
 same_net problem i j b c xs t two d =
-    let sum = sum_exchanged problem i j b c xs (net_volume_of t) two d in
-    let own : net_volume_of t b.order ≡ net_volume_of t c.order = ap (λ (o : BlockTerms). net_volume_of t o) two.alike in
+    let sum = sum_exchanged problem i j b c xs (net_volume_of_block t) two d in
+    let own : net_volume_of_block t b.order ≡ net_volume_of_block t c.order = ap (λ (o : BlockTerms). net_volume_of_block t o) two.alike in
     omega (arith, ints, sum, own)
 
 -- ---- the welfare

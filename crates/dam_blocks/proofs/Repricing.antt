@@ -16,7 +16,7 @@ use Rattle.dam_hour.specs.Price.{IsBetter, IsWorse}
 use Rattle.dam_hour.specs.Best.{signed, greatest_welfare}
 use Rattle.dam_blocks.specs.declared.problem.Block.{Block}
 use Rattle.dam_blocks.specs.Problem.{ProblemState, IsParent}
-use Rattle.dam_blocks.specs.Selection.{accepts, volume_in, over_accepted, net_volume_of, value_in, net_volume, accepted_value, are_of_one_group}
+use Rattle.dam_blocks.specs.Selection.{accepts, volume_in, over_accepted, net_volume_of_block, value_in, net_volume, accepted_value, are_of_one_group}
 use Rattle.dam_blocks.specs.Selection.{accepted_of_group, IsAdmissible}
 use Rattle.dam_blocks.specs.Family.{names, parent_among, parent_place, leads_to, descends, accepted_descendants}
 use Rattle.dam_blocks.specs.Eligible.{ArePrices, surplus_from, surplus_of, surplus_at, family_surplus, HasNoLoss, added, period_welfare}
@@ -240,7 +240,7 @@ same_sum f (c ∷ bs) (false ∷ sel) (suc i) limit h = same_sum f bs sel i limi
 
 pub same_net : (bs : List Block) (sel : List Bool) (i : ℕ) (limit : ℤ) (t : ℕ)
     → net_volume (repriced bs i limit) sel t ≡ net_volume bs sel t
-same_net bs sel i limit t = same_sum (net_volume_of t) bs sel i limit (λ b. refl)
+same_net bs sel i limit t = same_sum (net_volume_of_block t) bs sel i limit (λ b. refl)
 
 same_sum_without : (f : BlockTerms → ℤ) (bs : List Block) (sel : List Bool) (i : ℕ) (b : Block) (limit : ℤ) → slice_get bs i ≡ Some b
     → accepts sel i ≡ false → over_accepted f (repriced bs i limit) sel ≡ over_accepted f bs sel

@@ -10,7 +10,7 @@ use Rattle.dam_hour.specs.Execution.{volume_on, Balances}
 use Rattle.dam_hour.specs.Best.{signed, IsBest, welfare_of, execution_surplus, greatest_welfare}
 use Rattle.dam_blocks.specs.declared.problem.Block.{Block}
 use Rattle.dam_blocks.specs.Problem.{ProblemState}
-use Rattle.dam_blocks.specs.Selection.{over_accepted, volume_in, net_volume_of, net_volume, accepted_value}
+use Rattle.dam_blocks.specs.Selection.{over_accepted, volume_in, net_volume_of_block, net_volume, accepted_value}
 use Rattle.dam_blocks.specs.Eligible.{ArePrices, surplus_in, surplus_from, added, period_welfare, welfare_from, selection_welfare}
 use Rattle.dam_blocks.specs.Market.{AreBestExecutions, block_volume_of, traded, money_from, hourly_surplus, accepted_surplus}
 use Rattle.dam_blocks.proofs.Sums.{over_accepted-plus, over_accepted-same, over_accepted-zero, accepted_surplus as value_and_price}
@@ -72,8 +72,8 @@ sold_is Sell x = omega (arith, ints)
 blocks_sell : (blocks : List Block) (sel : List Bool) (t : ℕ)
     → net_volume blocks sel t +ℤ over_accepted (block_volume_of Buy t) blocks sel ≡ over_accepted (block_volume_of Sell t) blocks sel
 blocks_sell blocks sel t =
-    sym (over_accepted-plus (net_volume_of t) (block_volume_of Buy t) blocks sel)
-    ∙ over_accepted-same (λ o. net_volume_of t o +ℤ block_volume_of Buy t o) (block_volume_of Sell t) blocks sel
+    sym (over_accepted-plus (net_volume_of_block t) (block_volume_of Buy t) blocks sel)
+    ∙ over_accepted-same (λ o. net_volume_of_block t o +ℤ block_volume_of Buy t o) (block_volume_of Sell t) blocks sel
     (λ o. sold_is o.side (volume_in o.volumes t))
 
 pub volume_balances : (blocks : List Block) (sel : List Bool) (t : ℕ) (ss : List Step) (xs : List ℕ)

@@ -10,7 +10,7 @@ use Rattle.dam_book.specs.declared.order.Side.{Side}
 use Rattle.dam_book.specs.declared.order.Side.TheVariants.{Buy, Sell}
 use Rattle.dam_hour.specs.Best.{signed}
 use Rattle.dam_blocks.specs.declared.problem.Block.{Block}
-use Rattle.dam_blocks.specs.Selection.{accepts, padded, over_accepted, volume_in, net_volume_of, value_in, net_volume, accepted_value}
+use Rattle.dam_blocks.specs.Selection.{accepts, padded, over_accepted, volume_in, net_volume_of_block, value_in, net_volume, accepted_value}
 use Rattle.dam_blocks.specs.Eligible.{surplus_in}
 
 pub over_accepted-plus : (f g : BlockTerms → ℤ) (bs : List Block) (sel : List Bool)
@@ -92,12 +92,12 @@ gain_split Sell limit p x =
     let twice : neg_ℤ (neg_ℤ (pos x)) ≡ pos x = omega (arith, ints) in
     let m = minus_times limit p x in let n = ap (λ (z : ℤ). p *ℤ z) twice in omega (arith, ints, m, n)
 
-pub surplus_split : (t : ℕ) (p : ℤ) (o : BlockTerms) → p *ℤ net_volume_of t o +ℤ value_in t o ≡ surplus_in t p o
+pub surplus_split : (t : ℕ) (p : ℤ) (o : BlockTerms) → p *ℤ net_volume_of_block t o +ℤ value_in t o ≡ surplus_in t p o
 surplus_split t p o = gain_split o.side o.price p (volume_in o.volumes t)
 
 pub accepted_surplus : (blocks : List Block) (sel : List Bool) (t : ℕ) (p : ℤ)
     → p *ℤ net_volume blocks sel t +ℤ accepted_value blocks sel t ≡ over_accepted (surplus_in t p) blocks sel
 accepted_surplus blocks sel t p =
-    ap (λ (z : ℤ). z +ℤ accepted_value blocks sel t) (over_accepted-times p (net_volume_of t) blocks sel)
-    ∙ sym (over_accepted-plus (λ o. p *ℤ net_volume_of t o) (value_in t) blocks sel)
-    ∙ over_accepted-same (λ o. p *ℤ net_volume_of t o +ℤ value_in t o) (surplus_in t p) blocks sel (surplus_split t p)
+    ap (λ (z : ℤ). z +ℤ accepted_value blocks sel t) (over_accepted-times p (net_volume_of_block t) blocks sel)
+    ∙ sym (over_accepted-plus (λ o. p *ℤ net_volume_of_block t o) (value_in t) blocks sel)
+    ∙ over_accepted-same (λ o. p *ℤ net_volume_of_block t o +ℤ value_in t o) (surplus_in t p) blocks sel (surplus_split t p)

@@ -12,7 +12,7 @@ use Rattle.dam_book.specs.Limits.{most_blocks, most_of_group}
 use Rattle.dam_hour.specs.declared.step.Step.{Step}
 use Rattle.dam_blocks.specs.declared.problem.Block.{Block}
 use Rattle.dam_blocks.specs.Problem.{ProblemState, IsProblem, IsParent}
-use Rattle.dam_blocks.specs.Selection.{accepts, over_accepted, net_volume_of, value_in, net_volume, are_of_one_group, accepted_of_group}
+use Rattle.dam_blocks.specs.Selection.{accepts, over_accepted, net_volume_of_block, value_in, net_volume, are_of_one_group, accepted_of_group}
 use Rattle.dam_blocks.specs.Selection.{IsAllowed, IsAdmissible}
 use Rattle.dam_blocks.specs.Family.{descends, accepted_descendants, IsChildAt, Descends, Child, OfChild}
 use Rattle.dam_blocks.specs.Eligible.{ArePrices, surplus_of, family_surplus, HasNoLoss, welfare_from, selection_welfare, IsEligible}
@@ -354,7 +354,7 @@ whole_no_loss whole rest i gone zs prices both none = record {
 -- ---- eligible
 same_net : (whole rest : ProblemState) (i : ℕ) (gone : Block) (zs : List Bool) (t : ℕ) → IsWithoutBlock whole rest i gone
     → net_volume whole.blocks (insert zs i false) t ≡ net_volume rest.blocks (zs ++ false ∷ []) t
-same_net whole rest i gone zs t w = over_rest_of whole rest i gone (net_volume_of t) zs w
+same_net whole rest i gone zs t w = over_rest_of whole rest i gone (net_volume_of_block t) zs w
 
 same_welfare : (whole rest : ProblemState) (i : ℕ) (gone : Block) (zs : List Bool) → IsWithoutBlock whole rest i gone
     → selection_welfare whole (insert zs i false) ≡ selection_welfare rest (zs ++ false ∷ [])

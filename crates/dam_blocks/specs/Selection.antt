@@ -47,12 +47,12 @@ over_accepted f (b ∷ bs) (false ∷ selection) = over_accepted f bs selection
 over_accepted f _ _ = pos 0
 
 -- the net volume of a block in a period: its volume if it sells, and minus its volume if it buys
-abbrev pub net_volume_of : ℕ → BlockTerms → ℤ
-net_volume_of t o = neg_ℤ (signed o.side (pos (volume_in o.volumes t)))
+abbrev pub net_volume_of_block : ℕ → BlockTerms → ℤ
+net_volume_of_block t o = neg_ℤ (signed o.side (pos (volume_in o.volumes t)))
 
 -- a block's volume in a period if it buys, 0 if it sells
-abbrev pub bought_volume_of : ℕ → BlockTerms → ℤ
-bought_volume_of t o = pos (volume_on Buy o.side (volume_in o.volumes t))
+abbrev pub bought_volume_of_block : ℕ → BlockTerms → ℤ
+bought_volume_of_block t o = pos (volume_on Buy o.side (volume_in o.volumes t))
 
 -- limit times volume in a period of a block that buys, and the same with the other sign of one that
 -- sells
@@ -61,11 +61,11 @@ value_in t o = signed o.side (o.price *ℤ pos (volume_in o.volumes t))
 
 -- the accepted sell blocks' volume in a period less the accepted buy blocks'
 abbrev pub net_volume : List Block → List Bool → ℕ → ℤ
-net_volume blocks selection t = over_accepted (net_volume_of t) blocks selection
+net_volume blocks selection t = over_accepted (net_volume_of_block t) blocks selection
 
 -- the accepted buy blocks' volume in a period
 abbrev pub bought_volume : List Block → List Bool → ℕ → ℤ
-bought_volume blocks selection t = over_accepted (bought_volume_of t) blocks selection
+bought_volume blocks selection t = over_accepted (bought_volume_of_block t) blocks selection
 
 -- the accepted buy blocks' limit times volume in a period less the accepted sell blocks'
 abbrev pub accepted_value : List Block → List Bool → ℕ → ℤ

@@ -5,7 +5,7 @@ ghost use Rattle.dam_book.specs.Limits.{greatest_volume, most_blocks};
 ghost use Rattle.dam_hour.specs.Limits.{greatest_net, price_span, greatest_value};
 ghost use Rattle.dam_hour.specs.Best.{signed};
 ghost use Rattle.dam_hour.specs.Execution.{IsNetVolume};
-ghost use Rattle.dam_blocks.specs.Selection.{volume_in, net_volume_of, bought_volume_of, value_in, net_volume, bought_volume, accepted_value};
+ghost use Rattle.dam_blocks.specs.Selection.{volume_in, net_volume_of_block, bought_volume_of_block, value_in, net_volume, bought_volume, accepted_value};
 ghost use Rattle.dam_blocks.specs.Magnitude.{IsWithin, greatest_block_value_in_period, greatest_gain};
 
 use crate::problem::Block;
@@ -52,8 +52,8 @@ pub(crate) fn cents_times_volume(cents: i32, volume: u32) -> i64
 
 /// The change of the net volume of a period by an accepted block, in tenths of a MW: its volume there
 /// if it sells, and minus its volume if it buys.
-pub fn net_volume_of(order: &BlockOrder, period: Period) -> i64
-    ensures value { result ≡ net_volume_of period order.now }
+pub fn net_volume_of_block(order: &BlockOrder, period: Period) -> i64
+    ensures value { result ≡ net_volume_of_block period order.now }
     ensures low { neg_ℤ (pos greatest_volume) ≤ℤ result }
     ensures high { result ≤ℤ pos greatest_volume }
 {
@@ -62,8 +62,8 @@ pub fn net_volume_of(order: &BlockOrder, period: Period) -> i64
 }
 
 /// A block's volume in a period if it buys, in tenths of a MW; 0 if it sells.
-pub fn bought_volume_of(order: &BlockOrder, period: Period) -> u32
-    ensures value { pos result ≡ bought_volume_of period order.now }
+pub fn bought_volume_of_block(order: &BlockOrder, period: Period) -> u32
+    ensures value { pos result ≡ bought_volume_of_block period order.now }
     ensures small { result ≤ greatest_volume }
 {
     let volume = volume_in(order.volumes(), period);
@@ -97,7 +97,7 @@ pub fn net_volume(blocks: &[Block], selection: Selection, period: Period) -> i64
     let mut total = 0;
     for (place, block) in blocks.iter().enumerate() {
         if selection.has(place) {
-            total += net_volume_of(&block.order, period);
+            total += net_volume_of_block(&block.order, period);
         }
     }
     total
@@ -112,7 +112,7 @@ pub fn bought_volume(blocks: &[Block], selection: Selection, period: Period) -> 
     let mut total = 0;
     for (place, block) in blocks.iter().enumerate() {
         if selection.has(place) {
-            total += u64::from(bought_volume_of(&block.order, period));
+            total += u64::from(bought_volume_of_block(&block.order, period));
         }
     }
     total

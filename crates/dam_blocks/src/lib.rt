@@ -36,12 +36,13 @@ mod selection;
 mod surpluses;
 
 pub use accepted::{
-    accepted_value, bought_volume, bought_volume_of, net_volume, net_volume_of, value_in, volume_in,
+    accepted_value, bought_volume, bought_volume_of_block, net_volume, net_volume_of_block,
+    value_in, volume_in,
 };
 pub use family::descends;
 pub use links::{admissible, are_of_one_group, is_allowed};
 pub use problem::{Block, MOST_PERIODS, Place, Problem, ProblemFault, ProblemRow};
 pub use result::{best_of_all, best_of_none, ranks_above};
 pub use scoring::{Verdict, score};
-pub use selection::{Best, Selection};
+pub use selection::{Selection, Solution};
 pub use surpluses::{family_surplus, surplus};

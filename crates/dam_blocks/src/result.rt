@@ -7,13 +7,13 @@ ghost use Rattle.dam_blocks.specs.inside.Better.{RanksNoHigher};
 use crate::laws;
 use crate::problem::Problem;
 use crate::scoring::{Verdict, score};
-use crate::selection::{Best, Selection, choice_count};
+use crate::selection::{Selection, Solution, choice_count};
 use dam_book::MOST_BLOCKS;
 use std::alloc::Allocator;
 
 /// Whether the first is the better result: it has the greater welfare, or the same, and then it accepts
 /// the first block at which they differ.
-pub fn ranks_above(first: Best, second: Best) -> bool
+pub fn ranks_above(first: Solution, second: Solution) -> bool
     ensures { MatchBool result
         (RanksAbove (pos first.welfare) first.selection (pos second.welfare) second.selection)
         (RanksAtOrBelow (pos first.welfare) first.selection (pos second.welfare) second.selection) }
@@ -40,7 +40,7 @@ fn accepts_first(first: Selection, second: Selection) -> bool
 }
 
 /// The empty selection, which is eligible, and its welfare. Takes no memory.
-pub fn best_of_none<A: Allocator>(problem: &Problem<A>) -> Best
+pub fn best_of_none<A: Allocator>(problem: &Problem<A>) -> Solution
     ensures none { result.selection ≡ empty_selection }
     ensures eligible { IsEligible problem.now result.selection (pos result.welfare) }
 {
@@ -48,13 +48,13 @@ pub fn best_of_none<A: Allocator>(problem: &Problem<A>) -> Best
     let _invariant = problem.periods(); // for the proof: the invariant of a problem
     let selection = Selection::none();
     match score(problem, selection) {
-        Verdict::Eligible(welfare) => Best { selection, welfare },
+        Verdict::Eligible(welfare) => Solution { selection, welfare },
         _ => unreachable!(),
     }
 }
 
 /// The one of the two that ranks above the other.
-fn higher(first: &Best, second: &Best) -> Best
+fn higher(first: &Solution, second: &Solution) -> Solution
     ensures either { (result ≡ first.now) ⊎ (result ≡ second.now) }
     ensures first { RanksNoHigher first.now result }
     ensures second { RanksNoHigher second.now result }
@@ -67,7 +67,11 @@ fn higher(first: &Best, second: &Best) -> Best
 }
 
 /// The better of `best` and this selection, if that is eligible.
-fn best_after_trying<A: Allocator>(problem: &Problem<A>, best: Best, selection: Selection) -> Best
+fn best_after_trying<A: Allocator>(
+    problem: &Problem<A>,
+    best: Solution,
+    selection: Selection,
+) -> Solution
     requires { IsEligible problem.now best.selection (pos best.welfare) }
     ensures eligible { IsEligible problem.now result.selection (pos result.welfare) }
     ensures kept { RanksNoHigher best result }
@@ -75,7 +79,7 @@ fn best_after_trying<A: Allocator>(problem: &Problem<A>, best: Best, selection: 
         → RanksAtOrBelow v selection (pos result.welfare) result.selection }
 {
     match score(problem, selection) {
-        Verdict::Eligible(welfare) => higher(&Best { selection, welfare }, &best),
+        Verdict::Eligible(welfare) => higher(&Solution { selection, welfare }, &best),
         _ => best,
     }
 }
@@ -83,7 +87,7 @@ fn best_after_trying<A: Allocator>(problem: &Problem<A>, best: Best, selection: 
 /// The result of the problem, by trying every selection of its blocks.
 ///
 /// It scores each selection of the blocks, 2 to the power of their number. It takes no memory.
-pub fn best_of_all<A: Allocator>(problem: &Problem<A>) -> Best
+pub fn best_of_all<A: Allocator>(problem: &Problem<A>) -> Solution
     ensures { IsResult problem.now result.selection (pos result.welfare) }
 {
     let count = problem.block_count();

@@ -114,7 +114,7 @@ impl Selection {
 ///
 /// The type doesn't constrain them; the function that returns one states its meaning.
 #[derive(Clone, Copy, PartialEq, Eq, Debug)]
-pub struct Best {
+pub struct Solution {
     /// The accepted blocks.
     pub selection: Selection,
     /// The welfare, in cents per MWh times tenths of a MW.

@@ -268,7 +268,7 @@ fn is_child<A: Allocator>(
     ensures { result ≡ child_at (who.now, name.now) owner.now content.now }
 {
     match content {
-        Some(order) => order.get().has_parent(name) && *who == *owner,
+        Some(order) => order.get().is_child_of(name) && *who == *owner,
         None => false,
     }
 }

@@ -13,7 +13,7 @@ use Rattle.dam_hour.specs.Best.{signed}
 use Rattle.dam_blocks.specs.declared.problem.Block.{Block}
 use Rattle.dam_blocks.specs.Problem.{AreBlocks}
 use Rattle.dam_blocks.specs.Magnitude.{IsWithin}
-use Rattle.dam_blocks.specs.Selection.{volume_in, net_volume_of, value_in}
+use Rattle.dam_blocks.specs.Selection.{volume_in, net_volume_of_block, value_in}
 use Rattle.dam_blocks.proofs.Magnitudes.{value_within}
 use Rattle.dam_bound.specs.Sums.{over_periods, at_places}
 use Rattle.dam_bound.specs.inside.Numbers.{AreNumbersWithin, AreRaised}
@@ -100,7 +100,7 @@ order_at periods [] k b are at = absurd (cc)
 order_at periods (x ∷ bs) zero b are at = let same : x ≡ b = cc in subst (λ (y : Block). IsBlockOrder y.order) same are.0.order
 order_at periods (x ∷ bs) (suc k) b are at = order_at periods bs k b are.1 at
 
-pub net_small : (t : ℕ) (o : BlockTerms) → IsBlockOrder o → IsWithin greatest_volume (net_volume_of t o)
+pub net_small : (t : ℕ) (o : BlockTerms) → IsBlockOrder o → IsWithin greatest_volume (net_volume_of_block t o)
 net_small t o is = one_net o.side (volume_in o.volumes t) (volume_small o.volumes t is.volumes.ranges)
 
 pub value_small : (n : ℕ) (o : BlockTerms) → n ≤ last_period → IsBlockOrder o

@@ -10,7 +10,7 @@ use Rattle.dam_hour.specs.Limits.{greatest_price, greatest_value}
 use Rattle.dam_blocks.specs.declared.problem.Block.{Block}
 use Rattle.dam_blocks.specs.Problem.{ProblemState}
 use Rattle.dam_blocks.specs.Magnitude.{IsWithin}
-use Rattle.dam_blocks.specs.Selection.{accepts, over_accepted, net_volume_of}
+use Rattle.dam_blocks.specs.Selection.{accepts, over_accepted, net_volume_of_block}
 use Rattle.dam_blocks.specs.Family.{descends, accepted_descendants}
 use Rattle.dam_blocks.specs.Eligible.{ArePrices, surplus_of, surplus_at, family_surplus}
 use Rattle.dam_bound.specs.ClassCurves.{day_value}
@@ -76,7 +76,7 @@ pub record IsGainSoFar (problem : ProblemState) (prices : List ℤ) (j i : ℕ) 
   pub small : IsWithin ((j + 1) * (last_period * greatest_value)) gain
   pub is : (b : Block) → slice_get problem.blocks i ≡ Some b
       → gain ≡ day_value problem b.order
-      +ℤ over_places (λ c. get_or prices c (pos 0) *ℤ net_volume_of (c + 1) b.order) (take j (class_places problem))
+      +ℤ over_places (λ c. get_or prices c (pos 0) *ℤ net_volume_of_block (c + 1) b.order) (take j (class_places problem))
 
 pub first_gain : (problem : ProblemState) (prices values : List ℤ) (i : ℕ) (gain : ℤ) → length problem.blocks ≤ most_blocks
     → values ≡ at_places most_blocks (day_value problem) problem.blocks → gain ≡ get_or values i (pos 0)
@@ -92,7 +92,7 @@ first_gain problem prices values i gain few are e within =
 
 pub gain_next : (problem : ProblemState) (prices : List ℤ) (j : ℕ) (class : Class) (i : ℕ) (gain after price : ℤ)
     → length problem.blocks ≤ most_blocks → IsAtPlace problem j class.at
-    → class.nets ≡ at_places most_blocks (net_volume_of (class.at + 1)) problem.blocks → AreNumbersWithin greatest_volume class.nets → i < most_blocks
+    → class.nets ≡ at_places most_blocks (net_volume_of_block (class.at + 1)) problem.blocks → AreNumbersWithin greatest_volume class.nets → i < most_blocks
     → IsWithin (last_period * greatest_price) price → price ≡ get_or prices class.at (pos 0)
     → after ≡ gain +ℤ price *ℤ get_or class.nets i (pos 0)
     → IsGainSoFar problem prices j i gain → IsGainSoFar problem prices (j + 1) i after
@@ -105,13 +105,13 @@ gain_next problem prices j class i gain after price few place nets_are nets_smal
       is = λ block at.
           (let c = class.at in
           let one = ap (λ (xs : List ℤ). get_or xs i (pos 0)) nets_are
-          ∙ at_block most_blocks (net_volume_of (c + 1)) problem.blocks i (pos 0) block at few in
+          ∙ at_block most_blocks (net_volume_of_block (c + 1)) problem.blocks i (pos 0) block at few in
           let same = ap₂ (λ (p v : ℤ). p *ℤ v) price_is one in
-          let next = over_next (λ c. get_or prices c (pos 0) *ℤ net_volume_of (c + 1) block.order) (class_places problem) j c place.place in
+          let next = over_next (λ c. get_or prices c (pos 0) *ℤ net_volume_of_block (c + 1) block.order) (class_places problem) j c place.place in
           let before = so_far.is block at in
           let number : suc j ≡ j + 1 = omega arith in
           subst (λ (n : ℕ). after ≡ day_value problem block.order
-          +ℤ over_places (λ c. get_or prices c (pos 0) *ℤ net_volume_of (c + 1) block.order) (take n (class_places problem))) number
+          +ℤ over_places (λ c. get_or prices c (pos 0) *ℤ net_volume_of_block (c + 1) block.order) (take n (class_places problem))) number
           (omega (arith, ints, sum, same, next, before)));
     }
 
@@ -131,11 +131,11 @@ pub whole_gain : AreEndsUnique → (problem : ProblemState) (sel : List Bool) (p
     → ArePrices problem.blocks sel 1 problem.hours day → IsGainSoFar problem prices j i gain → gain ≡ surplus_at problem.blocks day i
 whole_gain law problem sel prices day j i gain inside past priced are so_far =
     let found = block_there problem.blocks i inside in let o = found.0.order in let places = class_places problem in
-    let f = (λ (c : ℕ). get_or prices c (pos 0) *ℤ net_volume_of (c + 1) o) in
+    let f = (λ (c : ℕ). get_or prices c (pos 0) *ℤ net_volume_of_block (c + 1) o) in
     let own = so_far.is found.0 found.1 in
     let whole = ap (over_places f) (take_all j places past) in
-    let each = over_same f (λ c. class_price problem day c *ℤ net_volume_of (c + 1) o) places (λ k c there.
-    ap (λ (z : ℤ). z *ℤ net_volume_of (c + 1) o) (joint_price_is law problem sel c day (get_or prices c (pos 0)) are (priced.each k c there).joint)) in
+    let each = over_same f (λ c. class_price problem day c *ℤ net_volume_of_block (c + 1) o) places (λ k c there.
+    ap (λ (z : ℤ). z *ℤ net_volume_of_block (c + 1) o) (joint_price_is law problem sel c day (get_or prices c (pos 0)) are (priced.each k c there).joint)) in
     let all = surplus_is problem sel day i found.0 are found.1 in
     let here = surplus_there problem.blocks day i found.0 found.1 in
     omega (arith, ints, own, whole, each, all, here)

@@ -8,7 +8,7 @@ use Rattle.std.proofs.lemmas.Bool.Decides.{nat_tests}
 use Rattle.dam_book.specs.Terms.{BlockTerms}
 use Rattle.dam_hour.specs.Best.{signed}
 use Rattle.dam_blocks.specs.declared.problem.Block.{Block}
-use Rattle.dam_blocks.specs.Selection.{volume_in, over_accepted, net_volume_of, net_volume}
+use Rattle.dam_blocks.specs.Selection.{volume_in, over_accepted, net_volume_of_block, net_volume}
 use Rattle.dam_bound.specs.Classes.{are_alike, first_from, first_of}
 use Rattle.dam_bound.proofs.Worth.{sum_from}
 
@@ -71,7 +71,7 @@ alike_sum f (x ∷ blocks) (false ∷ sel) i j each e =
 pub alike_net : (blocks : List Block) (sel : List Bool) (i j : ℕ) → are_alike blocks i j ≡ true
     → net_volume blocks sel (suc i) ≡ net_volume blocks sel (suc j)
 alike_net blocks sel i j e =
-    alike_sum net_volume_of blocks sel i j (λ o same. ap (λ (q : ℕ). neg_ℤ (signed o.side (pos q))) same) e
+    alike_sum net_volume_of_block blocks sel i j (λ o same. ap (λ (q : ℕ). neg_ℤ (signed o.side (pos q))) same) e
 
 -- ---- the first period of a class
 -- the period that is found isn't later than the period, and is like it

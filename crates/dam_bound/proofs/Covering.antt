@@ -10,7 +10,7 @@ use Rattle.dam_hour.specs.Execution.{AreInRange, IsExecution, executed_volume, B
 use Rattle.dam_hour.specs.Best.{welfare_of, AreSmall, greatest_welfare}
 use Rattle.dam_blocks.specs.declared.problem.Block.{Block}
 use Rattle.dam_book.specs.Terms.{BlockTerms}
-use Rattle.dam_blocks.specs.Selection.{padded, over_accepted, net_volume_of, value_in, net_volume, accepted_value}
+use Rattle.dam_blocks.specs.Selection.{padded, over_accepted, net_volume_of_block, value_in, net_volume, accepted_value}
 use Rattle.dam_blocks.specs.Eligible.{added, period_welfare, welfare_from}
 use Rattle.dam_bound.specs.Relaxed.{as_steps, relaxed_hours}
 use Rattle.dam_bound.proofs.Levelling.{relaxed_at}
@@ -83,7 +83,7 @@ covered laws t bs prefix rest ss xs us e f b =
     let undecided = drop (length prefix) bs in
     let s = stand t undecided rest us f in
     let ts = as_steps t undecided in
-    let net = laws.sums.parted (net_volume_of t) bs prefix rest in
+    let net = laws.sums.parted (net_volume_of_block t) bs prefix rest in
     let value = laws.sums.parted (value_in t) bs prefix rest in
     let sold = laws.volume Sell ss ts xs s.volumes e in
     let bought = laws.volume Buy ss ts xs s.volumes e in
@@ -141,4 +141,4 @@ pub padded_welfare : SumLaws → (bs : List Block) (prefix taken : List Bool) (d
 padded_welfare sums bs prefix taken depth hours long is =
     ap₂ (λ (xs : List Bool) (n : ℕ). welfare_from bs xs 1 (relaxed_hours (drop n bs) 1 hours)) is (sym long)
     ∙ same_welfare bs (padded prefix) prefix 1 (relaxed_hours (drop (length prefix) bs) 1 hours)
-    (λ u. sums.padded (net_volume_of u) bs prefix) (λ u. sums.padded (value_in u) bs prefix)
+    (λ u. sums.padded (net_volume_of_block u) bs prefix) (λ u. sums.padded (value_in u) bs prefix)

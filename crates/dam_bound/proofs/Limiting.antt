@@ -1,4 +1,4 @@
--- What decisions take of the room under a limit, place by place.
+-- What decisions take of the slack under a limit, place by place.
 use Rattle.std.proofs.Common.{◌≡◌, ◌≢◌, ◌⊎◌, ℕ, zero, suc, ◌+◌, ◌*◌, ◌<◌, ◌≤◌, ℤ, pos, neg_ℤ, ◌+ℤ◌, ◌-ℤ◌, ◌≤ℤ◌, ◌<ℤ◌, Bool, true, false, Option, Some, None, List, [], ◌∷◌, length, drop, get_or, slice_set, replicate, not, ◌==◌, ◌&&◌}
 use Rattle.std.proofs.Common.{ap, ap₂, ◌∙◌, sym, subst, refl, inl, inr, arith}
 use Rattle.std.specs.Int.{int_max, int_min}
@@ -11,10 +11,10 @@ use Rattle.dam_curve.specs.Curve.{CurvesState, joint_welfare}
 use Rattle.dam_curve.specs.declared.net_range.NetRange.{NetRange}
 use Rattle.dam_blocks.specs.Problem.{ProblemState}
 use Rattle.dam_blocks.specs.Magnitude.{IsWithin}
-use Rattle.dam_blocks.specs.Selection.{accepts, net_volume_of, net_volume}
+use Rattle.dam_blocks.specs.Selection.{accepts, net_volume_of_block, net_volume}
 use Rattle.dam_blocks.specs.Eligible.{IsEligible}
 use Rattle.dam_bound.specs.ClassCurves.{class_orders, least_net_in, most_net_in, IsClassIn}
-use Rattle.dam_bound.specs.NetLimits.{most_limits, room_taken, if_open, taken_under, every_place, greatest_room, IsLimit, limit_in, AreLimits, AreRooms, HasRoom}
+use Rattle.dam_bound.specs.NetLimits.{most_limits, slack_taken, if_open, taken_under, every_place, greatest_slack, IsLimit, limit_in, AreLimits, AreSlacks, HasSlack}
 use Rattle.dam_bound.specs.Prices.{over_gains}
 use Rattle.dam_bound.specs.Sums.{at_places}
 use Rattle.dam_bound.specs.declared.class_curves.Class.{Class}
@@ -27,14 +27,14 @@ use Rattle.dam_bound.proofs.Lowering.{joint_here}
 use Rattle.dam_bound.proofs.PlaceSums.{get_or-any, gains_from, no_gains}
 
 -- ---- a decision
-pub taken_within : (accept : Bool) (z : ℤ) → IsWithin greatest_volume z → (pos 0 ≤ℤ room_taken accept z) × (room_taken accept z ≤ℤ pos greatest_volume)
+pub taken_within : (accept : Bool) (z : ℤ) → IsWithin greatest_volume z → (pos 0 ≤ℤ slack_taken accept z) × (slack_taken accept z ≤ℤ pos greatest_volume)
 taken_within true z w =
     let l = w.at_least in let h = w.at_most in let is = int_max_is z (pos 0) in (omega (arith, ints, is), omega (arith, ints, is, h))
 taken_within false z w =
     let l = w.at_least in let h = w.at_most in let is = int_max_is (neg_ℤ z) (pos 0) in (omega (arith, ints, is), omega (arith, ints, is, l))
 
 -- it takes the number of an accepted block, less its part below 0
-taken_is : (accept : Bool) (z : ℤ) → room_taken accept z +ℤ int_min z (pos 0) ≡ if_accepted accept z
+taken_is : (accept : Bool) (z : ℤ) → slack_taken accept z +ℤ int_min z (pos 0) ≡ if_accepted accept z
 taken_is true z = let a = int_max_is z (pos 0) in let b = int_min_is z (pos 0) in omega (arith, ints, a, b)
 taken_is false z = let a = int_max_is (neg_ℤ z) (pos 0) in let b = int_min_is z (pos 0) in omega (arith, ints, a, b)
 
@@ -47,8 +47,8 @@ taken_small nets sel free (suc n) small =
     let rest = taken_small nets sel free n (λ place l. small place (omega (arith, l))) in
     let own = taken_within (accepts sel n) (get_or nets n (pos 0)) (small n (omega arith)) in
     let a = rest.0 in let b = rest.1 in let c = own.0 in let d = own.1 in
-    elim (free n) as (λ o. (pos 0 ≤ℤ (taken_under nets sel free n +ℤ if_open o (room_taken (accepts sel n) (get_or nets n (pos 0)))))
-    × ((taken_under nets sel free n +ℤ if_open o (room_taken (accepts sel n) (get_or nets n (pos 0)))) ≤ℤ pos (suc n * greatest_volume))) [
+    elim (free n) as (λ o. (pos 0 ≤ℤ (taken_under nets sel free n +ℤ if_open o (slack_taken (accepts sel n) (get_or nets n (pos 0)))))
+    × ((taken_under nets sel free n +ℤ if_open o (slack_taken (accepts sel n) (get_or nets n (pos 0)))) ≤ℤ pos (suc n * greatest_volume))) [
       | true ↦ (omega (arith, ints, a, c), omega (arith, ints, b, d))
       | false ↦ (omega (arith, ints, a), omega (arith, ints, b))
     ]
@@ -57,22 +57,22 @@ pub same_taken : (nets : List ℤ) (sel : List Bool) (f g : ℕ → Bool) (n : �
     → taken_under nets sel f n ≡ taken_under nets sel g n
 same_taken nets sel f g zero same = refl
 same_taken nets sel f g (suc n) same =
-    ap₂ (λ (z : ℤ) (o : Bool). z +ℤ if_open o (room_taken (accepts sel n) (get_or nets n (pos 0))))
+    ap₂ (λ (z : ℤ) (o : Bool). z +ℤ if_open o (slack_taken (accepts sel n) (get_or nets n (pos 0))))
     (same_taken nets sel f g n (λ place l. same place (omega (arith, l)))) (same n (omega arith))
 
 -- a place less is open
 pub taken_less : (nets : List ℤ) (sel : List Bool) (before after : ℕ → Bool) (place n : ℕ) → place < n → before place ≡ true → after place ≡ false
     → ((p : ℕ) → p ≢ place → after p ≡ before p)
-    → taken_under nets sel before n ≡ taken_under nets sel after n +ℤ room_taken (accepts sel place) (get_or nets place (pos 0))
+    → taken_under nets sel before n ≡ taken_under nets sel after n +ℤ slack_taken (accepts sel place) (get_or nets place (pos 0))
 taken_less nets sel before after place zero inside on off same = absurd (omega (arith, inside))
 taken_less nets sel before after place (suc n) inside on off same =
-    let r = room_taken (accepts sel n) (get_or nets n (pos 0)) in
+    let r = slack_taken (accepts sel n) (get_or nets n (pos 0)) in
     elim (cases_eq n place) [
       | inl here ↦
           (let rest = same_taken nets sel before after n (λ p l. sym (same p (λ e. absurd (omega (arith, e, l, here))))) in
           let was = ap (λ (o : Bool). if_open o r) (ap before here ∙ on) in
           let is = ap (λ (o : Bool). if_open o r) (ap after here ∙ off) in
-          let own = ap (λ (k : ℕ). room_taken (accepts sel k) (get_or nets k (pos 0))) here in
+          let own = ap (λ (k : ℕ). slack_taken (accepts sel k) (get_or nets k (pos 0))) here in
           omega (arith, ints, rest, was, is, own))
       | inr apart ↦
           (let rest = taken_less nets sel before after place n (omega (arith, inside, apart)) on off same in
@@ -113,21 +113,21 @@ taken_all nets sel long =
     omega (arith, ints, all, gains, low)
 
 pub limit_is : (problem : ProblemState) (limit : NetLimit) (most total low : ℤ) → AreNumbersWithin greatest_volume limit.nets → total ≡ negative_sum limit.nets
-    → low ≡ int_max (most -ℤ total) (neg_ℤ (pos 1)) → limit.room ≡ int_min low (pos greatest_room)
+    → low ≡ int_max (most -ℤ total) (neg_ℤ (pos 1)) → limit.slack ≡ int_min low (pos greatest_slack)
     → ((sel : List Bool) (w : ℤ) → IsEligible problem sel w → over_gains limit.nets sel ≤ℤ most) → IsLimit problem limit
-limit_is problem limit most total low small total_is low_is room_is keeps =
-    let over = int_max_is (most -ℤ total) (neg_ℤ (pos 1)) in let under = int_min_is low (pos greatest_room) in record {
+limit_is problem limit most total low small total_is low_is slack_is keeps =
+    let over = int_max_is (most -ℤ total) (neg_ℤ (pos 1)) in let under = int_min_is low (pos greatest_slack) in record {
       long = small.long;
       small = small.each;
-      room_is = record {
-        at_least = omega (arith, ints, over, under, low_is, room_is);
-        at_most = omega (arith, ints, over, under, low_is, room_is);
+      slack_is = record {
+        at_least = omega (arith, ints, over, under, low_is, slack_is);
+        at_most = omega (arith, ints, over, under, low_is, slack_is);
       };
       keeps = λ sel w eligible.
           (let all = taken_all limit.nets sel small.long in
           let size = taken_small limit.nets sel every_place most_blocks (λ place l. small.each place (pos 0) l) in
           let own = keeps sel w eligible in let greatest = size.1 in
-          omega (arith, ints, all, greatest, own, total_is, low_is, room_is, over, under));
+          omega (arith, ints, all, greatest, own, total_is, low_is, slack_is, over, under));
     }
 
 -- ---- the limit that allows everything
@@ -136,7 +136,7 @@ zero_in zero place d l = absurd (omega (arith, l))
 zero_in (suc n) zero d l = refl
 zero_in (suc n) (suc place) d l = zero_in n place d (omega (arith, l))
 
-zero_taken : (accept : Bool) → room_taken accept (pos 0) ≡ pos 0
+zero_taken : (accept : Bool) → slack_taken accept (pos 0) ≡ pos 0
 zero_taken true = refl
 zero_taken false = refl
 
@@ -145,19 +145,19 @@ nothing_taken : (nets : List ℤ) (sel : List Bool) (n : ℕ) → ((place : ℕ)
 nothing_taken nets sel zero none = refl
 nothing_taken nets sel (suc n) none =
     let rest = nothing_taken nets sel n (λ place l. none place (omega (arith, l))) in
-    let own = ap (room_taken (accepts sel n)) (none n (omega arith)) ∙ zero_taken (accepts sel n) in
+    let own = ap (slack_taken (accepts sel n)) (none n (omega arith)) ∙ zero_taken (accepts sel n) in
     omega (arith, ints, rest, own)
 
 -- the limit that allows everything
 abbrev pub no_limit : NetLimit
-no_limit = record { nets = replicate most_blocks (pos 0); room = pos 0 }
+no_limit = record { nets = replicate most_blocks (pos 0); slack = pos 0 }
 
 pub nothing_limits : (problem : ProblemState) → IsLimit problem no_limit
 nothing_limits problem = record {
   long = length-replicate most_blocks (pos 0);
   small = λ place d l. (let zero = zero_in most_blocks place d l in
       record { at_least = omega (arith, ints, zero); at_most = omega (arith, ints, zero) });
-  room_is = record { at_least = omega (arith, ints); at_most = omega (arith, ints) };
+  slack_is = record { at_least = omega (arith, ints); at_most = omega (arith, ints) };
   keeps = λ sel w eligible.
       (let none = nothing_taken (replicate most_blocks (pos 0)) sel most_blocks (λ place l. zero_in most_blocks place (pos 0) l) in
       omega (arith, ints, none));
@@ -188,22 +188,22 @@ limit_more problem limits at limit inside is are = record {
 }
   where
     any_limit : NetLimit
-    any_limit = record { nets = []; room = pos 0 }
+    any_limit = record { nets = []; slack = pos 0 }
 
--- ---- rooms
--- the least of the first rooms
-pub record IsLeast (rooms : List ℤ) (k : ℕ) (least : ℤ) : Type 0 where
+-- ---- slacks
+-- the least of the first slacks
+pub record IsLeast (slacks : List ℤ) (k : ℕ) (least : ℤ) : Type 0 where
   pub from : 1 ≤ k
-  pub under : (i : ℕ) → i < k → least ≤ℤ get_or rooms i (pos 0)
-  pub reached : (i : ℕ) × (i < k) × (least ≡ get_or rooms i (pos 0))
+  pub under : (i : ℕ) → i < k → least ≤ℤ get_or slacks i (pos 0)
+  pub reached : (i : ℕ) × (i < k) × (least ≡ get_or slacks i (pos 0))
 
-pub least_more : (rooms : List ℤ) (k : ℕ) (least x after : ℤ) → x ≡ get_or rooms k (pos 0) → after ≡ int_min least x → IsLeast rooms k least
-    → IsLeast rooms (k + 1) after
-least_more rooms k least x after e f is =
+pub least_more : (slacks : List ℤ) (k : ℕ) (least x after : ℤ) → x ≡ get_or slacks k (pos 0) → after ≡ int_min least x → IsLeast slacks k least
+    → IsLeast slacks (k + 1) after
+least_more slacks k least x after e f is =
     let low = int_min_is least x in let from = is.from in record {
       from = omega (arith, from);
       under = λ i l. elim (cases_eq i k) [
-        | inl same ↦ (let here = ap (λ (j : ℕ). get_or rooms j (pos 0)) same in omega (arith, ints, low, e, f, here))
+        | inl same ↦ (let here = ap (λ (j : ℕ). get_or slacks j (pos 0)) same in omega (arith, ints, low, e, f, here))
         | inr apart ↦ (let before = is.under i (omega (arith, l, apart)) in omega (arith, ints, low, f, before))
       ];
       reached = by_lt_z x least
@@ -215,25 +215,25 @@ least_more rooms k least x after e f is =
           ));
     }
 
-pub lowered_here : (held rooms : List ℤ) (k i : ℕ) (d z taken : ℤ) → i ≡ k → k < length held → k < length rooms
-    → z ≡ get_or held k (pos 0) -ℤ taken → get_or held k (pos 0) ≡ get_or rooms k (pos 0)
-    → get_or (slice_set held k z) i d ≡ get_or rooms i d -ℤ taken
-lowered_here held rooms k i d z taken same inside within is was =
+pub lowered_here : (held slacks : List ℤ) (k i : ℕ) (d z taken : ℤ) → i ≡ k → k < length held → k < length slacks
+    → z ≡ get_or held k (pos 0) -ℤ taken → get_or held k (pos 0) ≡ get_or slacks k (pos 0)
+    → get_or (slice_set held k z) i d ≡ get_or slacks i d -ℤ taken
+lowered_here held slacks k i d z taken same inside within is was =
     ap (λ (j : ℕ). get_or (slice_set held k z) j d) same
     ∙ get_or-set_same held k z d inside ∙ is
-    ∙ ap (λ (x : ℤ). x -ℤ taken) (was ∙ get_or-any rooms k (pos 0) d within)
-    ∙ ap (λ (j : ℕ). get_or rooms j d -ℤ taken) (sym same)
+    ∙ ap (λ (x : ℤ). x -ℤ taken) (was ∙ get_or-any slacks k (pos 0) d within)
+    ∙ ap (λ (j : ℕ). get_or slacks j d -ℤ taken) (sym same)
 
--- the rooms after a decision
-pub record AreLowered (limits : List NetLimit) (accept : Bool) (place : ℕ) (rooms after : List ℤ) : Type 0 where
+-- the slacks after a decision
+pub record AreLowered (limits : List NetLimit) (accept : Bool) (place : ℕ) (slacks after : List ℤ) : Type 0 where
   pub many : length after ≡ most_limits
   pub each : (k : ℕ) (d : ℤ) → k < most_limits
-      → get_or after k d ≡ get_or rooms k d -ℤ room_taken accept (get_or (limit_in limits k).nets place (pos 0))
+      → get_or after k d ≡ get_or slacks k d -ℤ slack_taken accept (get_or (limit_in limits k).nets place (pos 0))
 
-pub still_rooms : (problem : ProblemState) (limits : List NetLimit) (accept : Bool) (place : ℕ) (rooms after : List ℤ) (least : ℤ) → AreLimits problem limits
-    → place < most_blocks → AreRooms rooms → AreLowered limits accept place rooms after
-    → ((k : ℕ) → k < most_limits → least ≤ℤ get_or after k (pos 0)) → pos 0 ≤ℤ least → AreRooms after
-still_rooms problem limits accept place rooms after least are inside had lowered under some = record {
+pub still_slacks : (problem : ProblemState) (limits : List NetLimit) (accept : Bool) (place : ℕ) (slacks after : List ℤ) (least : ℤ) → AreLimits problem limits
+    → place < most_blocks → AreSlacks slacks → AreLowered limits accept place slacks after
+    → ((k : ℕ) → k < most_limits → least ≤ℤ get_or after k (pos 0)) → pos 0 ≤ℤ least → AreSlacks after
+still_slacks problem limits accept place slacks after least are inside had lowered under some = record {
   many = lowered.many;
   small = λ k d l.
       (let is = lowered.each k d l in let was = had.small k d l in
@@ -244,27 +244,27 @@ still_rooms problem limits accept place rooms after least are inside had lowered
       record { at_least = omega (arith, ints, own, same, some); at_most = omega (arith, ints, is, high, none) });
 }
 
-pub still_has : (problem : ProblemState) (limits : List NetLimit) (accept : Bool) (place : ℕ) (rooms next : List ℤ) (sel : List Bool) (before after : ℕ → Bool)
-    → place < most_blocks → AreLowered limits accept place rooms next → HasRoom limits sel before rooms
+pub still_has : (problem : ProblemState) (limits : List NetLimit) (accept : Bool) (place : ℕ) (slacks next : List ℤ) (sel : List Bool) (before after : ℕ → Bool)
+    → place < most_blocks → AreLowered limits accept place slacks next → HasSlack limits sel before slacks
     → before place ≡ true → after place ≡ false → ((p : ℕ) → p ≢ place → after p ≡ before p) → accepts sel place ≡ accept
-    → HasRoom limits sel after next
-still_has problem limits accept place rooms next sel before after inside lowered has on off same decided k l =
+    → HasSlack limits sel after next
+still_has problem limits accept place slacks next sel before after inside lowered has on off same decided k l =
     let nets = (limit_in limits k).nets in
     let less = taken_less nets sel before after place most_blocks inside on off same in
-    let own = ap (λ (a : Bool). room_taken a (get_or nets place (pos 0))) decided in
+    let own = ap (λ (a : Bool). slack_taken a (get_or nets place (pos 0))) decided in
     let is = lowered.each k (pos 0) l in let had = has k l in
     omega (arith, ints, less, own, is, had)
 
-pub none_fits : (problem : ProblemState) (limits : List NetLimit) (accept : Bool) (place : ℕ) (rooms after : List ℤ) (least : ℤ)
-    (sel : List Bool) (free : ℕ → Bool) → AreLimits problem limits → place < most_blocks → AreLowered limits accept place rooms after
+pub none_fits : (problem : ProblemState) (limits : List NetLimit) (accept : Bool) (place : ℕ) (slacks after : List ℤ) (least : ℤ)
+    (sel : List Bool) (free : ℕ → Bool) → AreLimits problem limits → place < most_blocks → AreLowered limits accept place slacks after
     → ((k : ℕ) × (k < most_limits) × (least ≡ get_or after k (pos 0))) → least <ℤ pos 0
-    → HasRoom limits sel free rooms → free place ≡ true → accepts sel place ≡ accept → ⊥
-none_fits problem limits accept place rooms after least sel free are inside lowered reached under has on decided =
+    → HasSlack limits sel free slacks → free place ≡ true → accepts sel place ≡ accept → ⊥
+none_fits problem limits accept place slacks after least sel free are inside lowered reached under has on decided =
     let k = reached.0 in let l = reached.1 in let nets = (limit_in limits k).nets in
     let others : ℕ → Bool = (λ p. free p && not (p == place)) in
     let less = taken_less nets sel free others place most_blocks inside on (closed on) (λ p apart. still p apart) in
     let small = taken_small nets sel others most_blocks (λ q m. (are.each k l).small q (pos 0) m) in
-    let own = ap (λ (a : Bool). room_taken a (get_or nets place (pos 0))) decided in
+    let own = ap (λ (a : Bool). slack_taken a (get_or nets place (pos 0))) decided in
     let is = lowered.each k (pos 0) l in let had = has k l in let some = small.0 in let low = reached.2 in
     absurd (omega (arith, ints, less, own, is, had, some, low, under))
   where
@@ -298,9 +298,9 @@ opposite_gains (x ∷ xs) (y ∷ ys) (false ∷ sel) long each =
 
 -- the net volume of a selection, by the net volumes of the blocks
 net_of : (problem : ProblemState) (sel : List Bool) (c : ℕ) (nets : List ℤ) → length problem.blocks ≤ most_blocks
-    → nets ≡ at_places most_blocks (net_volume_of (c + 1)) problem.blocks → over_gains nets sel ≡ net_volume problem.blocks sel (c + 1)
+    → nets ≡ at_places most_blocks (net_volume_of_block (c + 1)) problem.blocks → over_gains nets sel ≡ net_volume problem.blocks sel (c + 1)
 net_of problem sel c nets few are =
-    ap (λ (xs : List ℤ). over_gains xs sel) are ∙ gains_are most_blocks (net_volume_of (c + 1)) problem.blocks sel few
+    ap (λ (xs : List ℤ). over_gains xs sel) are ∙ gains_are most_blocks (net_volume_of_block (c + 1)) problem.blocks sel few
 
 -- ---- the net volumes of a class
 -- with an eligible selection the net volume of a class lies in the range at which it balances

@@ -17,7 +17,7 @@ use Rattle.dam_curve.specs.Curve.{CurvesState, greatest_segment_surplus}
 use Rattle.dam_curve.specs.declared.line.Line.{Line}
 use Rattle.dam_blocks.specs.Problem.{ProblemState, AreBlocks}
 use Rattle.dam_blocks.specs.Magnitude.{IsWithin}
-use Rattle.dam_blocks.specs.Selection.{net_volume_of}
+use Rattle.dam_blocks.specs.Selection.{net_volume_of_block}
 use Rattle.dam_bound.specs.Classes.{first_of}
 use Rattle.dam_bound.specs.ClassCurves.{day_value, IsClassIn, AreClasses, AreClassCurves}
 use Rattle.dam_bound.specs.Prices.{line_in, IsClassLine, IsByLines, IsPriceBound}
@@ -70,7 +70,7 @@ as_many problem curves classes are = sym (ap (λ (ps : List ℕ). length ps) are
 -- ---- the lines so far
 -- the surplus of a block at the prices of the classes at these places
 abbrev pub gain_over : ProblemState → List Line → List ℕ → BlockTerms → ℤ
-gain_over problem lines places o = day_value problem o +ℤ over_places (λ c. (line_in lines c).price *ℤ net_volume_of (c + 1) o) places
+gain_over problem lines places o = day_value problem o +ℤ over_places (λ c. (line_in lines c).price *ℤ net_volume_of_block (c + 1) o) places
 
 pub record IsLinedSoFar (problem : ProblemState) (j : ℕ) (base : ℤ) (gains : List ℤ) (lines : List Line) : Type 0 where
   pub long : length lines ≡ last_period
@@ -114,7 +114,7 @@ over_kept problem f lines j c line at l =
 
 pub line_more : (problem : ProblemState) (j : ℕ) (class : Class) (line : Line) (base base_after : ℤ) (gains after : List ℤ) (lines : List Line)
     → length problem.hours ≤ last_period → IsAtPlace problem j class.at
-    → class.nets ≡ at_places most_blocks (net_volume_of (class.at + 1)) problem.blocks
+    → class.nets ≡ at_places most_blocks (net_volume_of_block (class.at + 1)) problem.blocks
     → IsClassLine problem class.at line → base_after ≡ base +ℤ line.surplus → AreRaised line.price class.nets gains after
     → IsLinedSoFar problem j base gains lines → IsLinedSoFar problem (j + 1) base_after after (slice_set lines class.at line)
 line_more problem j class line base base_after gains after lines few is nets_are own sum raised so_far =
@@ -125,7 +125,7 @@ line_more problem j class line base base_after gains after lines few is nets_are
     let surpluses = over_kept problem (λ (x : Line) (d : ℕ). x.surplus) lines j c line is.place l in
     let next : base_after ≡ over_places (λ d. (line_in (slice_set lines c line) d).surplus) (take (suc j) places) =
     omega (arith, ints, sum, base_is, surpluses) in
-    let gains_next = raised_is (gain_over problem lines (take j places)) (net_volume_of (c + 1)) line.price problem.blocks class.nets gains after
+    let gains_next = raised_is (gain_over problem lines (take j places)) (net_volume_of_block (c + 1)) line.price problem.blocks class.nets gains after
     nets_are so_far.gains_are raised in
     subst (λ (n : ℕ). IsLinedSoFar problem n base_after after (slice_set lines c line)) number (record {
       long = length-set lines c line ∙ long;
@@ -141,10 +141,10 @@ line_more problem j class line base base_after gains after lines few is nets_are
       ];
       base_is = next;
       gains_are = gains_next
-          ∙ at_same most_blocks (λ o. gain_over problem lines (take j places) o +ℤ line.price *ℤ net_volume_of (c + 1) o)
+          ∙ at_same most_blocks (λ o. gain_over problem lines (take j places) o +ℤ line.price *ℤ net_volume_of_block (c + 1) o)
           (gain_over problem (slice_set lines c line) (take (suc j) places)) problem.blocks (λ k b at.
           one_more (day_value problem b.order) _ _ _
-          (over_kept problem (λ (x : Line) (d : ℕ). x.price *ℤ net_volume_of (d + 1) b.order) lines j c line is.place l));
+          (over_kept problem (λ (x : Line) (d : ℕ). x.price *ℤ net_volume_of_block (d + 1) b.order) lines j c line is.place l));
     })
   where
     one_place : {x y : ℕ} → Some x ≡ Some y → x ≡ y
@@ -170,9 +170,9 @@ gains_within problem j base gains lines few blocks so_far =
     all_within (gain_over problem lines places) problem.blocks _ gains so_far.gains_are (λ k b at.
     (let order = order_at (length problem.hours) problem.blocks k b blocks at in
     let value = value_small (length problem.hours) b.order few order in
-    let sum = over_within (λ c. (line_in lines c).price *ℤ net_volume_of (c + 1) b.order) places (last_period * greatest_value) (λ i c there.
+    let sum = over_within (λ c. (line_in lines c).price *ℤ net_volume_of_block (c + 1) b.order) places (last_period * greatest_value) (λ i c there.
     (let found = take_get (class_places problem) j i c there in
-    one_gain (line_in lines c) (net_volume_of (c + 1) b.order) problem c (so_far.lines_are i c found.1 found.0)
+    one_gain (line_in lines c) (net_volume_of_block (c + 1) b.order) problem c (so_far.lines_are i c found.1 found.0)
     (net_small (c + 1) b.order order))) in
     let taken = few_taken (class_places problem) j in
     added_within (last_period * greatest_value) (length places * (last_period * greatest_value)) ((j + 1) * (last_period * greatest_value))
@@ -239,7 +239,7 @@ own_class problem curves classes values families items j d are same l =
     let is = are.classes_are.each j (get_or items j d) at in record {
       is = is;
       place = class_at problem curves classes j (get_or items j d) are.few_periods are.classes_are at;
-      small = all_within (net_volume_of ((get_or items j d).at + 1)) problem.blocks greatest_volume (get_or items j d).nets is.nets_are
+      small = all_within (net_volume_of_block ((get_or items j d).at + 1)) problem.blocks greatest_volume (get_or items j d).nets is.nets_are
           (λ k b there. net_small ((get_or items j d).at + 1) b.order (order_at (length problem.hours) problem.blocks k b are.blocks_are there));
     }
 

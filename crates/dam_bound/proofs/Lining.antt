@@ -10,7 +10,7 @@ use Rattle.dam_curve.specs.Line.{line_value}
 use Rattle.dam_curve.specs.declared.line.Line.{Line}
 use Rattle.dam_blocks.specs.declared.problem.Block.{Block}
 use Rattle.dam_blocks.specs.Problem.{ProblemState}
-use Rattle.dam_blocks.specs.Selection.{over_accepted, net_volume_of, net_volume}
+use Rattle.dam_blocks.specs.Selection.{over_accepted, net_volume_of_block, net_volume}
 use Rattle.dam_blocks.specs.Eligible.{selection_welfare}
 use Rattle.dam_blocks.proofs.Sums.{over_accepted-plus, over_accepted-times, over_accepted-zero}
 use Rattle.dam_bound.specs.ClassCurves.{class_orders, least_net_in, most_net_in, day_value}
@@ -31,17 +31,17 @@ most_of x = let is = int_max_is x (pos 0) in (omega (arith, ints, is), omega (ar
 nothing_in : (t : ℕ) (bs : List Block) → (least_net_in t bs ≤ℤ pos 0) × (pos 0 ≤ℤ most_net_in t bs)
 nothing_in t [] = (omega (arith, ints), omega (arith, ints))
 nothing_in t (b ∷ bs) =
-    let low = (least_of (net_volume_of t b.order)).1 in let high = (most_of (net_volume_of t b.order)).1 in
+    let low = (least_of (net_volume_of_block t b.order)).1 in let high = (most_of (net_volume_of_block t b.order)).1 in
     let rest = nothing_in t bs in let a = rest.0 in let c = rest.1 in (omega (arith, ints, low, a), omega (arith, ints, high, c))
 
 pub net_inside : (t : ℕ) (bs : List Block) (sel : List Bool) → (least_net_in t bs ≤ℤ net_volume bs sel t) × (net_volume bs sel t ≤ℤ most_net_in t bs)
 net_inside t [] sel = (omega (arith, ints), omega (arith, ints))
 net_inside t (b ∷ bs) [] = nothing_in t (b ∷ bs)
 net_inside t (b ∷ bs) (true ∷ sel) =
-    let low = (least_of (net_volume_of t b.order)).0 in let high = (most_of (net_volume_of t b.order)).0 in
+    let low = (least_of (net_volume_of_block t b.order)).0 in let high = (most_of (net_volume_of_block t b.order)).0 in
     let rest = net_inside t bs sel in let a = rest.0 in let c = rest.1 in (omega (arith, ints, low, a), omega (arith, ints, high, c))
 net_inside t (b ∷ bs) (false ∷ sel) =
-    let low = (least_of (net_volume_of t b.order)).1 in let high = (most_of (net_volume_of t b.order)).1 in
+    let low = (least_of (net_volume_of_block t b.order)).1 in let high = (most_of (net_volume_of_block t b.order)).1 in
     let rest = net_inside t bs sel in let a = rest.0 in let c = rest.1 in (omega (arith, ints, low, a), omega (arith, ints, high, c))
 
 -- ---- the gains of a selection
@@ -60,12 +60,12 @@ gains_are (suc n) f (b ∷ bs) (true ∷ sel) l = ap (λ (z : ℤ). f b.order +�
 gains_are (suc n) f (b ∷ bs) (false ∷ sel) l = gains_are n f bs sel (omega (arith, l))
 
 priced_parts : (p : ℕ → ℤ) (places : List ℕ) (bs : List Block) (sel : List Bool)
-    → over_accepted (λ o. over_places (λ c. p c *ℤ net_volume_of (c + 1) o) places) bs sel
+    → over_accepted (λ o. over_places (λ c. p c *ℤ net_volume_of_block (c + 1) o) places) bs sel
     ≡ over_places (λ c. p c *ℤ net_volume bs sel (c + 1)) places
 priced_parts p [] bs sel = over_accepted-zero bs sel
 priced_parts p (c ∷ places) bs sel =
-    over_accepted-plus (λ o. p c *ℤ net_volume_of (c + 1) o) (λ o. over_places (λ d. p d *ℤ net_volume_of (d + 1) o) places) bs sel
-    ∙ ap₂ (λ (a b : ℤ). a +ℤ b) (sym (over_accepted-times (p c) (net_volume_of (c + 1)) bs sel)) (priced_parts p places bs sel)
+    over_accepted-plus (λ o. p c *ℤ net_volume_of_block (c + 1) o) (λ o. over_places (λ d. p d *ℤ net_volume_of_block (d + 1) o) places) bs sel
+    ∙ ap₂ (λ (a b : ℤ). a +ℤ b) (sym (over_accepted-times (p c) (net_volume_of_block (c + 1)) bs sel)) (priced_parts p places bs sel)
 
 -- ---- the bound
 -- the line of a class at the selection's net volume
@@ -80,7 +80,7 @@ bound_is problem bound sel is =
     let places = class_places problem in let bs = problem.blocks in
     let price : ℕ → ℤ = λ c. (line_in bound.lines c).price in
     let gains = ap (λ (xs : List ℤ). over_gains xs sel) is.gains_are ∙ gains_are most_blocks (priced_gain problem bound.lines) bs sel is.few in
-    let parts = over_accepted-plus (day_value problem) (λ o. over_places (λ c. price c *ℤ net_volume_of (c + 1) o) places) bs sel in
+    let parts = over_accepted-plus (day_value problem) (λ o. over_places (λ c. price c *ℤ net_volume_of_block (c + 1) o) places) bs sel in
     let priced = priced_parts price places bs sel in
     let lines = over_plus (λ c. (line_in bound.lines c).surplus) (λ c. price c *ℤ net_volume bs sel (c + 1)) places in
     let base = is.base_is in

@@ -20,7 +20,7 @@ use Rattle.dam_curve.specs.Line.{IsJointPrice}
 use Rattle.dam_blocks.specs.declared.problem.Block.{Block}
 use Rattle.dam_blocks.specs.Problem.{ProblemState}
 use Rattle.dam_blocks.specs.Magnitude.{IsWithin}
-use Rattle.dam_blocks.specs.Selection.{accepts, over_accepted, net_volume_of, value_in, net_volume}
+use Rattle.dam_blocks.specs.Selection.{accepts, over_accepted, net_volume_of_block, value_in, net_volume}
 use Rattle.dam_blocks.specs.Family.{names, parent_among, parent_place, leads_to, descends, accepted_descendants}
 use Rattle.dam_blocks.specs.Eligible.{ArePrices, surplus_from, surplus_of, family_surplus}
 use Rattle.dam_blocks.proofs.Sums.{surplus_split}
@@ -93,12 +93,12 @@ joint_price_is law problem sel c prices price are is =
 
 -- ---- the surplus of a block
 surplus_periods : (p : ℕ → ℤ) (i : ℕ) (prices : List ℤ) (o : BlockTerms) → ArePricesFrom p i prices
-    → surplus_from (suc i) prices o ≡ over_periods (λ t. value_in t o +ℤ p t *ℤ net_volume_of t o) (suc i) (length prices)
+    → surplus_from (suc i) prices o ≡ over_periods (λ t. value_in t o +ℤ p t *ℤ net_volume_of_block t o) (suc i) (length prices)
 surplus_periods p i [] o each = refl
 surplus_periods p i (x ∷ prices) o each =
     let here = prices_here p i x prices each in
     let split = surplus_split (suc i) x o in
-    let own = ap (λ (z : ℤ). z *ℤ net_volume_of (suc i) o) here in
+    let own = ap (λ (z : ℤ). z *ℤ net_volume_of_block (suc i) o) here in
     let rest = surplus_periods p (suc i) prices o (prices_rest p i x prices each) in
     omega (arith, ints, split, own, rest)
 
@@ -111,20 +111,20 @@ as_long blocks sel t (ss ∷ hours) (x ∷ prices) are = ap suc (as_long blocks 
 
 -- in a class the block has the same net volume everywhere
 in_class : (p : ℕ → ℤ) (blocks : List Block) (c n k : ℕ) (b : Block) → slice_get blocks k ≡ Some b
-    → over_class (λ t. p t *ℤ net_volume_of t b.order) blocks c 0 n ≡ over_class p blocks c 0 n *ℤ net_volume_of (c + 1) b.order
+    → over_class (λ t. p t *ℤ net_volume_of_block t b.order) blocks c 0 n ≡ over_class p blocks c 0 n *ℤ net_volume_of_block (c + 1) b.order
 in_class p blocks c n k b at =
-    let z = net_volume_of (c + 1) b.order in
+    let z = net_volume_of_block (c + 1) b.order in
     let number : suc c ≡ c + 1 = omega arith in
-    same_class (λ t. p t *ℤ net_volume_of t b.order) (λ t. z *ℤ p t) blocks c 0 n (λ i l m first.
+    same_class (λ t. p t *ℤ net_volume_of_block t b.order) (λ t. z *ℤ p t) blocks c 0 n (λ i l m first.
     (let same = ap (λ (q : ℕ). neg_ℤ (signed b.order.side (pos q))) (class_volume blocks i c k b first at)
-    ∙ ap (λ (t : ℕ). net_volume_of t b.order) number in
+    ∙ ap (λ (t : ℕ). net_volume_of_block t b.order) number in
     ap (λ (y : ℤ). p (suc i) *ℤ y) same ∙ turned (p (suc i)) z))
     ∙ class_times p z blocks c 0 n ∙ turned z (over_class p blocks c 0 n)
 
 -- the surplus of a block at the prices of these classes
 abbrev pub surplus_over : ProblemState → List ℤ → List ℕ → BlockTerms → ℤ
 surplus_over problem prices places o =
-    day_value problem o +ℤ over_places (λ c. class_price problem prices c *ℤ net_volume_of (c + 1) o) places
+    day_value problem o +ℤ over_places (λ c. class_price problem prices c *ℤ net_volume_of_block (c + 1) o) places
 
 pub surplus_is : (problem : ProblemState) (sel : List Bool) (prices : List ℤ) (k : ℕ) (b : Block)
     → ArePrices problem.blocks sel 1 problem.hours prices → slice_get problem.blocks k ≡ Some b
@@ -132,11 +132,11 @@ pub surplus_is : (problem : ProblemState) (sel : List Bool) (prices : List ℤ) 
 surplus_is problem sel prices k b are at =
     let o = b.order in let n = length problem.hours in let p = price_of prices in
     let periods = surplus_periods p 0 prices o (all_prices prices) in
-    let long = ap (over_periods (λ t. value_in t o +ℤ p t *ℤ net_volume_of t o) 1) (as_long problem.blocks sel 1 problem.hours prices are) in
-    let parts = periods_plus (λ t. value_in t o) (λ t. p t *ℤ net_volume_of t o) 1 n in
-    let classes = by_class (λ t. p t *ℤ net_volume_of t o) problem.blocks n in
-    let each = over_same (λ c. over_class (λ t. p t *ℤ net_volume_of t o) problem.blocks c 0 n)
-    (λ c. class_price problem prices c *ℤ net_volume_of (c + 1) o) (class_places problem)
+    let long = ap (over_periods (λ t. value_in t o +ℤ p t *ℤ net_volume_of_block t o) 1) (as_long problem.blocks sel 1 problem.hours prices are) in
+    let parts = periods_plus (λ t. value_in t o) (λ t. p t *ℤ net_volume_of_block t o) 1 n in
+    let classes = by_class (λ t. p t *ℤ net_volume_of_block t o) problem.blocks n in
+    let each = over_same (λ c. over_class (λ t. p t *ℤ net_volume_of_block t o) problem.blocks c 0 n)
+    (λ c. class_price problem prices c *ℤ net_volume_of_block (c + 1) o) (class_places problem)
     (λ j c there. in_class p problem.blocks c n k b at) in
     omega (arith, ints, periods, long, parts, classes, each)
 

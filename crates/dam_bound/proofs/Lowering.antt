@@ -16,7 +16,7 @@ use Rattle.dam_curve.specs.declared.line.Line.{Line}
 use Rattle.dam_blocks.specs.declared.problem.Block.{Block}
 use Rattle.dam_blocks.specs.Problem.{ProblemState, AreBlocks}
 use Rattle.dam_blocks.specs.Magnitude.{IsWithin}
-use Rattle.dam_blocks.specs.Selection.{accepts, over_accepted, net_volume_of, net_volume}
+use Rattle.dam_blocks.specs.Selection.{accepts, over_accepted, net_volume_of_block, net_volume}
 use Rattle.dam_blocks.specs.Eligible.{selection_welfare}
 use Rattle.dam_bound.specs.ClassCurves.{class_orders, day_value, least_net_in, most_net_in}
 use Rattle.dam_bound.specs.Prices.{over_gains, line_in, IsByLines}
@@ -56,12 +56,12 @@ counted (suc n) (w ∷ counts) (x ∷ nets) (false ∷ sel) l m each =
     omega (arith, ints, rest, first)
 
 pub net_is : (problem : ProblemState) (sel : List Bool) (c : ℕ) (counts nets : List ℤ) → length problem.blocks ≤ most_blocks
-    → nets ≡ at_places most_blocks (net_volume_of (c + 1)) problem.blocks → length nets ≡ most_blocks → AreCounts sel counts
+    → nets ≡ at_places most_blocks (net_volume_of_block (c + 1)) problem.blocks → length nets ≡ most_blocks → AreCounts sel counts
     → weighted counts nets ≡ net_volume problem.blocks sel (c + 1)
 net_is problem sel c counts nets few are long is =
     counted most_blocks counts nets sel is.long long is.each
     ∙ ap (λ (xs : List ℤ). over_gains xs sel) are
-    ∙ gains_are most_blocks (net_volume_of (c + 1)) problem.blocks sel few
+    ∙ gains_are most_blocks (net_volume_of_block (c + 1)) problem.blocks sel few
 
 pub net_narrow : (x : ℤ) → IsWithin (2 * greatest_net) x → to_z w32 (of_z w32 x) ≡ x
 net_narrow x is = let low = is.at_least in let high = is.at_most in to_z-of_z w32 x (omega (arith, ints, low, high))
@@ -172,7 +172,7 @@ none_balances problem sel c w none e = let has = (has_whole problem sel w e).eac
 net_bounded : (periods t : ℕ) (bs : List Block) (sel : List Bool) → AreBlocks periods bs → length bs ≤ most_blocks
     → IsWithin greatest_net (net_volume bs sel t)
 net_bounded periods t bs sel are few =
-    let w = accepted_within (net_volume_of t) greatest_volume periods (net_small t) bs sel are in let l = w.at_least in let h = w.at_most in
+    let w = accepted_within (net_volume_of_block t) greatest_volume periods (net_small t) bs sel are in let l = w.at_least in let h = w.at_most in
     record { at_least = omega (arith, ints, l, few); at_most = omega (arith, ints, h, few) }
 
 pub line_within : (line : Line) (net : ℤ) → IsSmallLine last_period line → IsWithin (2 * greatest_net) net
@@ -245,7 +245,7 @@ one_lowered problem bound sel j c total line u few blocks few_blocks at is joint
 
 -- the net volume of a class, as the code has it
 pub net_read : (problem : ProblemState) (sel : List Bool) (c : ℕ) (counts nets : List ℤ) (w net : ℤ) → length problem.blocks ≤ most_blocks
-    → nets ≡ at_places most_blocks (net_volume_of (c + 1)) problem.blocks → length nets ≡ most_blocks → AreCounts sel counts
+    → nets ≡ at_places most_blocks (net_volume_of_block (c + 1)) problem.blocks → length nets ≡ most_blocks → AreCounts sel counts
     → w ≡ weighted counts nets → IsWithin (2 * greatest_net) w → net ≡ to_z w32 (of_z w32 w)
     → (to_z w64 (of_z w64 net) ≡ net_volume problem.blocks sel (c + 1)) × (net ≡ net_volume problem.blocks sel (c + 1))
 net_read problem sel c counts nets w net few are long is value small shown =

@@ -17,7 +17,7 @@ use Rattle.dam_curve.specs.declared.segment.Segment.{Segment}
 use Rattle.dam_blocks.specs.declared.problem.Block.{Block}
 use Rattle.dam_blocks.specs.Problem.{ProblemState, AreBlocks}
 use Rattle.dam_blocks.specs.Magnitude.{IsWithin}
-use Rattle.dam_blocks.specs.Selection.{net_volume_of}
+use Rattle.dam_blocks.specs.Selection.{net_volume_of_block}
 use Rattle.dam_bound.specs.Classes.{first_of, members}
 use Rattle.dam_bound.specs.ClassCurves.{class_orders, least_net_in, most_net_in, IsClassIn, AreClasses}
 use Rattle.dam_bound.specs.Sums.{firsts_from, at_places, over_periods}
@@ -32,19 +32,19 @@ least_none : (n : ℕ) (f : BlockTerms → ℤ) → negative_sum (at_places n f 
 least_none zero f = refl
 least_none (suc n) f = let rest = least_none n f in let is = int_min_is (pos 0) (pos 0) in omega (arith, ints, rest, is)
 
-pub least_is : (n t : ℕ) (bs : List Block) → length bs ≤ n → negative_sum (at_places n (net_volume_of t) bs) ≡ least_net_in t bs
-least_is n t [] l = least_none n (net_volume_of t)
+pub least_is : (n t : ℕ) (bs : List Block) → length bs ≤ n → negative_sum (at_places n (net_volume_of_block t) bs) ≡ least_net_in t bs
+least_is n t [] l = least_none n (net_volume_of_block t)
 least_is zero t (b ∷ bs) l = absurd (omega (arith, l))
-least_is (suc n) t (b ∷ bs) l = ap (λ (z : ℤ). int_min (net_volume_of t b.order) (pos 0) +ℤ z) (least_is n t bs (omega (arith, l)))
+least_is (suc n) t (b ∷ bs) l = ap (λ (z : ℤ). int_min (net_volume_of_block t b.order) (pos 0) +ℤ z) (least_is n t bs (omega (arith, l)))
 
 most_none : (n : ℕ) (f : BlockTerms → ℤ) → positive_sum (at_places n f []) ≡ pos 0
 most_none zero f = refl
 most_none (suc n) f = let rest = most_none n f in let is = int_max_is (pos 0) (pos 0) in omega (arith, ints, rest, is)
 
-pub most_is : (n t : ℕ) (bs : List Block) → length bs ≤ n → positive_sum (at_places n (net_volume_of t) bs) ≡ most_net_in t bs
-most_is n t [] l = most_none n (net_volume_of t)
+pub most_is : (n t : ℕ) (bs : List Block) → length bs ≤ n → positive_sum (at_places n (net_volume_of_block t) bs) ≡ most_net_in t bs
+most_is n t [] l = most_none n (net_volume_of_block t)
 most_is zero t (b ∷ bs) l = absurd (omega (arith, l))
-most_is (suc n) t (b ∷ bs) l = ap (λ (z : ℤ). int_max (net_volume_of t b.order) (pos 0) +ℤ z) (most_is n t bs (omega (arith, l)))
+most_is (suc n) t (b ∷ bs) l = ap (λ (z : ℤ). int_max (net_volume_of_block t b.order) (pos 0) +ℤ z) (most_is n t bs (omega (arith, l)))
 
 -- the sums of the numbers so far
 pub record IsRangeSoFar (nets : List ℤ) (i : ℕ) (least most : ℤ) : Type 0 where
@@ -181,7 +181,7 @@ at_end (z ∷ xs) x P each own (suc j) y at = at_end xs x P (λ k w there. each 
 pub one_class : (problem : ProblemState) (before after : CurvesState) (at : ℕ) (classes : List Class) (class : Class) → Keeps before after
     → first_of problem.blocks at ≡ at → class.at ≡ at → length problem.blocks ≤ most_blocks
     → IsCurveAt after class.curve (class_orders problem at) (negative_sum class.nets) (positive_sum class.nets)
-    → class.nets ≡ at_places most_blocks (net_volume_of (at + 1)) problem.blocks
+    → class.nets ≡ at_places most_blocks (net_volume_of_block (at + 1)) problem.blocks
     → AreClassesSoFar problem before at classes → AreClassesSoFar problem after (at + 1) (classes ++ class ∷ [])
 one_class problem before after at classes class keeps first same few curve nets so_far =
     let was = kept problem before after at classes keeps so_far in
@@ -196,7 +196,7 @@ one_class problem before after at classes class keeps first same few curve nets 
           (sym same)
           (subst (λ (z : ℤ). IsCurveAt after class.curve (class_orders problem at) (least_net_in (at + 1) blocks) z) high
           (subst (λ (z : ℤ). IsCurveAt after class.curve (class_orders problem at) z (positive_sum class.nets)) low curve));
-      nets_are = subst (λ (n : ℕ). class.nets ≡ at_places most_blocks (net_volume_of (n + 1)) blocks) (sym same) nets;
+      nets_are = subst (λ (n : ℕ). class.nets ≡ at_places most_blocks (net_volume_of_block (n + 1)) blocks) (sym same) nets;
     } in record {
       places_are = mapped_end (λ (x : Class). x.at) classes class
           ∙ ap₂ (λ (ps : List ℕ) (n : ℕ). ps ++ n ∷ []) was.places_are (same ∙ sym none)
@@ -245,9 +245,9 @@ number_more f bs i b xs x at few e so_far =
     ∙ ap (λ (n : ℕ). at_places most_blocks f (take n bs)) number
 
 pub nets_within : (periods t : ℕ) (bs : List Block) (i : ℕ) (nets : List ℤ) → AreBlocks periods bs → length bs ≤ i
-    → nets ≡ at_places most_blocks (net_volume_of t) (take i bs) → AreNumbersWithin greatest_volume nets
+    → nets ≡ at_places most_blocks (net_volume_of_block t) (take i bs) → AreNumbersWithin greatest_volume nets
 nets_within periods t bs i nets are past is =
-    all_within (net_volume_of t) bs greatest_volume nets (is ∙ ap (at_places most_blocks (net_volume_of t)) (take_all i bs past))
+    all_within (net_volume_of_block t) bs greatest_volume nets (is ∙ ap (at_places most_blocks (net_volume_of_block t)) (take_all i bs past))
     (λ k b at. net_small t b.order (order_at periods bs k b are at))
 
 pub net_fits : (x : ℤ) → neg_ℤ (pos greatest_volume) ≤ℤ x → x ≤ℤ pos greatest_volume

@@ -14,7 +14,7 @@ use Rattle.dam_hour.proofs.Numbers.{minus_times}
 use Rattle.dam_curve.specs.JointPrice.{IsJointPrice}
 use Rattle.dam_blocks.specs.declared.problem.Block.{Block}
 use Rattle.dam_blocks.specs.Problem.{ProblemState}
-use Rattle.dam_blocks.specs.Selection.{volume_in, net_volume_of, value_in, net_volume}
+use Rattle.dam_blocks.specs.Selection.{volume_in, net_volume_of_block, value_in, net_volume}
 use Rattle.dam_blocks.specs.Eligible.{IsClearingPrice, ArePrices, surplus_from, surplus_of}
 use Rattle.dam_bound.specs.Classes.{first_of, members}
 use Rattle.dam_bound.specs.ClassCurves.{class_orders, day_value}
@@ -117,24 +117,24 @@ times_net price p Sell v =
 
 surplus_parts : (f : ℕ → ℤ) (o : BlockTerms) (t : ℕ) (prices : List ℤ)
     → ((k : ℕ) → k < length prices → f (t + k) ≡ get_or prices k (pos 0))
-    → surplus_from t prices o ≡ over_periods (λ u. value_in u o +ℤ f u *ℤ net_volume_of u o) t (length prices)
+    → surplus_from t prices o ≡ over_periods (λ u. value_in u o +ℤ f u *ℤ net_volume_of_block u o) t (length prices)
 surplus_parts f o t [] each = refl
 surplus_parts f o t (p ∷ prices) each =
     let none : t + 0 ≡ t = omega arith in
     let own : p ≡ f t = sym (each 0 (omega arith)) ∙ ap f none in
     ap₂ (λ (a b : ℤ). a +ℤ b)
-    (times_net o.price p o.side (volume_in o.volumes t) ∙ ap (λ (z : ℤ). value_in t o +ℤ z *ℤ net_volume_of t o) own)
+    (times_net o.price p o.side (volume_in o.volumes t) ∙ ap (λ (z : ℤ). value_in t o +ℤ z *ℤ net_volume_of_block t o) own)
     (surplus_parts f o (suc t) prices (λ k l.
     (let next : suc t + k ≡ t + suc k = omega arith in ap f next ∙ each (suc k) (omega (arith, l)))))
 
 class_part : (f : ℕ → ℤ) (blocks : List Block) (c n k : ℕ) (b : Block) → slice_get blocks k ≡ Some b
-    → over_class (λ t. f t *ℤ net_volume_of t b.order) blocks c 0 n ≡ over_class f blocks c 0 n *ℤ net_volume_of (c + 1) b.order
+    → over_class (λ t. f t *ℤ net_volume_of_block t b.order) blocks c 0 n ≡ over_class f blocks c 0 n *ℤ net_volume_of_block (c + 1) b.order
 class_part f blocks c n k b at =
     let number : suc c ≡ c + 1 = omega arith in
-    let net = net_volume_of (c + 1) b.order in
-    same_class (λ t. f t *ℤ net_volume_of t b.order) (λ t. net *ℤ f t) blocks c 0 n (λ i l m e.
+    let net = net_volume_of_block (c + 1) b.order in
+    same_class (λ t. f t *ℤ net_volume_of_block t b.order) (λ t. net *ℤ f t) blocks c 0 n (λ i l m e.
     ap (λ (v : ℕ). f (suc i) *ℤ neg_ℤ (signed b.order.side (pos v))) (class_volume blocks i c k b e at)
-    ∙ ap (λ (u : ℕ). f (suc i) *ℤ net_volume_of u b.order) number ∙ turned (f (suc i)) net)
+    ∙ ap (λ (u : ℕ). f (suc i) *ℤ net_volume_of_block u b.order) number ∙ turned (f (suc i)) net)
     ∙ class_times f net blocks c 0 n ∙ turned net (over_class f blocks c 0 n)
 
 -- ---- the selection
@@ -144,7 +144,7 @@ class_price problem prices c = over_class (price_in prices) problem.blocks c 0 (
 
 -- the surplus of a block by the prices of the classes at these places
 abbrev pub gain_by : ProblemState → (ℕ → ℤ) → List ℕ → BlockTerms → ℤ
-gain_by problem f places o = day_value problem o +ℤ over_places (λ c. f c *ℤ net_volume_of (c + 1) o) places
+gain_by problem f places o = day_value problem o +ℤ over_places (λ c. f c *ℤ net_volume_of_block (c + 1) o) places
 
 pub class_price_is : (problem : ProblemState) (sel : List Bool) (prices : List ℤ) (c : ℕ) → ArePrices problem.blocks sel 1 problem.hours prices
     → IsJointPrice (class_orders problem c) (net_volume problem.blocks sel (c + 1)) (class_price problem prices c)
@@ -160,10 +160,10 @@ surplus_is problem sel prices k b are at =
     let n = length problem.hours in let f = price_in prices in let o = b.order in
     let long = as_long problem.blocks sel 1 problem.hours prices are in
     let parts = surplus_parts f o 1 prices (λ i l. (let place : (1 + i) - 1 ≡ i = omega arith in ap (λ (m : ℕ). get_or prices m (pos 0)) place))
-    ∙ ap (over_periods (λ u. value_in u o +ℤ f u *ℤ net_volume_of u o) 1) long in
-    let sum = periods_plus (λ u. value_in u o) (λ u. f u *ℤ net_volume_of u o) 1 n in
-    let classes = by_class (λ u. f u *ℤ net_volume_of u o) problem.blocks n in
-    let each = over_same (λ c. over_class (λ u. f u *ℤ net_volume_of u o) problem.blocks c 0 n)
-    (λ c. class_price problem prices c *ℤ net_volume_of (c + 1) o) (class_places problem)
+    ∙ ap (over_periods (λ u. value_in u o +ℤ f u *ℤ net_volume_of_block u o) 1) long in
+    let sum = periods_plus (λ u. value_in u o) (λ u. f u *ℤ net_volume_of_block u o) 1 n in
+    let classes = by_class (λ u. f u *ℤ net_volume_of_block u o) problem.blocks n in
+    let each = over_same (λ c. over_class (λ u. f u *ℤ net_volume_of_block u o) problem.blocks c 0 n)
+    (λ c. class_price problem prices c *ℤ net_volume_of_block (c + 1) o) (class_places problem)
     (λ j c there. class_part f problem.blocks c n k b at) in
     omega (arith, ints, parts, sum, classes, each)

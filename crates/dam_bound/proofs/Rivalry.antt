@@ -21,7 +21,7 @@ use Rattle.dam_curve.specs.declared.price_range.PriceRange.{PriceRange}
 use Rattle.dam_blocks.specs.declared.problem.Block.{Block}
 use Rattle.dam_blocks.specs.Problem.{ProblemState}
 use Rattle.dam_blocks.specs.Magnitude.{IsWithin}
-use Rattle.dam_blocks.specs.Selection.{accepts, net_volume_of}
+use Rattle.dam_blocks.specs.Selection.{accepts, net_volume_of_block}
 use Rattle.dam_blocks.specs.Family.{descends, accepted_descendants}
 use Rattle.dam_blocks.specs.Eligible.{surplus_of, surplus_at, family_surplus, IsEligible}
 use Rattle.dam_bound.specs.ClassCurves.{class_orders, least_net_in, most_net_in, day_value, AreClassCurves}
@@ -128,7 +128,7 @@ pub record IsClassPrice (problem : ProblemState) (c : ℕ) (p : ℤ) : Type 0 wh
 -- the surpluses of two blocks by the prices of the classes at these places, each times its weight
 abbrev pub two_by : ProblemState → (ℕ → ℤ) → Weights → BlockTerms → BlockTerms → List ℕ → ℤ
 two_by problem f weights a b places = weigh weights (day_value problem a) (day_value problem b)
-    +ℤ over_places (λ c. f c *ℤ weigh weights (net_volume_of (c + 1) a) (net_volume_of (c + 1) b)) places
+    +ℤ over_places (λ c. f c *ℤ weigh weights (net_volume_of_block (c + 1) a) (net_volume_of_block (c + 1) b)) places
 
 pub record IsMostSoFar (problem : ProblemState) (j sell buy : ℕ) (weights : Weights) (most : ℤ) : Type 0 where
   pub each : (f : ℕ → ℤ) → ((c : ℕ) → IsClassPrice problem c (f c)) → (a b : Block) → slice_get problem.blocks sell ≡ Some a
@@ -148,7 +148,7 @@ no_class problem sell buy weights values d e most few are is = record {
 
 pub class_more : (problem : ProblemState) (j : ℕ) (class : Class) (range : PriceRange) (sell buy : ℕ) (weights : Weights)
     (d e volume term most after : ℤ) → length problem.blocks ≤ most_blocks → IsAtPlace problem j class.at
-    → class.nets ≡ at_places most_blocks (net_volume_of (class.at + 1)) problem.blocks
+    → class.nets ≡ at_places most_blocks (net_volume_of_block (class.at + 1)) problem.blocks
     → ArePricesIn (class_orders problem class.at) (least_net_in (class.at + 1) problem.blocks) (most_net_in (class.at + 1) problem.blocks) range
     → volume ≡ weigh weights (get_or class.nets sell d) (get_or class.nets buy e)
     → ((p : ℤ) → range.lowest ≤ℤ p → p ≤ℤ range.highest → (p *ℤ volume) ≤ℤ term) → after ≡ most +ℤ term
@@ -156,13 +156,13 @@ pub class_more : (problem : ProblemState) (j : ℕ) (class : Class) (range : Pri
 class_more problem j class range sell buy weights d e volume term most after few place nets prices_in volume_is under sum so_far = record {
   each = λ f prices a b at there.
       (let c = class.at in
-      let one = ap (λ (xs : List ℤ). get_or xs sell d) nets ∙ at_block most_blocks (net_volume_of (c + 1)) problem.blocks sell d a at few in
-      let two = ap (λ (xs : List ℤ). get_or xs buy e) nets ∙ at_block most_blocks (net_volume_of (c + 1)) problem.blocks buy e b there few in
+      let one = ap (λ (xs : List ℤ). get_or xs sell d) nets ∙ at_block most_blocks (net_volume_of_block (c + 1)) problem.blocks sell d a at few in
+      let two = ap (λ (xs : List ℤ). get_or xs buy e) nets ∙ at_block most_blocks (net_volume_of_block (c + 1)) problem.blocks buy e b there few in
       let same = ap (λ (v : ℤ). f c *ℤ v) (volume_is ∙ ap₂ (weigh weights) one two) in
       let price = prices c in
       let inside = prices_in price.net (f c) price.at_least price.at_most price.joint in
       let own = under (f c) inside.0 inside.1 in
-      let next = over_next (λ c. f c *ℤ weigh weights (net_volume_of (c + 1) a.order) (net_volume_of (c + 1) b.order)) (class_places problem) j c
+      let next = over_next (λ c. f c *ℤ weigh weights (net_volume_of_block (c + 1) a.order) (net_volume_of_block (c + 1) b.order)) (class_places problem) j c
       place.place in
       let before = so_far.each f prices a b at there in
       let number : suc j ≡ j + 1 = omega arith in
@@ -186,14 +186,14 @@ weigh_times weights p x y =
 two_is : (problem : ProblemState) (f : ℕ → ℤ) (weights : Weights) (a b : BlockTerms) (places : List ℕ)
     → weigh weights (gain_by problem f places a) (gain_by problem f places b) ≡ two_by problem f weights a b places
 two_is problem f weights a b places =
-    let x = λ (c : ℕ). f c *ℤ net_volume_of (c + 1) a in let y = λ (c : ℕ). f c *ℤ net_volume_of (c + 1) b in
+    let x = λ (c : ℕ). f c *ℤ net_volume_of_block (c + 1) a in let y = λ (c : ℕ). f c *ℤ net_volume_of_block (c + 1) b in
     let sell = times_plus weights.sell (day_value problem a) (over_places x places) in
     let buy = times_plus weights.buy (day_value problem b) (over_places y places) in
     let one = over_times x weights.sell places in let two = over_times y weights.buy places in
     let sum = over_plus (λ c. weights.sell *ℤ x c) (λ c. weights.buy *ℤ y c) places in
-    let each = over_same (λ c. f c *ℤ weigh weights (net_volume_of (c + 1) a) (net_volume_of (c + 1) b))
+    let each = over_same (λ c. f c *ℤ weigh weights (net_volume_of_block (c + 1) a) (net_volume_of_block (c + 1) b))
     (λ c. weights.sell *ℤ x c +ℤ weights.buy *ℤ y c) places
-    (λ j c at. weigh_times weights (f c) (net_volume_of (c + 1) a) (net_volume_of (c + 1) b)) in
+    (λ j c at. weigh_times weights (f c) (net_volume_of_block (c + 1) a) (net_volume_of_block (c + 1) b)) in
     omega (arith, ints, sell, buy, one, two, sum, each)
 
 surplus_there : (blocks : List Block) (prices : List ℤ) (i : ℕ) (b : Block) → slice_get blocks i ≡ Some b

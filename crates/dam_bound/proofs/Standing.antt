@@ -10,7 +10,7 @@ use Rattle.dam_hour.specs.declared.step.Step.{Step}
 use Rattle.dam_hour.specs.Execution.{IsExecution, executed_volume, volume_on}
 use Rattle.dam_hour.specs.Best.{signed, welfare_of}
 use Rattle.dam_blocks.specs.declared.problem.Block.{Block}
-use Rattle.dam_blocks.specs.Selection.{over_accepted, volume_in, net_volume_of, value_in, net_volume, accepted_value}
+use Rattle.dam_blocks.specs.Selection.{over_accepted, volume_in, net_volume_of_block, value_in, net_volume, accepted_value}
 use Rattle.dam_bound.specs.Relaxed.{step_of, as_steps}
 
 pub over_accepted-nil : (f : BlockTerms → ℤ) (bs : List Block) → over_accepted f bs [] ≡ pos 0
@@ -53,7 +53,7 @@ stand_more : (t : ℕ) (ts : List Step) (b : Block) (bs : List Block) (a : Bool)
     → Stands t (cond c ts (step_of t b.order ∷ ts)) (b ∷ bs) (a ∷ prefix) left us
 stand_more t ts b bs true prefix left us s true e =
     let none : volume_in b.order.volumes t ≡ 0 = grind (arith, nat_tests) in
-    let net : net_volume_of t b.order ≡ pos 0 = ap (λ (v : ℕ). neg_ℤ (signed b.order.side (pos v))) none
+    let net : net_volume_of_block t b.order ≡ pos 0 = ap (λ (v : ℕ). neg_ℤ (signed b.order.side (pos v))) none
     ∙ ap neg_ℤ (signed_zero b.order.side (pos 0) refl) in
     let value : value_in t b.order ≡ pos 0 = ap (λ (v : ℕ). signed b.order.side (b.order.price *ℤ pos v)) none
     ∙ nothing_worth b.order.side b.order.price in
@@ -92,7 +92,7 @@ stand_more t ts b bs false prefix left us s false e =
 pub stand : (t : ℕ) (bs : List Block) (prefix : List Bool) (us : List ℕ) → IsExecution (as_steps t (drop (length prefix) bs)) us
     → Stands t (as_steps t bs) bs prefix (as_steps t (drop (length prefix) bs)) us
 stand t bs [] us e =
-    let net = over_accepted-nil (net_volume_of t) bs in
+    let net = over_accepted-nil (net_volume_of_block t) bs in
     let value = over_accepted-nil (value_in t) bs in
     record { volumes = us; execution = e; balance = omega (arith, ints, net); welfare = omega (arith, ints, value) }
 stand t [] (d ∷ prefix) us e = record { volumes = []; execution = tt; balance = refl; welfare = refl }

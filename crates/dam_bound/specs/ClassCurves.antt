@@ -7,7 +7,7 @@ use Rattle.dam_hour.specs.declared.step.Step.{Step}
 use Rattle.dam_curve.specs.Curve.{CurvesState, IsCurveAt}
 use Rattle.dam_blocks.specs.declared.problem.Block.{Block}
 use Rattle.dam_blocks.specs.Problem.{ProblemState, AreBlocks}
-use Rattle.dam_blocks.specs.Selection.{net_volume_of, value_in}
+use Rattle.dam_blocks.specs.Selection.{net_volume_of_block, value_in}
 use Rattle.dam_bound.specs.Classes.{members}
 use Rattle.dam_bound.specs.Sums.{over_periods, class_places, at_places}
 use Rattle.dam_bound.specs.inside.Families.{AreFamilies}
@@ -20,12 +20,12 @@ class_orders problem c = members problem.blocks c 0 problem.hours
 -- the least net volume that selections make in a period
 abbrev pub least_net_in : ℕ → List Block → ℤ
 least_net_in t [] = pos 0
-least_net_in t (b ∷ bs) = int_min (net_volume_of t b.order) (pos 0) +ℤ least_net_in t bs
+least_net_in t (b ∷ bs) = int_min (net_volume_of_block t b.order) (pos 0) +ℤ least_net_in t bs
 
 -- the greatest net volume that they make there
 abbrev pub most_net_in : ℕ → List Block → ℤ
 most_net_in t [] = pos 0
-most_net_in t (b ∷ bs) = int_max (net_volume_of t b.order) (pos 0) +ℤ most_net_in t bs
+most_net_in t (b ∷ bs) = int_max (net_volume_of_block t b.order) (pos 0) +ℤ most_net_in t bs
 
 -- the value of a block in all periods of the day
 abbrev pub day_value : ProblemState → BlockTerms → ℤ
@@ -35,7 +35,7 @@ day_value problem o = over_periods (λ t. value_in t o) 1 (length problem.hours)
 pub record IsClassIn (problem : ProblemState) (curves : CurvesState) (class : Class) : Type 0 where
   pub curve_is : IsCurveAt curves class.curve (class_orders problem class.at)
       (least_net_in (class.at + 1) problem.blocks) (most_net_in (class.at + 1) problem.blocks)
-  pub nets_are : class.nets ≡ at_places most_blocks (net_volume_of (class.at + 1)) problem.blocks
+  pub nets_are : class.nets ≡ at_places most_blocks (net_volume_of_block (class.at + 1)) problem.blocks
 
 -- the classes of the problem in the order of their first periods
 pub record AreClasses (problem : ProblemState) (curves : CurvesState) (classes : List Class) : Type 0 where

@@ -9,7 +9,7 @@ use Rattle.dam_curve.specs.Line.{IsAbove, IsSmallLine}
 use Rattle.dam_curve.specs.declared.line.Line.{Line}
 use Rattle.dam_blocks.specs.Problem.{ProblemState}
 use Rattle.dam_blocks.specs.Magnitude.{IsWithin}
-use Rattle.dam_blocks.specs.Selection.{net_volume_of}
+use Rattle.dam_blocks.specs.Selection.{net_volume_of_block}
 use Rattle.dam_blocks.specs.Eligible.{selection_welfare}
 use Rattle.dam_bound.specs.Classes.{first_of}
 use Rattle.dam_bound.specs.ClassCurves.{class_orders, least_net_in, most_net_in, day_value}
@@ -43,7 +43,7 @@ pub record IsClassLine (problem : ProblemState) (c : ℕ) (line : Line) : Type 0
 -- the surplus of a block at the prices of the lines: its value, and in each class the price times its net volume
 abbrev pub priced_gain : ProblemState → List Line → BlockTerms → ℤ
 priced_gain problem lines o =
-    day_value problem o +ℤ over_places (λ c. (line_in lines c).price *ℤ net_volume_of (c + 1) o) (class_places problem)
+    day_value problem o +ℤ over_places (λ c. (line_in lines c).price *ℤ net_volume_of_block (c + 1) o) (class_places problem)
 
 -- the bound is by lines over the classes: the base is their surpluses, and the gains are by their prices
 pub record IsByLines (problem : ProblemState) (bound : PriceBound) : Type 0 where

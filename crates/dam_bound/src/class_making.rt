@@ -4,7 +4,7 @@ ghost use Rattle.std.specs.Prelude.{◌≡◌, ◌<◌, ◌≤◌, ◌+◌, ℕ,
 ghost use Rattle.dam_book.specs.Limits.{most_blocks, last_period, greatest_volume};
 ghost use Rattle.dam_curve.specs.Curve.{IsCurve, IsCurveAt, Keeps};
 ghost use Rattle.dam_blocks.specs.Problem.{AreBlocks};
-ghost use Rattle.dam_blocks.specs.Selection.{net_volume_of, value_in};
+ghost use Rattle.dam_blocks.specs.Selection.{net_volume_of_block, value_in};
 ghost use Rattle.dam_bound.specs.ClassCurves.{class_orders, AreClasses};
 ghost use Rattle.dam_bound.specs.Classes.{AreFirsts};
 ghost use Rattle.dam_bound.specs.Relaxed.{without_rows};
@@ -13,7 +13,7 @@ ghost use Rattle.dam_bound.specs.inside.Numbers.{AreNumbersWithin, negative_sum,
 
 use crate::class_curves::Class;
 use crate::classes::firsts_of;
-use dam_blocks::{Block, MOST_PERIODS, Problem, net_volume_of, value_in};
+use dam_blocks::{Block, MOST_PERIODS, Problem, net_volume_of_block, value_in};
 use dam_book::{BlockOrder, MOST_BLOCKS, Period};
 use dam_curve::{Curve, CurveSum, Curves, Supply};
 use std::alloc::{AllocError, Allocator};
@@ -23,13 +23,13 @@ fn net_volumes_in(blocks: &[Block], at: usize) -> [i32; MOST_BLOCKS]
     requires orders { (periods : ℕ) × AreBlocks periods blocks.now }
     requires few { length blocks.now ≤ most_blocks }
     requires place { at < last_period }
-    ensures value { result ≡ at_places most_blocks (net_volume_of (at + 1)) blocks.now }
+    ensures value { result ≡ at_places most_blocks (net_volume_of_block (at + 1)) blocks.now }
     ensures size { AreNumbersWithin greatest_volume result }
 {
     let period = Period::at(at);
     let mut nets = [0; MOST_BLOCKS];
     for (place, block) in blocks.iter().enumerate() {
-        nets[place] = net_volume_of(&block.order, period) as i32;
+        nets[place] = net_volume_of_block(&block.order, period) as i32;
     }
     nets
 }

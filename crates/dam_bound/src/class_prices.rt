@@ -10,7 +10,7 @@ pub struct ClassPrices {
 
 impl ClassPrices {
     /// Prices to be written over.
-    pub fn empty() -> ClassPrices {
+    pub fn placeholder() -> ClassPrices {
         ClassPrices {
             prices: [0; MOST_PERIODS],
         }

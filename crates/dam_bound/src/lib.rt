@@ -3,17 +3,17 @@
 //!
 //! ```
 //! let curves = ClassCurves::of(alloc, &problem)?;
-//! let mut bound = PriceBound::empty();
+//! let mut bound = PriceBound::placeholder();
 //! curves.write_price_bound(Selection::none(), &[0, 1, 2], &mut bound); // prices for selections of three blocks
 //! let most = bound.most(Selection::none().with(0), &[1, 2]); // of those that accept block 0
 //! let selection = Selection::none().with(0).with(2);
-//! let mut prices = ClassPrices::empty();
+//! let mut prices = ClassPrices::placeholder();
 //! if let Some(welfare) = curves.clear_selection(selection, &bound, 0, &mut prices) { // None if it is under 0, or doesn't balance
 //!     let loses = curves.has_loss(selection, &prices);
 //! }
 //! let rivals = curves.are_rivals(0, 1); // if true, no eligible selection accepts both
 //! let limits = curves.net_limits(); // that every eligible selection keeps
-//! let room = limits.room_after(&limits.room(), 0, true); // if None, no eligible selection accepts block 0
+//! let slack = limits.slack_after(&limits.slack(), 0, true); // if None, no eligible selection accepts block 0
 //!
 //! let relaxed = Relaxed::build(alloc, &problem)?;
 //! let relaxed_welfare = relaxed.bound(Selection::none().with(0), 1); // block 0 accepted, the others open
@@ -53,6 +53,6 @@ mod rivals;
 
 pub use class_curves::ClassCurves;
 pub use class_prices::ClassPrices;
-pub use net_limits::{MOST_LIMITS, NetLimit, NetLimits, Room};
+pub use net_limits::{MOST_LIMITS, NetLimit, NetLimits, Slack};
 pub use price_bound::PriceBound;
 pub use relaxed::Relaxed;

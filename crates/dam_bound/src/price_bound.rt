@@ -28,7 +28,7 @@ pub struct PriceBound {
 
 impl PriceBound {
     /// A bound to be written over, which need not bound anything.
-    pub fn empty() -> PriceBound {
+    pub fn placeholder() -> PriceBound {
         PriceBound {
             base: 0,
             gains: [0; MOST_BLOCKS],

@@ -16,7 +16,7 @@ ghost use Rattle.dam_cli.specs.Status.{IsEndedStatus, IsLineStatus, IsNoHelp, ru
 use advice::{asks_version, file_in, rule_of};
 use dam_book::Seed;
 use dam_engines::{RunFault, Sink, Source, short_line, status, write_text};
-use dam_line::{Job, LineFault, read_line};
+use dam_line::{Job, LineFault, read_words};
 use progress::Progress;
 use run::run_job;
 use std::alloc::Global;
@@ -76,7 +76,7 @@ fn read_job_or_answer(rt: &HostRuntime) -> Result<Job, ExitCode>
         Ok(words) => words,
         Err(fault) => return Err(help_or_refuse(rt, &fault, &[])),
     };
-    match read_line(rt.alloc(), words.as_slice()) {
+    match read_words(rt.alloc(), words.as_slice()) {
         Ok(job) => Ok(job),
         Err(fault) => Err(help_or_refuse(rt, &fault, words.as_slice())),
     }

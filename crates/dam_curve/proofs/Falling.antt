@@ -48,11 +48,11 @@ joint_some law (ss ∷ ps) net p e =
     (here.0 +ℤ rest.0, ap₂ both here.1 rest.1)
 
 -- ---- the prices at the ends
-pub dot_at : (ps : List (List Step)) (ls : List Segment) (least : ℤ) (i : ℕ) (d : Segment) → ArePriced ps ls least → i < length ls
-    → IsJointPrice ps (get_or ls i d).most (get_or ls i d).dot
-dot_at ps [] least i d are l = absurd (omega (arith, l))
-dot_at ps (s ∷ ls) least zero d are l = are.0.dot
-dot_at ps (s ∷ ls) least (suc i) d are l = dot_at ps ls least i d are.1 (omega (arith, l))
+pub end_price_at : (ps : List (List Step)) (ls : List Segment) (least : ℤ) (i : ℕ) (d : Segment) → ArePriced ps ls least → i < length ls
+    → IsJointPrice ps (get_or ls i d).most (get_or ls i d).end_price
+end_price_at ps [] least i d are l = absurd (omega (arith, l))
+end_price_at ps (s ∷ ls) least zero d are l = are.0.end_price
+end_price_at ps (s ∷ ls) least (suc i) d are l = end_price_at ps ls least i d are.1 (omega (arith, l))
 
 pub none_in : WelfareIsSome → (curves : CurvesState) (curve : Curve) (ps : List (List Step)) (least most : ℤ) (range : PriceRange)
     → IsCurveAt curves curve ps least most → curve.count ≡ 0 → ArePricesIn ps least most range
@@ -65,7 +65,7 @@ none_in law curves curve ps least most range is none net p low high e =
 pub ends_in : JointPriceFalls → WelfareIsSome → (curves : CurvesState) (curve : Curve) (ps : List (List Step)) (least most : ℤ) (range : PriceRange)
     (ls : List Segment) (last : ℕ) (d : Segment) → IsCurveAt curves curve ps least most → 0 < curve.count
     → ls ≡ segments_at curves.segments curve → suc last ≡ length ls
-    → range.lowest ≡ (get_or ls 0 d).dot → range.highest ≡ (get_or ls last d).dot
+    → range.lowest ≡ (get_or ls 0 d).end_price → range.highest ≡ (get_or ls last d).end_price
     → ArePricesIn ps least most range
 ends_in falls law curves curve ps least most range ls last d is some same end lowest highest net p low high at =
     let found = joint_some law ps net p at in
@@ -74,20 +74,20 @@ ends_in falls law curves curve ps least most range ls last d is some same end lo
     let priced : ArePriced ps ls (bottom_of ls) = subst (λ (xs : List Segment). ArePriced ps xs (bottom_of xs)) (sym same) is.is_curve.priced in
     let bottom = ends.0 ∙ ap bottom_of (sym same) ∙ bottom_at ls last d end in
     let top = ends.1 ∙ ap (λ (xs : List Segment). end_of xs (pos 0)) (sym same) ∙ end_at ls d (omega (arith, end)) in
-    let under = falls ps net (get_or ls 0 d).most p (get_or ls 0 d).dot at
-    (dot_at ps ls (bottom_of ls) 0 d priced (omega (arith, end))) (omega (arith, ints, top, within.1)) in
-    let over = falls ps (get_or ls last d).most net (get_or ls last d).dot p
-    (dot_at ps ls (bottom_of ls) last d priced (omega (arith, end))) at (omega (arith, ints, bottom, within.0)) in
+    let under = falls ps net (get_or ls 0 d).most p (get_or ls 0 d).end_price at
+    (end_price_at ps ls (bottom_of ls) 0 d priced (omega (arith, end))) (omega (arith, ints, top, within.1)) in
+    let over = falls ps (get_or ls last d).most net (get_or ls last d).end_price p
+    (end_price_at ps ls (bottom_of ls) last d priced (omega (arith, end))) at (omega (arith, ints, bottom, within.0)) in
     (omega (arith, ints, under, lowest), omega (arith, ints, over, highest))
 
--- the dot of a segment, as a number of 32 bits
-pub dot_narrow : (ps : List (List Step)) (least most : ℤ) (ls : List Segment) (i : ℕ) (d : Segment) → IsCurve ps least most ls → i < length ls
-    → (neg_ℤ (pos (last_period * greatest_price)) ≤ℤ to_z w32 (of_z w32 (get_or ls i d).dot))
-    × (to_z w32 (of_z w32 (get_or ls i d).dot) ≤ℤ pos (last_period * greatest_price))
-    × (to_z w32 (of_z w32 (get_or ls i d).dot) ≡ (get_or ls i d).dot)
-dot_narrow ps least most ls i d is l =
+-- the end price of a segment, as a number of 32 bits
+pub end_price_narrow : (ps : List (List Step)) (least most : ℤ) (ls : List Segment) (i : ℕ) (d : Segment) → IsCurve ps least most ls → i < length ls
+    → (neg_ℤ (pos (last_period * greatest_price)) ≤ℤ to_z w32 (of_z w32 (get_or ls i d).end_price))
+    × (to_z w32 (of_z w32 (get_or ls i d).end_price) ≤ℤ pos (last_period * greatest_price))
+    × (to_z w32 (of_z w32 (get_or ls i d).end_price) ≡ (get_or ls i d).end_price)
+end_price_narrow ps least most ls i d is l =
     let small = small_wide ps least most ls i d is l in
-    let a = small.dot_at_least in let b = small.dot_at_most in
+    let a = small.end_price_at_least in let b = small.end_price_at_most in
     (omega (arith, ints, a, b), omega (arith, ints, a, b), omega (arith, ints, a, b))
 
 -- a curve that has segments has a last one

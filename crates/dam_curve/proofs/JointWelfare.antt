@@ -15,7 +15,7 @@ use Rattle.dam_curve.proofs.PeriodSegments.{IsPeriodCurve}
 
 -- ---- no period
 abbrev pub flat : ℤ → Segment
-flat most = record { most = most; price = pos 0; dot = pos 0; surplus = pos 0 }
+flat most = record { most = most; price = pos 0; end_price = pos 0; surplus = pos 0 }
 
 flat_is : (most least : ℤ) → least ≤ℤ most → IsSegment (joint_welfare []) (flat most) least
 flat_is most least l = record {
@@ -27,14 +27,14 @@ flat_under : (most : ℤ) → IsUnder (joint_welfare []) (flat most)
 flat_under most net w e = let is : w ≡ pos 0 = cc in omega (arith, ints, is)
 
 flat_priced : (most least : ℤ) → IsPriced [] (flat most) least
-flat_priced most least = record { dot = refl; inside = λ net low high. refl }
+flat_priced most least = record { end_price = refl; inside = λ net low high. refl }
 
 flat_small : (most : ℤ) → IsSmallSegment 0 (flat most)
 flat_small most = record {
   price_at_least = omega (arith, ints);
   price_at_most = omega (arith, ints);
-  dot_at_least = omega (arith, ints);
-  dot_at_most = omega (arith, ints);
+  end_price_at_least = omega (arith, ints);
+  end_price_at_most = omega (arith, ints);
   surplus_at_least = omega (arith, ints);
   surplus_at_most = omega (arith, ints);
 }

@@ -15,13 +15,13 @@ use Rattle.dam_curve.specs.inside.Segments.{price_at, joint_segment}
 
 -- any segment, for the places behind the end of a list
 abbrev pub any_segment : Segment
-any_segment = record { most = pos 0; price = pos 0; dot = pos 0; surplus = pos 0 }
+any_segment = record { most = pos 0; price = pos 0; end_price = pos 0; surplus = pos 0 }
 
 abbrev segment_of_parts : ℤ → ℤ → ℤ → ℤ → Segment
-segment_of_parts m p d s = record { most = m; price = p; dot = d; surplus = s }
+segment_of_parts m p d s = record { most = m; price = p; end_price = d; surplus = s }
 
 pub same_segment : (m n p q d e s t : ℤ) → m ≡ n → p ≡ q → d ≡ e → s ≡ t
-    → ◌≡◌ {A = Segment} (record { most = m; price = p; dot = d; surplus = s }) (record { most = n; price = q; dot = e; surplus = t })
+    → ◌≡◌ {A = Segment} (record { most = m; price = p; end_price = d; surplus = s }) (record { most = n; price = q; end_price = e; surplus = t })
 same_segment m n p q d e s t a b c f =
     ap (λ z. segment_of_parts z p d s) a ∙ ap (λ z. segment_of_parts n z d s) b ∙ ap (λ z. segment_of_parts n q z s) c
     ∙ ap (λ z. segment_of_parts n q e z) f
@@ -115,8 +115,8 @@ picked false P x y f g = g refl
 pub price_is : (ps : List (List Step)) (segment : Segment) (least at : ℤ) → IsPriced ps segment least → at ≤ℤ segment.most
     → (least <ℤ at) ⊎ (segment.most ≡ at) → IsJointPrice ps at (price_at segment at)
 price_is ps segment least at is high apart =
-    picked (int_eq segment.most at) (IsJointPrice ps at) segment.dot segment.price
-    (λ e. subst (λ z. IsJointPrice ps z segment.dot) ((Decides-int_eq segment.most at).0 e) is.dot)
+    picked (int_eq segment.most at) (IsJointPrice ps at) segment.end_price segment.price
+    (λ e. subst (λ z. IsJointPrice ps z segment.end_price) ((Decides-int_eq segment.most at).0 e) is.end_price)
     (λ e. under e apart)
   where
     differs : int_eq segment.most at ≡ false → segment.most ≡ at → ⊥
@@ -132,8 +132,8 @@ pub price_small : (n : ℕ) (segment : Segment) (at : ℤ) → IsSmallSegment n 
     → (neg_ℤ (pos (n * greatest_price)) ≤ℤ price_at segment at) × (price_at segment at ≤ℤ pos (n * greatest_price))
 price_small n segment at is =
     picked (int_eq segment.most at) (λ z. (neg_ℤ (pos (n * greatest_price)) ≤ℤ z) × (z ≤ℤ pos (n * greatest_price)))
-    segment.dot segment.price
-    (λ e. (is.dot_at_least, is.dot_at_most)) (λ e. (is.price_at_least, is.price_at_most))
+    segment.end_price segment.price
+    (λ e. (is.end_price_at_least, is.end_price_at_most)) (λ e. (is.price_at_least, is.price_at_most))
 
 -- ---- the sum of two segments
 -- the parts of a joint welfare
@@ -187,7 +187,7 @@ pub joined_priced : (ss : List Step) (ps : List (List Step)) (a b : Segment) (x 
     → IsPriced ps b y → x ≤ℤ least → y ≤ℤ least → most ≤ℤ a.most → most ≤ℤ b.most
     → (x <ℤ most) ⊎ (a.most ≡ most) → (y <ℤ most) ⊎ (b.most ≡ most) → IsPriced (ss ∷ ps) (joint_segment a b most) least
 joined_priced ss ps a b x y most least is other lx ly la lb apart_a apart_b = record {
-  dot = joint_sum ss ps most (price_at a most) (price_at b most) (price_is (ss ∷ []) a x most is la apart_a)
+  end_price = joint_sum ss ps most (price_at a most) (price_at b most) (price_is (ss ∷ []) a x most is la apart_a)
       (price_is ps b y most other lb apart_b);
   inside = λ net low high.
       joint_sum ss ps net a.price b.price (is.inside net (omega (arith, ints, lx, low)) (omega (arith, ints, la, high)))
@@ -202,8 +202,8 @@ joined_small n m a b most is other =
     record {
       price_at_least = omega (arith, ints, p, p2);
       price_at_most = omega (arith, ints, q, q2);
-      dot_at_least = omega (arith, ints, d.0, d2.0);
-      dot_at_most = omega (arith, ints, d.1, d2.1);
+      end_price_at_least = omega (arith, ints, d.0, d2.0);
+      end_price_at_most = omega (arith, ints, d.1, d2.1);
       surplus_at_least = omega (arith, ints, s, s2);
       surplus_at_most = omega (arith, ints, t, t2);
     }

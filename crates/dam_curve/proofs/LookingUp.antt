@@ -204,12 +204,12 @@ small_wide ps least most ls place d is l =
     let small = small_at (length ps) ls place d is.small l in
     let few = is.few in
     let p = small.price_at_least in let q = small.price_at_most in let s = small.surplus_at_least in let t = small.surplus_at_most in
-    let d1 = small.dot_at_least in let d2 = small.dot_at_most in
+    let d1 = small.end_price_at_least in let d2 = small.end_price_at_most in
     record {
       price_at_least = omega (arith, ints, few, p);
       price_at_most = omega (arith, ints, few, q);
-      dot_at_least = omega (arith, ints, few, d1);
-      dot_at_most = omega (arith, ints, few, d2);
+      end_price_at_least = omega (arith, ints, few, d1);
+      end_price_at_most = omega (arith, ints, few, d2);
       surplus_at_least = omega (arith, ints, few, s);
       surplus_at_most = omega (arith, ints, few, t);
     }

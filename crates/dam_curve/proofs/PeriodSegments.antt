@@ -344,7 +344,7 @@ segment_priced : Laws → (ss : List Step) (v w : ℕ) → AreInRange ss → v �
     → IsPrice p → ArePiece ss (height_of p) b e c → IsGap ss b (height_of q) (height_of p) → b ≤ e → e ≤ all_units ss
     → IsPriced (ss ∷ []) (segment_at_price v w q p b c) (pos v -ℤ pos e)
 segment_priced laws ss v w a ev q p b e c rq rp piece gap l within = record {
-  dot = (
+  end_price = (
     q,
     p,
     pos 0,
@@ -462,8 +462,8 @@ segment_small laws v w b c q p rq r order lv lb lw lc =
     record {
       price_at_least = omega (arith, ints, low);
       price_at_most = omega (arith, ints, high);
-      dot_at_least = omega (arith, ints, between.0, least);
-      dot_at_most = omega (arith, ints, between.1, high);
+      end_price_at_least = omega (arith, ints, between.0, least);
+      end_price_at_most = omega (arith, ints, between.1, high);
       surplus_at_least = omega (arith, ints, t.0, t.1, lw, lc);
       surplus_at_most = omega (arith, ints, t.0, t.1, lw, lc);
     }

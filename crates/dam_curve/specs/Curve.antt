@@ -59,10 +59,10 @@ abbrev pub IsUnderEach : (ℤ → Option ℤ) → List Segment → Type 0
 IsUnderEach f [] = Unit {0}
 IsUnderEach f (segment ∷ segments) = IsUnder f segment × IsUnderEach f segments
 
--- the clearing prices of the periods, added up, are the segment's dot at its greatest net volume, and its price at each
+-- the clearing prices of the periods, added up, are the segment's end price at its greatest net volume, and its price at each
 -- net volume between this one and its greatest
 pub record IsPriced (periods : List (List Step)) (segment : Segment) (least : ℤ) : Type 0 where
-  pub dot : IsJointPrice periods segment.most segment.dot
+  pub end_price : IsJointPrice periods segment.most segment.end_price
   pub inside : (net : ℤ) → least <ℤ net → net <ℤ segment.most → IsJointPrice periods net segment.price
 
 -- the prices of each segment are those of the periods down to the next one, and of the last down to this net volume
@@ -84,8 +84,8 @@ greatest_segment_surplus = 3 * (most_steps * (price_span * greatest_volume))
 pub record IsSmallSegment (count : ℕ) (segment : Segment) : Type 0 where
   pub price_at_least : neg_ℤ (pos (count * greatest_price)) ≤ℤ segment.price
   pub price_at_most : segment.price ≤ℤ pos (count * greatest_price)
-  pub dot_at_least : neg_ℤ (pos (count * greatest_price)) ≤ℤ segment.dot
-  pub dot_at_most : segment.dot ≤ℤ pos (count * greatest_price)
+  pub end_price_at_least : neg_ℤ (pos (count * greatest_price)) ≤ℤ segment.end_price
+  pub end_price_at_most : segment.end_price ≤ℤ pos (count * greatest_price)
   pub surplus_at_least : neg_ℤ (pos (count * greatest_segment_surplus)) ≤ℤ segment.surplus
   pub surplus_at_most : segment.surplus ≤ℤ pos (count * greatest_segment_surplus)
 

@@ -41,8 +41,8 @@ impl<A: Allocator> Curves<A> {
         }
         let segments = segments_of(&self.segments, curve);
         PriceRange {
-            lowest: segments[0].dot,
-            highest: segments[segments.len() - 1].dot,
+            lowest: segments[0].end_price,
+            highest: segments[segments.len() - 1].end_price,
         }
     }
 }

@@ -14,7 +14,7 @@ pub(crate) struct Segment {
     /// per MWh.
     pub(crate) price: i32,
     /// The clearing prices of the periods at its greatest net volume, added up, in cents per MWh.
-    pub(crate) dot: i32,
+    pub(crate) end_price: i32,
     /// The surplus of all orders of the periods at the price, in cents per MWh times tenths of a MW.
     pub(crate) surplus: i64,
 }
@@ -26,7 +26,7 @@ impl Segment {
         ensures { result ≡ price_at self net }
     {
         if i64::from(self.most) == net {
-            self.dot
+            self.end_price
         } else {
             self.price
         }

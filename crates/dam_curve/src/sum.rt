@@ -85,13 +85,12 @@ impl<A: Allocator> CurveSum<A> {
         laws::supported_surplus_is_greatest();
         laws::balances_within_offers();
         laws::price_is_between_ends();
-        write_segments(&mut self.own, supply.steps())?;
+        write_period_segments(&mut self.own, supply.steps())?;
         add_segments(&self.own, &self.segments, &mut self.next)?;
         mem::swap(&mut self.segments, &mut self.next);
         Ok(())
     }
 
-    /// The segments.
     pub(crate) fn segments(&self) -> &[Segment]
         ensures { result.now ≡ self.now }
     {
@@ -101,12 +100,12 @@ impl<A: Allocator> CurveSum<A> {
 
 /// The segment of no period.
 fn flat(most: i32) -> Segment
-    ensures { result ≡ record { most = most; price = pos 0; dot = pos 0; surplus = pos 0 } }
+    ensures { result ≡ record { most = most; price = pos 0; end_price = pos 0; surplus = pos 0 } }
 {
     Segment {
         most,
         price: 0,
-        dot: 0,
+        end_price: 0,
         surplus: 0,
     }
 }
@@ -130,13 +129,13 @@ fn segment_at_price(
     Segment {
         most: most as i32,
         price: price.get(),
-        dot: price_between(previous, price).get(),
+        end_price: price_between(previous, price).get(),
         surplus: demand.worth as i64 - cost as i64 - i64::from(cents_above_lowest(price)) * most,
     }
 }
 
 /// Writes the segments of a period with these steps, which stand by rising limit.
-fn write_segments<A: Allocator>(
+fn write_period_segments<A: Allocator>(
     segments: &mut Vec<Segment, A>,
     steps: &[Step],
 ) -> Result<(), AllocError>
@@ -171,7 +170,7 @@ fn joint_segment(a: Segment, b: Segment, most: i32) -> Segment
     Segment {
         most,
         price: a.price + b.price,
-        dot: a.price_at(i64::from(most)) + b.price_at(i64::from(most)),
+        end_price: a.price_at(i64::from(most)) + b.price_at(i64::from(most)),
         surplus: a.surplus + b.surplus,
     }
 }

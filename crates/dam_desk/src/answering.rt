@@ -30,11 +30,11 @@ impl Intake {
         self.begins = false;
         self.entries.clear();
         self.answers.clear();
-        self.answer_lines(bytes)
+        self.enter_lines(bytes)
     }
 
-    /// Answers the lines that end in the bytes, and begins the next line with the rest.
-    fn answer_lines(&mut self, bytes: &[u8]) -> Result<(), AllocError>
+    /// Enters the lines that end in the bytes, with the answers to them, and begins the next line with the rest.
+    fn enter_lines(&mut self, bytes: &[u8]) -> Result<(), AllocError>
         ensures { (state : State) (given : List ℕ) → HasRead self.old state given bytes.now
             → OnOk result (HasRead self.new state given []) }
     {
@@ -53,7 +53,7 @@ impl Intake {
             → OnOk result (HasRead self.new state given after) }
     {
         self.line.extend(piece)?;
-        self.answer_line()?;
+        self.enter_line()?;
         self.line.clear();
         Ok(())
     }
@@ -68,7 +68,7 @@ impl Intake {
     }
 
     /// Enters the record of the line that has come, if it is one, and adds the answer to it.
-    fn answer_line(&mut self) -> Result<(), AllocError>
+    fn enter_line(&mut self) -> Result<(), AllocError>
         ensures line { self.new.line ≡ self.old.line }
         ensures answered { OnOk result (self.new.answered ≡ next self.old.answered) }
         ensures step { (before : List ℕ) (journal : Option Journal) (text : List ℕ)

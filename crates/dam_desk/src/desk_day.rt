@@ -7,7 +7,9 @@ ghost use Rattle.dam_results.specs.Records.{day_row};
 ghost use Rattle.dam_results.specs.Written.{row_line, written};
 ghost use Rattle.dam_book.specs.Command.{is_journal_full};
 
-use dam_book::{Book, Command, DayLength, MOST_ENTRIES, PackedCommand, PackedEntry, Reply, Seed};
+use dam_book::{
+    Book, Command, DayLength, PackedCommand, PackedEntry, Reply, Seed, is_journal_full,
+};
 use dam_results::{packed_journal_text, replies_text, write_reply_line};
 use std::alloc::{AllocError, Global};
 
@@ -75,11 +77,7 @@ impl Day {
         ensures value { result ≡ is_journal_full self.now.entered command.now }
         ensures room { result ≡ false → self.now.entered + 1 ≤ most_entries }
     {
-        let held = self.entered as usize;
-        match command {
-            Command::Close => held >= MOST_ENTRIES,
-            _ => held >= MOST_ENTRIES - 1,
-        }
+        is_journal_full(self.entered, command.participant())
     }
 
     /// Applies the command to the book as the entry of this number, and appends the line of its reply.

@@ -23,7 +23,7 @@ impl FromJournal for Reopened {
     ghost use Rattle.dam_results.specs.Written.{written};
     ghost use Rattle.dam_desk.specs.inside.DeskDay.{IsDayWith};
 
-    type Seed = Seed;
+    type Context = Seed;
 
     ghost made_of = { λ periods commands reopened. IsDayWith reopened.day periods commands
         × HasWritten reopened.records (written periods commands)

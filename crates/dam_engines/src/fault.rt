@@ -1,16 +1,14 @@
-//! The faults of a run, each with the status and the line that the program ends with.
+//! The faults of a run, each with the status that the program ends with.
 
-ghost use Rattle.std.specs.Prelude.{◌≡◌, ◌++◌, codes, IfOk};
-ghost use Rattle.dam_engines.specs.Fault.{fault_status, fault_text, run_fault_of};
+ghost use Rattle.std.specs.Prelude.{◌≡◌};
+ghost use Rattle.dam_engines.specs.Fault.{fault_status};
 
-use crate::fixed_line::fault_text;
 use dam_blocks::ProblemFault;
 use dam_gate::Mismatch;
 use dam_results::JournalFault;
 use dam_search::{Nodes, SearchFault};
-use std::alloc::{AllocError, Allocator};
+use std::alloc::AllocError;
 use std::error::Error;
-use std::fmt;
 
 /// Why a run didn't print its text.
 #[derive(Clone, Copy, PartialEq, Eq, Debug)]
@@ -40,17 +38,6 @@ pub enum RunFault {
     Memory,
     /// The writer failed after it had taken this many bytes of the text: all of them, if it failed to flush them.
     Write { written: usize },
-}
-
-impl fmt::Display for RunFault {
-    ghost use Rattle.std.specs.Prelude.{Some};
-    ghost use Rattle.dam_engines.specs.Fault.{fault_text};
-
-    ghost output = { λ fault. Some (fault_text fault) };
-
-    fn fmt<W: fmt::Write>(&self, f: &mut fmt::Formatter<W>) -> fmt::Result {
-        f.write_str(fault_text(self).as_str())
-    }
 }
 
 impl Error for RunFault {}
@@ -125,12 +112,4 @@ pub fn status(fault: &RunFault) -> u8
         RunFault::Read | RunFault::Memory | RunFault::Write { .. } => 4,
         RunFault::Mismatch(_) | RunFault::Collected { .. } => 5,
     }
-}
-
-/// The line that the program prints on standard error, with its line feed.
-pub fn fault_line<A: Allocator>(alloc: A, fault: &RunFault) -> Result<Vec<u8, A>, AllocError>
-    ensures { IfOk result (λ line. line.items ≡ fault_text fault.now ++ codes "\n") }
-{
-    let line = format!(in alloc; "{fault}\n")?;
-    Ok(line.into_bytes())
 }

@@ -1,5 +1,5 @@
 //! The line of each fault, made in fixed room: it needs no memory, since memory may have run out.
-ghost use Rattle.std.specs.Prelude.{◌≡◌, ◌≤◌, ◌+◌, ◌++◌, length, codes, decimal};
+ghost use Rattle.std.specs.Prelude.{◌≡◌, ◌≤◌, ◌+◌, ◌++◌, length, codes, decimal, IfOk};
 ghost use Rattle.dam_engines.specs.Fault.{fault_text, input_text, mismatch_text};
 
 use crate::fault::RunFault;
@@ -8,6 +8,8 @@ use dam_gate::Mismatch;
 use dam_results::JournalFault;
 use dam_search::Nodes;
 use itoa::Buffer;
+use std::alloc::{AllocError, Allocator};
+use std::fmt;
 
 /// The bytes that a line has room for. The longest has 74 with its line feed.
 const ROOM: usize = 96;
@@ -143,4 +145,23 @@ pub fn short_line(fault: &RunFault) -> ArrayString<ROOM>
     let mut line = fault_text(fault);
     line.push_str("\n");
     line
+}
+
+impl fmt::Display for RunFault {
+    ghost use Rattle.std.specs.Prelude.{Some};
+    ghost use Rattle.dam_engines.specs.Fault.{fault_text};
+
+    ghost output = { λ fault. Some (fault_text fault) };
+
+    fn fmt<W: fmt::Write>(&self, f: &mut fmt::Formatter<W>) -> fmt::Result {
+        f.write_str(fault_text(self).as_str())
+    }
+}
+
+/// The line that the program prints on standard error, with its line feed.
+pub fn fault_line<A: Allocator>(alloc: A, fault: &RunFault) -> Result<Vec<u8, A>, AllocError>
+    ensures { IfOk result (λ line. line.items ≡ fault_text fault.now ++ codes "\n") }
+{
+    let line = format!(in alloc; "{fault}\n")?;
+    Ok(line.into_bytes())
 }

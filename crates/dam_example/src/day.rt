@@ -17,7 +17,7 @@ pub fn hold_day<R: Threads + Wait + Sync>(
     commands: &[Command],
 ) -> Result<SettledDay>
     ensures run { IfOk result (λ day. IsDayRun 24 commands.now day.settled.entries) }
-    ensures account { IfOk result (λ day. IsWholeAccount day.settled day.passes.items) }
+    ensures account { IfOk result (λ day. IsWholeAccount day.settled day.accounts.items) }
 {
     let periods = DayLength::new(24).context("the length of a day")?;
     let day = run_commands(rt, alloc, periods, Seed::fixed(), commands, &FreeTurn)?;

@@ -8,7 +8,7 @@ use Rattle.std.specs.List.Sorted.{IsPermutation}
 use Rattle.std.proofs.lemmas.List.Sorted.{IsPermutation-refl, IsPermutation-trans, IsPermutation-middle, IsPermutation-cons}
 use Rattle.dam_book.specs.declared.command.Entry.{Entry}
 use Rattle.dam_book.specs.Book.{BookState, book_after, empty_book, IsLegalFrom, IsLegalHistory}
-use Rattle.dam_gate.specs.Pass.{PassState, IsPass, AreInOrder, AreOwn, is_own}
+use Rattle.dam_gate.specs.Pass.{AccountState, IsAccount, AreInOrder, AreOwn, is_own}
 use Rattle.dam_gate.specs.Settled.{numbered, receipts_of}
 use Rattle.dam_gate.specs.Headline.{AreSomeOf, AreOfHolder}
 use Rattle.dam_gate.specs.inside.Tally.{AreReceipts}
@@ -156,20 +156,20 @@ some_of n low seen b (e ∷ es) (r ∷ rs) legal above ordered are =
           ))
     ] refl
 
-in_order-from : (b : BookState) (es front : List Entry) (ps : List PassState) → IsLegalFrom 1 b es
-    → AreReceipts es (front ++ receipts_of ps) → All IsPass ps
-    → All (λ (p : PassState). AreSomeOf p.receipts es) ps
-in_order-from b es front [] legal are passes = All-nil (λ (p : PassState). AreSomeOf p.receipts es)
+in_order-from : (b : BookState) (es front : List Entry) (ps : List AccountState) → IsLegalFrom 1 b es
+    → AreReceipts es (front ++ receipts_of ps) → All IsAccount ps
+    → All (λ (p : AccountState). AreSomeOf p.receipts es) ps
+in_order-from b es front [] legal are passes = All-nil (λ (p : AccountState). AreSomeOf p.receipts es)
 in_order-from b es front (p ∷ ps) legal are passes =
-    All-cons (λ (q : PassState). AreSomeOf q.receipts es) p ps
+    All-cons (λ (q : AccountState). AreSomeOf q.receipts es) p ps
     (some_of 1 0 p.seen b es p.receipts legal (omega arith) (passes 0 p (omega arith)).in_order
     (are_entries b es front p.receipts (receipts_of ps) legal are))
     (in_order-from b es (front ++ p.receipts) ps legal (subst (AreReceipts es) (sym (append_assoc front p.receipts (receipts_of ps))) are)
     (λ k d within. passes (suc k) d (omega (arith, within))))
 
-pub in_order : (b : BookState) (es : List Entry) (ps : List PassState) → IsLegalFrom 1 b es → AreReceipts es (receipts_of ps)
-    → All IsPass ps
-    → All (λ (p : PassState). AreSomeOf p.receipts es) ps
+pub in_order : (b : BookState) (es : List Entry) (ps : List AccountState) → IsLegalFrom 1 b es → AreReceipts es (receipts_of ps)
+    → All IsAccount ps
+    → All (λ (p : AccountState). AreSomeOf p.receipts es) ps
 in_order b es ps legal are passes = in_order-from b es [] ps legal are passes
 
 -- each receipt of a pass is of a command that was its holder's to give
@@ -177,5 +177,5 @@ all_own : (holder : Option (List ℕ)) (es : List Entry) → AreOwn holder es �
 all_own holder [] own = All-nil (λ (e : Entry). is_own holder e.command ≡ true)
 all_own holder (e ∷ es) own = All-cons (λ (x : Entry). is_own holder x.command ≡ true) e es own.0 (all_own holder es own.2)
 
-pub of_holders : (ps : List PassState) → All IsPass ps → All AreOfHolder ps
-of_holders ps passes = All-weaker IsPass AreOfHolder (λ p is. all_own p.holder p.receipts is.own) ps passes
+pub of_holders : (ps : List AccountState) → All IsAccount ps → All AreOfHolder ps
+of_holders ps passes = All-weaker IsAccount AreOfHolder (λ p is. all_own p.holder p.receipts is.own) ps passes

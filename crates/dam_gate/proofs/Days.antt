@@ -16,7 +16,7 @@ use Rattle.dam_book.specs.declared.command.Command.{Command}
 use Rattle.dam_book.specs.declared.command.Command.TheVariants.{Submit, Amend, Cancel, Close}
 use Rattle.dam_book.specs.declared.command.Entry.{Entry}
 use Rattle.dam_book.specs.Book.{BookState, empty_book, book_after, commands_of, IsLegalFrom, IsLegalHistory}
-use Rattle.dam_gate.specs.Pass.{PassState, Knowledge, knowing_nothing, IsPass, AreInOrder, holders, new_pass, is_from, is_close}
+use Rattle.dam_gate.specs.Pass.{AccountState, Knowledge, knowing_nothing, IsAccount, AreInOrder, holders, new_pass, is_from, is_close}
 use Rattle.dam_gate.specs.Settled.{numbered, receipts_of}
 use Rattle.dam_book.specs.Command.{giver}
 use Rattle.dam_gate.specs.Day.{commands_by, is_one_of, AreTaken, IsDayFault, givers_from, givers_of, with_any, with_giver, IsDayRun}
@@ -344,8 +344,8 @@ pub record Share (given : List Command) (other : List ℕ) (one : Bool) (rs : Li
   pub in_order : AreInOrder 0 last (filter (of_command (is_from other)) rs)
   pub commands : commands_of (filter (of_command (is_from other)) rs) ≡ cond one (commands_by other given) []
 
-share-step : (given : List Command) (other who : List ℕ) (participants : List (List ℕ)) (p : PassState) (rest : List Entry) (t : Bool)
-    → is_one_of participants who ≡ false → IsPass p
+share-step : (given : List Command) (other who : List ℕ) (participants : List (List ℕ)) (p : AccountState) (rest : List Entry) (t : Bool)
+    → is_one_of participants who ≡ false → IsAccount p
     → commands_of (filter (of_command (is_from other)) p.receipts) ≡ cond t (commands_by who given) [] → same_text other who ≡ t
     → Share given other (is_one_of participants other) rest
     → Share given other (t || is_one_of participants other) (p.receipts ++ rest)
@@ -373,7 +373,7 @@ share-step given other who participants p rest false apart pass mine is share =
       commands = ap commands_of whole ∙ share.commands;
     }
 
-pub shares : (given : List Command) (other : List ℕ) (participants : List (List ℕ)) (ps : List PassState) → AreApart participants
+pub shares : (given : List Command) (other : List ℕ) (participants : List (List ℕ)) (ps : List AccountState) → AreApart participants
     → AreServed given participants ps → Share given other (is_one_of participants other) (receipts_of ps)
 shares given other [] [] apart served = record { last = 0; in_order = omega arith; commands = refl }
 shares given other (who ∷ participants) (p ∷ ps) apart served =
@@ -383,7 +383,7 @@ shares given other (who ∷ participants) (p ∷ ps) apart served =
 shares given other [] (p ∷ ps) apart served = absurd served
 shares given other (who ∷ participants) [] apart served = absurd served
 
-pub no_closes : (given : List Command) (participants : List (List ℕ)) (ps : List PassState) → AreServed given participants ps
+pub no_closes : (given : List Command) (participants : List (List ℕ)) (ps : List AccountState) → AreServed given participants ps
     → filter (of_command is_close) (receipts_of ps) ≡ []
 no_closes given [] [] served = refl
 no_closes given (who ∷ participants) (p ∷ ps) served =
@@ -406,23 +406,23 @@ nothing_before [] c one = refl
 nothing_before (x ∷ xs) c one = absurd (omega (arith, ap (λ (ys : List Command). length ys) one, length-append xs (c ∷ [])))
 
 -- the receipts that the operator's pass adds
-with_operator : (p : Command → Bool) (ps : List PassState) (op : PassState)
+with_operator : (p : Command → Bool) (ps : List AccountState) (op : AccountState)
     → filter (of_command p) (receipts_of (ps ++ op ∷ [])) ≡ filter (of_command p) (receipts_of ps) ++ filter (of_command p) op.receipts
 with_operator p ps op =
-    ap (filter (of_command p)) (flat_map-append (λ (q : PassState). q.receipts) ps (op ∷ [])
+    ap (filter (of_command p)) (flat_map-append (λ (q : AccountState). q.receipts) ps (op ∷ [])
     ∙ ap (λ (es : List Entry). receipts_of ps ++ es) (append-nil op.receipts))
     ∙ filter-append (of_command p) (receipts_of ps) op.receipts
 
-closed-by : (given : List Command) (participants : List (List ℕ)) (ps : List PassState) (op : PassState) → AreServed given participants ps
+closed-by : (given : List Command) (participants : List (List ℕ)) (ps : List AccountState) (op : AccountState) → AreServed given participants ps
     → filter (of_command is_close) (receipts_of (ps ++ op ∷ [])) ≡ filter (of_command is_close) op.receipts
 closed-by given participants ps op served =
     with_operator is_close ps op ∙ ap (λ (xs : List Entry). xs ++ filter (of_command is_close) op.receipts)
     (no_closes given participants ps served)
 
-one-close : (periods : ℕ) (given : List Command) (participants : List (List ℕ)) (es : List Entry) (ps : List PassState) (op : PassState)
+one-close : (periods : ℕ) (given : List Command) (participants : List (List ℕ)) (es : List Entry) (ps : List AccountState) (op : AccountState)
     (before : List Command)
     → IsLegalHistory periods es → AreReceipts es (receipts_of (ps ++ op ∷ [])) → AreServed given participants ps
-    → commands_of op.receipts ≡ Close ∷ [] → IsPass op → commands_of es ≡ before ++ Close ∷ [] → filter is_close before ≡ []
+    → commands_of op.receipts ≡ Close ∷ [] → IsAccount op → commands_of es ≡ before ++ Close ∷ [] → filter is_close before ≡ []
 one-close periods given participants es ps op before legal are served closes pass last =
     let Q = of_command is_close in
     let rs = receipts_of (ps ++ op ∷ []) in
@@ -436,7 +436,7 @@ one-close periods given participants es ps op before legal are served closes pas
     nothing_before (filter is_close before) Close (sym of_journal
     ∙ ap commands_of (sym (same_passing Q periods op.seen es rs legal are ordered)) ∙ of_receipts)
 
-own-order : (periods : ℕ) (given : List Command) (participants : List (List ℕ)) (es : List Entry) (ps : List PassState) (op : PassState)
+own-order : (periods : ℕ) (given : List Command) (participants : List (List ℕ)) (es : List Entry) (ps : List AccountState) (op : AccountState)
     (who : List ℕ)
     → IsLegalHistory periods es → AreReceipts es (receipts_of (ps ++ op ∷ [])) → AreGivers participants given
     → AreServed given participants ps
@@ -454,11 +454,11 @@ own-order periods given participants es ps op who legal are givers served closes
     sym (commands-filter (is_from who) es) ∙ ap commands_of (sym (same_passing P periods share.last es rs legal are ordered))
     ∙ ap commands_of whole ∙ share.commands ∙ known-or-none given who (is_one_of participants who) (givers.all who)
 
-pub day_run : (periods : ℕ) (given : List Command) (participants : List (List ℕ)) (es : List Entry) (ps : List PassState) (op : PassState)
+pub day_run : (periods : ℕ) (given : List Command) (participants : List (List ℕ)) (es : List Entry) (ps : List AccountState) (op : AccountState)
     (before : List Command)
     → IsLegalHistory periods es → AreReceipts es (receipts_of (ps ++ op ∷ [])) → AreGivers participants given
     → AreServed given participants ps
-    → commands_of op.receipts ≡ Close ∷ [] → IsPass op → commands_of es ≡ before ++ Close ∷ [] → IsDayRun periods given es
+    → commands_of op.receipts ≡ Close ∷ [] → IsAccount op → commands_of es ≡ before ++ Close ∷ [] → IsDayRun periods given es
 day_run periods given participants es ps op before legal are givers served closes pass last =
     record {
       legal = legal;
@@ -520,7 +520,7 @@ none-left : (xs ys : List Command) (n : ℕ) → length xs ≡ n → length (xs 
 none-left xs [] n same few = refl
 none-left xs (y ∷ ys) n same few = absurd (omega (arith, same, few, length-append xs (y ∷ ys)))
 
-all-entered : (cs : List Command) (share : List ℕ) (p : PassState) → HasEntered [] (commands_at cs share) p → length p.receipts ≡ length share
+all-entered : (cs : List Command) (share : List ℕ) (p : AccountState) → HasEntered [] (commands_at cs share) p → length p.receipts ≡ length share
     → commands_of p.receipts ≡ commands_at cs share
 all-entered cs share p has as_long =
     let count : length has.entered ≡ length share =
@@ -532,14 +532,14 @@ all-entered cs share p has as_long =
     ∙ sym has.own_is
 
 -- a participant's pass that has receipts of all its own commands
-abbrev pub IsServed : List Command → List ℕ → PassState → Type 0
-IsServed given who p = (commands_of p.receipts ≡ commands_by who given) × IsPass p
+abbrev pub IsServed : List Command → List ℕ → AccountState → Type 0
+IsServed given who p = (commands_of p.receipts ≡ commands_by who given) × IsAccount p
 
-served : (given : List Command) (who : List ℕ) (share : List ℕ) (before p : PassState) → before ≡ new_pass (Some who)
+served : (given : List Command) (who : List ℕ) (share : List ℕ) (before p : AccountState) → before ≡ new_pass (Some who)
     → commands_at given share ≡ commands_by who given → Enters (commands_at given share) before p → HasAll share p → IsServed given who p
 served given who share before p new mine enters all =
     let entered : HasEntered [] (commands_at given share) p =
-    subst (λ (q : PassState). HasEntered (commands_of q.receipts) (commands_at given share) p) new enters.entered in
+    subst (λ (q : AccountState). HasEntered (commands_of q.receipts) (commands_at given share) p) new enters.entered in
     (all-entered given share p entered all.as_many ∙ mine, all.pass)
 
 share-of : (all front : List Command) (participants : List (List ℕ)) (shares : List (List ℕ)) (i : ℕ) (w : List ℕ)
@@ -551,8 +551,8 @@ share-of all front (who ∷ participants) (share ∷ shares) zero w are within =
 share-of all front (who ∷ participants) (share ∷ shares) (suc i) w are within =
     share-of all front participants shares i w are.1 (omega (arith, within))
 
-served-from : (given : List Command) (participants : List (List ℕ)) (ps : List PassState) → length ps ≡ length participants
-    → ((i : ℕ) (d : PassState) (w : List ℕ) → i < length ps → IsServed given (get_or participants i w) (get_or ps i d))
+served-from : (given : List Command) (participants : List (List ℕ)) (ps : List AccountState) → length ps ≡ length participants
+    → ((i : ℕ) (d : AccountState) (w : List ℕ) → i < length ps → IsServed given (get_or participants i w) (get_or ps i d))
     → AreServed given participants ps
 served-from given [] [] same are = tt
 served-from given (who ∷ participants) (p ∷ ps) same are =
@@ -561,31 +561,31 @@ served-from given (who ∷ participants) (p ∷ ps) same are =
 served-from given [] (p ∷ ps) same are = absurd (omega (arith, same))
 served-from given (who ∷ participants) [] same are = absurd (omega (arith, same))
 
-new_at : (participants : List (List ℕ)) (i : ℕ) (d : PassState) (w : List ℕ) → i < length participants
+new_at : (participants : List (List ℕ)) (i : ℕ) (d : AccountState) (w : List ℕ) → i < length participants
     → get_or (map (λ (who : List ℕ). new_pass (Some who)) participants) i d ≡ new_pass (Some (get_or participants i w))
 new_at [] i d w within = absurd (omega (arith, within))
 new_at (who ∷ participants) zero d w within = refl
 new_at (who ∷ participants) (suc i) d w within = new_at participants i d w (omega (arith, within))
 
-pub served-all : (given : List Command) (participants : List (List ℕ)) (shares : List (List ℕ)) (olds news : List PassState)
+pub served-all : (given : List Command) (participants : List (List ℕ)) (shares : List (List ℕ)) (olds news : List AccountState)
     → AreShares given given participants shares
     → olds ≡ map (λ (who : List ℕ). new_pass (Some who)) participants → length news ≡ length olds
-    → ((i : ℕ) (d : PassState) → i < length olds → Enters (commands_at given (share_at shares i)) (get_or olds i d) (get_or news i d))
-    → ((i : ℕ) (d : PassState) → i < length news → HasAll (share_at shares i) (get_or news i d))
+    → ((i : ℕ) (d : AccountState) → i < length olds → Enters (commands_at given (share_at shares i)) (get_or olds i d) (get_or news i d))
+    → ((i : ℕ) (d : AccountState) → i < length news → HasAll (share_at shares i) (get_or news i d))
     → AreServed given participants news
 served-all given participants shares olds news are new_ones as_long enters all =
-    let many : length olds ≡ length participants = ap (λ (ps : List PassState). length ps) new_ones
+    let many : length olds ≡ length participants = ap (λ (ps : List AccountState). length ps) new_ones
     ∙ length-map participants (λ (who : List ℕ). new_pass (Some who)) in
     served-from given participants news (as_long ∙ many)
     (λ i d w within.
     let at : get_or olds i d ≡ new_pass (Some (get_or participants i w)) =
-    ap (λ (ps : List PassState). get_or ps i d) new_ones ∙ new_at participants i d w (omega (arith, within, as_long, many)) in
+    ap (λ (ps : List AccountState). get_or ps i d) new_ones ∙ new_at participants i d w (omega (arith, within, as_long, many)) in
     let mine = share-of given given participants shares i w are (omega (arith, within, as_long, many)) in
     served given (get_or participants i w) (share_at shares i) (get_or olds i d) (get_or news i d) at mine
     (enters i d (omega (arith, within, as_long))) (all i d within))
 
-held-from : (participants : List (List ℕ)) (ps : List PassState) → length ps ≡ length participants
-    → ((i : ℕ) (d : PassState) (w : List ℕ) → i < length ps → (get_or ps i d).holder ≡ Some (get_or participants i w))
+held-from : (participants : List (List ℕ)) (ps : List AccountState) → length ps ≡ length participants
+    → ((i : ℕ) (d : AccountState) (w : List ℕ) → i < length ps → (get_or ps i d).holder ≡ Some (get_or participants i w))
     → holders ps ≡ map (λ (who : List ℕ). Some who) participants
 held-from [] [] same are = refl
 held-from (who ∷ participants) (p ∷ ps) same are =
@@ -595,43 +595,43 @@ held-from [] (p ∷ ps) same are = absurd (omega (arith, same))
 held-from (who ∷ participants) [] same are = absurd (omega (arith, same))
 
 -- the passes stay in the order in which they were made
-pub held-all : (own : ℕ → List Command) (participants : List (List ℕ)) (olds news : List PassState)
+pub held-all : (own : ℕ → List Command) (participants : List (List ℕ)) (olds news : List AccountState)
     → olds ≡ map (λ (who : List ℕ). new_pass (Some who)) participants → length news ≡ length olds
-    → ((i : ℕ) (d : PassState) → i < length olds → Enters (own i) (get_or olds i d) (get_or news i d))
+    → ((i : ℕ) (d : AccountState) → i < length olds → Enters (own i) (get_or olds i d) (get_or news i d))
     → holders news ≡ map (λ (who : List ℕ). Some who) participants
 held-all own participants olds news new_ones as_long enters =
-    let many : length olds ≡ length participants = ap (λ (ps : List PassState). length ps) new_ones
+    let many : length olds ≡ length participants = ap (λ (ps : List AccountState). length ps) new_ones
     ∙ length-map participants (λ (who : List ℕ). new_pass (Some who)) in
     held-from participants news (as_long ∙ many)
     (λ i d w within.
     let at : get_or olds i d ≡ new_pass (Some (get_or participants i w)) =
-    ap (λ (ps : List PassState). get_or ps i d) new_ones ∙ new_at participants i d w (omega (arith, within, as_long, many)) in
-    (enters i d (omega (arith, within, as_long))).holder ∙ ap (λ (p : PassState). p.holder) at)
+    ap (λ (ps : List AccountState). get_or ps i d) new_ones ∙ new_at participants i d w (omega (arith, within, as_long, many)) in
+    (enters i d (omega (arith, within, as_long))).holder ∙ ap (λ (p : AccountState). p.holder) at)
 
 -- ---- the knowledge of a pass in addition to its account
 
-abbrev pub accounts : List Knowledge → List PassState
+abbrev pub accounts : List Knowledge → List AccountState
 accounts ks = map (λ (k : Knowledge). k.account) ks
 
 pub new-accounts : (participants : List (List ℕ)) → accounts (map (λ (who : List ℕ). knowing_nothing (Some who)) participants) ≡ map
     (λ (who : List ℕ). new_pass (Some who)) participants
 new-accounts [] = refl
-new-accounts (who ∷ participants) = ap (λ (ps : List PassState). new_pass (Some who) ∷ ps) (new-accounts participants)
+new-accounts (who ∷ participants) = ap (λ (ps : List AccountState). new_pass (Some who) ∷ ps) (new-accounts participants)
 
 pub accounts-enter : (own : ℕ → List Command) (olds news : List Knowledge) → length news ≡ length olds
     → ((i : ℕ) (d : Knowledge) → i < length olds → Enters (own i) (get_or olds i d).account (get_or news i d).account)
-    → (i : ℕ) (d : PassState) → i < length (accounts olds) → Enters (own i) (get_or (accounts olds) i d) (get_or (accounts news) i d)
+    → (i : ℕ) (d : AccountState) → i < length (accounts olds) → Enters (own i) (get_or (accounts olds) i d) (get_or (accounts news) i d)
 accounts-enter own olds news same enters i d within =
     let f = λ (k : Knowledge). k.account in
     let k : Knowledge = record { account = d; history = []; learnt = []; note = None } in
     let below : i < length olds = omega (arith, within, length-map olds f) in
-    subst (λ (p : PassState). Enters (own i) p (get_or (accounts news) i d)) (sym (get_or-map f olds i k d below))
-    (subst (λ (p : PassState). Enters (own i) (get_or olds i k).account p) (sym (get_or-map f news i k d (omega (arith, below, same))))
+    subst (λ (p : AccountState). Enters (own i) p (get_or (accounts news) i d)) (sym (get_or-map f olds i k d below))
+    (subst (λ (p : AccountState). Enters (own i) (get_or olds i k).account p) (sym (get_or-map f news i k d (omega (arith, below, same))))
     (enters i k below))
 
 pub accounts-all : (own : ℕ → List ℕ) (ks : List Knowledge)
     → ((i : ℕ) (d : Knowledge) → i < length ks → HasAll (own i) (get_or ks i d).account)
-    → (i : ℕ) (d : PassState) → i < length (accounts ks) → HasAll (own i) (get_or (accounts ks) i d)
+    → (i : ℕ) (d : AccountState) → i < length (accounts ks) → HasAll (own i) (get_or (accounts ks) i d)
 accounts-all own ks all i d within =
     let f = λ (k : Knowledge). k.account in
     let k : Knowledge = record { account = d; history = []; learnt = []; note = None } in

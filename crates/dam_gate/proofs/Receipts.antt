@@ -5,7 +5,7 @@ use Rattle.dam_book.specs.declared.command.Entry.{Entry}
 use Rattle.std.proofs.lemmas.List.{take_more}
 use Rattle.std.proofs.lemmas.Grind.{flat_map-append}
 use Rattle.dam_book.specs.Command.{is_journal_full}
-use Rattle.dam_gate.specs.Pass.{PassState, AreInOrder, AreOwn, is_own}
+use Rattle.dam_gate.specs.Pass.{AccountState, AreInOrder, AreOwn, is_own}
 use Rattle.dam_gate.specs.Settled.{receipts_of}
 
 pub AreInOrder-snoc : (low seen : ℕ) (es : List Entry) (e : Entry) → AreInOrder low seen es → seen < e.number
@@ -31,8 +31,8 @@ number_above low seen (suc i) (x ∷ es) d ordered within =
     omega (arith, ordered.0, number_above x.number seen i es d ordered.1 (omega (arith, within)))
 
 -- the receipts of one pass more
-pub receipts-more : (ps : List PassState) (i : ℕ) (d : PassState) → i < length ps
+pub receipts-more : (ps : List AccountState) (i : ℕ) (d : AccountState) → i < length ps
     → receipts_of (take (i + 1) ps) ≡ receipts_of (take i ps) ++ (get_or ps i d).receipts
 receipts-more ps i d within =
-    ap receipts_of (take_more ps i d within) ∙ flat_map-append (λ (p : PassState). p.receipts) (take i ps) (get_or ps i d ∷ [])
+    ap receipts_of (take_more ps i d within) ∙ flat_map-append (λ (p : AccountState). p.receipts) (take i ps) (get_or ps i d ∷ [])
     ∙ ap (λ (es : List Entry). receipts_of (take i ps) ++ es) (append-nil (get_or ps i d).receipts)

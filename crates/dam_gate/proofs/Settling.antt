@@ -12,7 +12,7 @@ use Rattle.dam_book.specs.declared.command.Entry.{Entry}
 use Rattle.dam_book.specs.Book.{BookState, book_after, empty_book, commands_of}
 use Rattle.dam_gate.specs.Journal.{JournalState, IsJournal, journal_after, next_entry}
 use Rattle.dam_gate.specs.Day.{day_holders, givers_of}
-use Rattle.dam_gate.specs.Pass.{Knowledge, PassState, AreInOrder, AreOwn, IsKnowledge, StandIn, after_learning, holders, is_own, is_from}
+use Rattle.dam_gate.specs.Pass.{Knowledge, AccountState, AreInOrder, AreOwn, IsKnowledge, StandIn, after_learning, holders, is_own, is_from}
 use Rattle.dam_gate.specs.Pass.{is_close, knowing_nothing, new_pass, with_receipt}
 use Rattle.dam_gate.specs.Settled.{numbered, receipts_of, IsSettled}
 use Rattle.dam_gate.specs.inside.Tally.{AreReceipts}
@@ -99,7 +99,7 @@ both-once es front back m are one two apart =
         absurd (apart r q xs ys is other same)
 
 -- the passes of the participants have each number once
-theirs-once : (given : List Command) (participants : List (List ℕ)) (ps : List PassState) (es : List Entry) (m : ℕ) → AreApart participants
+theirs-once : (given : List Command) (participants : List (List ℕ)) (ps : List AccountState) (es : List Entry) (m : ℕ) → AreApart participants
     → AreServed given participants ps → holders ps ≡ map (λ (who : List ℕ). Some who) participants → AreEntries es (receipts_of ps)
     → length (numbered m (receipts_of ps)) ≤ 1
 theirs-once given [] [] es m apart served held are = omega arith
@@ -120,12 +120,12 @@ theirs-once given (who ∷ participants) (p ∷ ps) es m apart served held are =
 theirs-once given [] (p ∷ ps) es m apart served held are = absurd served
 theirs-once given (who ∷ participants) [] es m apart served held are = absurd served
 
-receipts-last : (ps : List PassState) (op : PassState) → receipts_of (ps ++ op ∷ []) ≡ receipts_of ps ++ op.receipts
+receipts-last : (ps : List AccountState) (op : AccountState) → receipts_of (ps ++ op ∷ []) ≡ receipts_of ps ++ op.receipts
 receipts-last ps op =
-    flat_map-append (λ (p : PassState). p.receipts) ps (op ∷ []) ∙ ap (λ (es : List Entry). receipts_of ps ++ es) (append-nil op.receipts)
+    flat_map-append (λ (p : AccountState). p.receipts) ps (op ∷ []) ∙ ap (λ (es : List Entry). receipts_of ps ++ es) (append-nil op.receipts)
 
 -- and with the operator's too
-pub each-number-once : (given : List Command) (participants : List (List ℕ)) (ps : List PassState) (op : PassState) (es : List Entry) (m : ℕ)
+pub each-number-once : (given : List Command) (participants : List (List ℕ)) (ps : List AccountState) (op : AccountState) (es : List Entry) (m : ℕ)
     → AreApart participants → AreServed given participants ps → holders ps ≡ map (λ (who : List ℕ). Some who) participants
     → op.holder ≡ None → AreInOrder 0 op.seen op.receipts → AreOwn op.holder op.receipts → AreEntries es (receipts_of (ps ++ op ∷ []))
     → length (numbered m (receipts_of (ps ++ op ∷ []))) ≤ 1
@@ -166,27 +166,27 @@ theirs-stand ks learnt es known begin longer =
     let k : Knowledge = record { account = d; history = []; learnt = []; note = None } in
     let below : i < length ks = omega (arith, within, length-map ks f) in
     let it = get_or ks i k in
-    subst (λ (p : PassState). StandIn es p.receipts) (sym (get_or-map f ks i k d below))
+    subst (λ (p : AccountState). StandIn es p.receipts) (sym (get_or-map f ks i k d below))
     (stand-longer it.history es it.account.receipts (prefix_trans it.history learnt es (begin i k below) longer) (known i k below).stand))
 
 -- there are as many passes as participants
 as_many : (ks : List Knowledge) (participants : List (List ℕ)) → holders (accounts ks) ≡ map (λ (who : List ℕ). Some who) participants
     → length ks ≡ length participants
 as_many ks participants held =
-    sym (length-map ks (λ (k : Knowledge). k.account)) ∙ sym (length-map (accounts ks) (λ (p : PassState). p.holder))
+    sym (length-map ks (λ (k : Knowledge). k.account)) ∙ sym (length-map (accounts ks) (λ (p : AccountState). p.holder))
     ∙ ap (λ (hs : List (Option (List ℕ))). length hs) held ∙ length-map participants (λ (who : List ℕ). Some who)
 
 -- the holders of the passes are the day's
-pub held_by : (given : List Command) (participants : List (List ℕ)) (ps : List PassState) (op : PassState)
+pub held_by : (given : List Command) (participants : List (List ℕ)) (ps : List AccountState) (op : AccountState)
     → holders ps ≡ map (λ (who : List ℕ). Some who) participants → op.holder ≡ None → participants ≡ givers_of given
     → holders (ps ++ op ∷ []) ≡ day_holders given
 held_by given participants ps op held nobody order =
-    map-append (λ (p : PassState). p.holder) ps (op ∷ [])
+    map-append (λ (p : AccountState). p.holder) ps (op ∷ [])
     ∙ ap₂ (λ (hs : List (Option (List ℕ))) (h : Option (List ℕ)). hs ++ h ∷ []) held nobody
     ∙ ap (λ (ps : List (List ℕ)). map (λ (who : List ℕ). Some who) ps ++ None ∷ []) order
 
 -- the journal is settled with the passes, of which the operator's has the receipt of the last command, the close
-pub record IsCounted (passes : List PassState) (op : PassState) (j : JournalState) : Type 0 where
+pub record IsCounted (passes : List AccountState) (op : AccountState) (j : JournalState) : Type 0 where
   pub are : AreReceipts j.entries (receipts_of passes)
   pub closes : commands_of op.receipts ≡ Close ∷ []
   pub nobody : op.holder ≡ None
@@ -195,8 +195,8 @@ pub record IsCounted (passes : List PassState) (op : PassState) (j : JournalStat
   pub settled : IsSettled j passes
 
 -- if the parts of all passes count as many receipts as there are entries
-pub counted : (given : List Command) (participants : List (List ℕ)) (ks : List Knowledge) (before : Knowledge) (op : PassState)
-    (j : JournalState) (passes : List PassState) (parts most amount : ℕ) → IsClosedByOperator before op j
+pub counted : (given : List Command) (participants : List (List ℕ)) (ks : List Knowledge) (before : Knowledge) (op : AccountState)
+    (j : JournalState) (passes : List AccountState) (parts most amount : ℕ) → IsClosedByOperator before op j
     → before ≡ after_learning (knowing_nothing None) before.learnt → IsJournal j → AreApart participants
     → AreServed given participants (accounts ks) → holders (accounts ks) ≡ map (λ (who : List ℕ). Some who) participants
     → All IsKnowledge ks → ((i : ℕ) (d : Knowledge) → i < length ks → IsPrefix (get_or ks i d).history before.learnt)
@@ -213,8 +213,8 @@ counted given participants ks before op j passes parts most amount closed is jou
     let last : es ≡ earlier.entries ++ e ∷ [] = ap (λ (x : JournalState). x.entries) closed.closed in
     let new : op ≡ with_receipt (new_pass None) e =
     closed.receipt ∙ ap (λ (k : Knowledge). with_receipt k.account e) is in
-    let receipts : op.receipts ≡ e ∷ [] = ap (λ (p : PassState). p.receipts) new in
-    let nobody : op.holder ≡ None = ap (λ (p : PassState). p.holder) new in
+    let receipts : op.receipts ≡ e ∷ [] = ap (λ (p : AccountState). p.receipts) new in
+    let nobody : op.holder ≡ None = ap (λ (p : AccountState). p.holder) new in
     let longer : IsPrefix earlier.entries es = (e ∷ [], sym last) in
     let theirs : StandIn es (receipts_of ps) =
     theirs-stand ks before.learnt es known begin (prefix_trans before.learnt earlier.entries es closed.learnt longer) in
@@ -229,11 +229,11 @@ counted given participants ks before op j passes parts most amount closed is jou
       arith,
       count,
       whole (omega (arith, many, most_is, as_many ks participants held)),
-      ap (λ (xs : List PassState). length (receipts_of xs)) all,
+      ap (λ (xs : List AccountState). length (receipts_of xs)) all,
     ) in
     let are = all-entries 1 b es rs legal entries
     (λ m. each-number-once given participants ps op es m apart served held nobody closed.pass.in_order closed.pass.own entries) enough in
-    let are_all = subst (λ (xs : List PassState). AreReceipts es (receipts_of xs)) (sym all) are in
+    let are_all = subst (λ (xs : List AccountState). AreReceipts es (receipts_of xs)) (sym all) are in
     record {
       are = are_all;
       closes = ap commands_of receipts;

@@ -5,7 +5,7 @@ use Rattle.std.proofs.lemmas.Bool.{cases_lt}
 use mathlib.Core.List.{IsPrefix}
 use Rattle.dam_book.specs.declared.command.Entry.{Entry}
 use Rattle.dam_book.specs.Book.{BookState, book_after, IsLegalFrom}
-use Rattle.dam_gate.specs.Pass.{Knowledge, PassState, StandIn}
+use Rattle.dam_gate.specs.Pass.{Knowledge, AccountState, StandIn}
 use Rattle.dam_gate.specs.Settled.{numbered, receipts_of}
 use Rattle.dam_gate.proofs.Accounts.{AreEntries}
 use Rattle.dam_gate.proofs.Beginnings.{prefix_trans}
@@ -40,7 +40,7 @@ stand-append es [] back a b = b
 stand-append es (r ∷ front) back a b = (a.0, stand-append es front back a.1 b)
 
 -- the receipts of passes whose receipts stand
-pub stand-all : (es : List Entry) (ps : List PassState) → All (λ (p : PassState). StandIn es p.receipts) ps → StandIn es (receipts_of ps)
+pub stand-all : (es : List Entry) (ps : List AccountState) → All (λ (p : AccountState). StandIn es p.receipts) ps → StandIn es (receipts_of ps)
 stand-all es [] all = tt
 stand-all es (p ∷ ps) all =
     stand-append es p.receipts (receipts_of ps) (all 0 p (omega arith)) (stand-all es ps (λ k d within. all (suc k) d (omega (arith, within))))

@@ -13,7 +13,7 @@ use Rattle.dam_gate.specs.declared.settlement.Mismatch.TheVariants.{StillOpen, M
 use Rattle.dam_gate.specs.declared.tally.Mark.{Mark}
 use Rattle.dam_gate.specs.declared.tally.Mark.TheVariants.{Nothing, Same, Other, Several}
 use Rattle.dam_gate.specs.Settled.{numbered, IsFaultOfReceipts, IsLeastFault, IsExtra}
-use Rattle.dam_gate.specs.inside.Tally.{AreReceipts, IsMark, mark_with, AreMarks, IsLeastExtra, lesser, IsTally, first_fault}
+use Rattle.dam_gate.specs.inside.Tally.{AreReceipts, IsMark, mark_with, AreMarks, IsLeastExtra, lesser, IsTally, first_mismatch_in_marks}
 use Rattle.dam_gate.proofs.Numbers.{numbered-own, numbered-other, none_below, none_above, AreOnly, are_only}
 
 -- ---- one receipt more
@@ -169,7 +169,7 @@ right-more n all rs here right m below = go (cases_lt m n)
 
 first-decided : (last n : ℕ) (all rs es : List Entry) (fs : List Mark) → last ≡ n + length es → AreOnly n es all → AreMarks n es fs rs
     → ((m : ℕ) → m < n → numbered m rs ≡ numbered m all)
-    → MatchOption (first_fault n fs) ((m : ℕ) → m < last → numbered m rs ≡ numbered m all) (IsFaultOfReceipts all rs)
+    → MatchOption (first_mismatch_in_marks n fs) ((m : ℕ) → m < last → numbered m rs ≡ numbered m all) (IsFaultOfReceipts all rs)
 first-decided last n all rs [] [] end only are right = λ m below. right m (omega (arith, end, below))
 first-decided last n all rs (e ∷ es) (Nothing ∷ fs) end only are right =
     record { wrong = (ap (λ (xs : List Entry). length xs) only.0, are.0); least = right }
@@ -190,20 +190,20 @@ none-wrong periods es rs legal positive m below =
 
 tally-first : (periods : ℕ) (es : List Entry) (fs : List Mark) (extra : Option ℕ) (rs : List Entry) → IsLegalHistory periods es
     → IsTally es fs extra rs
-    → MatchOption (first_fault 1 fs) ((m : ℕ) → m < 1 + length es → numbered m rs ≡ numbered m es) (IsFaultOfReceipts es rs)
+    → MatchOption (first_mismatch_in_marks 1 fs) ((m : ℕ) → m < 1 + length es → numbered m rs ≡ numbered m es) (IsFaultOfReceipts es rs)
 tally-first periods es fs extra rs legal tally =
     first-decided (1 + length es) 1 es rs es fs refl (are_only 1 (empty_book periods) es legal) tally.are_found
     (none-wrong periods es rs legal tally.positive)
 
 pub fault-decided : (periods : ℕ) (es : List Entry) (fs : List Mark) (extra : Option ℕ) (rs : List Entry) (fault : Mismatch)
-    → IsLegalHistory periods es → first_fault 1 fs ≡ Some fault
+    → IsLegalHistory periods es → first_mismatch_in_marks 1 fs ≡ Some fault
     → IsTally es fs extra rs → IsFaultOfReceipts es rs fault
 fault-decided periods es fs extra rs fault legal is tally =
     subst (λ (o : Option Mismatch). MatchOption o ((m : ℕ) → m < 1 + length es → numbered m rs ≡ numbered m es) (IsFaultOfReceipts es rs))
     is (tally-first periods es fs extra rs legal tally)
 
 none-decided : (periods : ℕ) (es : List Entry) (fs : List Mark) (extra : Option ℕ) (rs : List Entry) → IsLegalHistory periods es
-    → first_fault 1 fs ≡ None
+    → first_mismatch_in_marks 1 fs ≡ None
     → IsTally es fs extra rs → (m : ℕ) → m < 1 + length es → numbered m rs ≡ numbered m es
 none-decided periods es fs extra rs legal is tally =
     subst (λ (o : Option Mismatch). MatchOption o ((m : ℕ) → m < 1 + length es → numbered m rs ≡ numbered m es) (IsFaultOfReceipts es rs))
@@ -220,14 +220,14 @@ all_numbers periods n es rs legal right after = go (cases_lt n (1 + length es))
 
 -- if each entry is received as it should be, the least extra number decides
 pub all-decided : (periods : ℕ) (es : List Entry) (fs : List Mark) (extra : Option ℕ) (rs : List Entry) → IsLegalHistory periods es
-    → first_fault 1 fs ≡ None → extra ≡ None
+    → first_mismatch_in_marks 1 fs ≡ None → extra ≡ None
     → IsTally es fs extra rs → AreReceipts es rs
 all-decided periods es fs extra rs legal is none tally n =
     all_numbers periods n es rs legal (none-decided periods es fs extra rs legal is tally)
     (subst (IsLeastExtra (length es) rs) none tally.extra_is n)
 
 pub extra-decided : (periods least : ℕ) (es : List Entry) (fs : List Mark) (extra : Option ℕ) (rs : List Entry) → IsLegalHistory periods es
-    → first_fault 1 fs ≡ None → extra ≡ Some least
+    → first_mismatch_in_marks 1 fs ≡ None → extra ≡ Some least
     → IsTally es fs extra rs → IsLeastFault IsExtra es rs least
 extra-decided periods least es fs extra rs legal is some tally =
     let own = subst (IsLeastExtra (length es) rs) some tally.extra_is in

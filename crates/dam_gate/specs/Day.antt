@@ -70,8 +70,8 @@ pub record IsSettledDay (periods : ℕ) (given : List Command) (d : SettledDay) 
   pub day_length : d.settled.book.periods ≡ periods
   pub journal : IsJournal d.settled
   pub run : IsDayRun periods given d.settled.entries
-  pub account : IsWholeAccount d.settled d.passes.items
-  pub held_by : holders d.passes.items ≡ day_holders given
+  pub account : IsWholeAccount d.settled d.accounts.items
+  pub held_by : holders d.accounts.items ≡ day_holders given
 
 -- the faults of a day of these commands: there are too many of them; if there aren't, the place, from 0, of a command
 -- that it doesn't take while it takes those before, a close or one that brings a participant too many, or that memory ran

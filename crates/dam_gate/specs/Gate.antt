@@ -14,7 +14,7 @@ use Rattle.dam_gate.specs.declared.gate.GateFault.TheVariants.{NotYours, Journal
 use Rattle.dam_gate.specs.declared.pass.Look.{Look}
 use Rattle.dam_gate.specs.Journal.{IsHistory}
 use Rattle.dam_book.specs.Command.{is_journal_full}
-use Rattle.dam_gate.specs.Pass.{PassState, Knowledge, after_call, is_own}
+use Rattle.dam_gate.specs.Pass.{AccountState, Knowledge, after_call, is_own}
 
 -- the faults that may be answered in place of a keeper or a gate of a day with this number of
 -- periods
@@ -36,7 +36,7 @@ gate_fault_of KeeperMemory = Memory
 -- may, a journal of as many entries is full for it, memory ran out, or no version could be shown. Other threads may
 -- change the journal, so this doesn't mention one, and doesn't say that there was room if one of the last two is the
 -- answer
-abbrev pub IsGateFault : PassState → Command → GateFault → Type 0
+abbrev pub IsGateFault : AccountState → Command → GateFault → Type 0
 IsGateFault p c NotYours = is_own p.holder c ≡ false
 IsGateFault p c (JournalFull held) = (is_own p.holder c ≡ true) × (held ≤ most_entries) × (is_journal_full held c ≡ true)
 IsGateFault p c Memory = is_own p.holder c ≡ true

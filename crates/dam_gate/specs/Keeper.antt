@@ -1,4 +1,4 @@
--- The state of a keeper, and a step of it that is ready to be taken.
+-- The state of a keeper, and a prepared step of it.
 use Rattle.std.specs.Prelude.{◌≡◌, ℕ, ◌<◌, false, length}
 use Rattle.dam_book.specs.Book.{BookState, book_after}
 use Rattle.dam_book.specs.declared.command.Command.{Command}
@@ -12,12 +12,12 @@ pub record KeeperState : Type 0 where
   pub room : ℕ
 
 -- an entry, and the book after its command
-pub record ReadyState : Type 0 where
+pub record PreparedState : Type 0 where
   pub entry : Entry
   pub book : BookState
 
--- the step of the command is ready: its entry is the next, and there is room for it
-pub record IsReadyFor (k : KeeperState) (c : Command) (r : ReadyState) : Type 0 where
+-- a prepared step of the command: its entry is the next, and there is room for it
+pub record IsPreparedFor (k : KeeperState) (c : Command) (r : PreparedState) : Type 0 where
   pub entry : r.entry ≡ next_entry k.journal c
   pub book : r.book ≡ book_after k.journal.book c
   pub left : is_journal_full (length k.journal.entries) c ≡ false

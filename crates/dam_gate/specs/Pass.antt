@@ -7,7 +7,7 @@ use Rattle.dam_book.specs.declared.command.Entry.{Entry}
 use Rattle.dam_book.specs.Command.{is_journal_full}
 
 -- the operator's pass has no participant
-pub record PassState : Type 0 where
+pub record AccountState : Type 0 where
   pub holder : Option (List ℕ)
   pub seen : ℕ
   pub receipts : List Entry
@@ -44,30 +44,30 @@ AreOwn holder (e ∷ es) =
 
 -- the invariant of a pass: the numbers of its receipts increase, and are at most the number that it has seen; each is
 -- for a command that its holder may give and that found room
-pub record IsPass (p : PassState) : Type 0 where
+pub record IsAccount (p : AccountState) : Type 0 where
   pub in_order : AreInOrder 0 p.seen p.receipts
   pub own : AreOwn p.holder p.receipts
 
 -- who holds each of these passes
-abbrev pub holders : List PassState → List (Option (List ℕ))
-holders passes = map (λ (p : PassState). p.holder) passes
+abbrev pub holders : List AccountState → List (Option (List ℕ))
+holders passes = map (λ (p : AccountState). p.holder) passes
 
 -- the pass of a holder who has seen nothing and has no receipt
-abbrev pub new_pass : Option (List ℕ) → PassState
+abbrev pub new_pass : Option (List ℕ) → AccountState
 new_pass holder = record { holder = holder; seen = 0; receipts = [] }
 
 -- the pass after a call that was answered with the entry
-abbrev pub with_receipt : PassState → Entry → PassState
+abbrev pub with_receipt : AccountState → Entry → AccountState
 with_receipt p e = record { holder = p.holder; seen = e.number; receipts = p.receipts ++ e ∷ [] }
 
 -- the pass after a look at `seen` entries
-abbrev pub having_seen : PassState → ℕ → PassState
+abbrev pub having_seen : AccountState → ℕ → AccountState
 having_seen p seen = record { holder = p.holder; seen = seen; receipts = p.receipts }
 
 -- the knowledge of a pass: its account; the history of the gate that it has seen; the longest that it has learnt of, of
 -- which each other one is a prefix; and the one that its last call made
 pub record Knowledge : Type 0 where
-  pub account : PassState
+  pub account : AccountState
   pub history : List Entry
   pub learnt : List Entry
   pub note : Option (List Entry)
@@ -95,6 +95,6 @@ StandIn es (r ∷ rs) = (slice_get es (r.number - 1) ≡ Some r) × StandIn es r
 
 -- the account is of a pass that has seen as many entries as its history has, and whose receipts stand in that history
 pub record IsKnowledge (k : Knowledge) : Type 0 where
-  pub account : IsPass k.account
+  pub account : IsAccount k.account
   pub seen : k.account.seen ≡ length k.history
   pub stand : StandIn k.history k.account.receipts

@@ -1,4 +1,4 @@
--- Settlement: whether the receipts of the passes are the entries of the journal.
+-- Settlement: whether the receipts of the accounts are the entries of the journal.
 use Rattle.std.specs.Prelude.{◌≡◌, ◌≢◌, ℕ, ◌<◌, ◌≤◌, ◌==◌, true, false, List, [], length}
 use Rattle.std.specs.List.{filter, flat_map}
 use Rattle.std.specs.List.Sorted.{IsPermutation}
@@ -6,16 +6,16 @@ use Rattle.dam_book.specs.declared.command.Entry.{Entry}
 use Rattle.dam_gate.specs.declared.settlement.Mismatch.{Mismatch}
 use Rattle.dam_gate.specs.declared.settlement.Mismatch.TheVariants.{StillOpen, Missing, Doubled, Differs, Extra, Memory}
 use Rattle.dam_gate.specs.Journal.{JournalState}
-use Rattle.dam_gate.specs.Pass.{PassState}
+use Rattle.dam_gate.specs.Pass.{AccountState}
 
--- the receipts of all passes, one pass after another
-abbrev pub receipts_of : List PassState → List Entry
-receipts_of passes = flat_map (λ (p : PassState). p.receipts) passes
+-- the receipts of all accounts, one account after another
+abbrev pub receipts_of : List AccountState → List Entry
+receipts_of accounts = flat_map (λ (p : AccountState). p.receipts) accounts
 
--- the book is closed, and the receipts of the passes are the journal's entries, each once
-pub record IsSettled (j : JournalState) (passes : List PassState) : Type 0 where
+-- the book is closed, and the receipts of the accounts are the journal's entries, each once
+pub record IsSettled (j : JournalState) (accounts : List AccountState) : Type 0 where
   pub closed : j.book.closed ≡ true
-  pub each_once : IsPermutation (receipts_of passes) j.entries
+  pub each_once : IsPermutation (receipts_of accounts) j.entries
 
 -- The faults of a number, by the entries and the receipts of it.
 
@@ -53,9 +53,9 @@ IsFaultOfReceipts es rs (Differs n) = IsLeastFault IsDifferent es rs n
 IsFaultOfReceipts es rs (Extra n) = IsLeastFault IsExtra es rs n
 IsFaultOfReceipts es rs Memory = ⊥
 
--- why a journal and passes are not found settled: the book is open, or the least faulty number is faulty so, or memory
+-- why a journal and accounts are not found settled: the book is open, or the least faulty number is faulty so, or memory
 -- ran out
-abbrev pub IsMismatch : JournalState → List PassState → Mismatch → Type 0
-IsMismatch j passes StillOpen = j.book.closed ≡ false
-IsMismatch j passes Memory = j.book.closed ≡ true
-IsMismatch j passes fault = (j.book.closed ≡ true) × IsFaultOfReceipts j.entries (receipts_of passes) fault
+abbrev pub IsMismatch : JournalState → List AccountState → Mismatch → Type 0
+IsMismatch j accounts StillOpen = j.book.closed ≡ false
+IsMismatch j accounts Memory = j.book.closed ≡ true
+IsMismatch j accounts fault = (j.book.closed ≡ true) × IsFaultOfReceipts j.entries (receipts_of accounts) fault

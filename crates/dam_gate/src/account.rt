@@ -1,6 +1,6 @@
 ghost use Rattle.std.specs.Prelude.{◌≡◌};
 ghost use Rattle.std.specs.Option.{option_copied};
-ghost use Rattle.dam_gate.specs.Pass.{IsPass, same_giver};
+ghost use Rattle.dam_gate.specs.Pass.{IsAccount, same_giver};
 
 use dam_book::{PackedEntry, Participant};
 use std::marker::Model;
@@ -18,14 +18,14 @@ pub struct Account {
 }
 
 impl Model for Account {
-    ghost use Rattle.dam_gate.specs.Pass.{PassState, IsPass};
+    ghost use Rattle.dam_gate.specs.Pass.{AccountState, IsAccount};
 
-    ghost Value = { PassState };
+    ghost Value = { AccountState };
 
     ghost view = { λ p. record { holder = p.holder; seen = p.seen; receipts = p.receipts.items } };
 
     ghost invariant = { λ p.
-        IsPass (record { holder = p.holder; seen = p.seen; receipts = p.receipts.items }) };
+        IsAccount (record { holder = p.holder; seen = p.seen; receipts = p.receipts.items }) };
 }
 
 /// Whether the holder may give a command of this giver: a participant its own command, and the operator a close.
@@ -51,7 +51,7 @@ pub(crate) fn copy_holder(holder: &Option<Participant>) -> Option<Participant>
 
 impl Account {
     pub(crate) fn new(holder: Option<Participant>, seen: u32, receipts: Vec<PackedEntry>) -> Account
-        requires { IsPass (record { holder = holder; seen = seen; receipts = receipts.items }) }
+        requires { IsAccount (record { holder = holder; seen = seen; receipts = receipts.items }) }
         ensures { result ≡ record { holder = holder; seen = seen; receipts = receipts.items } }
     {
         Account {
@@ -78,7 +78,7 @@ impl Account {
     /// The entries that its calls were answered with, by increasing number.
     pub fn receipts(&self) -> &[PackedEntry]
         ensures value { result.now ≡ self.now.receipts }
-        ensures valid { IsPass self.now }
+        ensures valid { IsAccount self.now }
     {
         &self.receipts
     }

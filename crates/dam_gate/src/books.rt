@@ -60,8 +60,8 @@ impl<A: Allocator + Copy> Books<A> {
         &self.book
     }
 
-    /// A share of the book.
-    pub(crate) fn share_book(&self) -> Result<Arc<Book<A>, A>, AllocError>
+    /// Another handle of the book.
+    pub(crate) fn clone_book_handle(&self) -> Result<Arc<Book<A>, A>, AllocError>
         ensures { IfOk result (λ book. arc_value book ≡ self.now.book) }
     {
         Arc::try_clone(&self.book)

@@ -55,7 +55,7 @@ pub struct SettledDay {
     pub settled: Settled,
     /// The accounts of the passes through which its commands were entered: the participants', by first occurrence among
     /// the commands given, and then the operator's.
-    pub passes: Vec<Account>,
+    pub accounts: Vec<Account>,
 }
 
 impl<T: Drop> From<AllocFailed<T>> for DayFault {
@@ -355,21 +355,25 @@ fn run_at_own_gate<J: GateName + Send + Sync, R: Threads + Wait + Sync, T: Turns
     let mut operator = gate.operator(rt)?;
     learn_from_all(&mut operator, &passes);
     let closed = gate.close_into_locked(&mut operator)?;
-    let (passes, mut parts) = accounts_of(alloc, passes, operator)?;
+    let (accounts, mut parts) = accounts_of(alloc, passes, operator)?;
     let journal = closed.into_audited_journal(&mut parts);
-    let settled = settle_journal(alloc, journal, &passes)?;
-    Ok(SettledDay { settled, passes })
+    let settled = settle_journal(alloc, journal, &accounts)?;
+    Ok(SettledDay { settled, accounts })
 }
 
-/// The journal settled with the passes.
-fn settle_journal(alloc: Global, journal: Journal, passes: &[Account]) -> Result<Settled, DayFault>
+/// The journal settled with the accounts.
+fn settle_journal(
+    alloc: Global,
+    journal: Journal,
+    accounts: &[Account],
+) -> Result<Settled, DayFault>
     ensures journal { IfOk result (λ settled. settled ≡ journal) }
-    ensures account { IfOk result (λ settled. IsWholeAccount settled passes.now) }
-    ensures why { IfErr result (IsUnsettled journal passes.now) }
-    ensures exact { IsSettled journal passes.now
+    ensures account { IfOk result (λ settled. IsWholeAccount settled accounts.now) }
+    ensures why { IfErr result (IsUnsettled journal accounts.now) }
+    ensures exact { IsSettled journal accounts.now
         → IfErr result (λ fault. fault ≡ DayFault.Memory) }
 {
-    match settle(alloc, journal, passes) {
+    match settle(alloc, journal, accounts) {
         Ok(settled) => Ok(settled),
         Err(unsettled) => match unsettled.why {
             Mismatch::Memory => Err(DayFault::Memory),

@@ -7,17 +7,19 @@ ghost use Rattle.dam_gate.specs.inside.Entering.{IsClosedByOperator};
 ghost use Rattle.dam_gate.specs.inside.Locked.{entry_of};
 
 use crate::history::{GateName, Opening};
-use crate::keeper::{BeginFault, Journal, KeeperFault, is_full};
+use crate::keeper::{BeginFault, Journal, KeeperFault};
 use crate::locked::Locked;
 use crate::pass::Pass;
 use crate::version::{NextShown, Shown};
-use dam_book::{Command, DayLength, Entry, PackedCommand, Participant, Reply, Seed};
+use dam_book::{
+    Command, DayLength, Entry, PackedCommand, Participant, Reply, Seed, is_journal_full,
+};
 use left_right::Absorb;
 use std::alloc::{AllocError, Global};
 use std::sync::{Mutex, Wait};
 use thiserror::Error;
 
-/// Why a call is refused, in the order in which the reasons are looked for. A refused command isn't journalled.
+/// Why a call fails, in the order in which the reasons are looked for. The command of a failed call isn't journalled.
 #[derive(Clone, Copy, PartialEq, Eq, Debug, Error)]
 pub enum GateFault {
     /// The pass may not give the command: another participant's command, a close through a participant's pass, or any
@@ -208,7 +210,7 @@ impl<J: GateName, R: Wait + Drop> Gate<J, R> {
         }
         let mut locked = self.locked.lock(rt);
         let held = locked.len();
-        if is_full(held, command.participant()) {
+        if is_journal_full(held, command.participant()) {
             return Err(GateFault::JournalFull { held });
         }
         pass.step(&mut locked, command)

@@ -225,7 +225,6 @@ impl<J: GateName> History<J> {
         self.held
     }
 
-    /// A copy.
     pub(crate) fn copy(&self) -> History<J>
         ensures { result ≡ self.now }
     {

@@ -1,17 +1,14 @@
-ghost use Rattle.std.specs.Prelude.{◌≡◌, ◌<◌, ◌≤◌, ◌+◌, ◌-◌, true, false, is_some, length, nat_le, if◌then◌else◌, IfOk, IfErr, OnOk, OnErr};
-ghost use Rattle.std.specs.Option.{option_copied};
+ghost use Rattle.std.specs.Prelude.{◌≡◌, ◌<◌, ◌≤◌, ◌+◌, true, false, length, IfOk, IfErr, OnOk, OnErr};
 ghost use Rattle.std.specs.Arc.{arc_value};
 ghost use Rattle.dam_book.specs.Book.{book_after, is_day, refusal};
-ghost use Rattle.dam_book.specs.Limits.{most_entries};
 ghost use Rattle.dam_gate.specs.Journal.{IsJournal, empty_journal, journal_after, next_entry};
 ghost use Rattle.dam_book.specs.Command.{is_journal_full};
-ghost use Rattle.dam_gate.specs.Keeper.{IsReadyFor};
+ghost use Rattle.dam_gate.specs.Keeper.{IsPreparedFor};
 ghost use Rattle.dam_gate.specs.Gate.{IsBeginFault, IsKeeperFault};
 
 use crate::books::Books;
 use dam_book::{
-    Book, Command, DayLength, Entry, MOST_ENTRIES, Outcome, PackedCommand, PackedEntry,
-    Participant, Seed,
+    Book, Command, DayLength, Entry, Outcome, PackedCommand, PackedEntry, Seed, is_journal_full,
 };
 use std::alloc::{AllocError, AllocFailed, Allocator, Global};
 use std::marker::Model;
@@ -85,27 +82,27 @@ impl<A: Allocator> Model for Keeper<A> {
 
 /// A step of a keeper that can't be refused any more: its entry, and the book after it.
 #[derive(Debug, Drop)]
-pub struct Ready<A: Allocator = Global> {
+pub struct PreparedStep<A: Allocator = Global> {
     entry: PackedEntry<A>,
     book: Arc<Book<A>, A>,
     // the outcome that the entry's reply states, for the book before
     outcome: Outcome,
 }
 
-impl<A: Allocator> Model for Ready<A> {
+impl<A: Allocator> Model for PreparedStep<A> {
     ghost use Rattle.std.specs.Prelude.{◌≡◌};
     ghost use Rattle.std.specs.Arc.{arc_value};
     ghost use Rattle.dam_book.specs.Book.{reply_of};
-    ghost use Rattle.dam_gate.specs.Keeper.{ReadyState};
+    ghost use Rattle.dam_gate.specs.Keeper.{PreparedState};
 
-    ghost Value = { ReadyState };
+    ghost Value = { PreparedState };
 
     ghost view = { λ r. record { entry = r.entry; book = arc_value r.book } };
 
     ghost invariant = { λ r. r.entry.reply ≡ reply_of r.outcome };
 }
 
-impl<A: Allocator> Ready<A> {
+impl<A: Allocator> PreparedStep<A> {
     /// The entry that the step is to add.
     pub fn entry(&self) -> &PackedEntry<A>
         ensures { result.now ≡ self.now.entry }
@@ -113,8 +110,8 @@ impl<A: Allocator> Ready<A> {
         &self.entry
     }
 
-    /// A share of the book after the step.
-    pub(crate) fn share_book(&self) -> Result<Arc<Book<A>, A>, AllocError>
+    /// Another handle of the book after the step.
+    pub(crate) fn clone_book_handle(&self) -> Result<Arc<Book<A>, A>, AllocError>
         ensures { IfOk result (λ book. arc_value book ≡ self.now.book) }
     {
         Arc::try_clone(&self.book)
@@ -149,20 +146,20 @@ impl<A: Allocator + Copy> Keeper<A> {
         })
     }
 
-    /// Makes the command's step ready for `put`: it takes all memory of the step, which is the packed command, the room
+    /// Prepares the command's step for `append`: it takes all memory of the step, which is the packed command, the room
     /// in the journal, and a book for the step's result, if it changes the book.
     ///
-    /// The journal and the book stay as they are, and the room in the journal doesn't shrink. So a step that was ready
+    /// The journal and the book stay as they are, and the room in the journal doesn't shrink. So a step that was prepared
     /// for this journal still is.
-    pub fn ready(&mut self, command: &Command) -> Result<Ready<A>, KeeperFault>
-        ensures ready { IfOk result (IsReadyFor self.new command.now) }
+    pub fn prepare(&mut self, command: &Command) -> Result<PreparedStep<A>, KeeperFault>
+        ensures prepared { IfOk result (IsPreparedFor self.new command.now) }
         ensures journal { self.new.journal ≡ self.old.journal }
         ensures room { self.old.room ≤ self.new.room }
         ensures fault { IfErr result
             (IsKeeperFault (length self.old.journal.entries) command.now) }
     {
         let packed = self.pack_unless_full(command)?;
-        Ok(self.prepare(packed, command)?)
+        Ok(self.prepare_step(packed, command)?)
     }
 
     /// Packs the command for its entry, unless the journal is full for it.
@@ -177,38 +174,38 @@ impl<A: Allocator + Copy> Keeper<A> {
             (IsKeeperFault (length self.now.journal.entries) command.now) }
     {
         let held = self.len();
-        if is_full(held, command.participant()) {
+        if is_journal_full(held, command.participant()) {
             return Err(KeeperFault::JournalFull { held });
         }
         Ok(PackedCommand::of(*self.entries.allocator(), command)?)
     }
 
-    /// Makes the step of a packed command ready, as `ready` does. The journal has room for the command.
-    pub(crate) fn ready_packed(
+    /// Prepares the step of a packed command, as `prepare` does. The journal has room for the command.
+    pub(crate) fn prepare_packed(
         &mut self,
         command: &PackedCommand<A>,
-    ) -> Result<Ready<A>, AllocError>
+    ) -> Result<PreparedStep<A>, AllocError>
         requires { is_journal_full (length self.old.journal.entries) command.now ≡ false }
-        ensures ready { IfOk result (IsReadyFor self.new command.now) }
+        ensures prepared { IfOk result (IsPreparedFor self.new command.now) }
         ensures journal { self.new.journal ≡ self.old.journal }
         ensures room { self.old.room ≤ self.new.room }
     {
         let packed = command.clone()?;
-        self.prepare(packed, &command.command())
+        self.prepare_step(packed, &command.command())
     }
 
-    /// Prepares the step of a command that is packed already: it takes the rest of the step's memory.
+    /// Prepares the step of a packed command: it takes the rest of the step's memory.
     ///
     /// The command is decided once, for the reply, for the book after it and for the book before.
-    fn prepare(
+    fn prepare_step(
         &mut self,
         packed: PackedCommand<A>,
         command: &Command,
-    ) -> Result<Ready<A>, AllocError>
+    ) -> Result<PreparedStep<A>, AllocError>
         requires packed { packed ≡ command.now }
         requires not_full { is_journal_full (length self.old.journal.entries) command.now
             ≡ false }
-        ensures ready { IfOk result (IsReadyFor self.new command.now) }
+        ensures prepared { IfOk result (IsPreparedFor self.new command.now) }
         ensures journal { self.new.journal ≡ self.old.journal }
         ensures room { self.old.room ≤ self.new.room }
     {
@@ -216,7 +213,7 @@ impl<A: Allocator + Copy> Keeper<A> {
         self.entries.reserve(1)?;
         let outcome = self.books.book().outcome(command);
         let book = self.book_after(command, &outcome)?;
-        Ok(Ready {
+        Ok(PreparedStep {
             entry: PackedEntry::new(number, packed, outcome.reply()),
             book,
             outcome,
@@ -235,7 +232,7 @@ impl<A: Allocator + Copy> Keeper<A> {
         ensures same { self.new ≡ self.old }
     {
         if let Some(_) = outcome.refusal() {
-            return self.books.share_book();
+            return self.books.clone_book_handle();
         }
         let mut book = self.books.take_unshared_book(&self.entries)?;
         let _done = book.carry_out(command, outcome)?;
@@ -245,31 +242,31 @@ impl<A: Allocator + Copy> Keeper<A> {
         }
     }
 
-    /// Appends the step that was made ready, and returns its entry. It takes no memory and can't be refused.
-    pub fn put(&mut self, ready: Ready<A>) -> Entry
-        requires { IsReadyFor self.old ready.entry.command ready }
-        ensures entry { result ≡ ready.entry }
-        ensures step { self.new.journal ≡ journal_after self.old.journal ready.entry.command }
+    /// Appends the prepared step, and returns its entry. It takes no memory and can't be refused.
+    pub fn append(&mut self, prepared: PreparedStep<A>) -> Entry
+        requires { IsPreparedFor self.old prepared.entry.command prepared }
+        ensures entry { result ≡ prepared.entry }
+        ensures step { self.new.journal ≡ journal_after self.old.journal prepared.entry.command }
         ensures day { self.new.journal.book.periods ≡ self.old.journal.book.periods }
         ensures room { self.old.room ≡ self.new.room + 1 }
     {
-        let entry = ready.entry().entry();
-        self.append_ready(ready);
+        let entry = prepared.entry().entry();
+        self.append_prepared(prepared);
         entry
     }
 
-    /// Appends the step's entry to the journal, and takes over its book, as `put` does.
-    pub(crate) fn append_ready(&mut self, ready: Ready<A>)
-        requires { IsReadyFor self.old ready.entry.command ready }
-        ensures step { self.new.journal ≡ journal_after self.old.journal ready.entry.command }
+    /// Appends the step's entry to the journal, and takes over its book, as `append` does.
+    pub(crate) fn append_prepared(&mut self, prepared: PreparedStep<A>)
+        requires { IsPreparedFor self.old prepared.entry.command prepared }
+        ensures step { self.new.journal ≡ journal_after self.old.journal prepared.entry.command }
         ensures day { self.new.journal.book.periods ≡ self.old.journal.book.periods }
         ensures room { self.old.room ≡ self.new.room + 1 }
     {
-        let Ready {
+        let PreparedStep {
             entry,
             book,
             outcome,
-        } = ready;
+        } = prepared;
         let held = self.len();
         self.books.advance(book, &entry, held as usize, outcome);
         self.entries.push_reserved(entry);
@@ -286,8 +283,8 @@ impl<A: Allocator + Copy> Keeper<A> {
         ensures err { OnErr result (self.new.journal ≡ self.old.journal) }
         ensures fault { IfErr result (IsKeeperFault (length self.old.journal.entries) command) }
     {
-        let ready = self.ready(&command)?;
-        Ok(self.put(ready))
+        let prepared = self.prepare(&command)?;
+        Ok(self.append(prepared))
     }
 
     /// The number of entries held.
@@ -314,12 +311,12 @@ impl<A: Allocator + Copy> Keeper<A> {
         self.books.book()
     }
 
-    /// A share of the book.
-    pub(crate) fn share_book(&self) -> Result<Arc<Book<A>, A>, AllocError>
+    /// Another handle of the book.
+    pub(crate) fn clone_book_handle(&self) -> Result<Arc<Book<A>, A>, AllocError>
         ensures value { IfOk result (λ book. arc_value book ≡ self.now.journal.book) }
         ensures valid { IsJournal self.now.journal }
     {
-        self.books.share_book()
+        self.books.clone_book_handle()
     }
 
     /// Makes room for this number of further entries.
@@ -339,18 +336,6 @@ impl<A: Allocator + Copy> Keeper<A> {
             book: books.into_book(),
             entries,
         }
-    }
-}
-
-/// Whether a journal of `held` entries has no room for a command of this giver.
-pub(crate) fn is_full(held: u32, giver: Option<&Participant>) -> bool
-    ensures { result ≡ nat_le
-        (if is_some (option_copied giver.entry) then most_entries - 1 else most_entries) held }
-{
-    let held = held as usize;
-    match giver {
-        Some(_) => held >= MOST_ENTRIES - 1,
-        None => held >= MOST_ENTRIES,
     }
 }
 

@@ -3,7 +3,7 @@
 ghost use Rattle.std.specs.Prelude.{◌≡◌, ◌⊎◌, All};
 ghost use mathlib.Core.List.{IsPrefix};
 ghost use Rattle.dam_gate.specs.Limits.{most_participants, most_passes};
-ghost use Rattle.dam_gate.specs.Pass.{IsPass};
+ghost use Rattle.dam_gate.specs.Pass.{IsAccount};
 ghost use Rattle.dam_gate.specs.Settled.{IsSettled};
 ghost use Rattle.dam_gate.specs.Headline.{IsWholeAccount};
 
@@ -17,12 +17,12 @@ use std::alloc::Allocator;
 
 /// Once a gate is settled, its journal's commands, run one by one from the empty book, give exactly the recorded
 /// replies and the book held, and the participants' receipts are its entries, each once, in each holder's order.
-pub fn whole_account<A: Allocator + Copy>(settled: &Settled<A>, passes: &[Account])
-    requires { IsSettled settled.now passes.now }
-    ensures { IsWholeAccount settled.now passes.now }
+pub fn whole_account<A: Allocator + Copy>(settled: &Settled<A>, accounts: &[Account])
+    requires { IsSettled settled.now accounts.now }
+    ensures { IsWholeAccount settled.now accounts.now }
 {
     let _entries = settled.journal().entries(); // for the proof: these are the entries of a journal
-    are_passes(passes);
+    are_accounts(accounts);
     histories_are_runs();
 }
 
@@ -51,11 +51,11 @@ pub fn limits()
     ensures most_participants_is { most_participants ≡ 8 }
 {}
 
-// Each account satisfies the invariant of a pass.
-fn are_passes(passes: &[Account])
-    ensures { All IsPass passes.now }
+// Each account satisfies its invariant.
+fn are_accounts(accounts: &[Account])
+    ensures { All IsAccount accounts.now }
 {
-    for pass in passes {
-        let _receipts = pass.receipts(); // for the proof: the invariant of a pass
+    for account in accounts {
+        let _receipts = account.receipts(); // for the proof: the invariant of an account
     }
 }

@@ -60,7 +60,7 @@ pub use dam_plan::{FreeTurn, Turnstile};
 pub use day::{DayFault, SettledDay, run_commands, run_packed};
 pub use gate::{Gate, GateFault, PassFault};
 pub use history::{GateName, Opening};
-pub use keeper::{BeginFault, Journal, Keeper, KeeperFault, Ready};
+pub use keeper::{BeginFault, Journal, Keeper, KeeperFault, PreparedStep};
 pub use limits::{MOST_PARTICIPANTS, MOST_PASSES};
 pub use pass::{Look, Note, Pass};
 pub use settlement::{Mismatch, Settled, Unsettled, settle};

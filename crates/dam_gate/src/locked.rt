@@ -11,7 +11,7 @@ ghost use Rattle.left_right.specs.Handles.{pending, published};
 
 use crate::gate::{GateFault, PassFault};
 use crate::history::{Answered, EntryCount, GateName, History, NamedOpening, Opening};
-use crate::keeper::{Journal, Keeper, KeeperFault, Ready};
+use crate::keeper::{Journal, Keeper, KeeperFault, PreparedStep};
 use crate::limits::MOST_PASSES;
 use crate::pass::{FIRST_RECEIPTS, Pass};
 use crate::version::{NextShown, Shown, Slot, Version, filled_slot};
@@ -42,7 +42,7 @@ where
     writer: WriteHandle<Shown<J>, NextShown<J>, R>,
     // the content of the slot that is shown
     shown: CellNote<Version<J>>,
-    // the slot that a refused call left at the writer
+    // the slot that a failed call left at the writer
     next: Option<Slot<J>>,
     // how many passes were given, and may be given
     passes: u8,
@@ -86,7 +86,7 @@ fn version_of<J: GateName>(
     requires day { keeper.now.journal.book.periods ≡ J.opening.periods }
     ensures { IfOk result (λ version. version.value ≡ keeper.now.journal) }
 {
-    let version = Version::new(keeper.share_book()?, history.copy());
+    let version = Version::new(keeper.clone_book_handle()?, history.copy());
     Ok(Box::new(alloc, version)?)
 }
 
@@ -159,23 +159,24 @@ fn extend_history_and_fill<J: GateName>(
     history: &History<J>,
     seen: &History<J>,
     learnt: &History<J>,
-    ready: &Ready,
+    prepared: &PreparedStep,
     slot: &Slot<J>,
     mut version: Box<Version<J>>,
 ) -> Result<(History<J>, CellNote<Version<J>>), GateFault>
     requires journal { IsJournal
-        (record { entries = history.now ++ ready.now.entry ∷ []; book = ready.now.book }) }
-    requires day { ready.now.book.periods ≡ J.opening.periods }
-    ensures history { IfOk result (λ r. r.0 ≡ history.now ++ ready.now.entry ∷ []) }
+        (record { entries = history.now ++ prepared.now.entry ∷ []; book = prepared.now.book }) }
+    requires day { prepared.now.book.periods ≡ J.opening.periods }
+    ensures history { IfOk result (λ r. r.0 ≡ history.now ++ prepared.now.entry ∷ []) }
     ensures shown { IfOk result (λ r. IsNoteOf (slot_name slot.now)
-        (record { entries = history.now ++ ready.now.entry ∷ []; book = ready.now.book }) r.1) }
+        (record { entries = history.now ++ prepared.now.entry ∷ []; book = prepared.now.book })
+        r.1) }
     ensures seen { OnOk result (IsPrefix seen.now history.now) }
     ensures learnt { OnOk result (IsPrefix learnt.now history.now) }
     ensures fault { IfErr result (λ fault.
         (fault ≡ GateFault.Memory) ⊎ (fault ≡ GateFault.NoVersion)) }
 {
-    let book = ready.share_book()?;
-    let Some(after) = count.add_entry(history, seen, learnt, ready.entry()) else {
+    let book = prepared.clone_book_handle()?;
+    let Some(after) = count.add_entry(history, seen, learnt, prepared.entry()) else {
         return Err(GateFault::NoVersion);
     };
     *version = Version::new(book, after.copy());
@@ -335,7 +336,7 @@ impl<J: GateName, R: Wait + Drop> Locked<J, R> {
             (fault ≡ GateFault.Memory) ⊎ (fault ≡ GateFault.NoVersion)) }
     {
         let _held = self.keeper.len(); // for the proof: the invariant of a journal
-        let ready = self.keeper.ready_packed(command)?;
+        let prepared = self.keeper.prepare_packed(command)?;
         let version = version_of(self.alloc, &self.keeper, &self.history)?;
         let slot = stage_next_slot(self.alloc, &mut self.writer, &mut self.next)?;
         let (after, shown) = extend_history_and_fill(
@@ -343,7 +344,7 @@ impl<J: GateName, R: Wait + Drop> Locked<J, R> {
             &self.history,
             seen,
             learnt,
-            &ready,
+            &prepared,
             &slot,
             version,
         )?;
@@ -353,9 +354,9 @@ impl<J: GateName, R: Wait + Drop> Locked<J, R> {
         release_earlier_version(&mut self.writer);
         self.next = None;
         self.shown = shown;
-        let entry = ready.entry();
+        let entry = prepared.entry();
         let answer = (entry.number(), entry.reply());
-        self.keeper.append_ready(ready);
+        self.keeper.append_prepared(prepared);
         self.answered.add(part, 1);
         self.history = after.copy();
         Ok((answer, after))

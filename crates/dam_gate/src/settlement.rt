@@ -1,7 +1,7 @@
 ghost use Rattle.std.specs.Prelude.{◌≡◌, true, IfOk, IfErr};
 ghost use Rattle.dam_gate.specs.Settled.{IsMismatch, IsSettled, receipts_of};
 ghost use Rattle.dam_gate.specs.Headline.{IsWholeAccount};
-ghost use Rattle.dam_gate.specs.inside.Tally.{IsFirstFault};
+ghost use Rattle.dam_gate.specs.inside.Tally.{IsFirstMismatch};
 
 use crate::account::Account;
 use crate::keeper::Journal;
@@ -11,7 +11,7 @@ use std::alloc::{AllocError, Allocator, Global};
 use std::marker::Model;
 use thiserror::Error;
 
-/// Why a journal and passes aren't settled: that the book is open, or else the least faulty number over all receipts,
+/// Why a journal and accounts aren't settled: that the book is open, or else the least faulty number over all receipts,
 /// with its fault.
 #[derive(Clone, Copy, PartialEq, Eq, Debug, Error)]
 pub enum Mismatch {
@@ -35,7 +35,7 @@ pub enum Mismatch {
     Memory,
 }
 
-/// A journal whose entries are the receipts of the passes, each once.
+/// A journal whose entries are the receipts of the accounts, each once.
 ///
 /// A contract sees the entries and the book, which is closed.
 #[derive(Debug, Drop)]
@@ -64,28 +64,28 @@ impl<A: Allocator> Settled<A> {
     }
 }
 
-/// A journal that isn't settled with the passes, given back with the reason.
+/// A journal that isn't settled with the accounts, given back with the reason.
 #[derive(Debug, Drop)]
 pub struct Unsettled<A: Allocator = Global> {
     pub why: Mismatch,
     pub journal: Journal<A>,
 }
 
-/// Compares the receipts of the passes with the entries of a closed journal: each entry needs just one receipt, equal
+/// Compares the receipts of the accounts with the entries of a closed journal: each entry needs just one receipt, equal
 /// to it, and no receipt may have another number. A journal that comes out settled accounts for its whole day.
 ///
 /// It goes once over the receipts and once over the entries, and takes a byte of memory for each entry.
 pub fn settle<A: Allocator + Copy, B: Allocator>(
     alloc: B,
     journal: Journal<A>,
-    passes: &[Account],
+    accounts: &[Account],
 ) -> Result<Settled<A>, Unsettled<A>>
     ensures journal { IfOk result (λ settled. settled ≡ journal) }
-    ensures settled { IfOk result (λ settled. IsSettled settled passes.now) }
-    ensures account { IfOk result (λ settled. IsWholeAccount settled passes.now) }
+    ensures settled { IfOk result (λ settled. IsSettled settled accounts.now) }
+    ensures account { IfOk result (λ settled. IsWholeAccount settled accounts.now) }
     ensures back { IfErr result (λ unsettled. unsettled.journal ≡ journal) }
-    ensures why { IfErr result (λ unsettled. IsMismatch journal passes.now unsettled.why) }
-    ensures exact { IsSettled journal passes.now
+    ensures why { IfErr result (λ unsettled. IsMismatch journal accounts.now unsettled.why) }
+    ensures exact { IsSettled journal accounts.now
         → IfErr result (λ unsettled. unsettled.why ≡ Mismatch.Memory) }
 {
     if !journal.book().is_closed() {
@@ -94,10 +94,10 @@ pub fn settle<A: Allocator + Copy, B: Allocator>(
             journal,
         });
     }
-    match first_mismatch(alloc, &journal, passes) {
+    match first_mismatch(alloc, &journal, accounts) {
         Ok(None) => {
             let settled = Settled { journal };
-            whole_account(&settled, passes);
+            whole_account(&settled, accounts);
             Ok(settled)
         }
         Ok(Some(why)) => Err(Unsettled { why, journal }),
@@ -112,10 +112,11 @@ pub fn settle<A: Allocator + Copy, B: Allocator>(
 fn first_mismatch<A: Allocator + Copy, B: Allocator>(
     alloc: B,
     journal: &Journal<A>,
-    passes: &[Account],
+    accounts: &[Account],
 ) -> Result<Option<Mismatch>, AllocError>
-    ensures { IfOk result (λ why. IsFirstFault journal.now.entries (receipts_of passes.now) why) }
+    ensures { IfOk result (λ why.
+        IsFirstMismatch journal.now.entries (receipts_of accounts.now) why) }
 {
-    let tally = Tally::of(alloc, journal.entries(), passes)?;
-    Ok(tally.fault(journal.entries()))
+    let tally = Tally::of(alloc, journal.entries(), accounts)?;
+    Ok(tally.first_mismatch(journal.entries()))
 }

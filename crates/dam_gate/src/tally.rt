@@ -4,7 +4,7 @@ ghost use Rattle.dam_book.specs.declared.command.Entry.{Entry};
 ghost use Rattle.dam_book.specs.Limits.{most_entries};
 ghost use Rattle.dam_gate.specs.Pass.{AreInOrder};
 ghost use Rattle.dam_gate.specs.Settled.{receipts_of};
-ghost use Rattle.dam_gate.specs.inside.Tally.{IsFirstFault, IsTally, first_fault, mark_with, lesser};
+ghost use Rattle.dam_gate.specs.inside.Tally.{IsFirstMismatch, IsTally, first_mismatch_in_marks, mark_with, lesser};
 
 use crate::account::Account;
 use crate::settlement::Mismatch;
@@ -85,8 +85,8 @@ impl<A: Allocator> Tally<A> {
         }
     }
 
-    /// Counts the receipts of one pass.
-    fn count_pass<B: Allocator>(&mut self, entries: &[PackedEntry<B>], receipts: &[PackedEntry])
+    /// Counts the receipts of one account.
+    fn count_account<B: Allocator>(&mut self, entries: &[PackedEntry<B>], receipts: &[PackedEntry])
         requires positive { (seen : ℕ) × AreInOrder 0 seen receipts.now }
         requires as_long { length self.old.found.items ≡ length entries.now }
         ensures as_long { length self.new.found.items ≡ length entries.now }
@@ -99,33 +99,36 @@ impl<A: Allocator> Tally<A> {
         }
     }
 
-    /// The tally of the receipts of all passes.
+    /// The tally of the receipts of all accounts.
     pub(crate) fn of<B: Allocator>(
         alloc: A,
         entries: &[PackedEntry<B>],
-        passes: &[Account],
+        accounts: &[Account],
     ) -> Result<Tally<A>, AllocError>
         ensures as_long { IfOk result (λ tally. length tally.found.items ≡ length entries.now) }
         ensures tally { IfOk result (λ tally.
-            IsTally entries.now tally.found.items tally.extra (receipts_of passes.now)) }
+            IsTally entries.now tally.found.items tally.extra (receipts_of accounts.now)) }
     {
         let mut tally = Tally::new(alloc, entries)?;
-        for pass in passes {
-            tally.count_pass(entries, pass.receipts());
+        for account in accounts {
+            tally.count_account(entries, account.receipts());
         }
         Ok(tally)
     }
 
-    /// The least number whose receipts aren't its entry, with its fault.
-    pub(crate) fn fault<B: Allocator>(&self, entries: &[PackedEntry<B>]) -> Option<Mismatch>
+    /// The least number whose receipts aren't its entry, with its mismatch.
+    pub(crate) fn first_mismatch<B: Allocator>(
+        &self,
+        entries: &[PackedEntry<B>],
+    ) -> Option<Mismatch>
         requires legal { (periods : ℕ) × IsLegalHistory periods entries.now }
         requires few { length self.now.found.items ≤ most_entries }
         ensures { (receipts : List Entry)
             → IsTally entries.now self.now.found.items self.now.extra receipts
-            → IsFirstFault entries.now receipts result }
+            → IsFirstMismatch entries.now receipts result }
     {
-        if let Some(fault) = first_fault(&self.found) {
-            return Some(fault);
+        if let Some(mismatch) = first_mismatch_in_marks(&self.found) {
+            return Some(mismatch);
         }
         match self.extra {
             None => None,
@@ -134,9 +137,10 @@ impl<A: Allocator> Tally<A> {
     }
 }
 
-fn first_fault(found: &[Mark]) -> Option<Mismatch>
+/// The mismatch of the first mark that isn't one receipt, equal to the entry.
+fn first_mismatch_in_marks(found: &[Mark]) -> Option<Mismatch>
     requires { length found.now < 2 ^ 32 }
-    ensures { result ≡ first_fault 1 found.now }
+    ensures { result ≡ first_mismatch_in_marks 1 found.now }
 {
     let mut number = 0;
     for mark in found {

@@ -20,7 +20,7 @@ use Rattle.dam_hour.specs.Limits.{most_steps, greatest_value}
 use Rattle.dam_hour.specs.Execution.{AreInRange, volume_on}
 use Rattle.dam_hour.specs.inside.Ladder.{rank_of, sort_key_of, place_of, moved_up, without_step, total, total_value, rungs_from, placed_of}
 use Rattle.dam_hour.specs.inside.Ladder.{IsLadder, side_total, AreOfSide, AreKept}
-use Rattle.dam_hour.proofs.Ladders.{drop_open, row_pushed, ladder_done, placed_done}
+use Rattle.dam_hour.proofs.Ladders.{drop_open, rung_pushed, ladder_done, placed_done}
 
 -- ---- places
 abbrev key_up : ℕ → ℕ → ℕ
@@ -185,36 +185,36 @@ kept_without ss kept buys sells buys' sells' gone a l same same_buys same_sells 
           (of_side_without Sell sells ss gone a.sells_are few l));
     }
 
--- ---- the rows, one after another
+-- ---- the rungs, one after another
 abbrev pub still : ℕ → ℕ → List Rung → List Placed
-still gone i rows = without_step gone (placed_of (drop i rows))
+still gone i rungs = without_step gone (placed_of (drop i rungs))
 
-still_more : (gone i : ℕ) (rows : List Rung) (row : Rung) → i < length rows → row ≡ get_or rows i row → ¬ (place_of row.placed.sort_key ≡ gone)
-    → still gone i rows ≡ moved_up gone row.placed ∷ still gone (i + 1) rows
-still_more gone i rows row within is other =
-    ap (λ (rs : List Rung). without_step gone (placed_of rs)) (drop_open rows i row within is)
-    ∙ ap (λ (b : Bool). cond b (still gone (i + 1) rows) (moved_up gone row.placed ∷ still gone (i + 1) rows))
-    (ne_eqb (place_of row.placed.sort_key) gone other)
+still_more : (gone i : ℕ) (rungs : List Rung) (rung : Rung) → i < length rungs → rung ≡ get_or rungs i rung → ¬ (place_of rung.placed.sort_key ≡ gone)
+    → still gone i rungs ≡ moved_up gone rung.placed ∷ still gone (i + 1) rungs
+still_more gone i rungs rung within is other =
+    ap (λ (rs : List Rung). without_step gone (placed_of rs)) (drop_open rungs i rung within is)
+    ∙ ap (λ (b : Bool). cond b (still gone (i + 1) rungs) (moved_up gone rung.placed ∷ still gone (i + 1) rungs))
+    (ne_eqb (place_of rung.placed.sort_key) gone other)
 
-still_gone : (gone i : ℕ) (rows : List Rung) (row : Rung) → i < length rows → row ≡ get_or rows i row → place_of row.placed.sort_key ≡ gone
-    → still gone i rows ≡ still gone (i + 1) rows
-still_gone gone i rows row within is same =
-    ap (λ (rs : List Rung). without_step gone (placed_of rs)) (drop_open rows i row within is)
-    ∙ ap (λ (b : Bool). cond b (still gone (i + 1) rows) (moved_up gone row.placed ∷ still gone (i + 1) rows))
-    (eq-eqb (place_of row.placed.sort_key) gone same)
+still_gone : (gone i : ℕ) (rungs : List Rung) (rung : Rung) → i < length rungs → rung ≡ get_or rungs i rung → place_of rung.placed.sort_key ≡ gone
+    → still gone i rungs ≡ still gone (i + 1) rungs
+still_gone gone i rungs rung within is same =
+    ap (λ (rs : List Rung). without_step gone (placed_of rs)) (drop_open rungs i rung within is)
+    ∙ ap (λ (b : Bool). cond b (still gone (i + 1) rungs) (moved_up gone rung.placed ∷ still gone (i + 1) rungs))
+    (eq-eqb (place_of rung.placed.sort_key) gone same)
 
--- the first rows, as many as that, as they are made
-pub record AreUpTo (gone i : ℕ) (old rows : List Rung) (v : ℕ) (w : ℤ) : Type 0 where
-  pub rows_are : rows ++ rungs_from v w (still gone i old) ≡ rungs_from 0 (pos 0) (without_step gone (placed_of old))
+-- the first rungs, as many as that, as they are made
+pub record AreUpTo (gone i : ℕ) (old rungs : List Rung) (v : ℕ) (w : ℤ) : Type 0 where
+  pub rungs_are : rungs ++ rungs_from v w (still gone i old) ≡ rungs_from 0 (pos 0) (without_step gone (placed_of old))
   pub volume_is : v + total (λ p. p.step.qty) (still gone i old) ≡ total (λ p. p.step.qty) (without_step gone (placed_of old))
   pub value_is : w +ℤ total_value (still gone i old) ≡ total_value (without_step gone (placed_of old))
   pub volume_small : v ≤ i * greatest_volume
   pub value_at_least : neg_ℤ (pos (i * greatest_value)) ≤ℤ w
   pub value_at_most : w ≤ℤ pos (i * greatest_value)
 
-pub up_to_none : (gone : ℕ) (old rows : List Rung) → rows ≡ [] → AreUpTo gone 0 old rows 0 (pos 0)
-up_to_none gone old rows none = record {
-  rows_are = ap (λ (rs : List Rung). rs ++ rungs_from 0 (pos 0) (still gone 0 old)) none
+pub up_to_none : (gone : ℕ) (old rungs : List Rung) → rungs ≡ [] → AreUpTo gone 0 old rungs 0 (pos 0)
+up_to_none gone old rungs none = record {
+  rungs_are = ap (λ (rs : List Rung). rs ++ rungs_from 0 (pos 0) (still gone 0 old)) none
       ∙ ap (λ (rs : List Rung). rungs_from 0 (pos 0) (without_step gone (placed_of rs))) (drop_none old);
   volume_is = ap (λ (rs : List Rung). 0 + total (λ p. p.step.qty) (without_step gone (placed_of rs))) (drop_none old) ∙ (omega arith);
   value_is = let e = ap (λ (rs : List Rung). total_value (without_step gone (placed_of rs))) (drop_none old) in omega (arith, ints, e);
@@ -227,26 +227,26 @@ up_to_none gone old rows none = record {
     drop_none [] = refl
     drop_none (r ∷ rs) = refl
 
-pub up_to_kept : (gone i : ℕ) (old rows pushed : List Rung) (row : Rung) (p : Placed) (v v' q : ℕ) (w w' z : ℤ)
-    → AreUpTo gone i old rows v w
-    → i < length old → row ≡ get_or old i row
-    → ¬ (place_of row.placed.sort_key ≡ gone) → p ≡ moved_up gone row.placed
-    → pushed ≡ rows ++ record { placed = p; before = record { volume = v; value = w } } ∷ []
-    → q ≡ row.placed.step.qty → q ≤ greatest_volume → v' ≡ v + q
-    → z ≡ row.placed.step.price *ℤ pos row.placed.step.qty → neg_ℤ (pos greatest_value) ≤ℤ z → z ≤ℤ pos greatest_value → w' ≡ w +ℤ z
+pub up_to_kept : (gone i : ℕ) (old rungs pushed : List Rung) (rung : Rung) (p : Placed) (v v' q : ℕ) (w w' z : ℤ)
+    → AreUpTo gone i old rungs v w
+    → i < length old → rung ≡ get_or old i rung
+    → ¬ (place_of rung.placed.sort_key ≡ gone) → p ≡ moved_up gone rung.placed
+    → pushed ≡ rungs ++ record { placed = p; before = record { volume = v; value = w } } ∷ []
+    → q ≡ rung.placed.step.qty → q ≤ greatest_volume → v' ≡ v + q
+    → z ≡ rung.placed.step.price *ℤ pos rung.placed.step.qty → neg_ℤ (pos greatest_value) ≤ℤ z → z ≤ℤ pos greatest_value → w' ≡ w +ℤ z
     → AreUpTo gone (i + 1) old pushed v' w'
-up_to_kept gone i old rows pushed row p v v' q w w' z a within is other made push own small sum own_value least most value_sum =
-    let push' = push ∙ ap (λ (m : Placed). rows ++ record { placed = m; before = record { volume = v; value = w } } ∷ []) made in
+up_to_kept gone i old rungs pushed rung p v v' q w w' z a within is other made push own small sum own_value least most value_sum =
+    let push' = push ∙ ap (λ (m : Placed). rungs ++ record { placed = m; before = record { volume = v; value = w } } ∷ []) made in
     let volume = sum ∙ ap (λ (n : ℕ). v + n) own in
     let value = value_sum ∙ ap (λ (y : ℤ). w +ℤ y) own_value in
-    let stays = still_more gone i old row within is other in
+    let stays = still_more gone i old rung within is other in
     let total_at = ap (λ (ps : List Placed). total (λ p. p.step.qty) ps) stays in
     let value_at = ap (λ (ps : List Placed). total_value ps) stays in
     let total_was = a.volume_is in let value_was = a.value_is in
     let small_was = a.volume_small in let least_was = a.value_at_least in let most_was = a.value_at_most in
     record {
-      rows_are = row_pushed (moved_up gone row.placed) (still gone i old) (still gone (i + 1) old) rows pushed
-          (rungs_from 0 (pos 0) (without_step gone (placed_of old))) v v' w w' stays push' volume value a.rows_are;
+      rungs_are = rung_pushed (moved_up gone rung.placed) (still gone i old) (still gone (i + 1) old) rungs pushed
+          (rungs_from 0 (pos 0) (without_step gone (placed_of old))) v v' w w' stays push' volume value a.rungs_are;
       volume_is = omega (arith, volume, total_at, total_was);
       value_is = omega (arith, ints, value, value_at, value_was);
       volume_small = omega (arith, sum, small, small_was);
@@ -254,17 +254,17 @@ up_to_kept gone i old rows pushed row p v v' q w w' z a within is other made pus
       value_at_most = omega (arith, ints, value_sum, most, most_was);
     }
 
-pub up_to_gone : (gone i : ℕ) (old rows : List Rung) (row : Rung) (v : ℕ) (w : ℤ) → AreUpTo gone i old rows v w → i < length old
-    → row ≡ get_or old i row
-    → place_of row.placed.sort_key ≡ gone → AreUpTo gone (i + 1) old rows v w
-up_to_gone gone i old rows row v w a within is same =
-    let leaves = still_gone gone i old row within is same in
+pub up_to_gone : (gone i : ℕ) (old rungs : List Rung) (rung : Rung) (v : ℕ) (w : ℤ) → AreUpTo gone i old rungs v w → i < length old
+    → rung ≡ get_or old i rung
+    → place_of rung.placed.sort_key ≡ gone → AreUpTo gone (i + 1) old rungs v w
+up_to_gone gone i old rungs rung v w a within is same =
+    let leaves = still_gone gone i old rung within is same in
     let total_at = ap (λ (ps : List Placed). total (λ p. p.step.qty) ps) leaves in
     let value_at = ap (λ (ps : List Placed). total_value ps) leaves in
     let total_was = a.volume_is in let value_was = a.value_is in
     let small_was = a.volume_small in let least_was = a.value_at_least in let most_was = a.value_at_most in
     record {
-      rows_are = ap (λ (ps : List Placed). rows ++ rungs_from v w ps) (sym leaves) ∙ a.rows_are;
+      rungs_are = ap (λ (ps : List Placed). rungs ++ rungs_from v w ps) (sym leaves) ∙ a.rungs_are;
       volume_is = omega (arith, total_at, total_was);
       value_is = omega (arith, ints, value_at, value_was);
       volume_small = omega (arith, small_was);
@@ -272,16 +272,16 @@ up_to_gone gone i old rows row v w a within is same =
       value_at_most = omega (arith, ints, most_was);
     }
 
--- when all rows were gone through
-pub up_to_all : (gone i : ℕ) (old rows : List Rung) (v : ℕ) (w : ℤ) → AreUpTo gone i old rows v w → length old ≤ i
+-- when all rungs were gone through
+pub up_to_all : (gone i : ℕ) (old rungs : List Rung) (v : ℕ) (w : ℤ) → AreUpTo gone i old rungs v w → length old ≤ i
     → IsNonDecreasingBy (λ (p : Placed). p.sort_key) (placed_of old) → length old ≤ most_steps
-    → IsLadder rows (record { volume = v; value = w }) × (placed_of rows ≡ without_step gone (placed_of old))
-up_to_all gone i old rows v w a done sorted few =
+    → IsLadder rungs (record { volume = v; value = w }) × (placed_of rungs ≡ without_step gone (placed_of old))
+up_to_all gone i old rungs v w a done sorted few =
     let ps = without_step gone (placed_of old) in
     let none : still gone i old ≡ [] = ap (λ (rs : List Rung). without_step gone (placed_of rs)) (drop_all i old done) in
     let was = length-map old (λ (r : Rung). r.placed) in
     let fewer = few_without gone (placed_of old) in (
-      ladder_done ps (still gone i old) rows v w none a.rows_are a.volume_is a.value_is (sorted_without gone (placed_of old) sorted)
+      ladder_done ps (still gone i old) rungs v w none a.rungs_are a.volume_is a.value_is (sorted_without gone (placed_of old) sorted)
           (omega (arith, few, was, fewer)),
-      placed_done ps (still gone i old) rows v w none a.rows_are,
+      placed_done ps (still gone i old) rungs v w none a.rungs_are,
     )

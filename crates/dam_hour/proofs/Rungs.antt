@@ -229,54 +229,54 @@ around_unserved ss ps net last next limit from to k before same hour r b unserve
     }
 
 -- ---- the step that holds a unit
-row_volume : (v : ℕ) (w : ℤ) (ps : List Placed) (i : ℕ) (d : Rung) → i < length ps
+rung_volume : (v : ℕ) (w : ℤ) (ps : List Placed) (i : ℕ) (d : Rung) → i < length ps
     → (get_or (rungs_from v w ps) i d).before.volume ≡ v + volume_to i ps
-row_volume v w [] i d l = absurd (omega (arith, l))
-row_volume v w (p ∷ ps) zero d l = omega arith
-row_volume v w (p ∷ ps) (suc i) d l =
-    let rest = row_volume (v + p.step.qty) (w +ℤ p.step.price *ℤ pos p.step.qty) ps i d (omega (arith, l)) in omega (arith, rest)
+rung_volume v w [] i d l = absurd (omega (arith, l))
+rung_volume v w (p ∷ ps) zero d l = omega arith
+rung_volume v w (p ∷ ps) (suc i) d l =
+    let rest = rung_volume (v + p.step.qty) (w +ℤ p.step.price *ℤ pos p.step.qty) ps i d (omega (arith, l)) in omega (arith, rest)
 
-rows_long : (v : ℕ) (w : ℤ) (ps : List Placed) → length (rungs_from v w ps) ≡ length ps
-rows_long v w [] = refl
-rows_long v w (p ∷ ps) = let rest = rows_long (v + p.step.qty) (w +ℤ p.step.price *ℤ pos p.step.qty) ps in omega (arith, rest)
+rungs_long : (v : ℕ) (w : ℤ) (ps : List Placed) → length (rungs_from v w ps) ≡ length ps
+rungs_long v w [] = refl
+rungs_long v w (p ∷ ps) = let rest = rungs_long (v + p.step.qty) (w +ℤ p.step.price *ℤ pos p.step.qty) ps in omega (arith, rest)
 
-pub rows_rise : (rows : List Rung) (ps : List Placed) → rows ≡ rungs_from 0 (pos 0) ps
-    → IsNonDecreasingBy (λ (r : Rung). r.before.volume) rows
-rows_rise rows ps e i j d l m =
-    let long = ap length e ∙ rows_long 0 (pos 0) ps in
-    let at_i = ap (λ (rs : List Rung). (get_or rs i d).before.volume) e ∙ row_volume 0 (pos 0) ps i d (omega (arith, long, l, m)) in
-    let at_j = ap (λ (rs : List Rung). (get_or rs j d).before.volume) e ∙ row_volume 0 (pos 0) ps j d (omega (arith, long, m)) in
+pub rungs_rise : (rungs : List Rung) (ps : List Placed) → rungs ≡ rungs_from 0 (pos 0) ps
+    → IsNonDecreasingBy (λ (r : Rung). r.before.volume) rungs
+rungs_rise rungs ps e i j d l m =
+    let long = ap length e ∙ rungs_long 0 (pos 0) ps in
+    let at_i = ap (λ (rs : List Rung). (get_or rs i d).before.volume) e ∙ rung_volume 0 (pos 0) ps i d (omega (arith, long, l, m)) in
+    let at_j = ap (λ (rs : List Rung). (get_or rs j d).before.volume) e ∙ rung_volume 0 (pos 0) ps j d (omega (arith, long, m)) in
     let rises = volume_rises ps i j l in
     omega (arith, at_i, at_j, rises)
 
-pub some_under : (rows : List Rung) (ps : List Placed) (unit k : ℕ) → rows ≡ rungs_from 0 (pos 0) ps
-    → IsPartitionPoint (λ (r : Rung). ltb r.before.volume unit ≡ true) (λ (r : Rung). ltb r.before.volume unit ≡ false) rows k
+pub some_under : (rungs : List Rung) (ps : List Placed) (unit k : ℕ) → rungs ≡ rungs_from 0 (pos 0) ps
+    → IsPartitionPoint (λ (r : Rung). ltb r.before.volume unit ≡ true) (λ (r : Rung). ltb r.before.volume unit ≡ false) rungs k
     → 1 ≤ unit → unit ≤ total (λ p. p.step.qty) ps → 1 ≤ k
-some_under rows [] unit k e point first last = absurd (omega (arith, first, last))
-some_under rows (p ∷ ps) unit (suc j) e point first last = omega arith
-some_under rows (p ∷ ps) unit zero e point first last =
+some_under rungs [] unit k e point first last = absurd (omega (arith, first, last))
+some_under rungs (p ∷ ps) unit (suc j) e point first last = omega arith
+some_under rungs (p ∷ ps) unit zero e point first last =
     let d : Rung = record { placed = p; before = record { volume = 0; value = pos 0 } } in
-    let long = ap length e ∙ rows_long 0 (pos 0) (p ∷ ps) in
+    let long = ap length e ∙ rungs_long 0 (pos 0) (p ∷ ps) in
     let later = ltb-false _ _ (point.1 0 d (omega arith) (omega (arith, long))) in
     let none = ap (λ (rs : List Rung). (get_or rs 0 d).before.volume) e in
     absurd (omega (arith, later, none, first))
 
-pub holds_unit : (rows : List Rung) (ps : List Placed) (unit n k : ℕ) → rows ≡ rungs_from 0 (pos 0) ps → k ≤ length rows → k ≡ suc n
-    → IsPartitionPoint (λ (r : Rung). ltb r.before.volume unit ≡ true) (λ (r : Rung). ltb r.before.volume unit ≡ false) rows k
+pub holds_unit : (rungs : List Rung) (ps : List Placed) (unit n k : ℕ) → rungs ≡ rungs_from 0 (pos 0) ps → k ≤ length rungs → k ≡ suc n
+    → IsPartitionPoint (λ (r : Rung). ltb r.before.volume unit ≡ true) (λ (r : Rung). ltb r.before.volume unit ≡ false) rungs k
     → unit ≤ total (λ p. p.step.qty) ps → (n < length ps) × (volume_to n ps < unit) × (unit ≤ volume_to (suc n) ps)
-holds_unit rows [] unit n k e h s point last = let long = ap length e in absurd (omega (arith, h, s, long))
-holds_unit rows (p ∷ ps) unit n k e h s point last =
+holds_unit rungs [] unit n k e h s point last = let long = ap length e in absurd (omega (arith, h, s, long))
+holds_unit rungs (p ∷ ps) unit n k e h s point last =
     let d : Rung = record { placed = p; before = record { volume = 0; value = pos 0 } } in
-    let long = ap length e ∙ rows_long 0 (pos 0) (p ∷ ps) in
+    let long = ap length e ∙ rungs_long 0 (pos 0) (p ∷ ps) in
     let front = ltb-true _ _ (point.0 n d (omega (arith, s)) (omega (arith, h, s))) in
-    let at_n = ap (λ (rs : List Rung). (get_or rs n d).before.volume) e ∙ row_volume 0 (pos 0) (p ∷ ps) n d (omega (arith, long, h, s)) in (
+    let at_n = ap (λ (rs : List Rung). (get_or rs n d).before.volume) e ∙ rung_volume 0 (pos 0) (p ∷ ps) n d (omega (arith, long, h, s)) in (
       omega (arith, long, h, s),
       omega (arith, front, at_n),
-      elim (cases_lt (suc n) (length rows)) [
+      elim (cases_lt (suc n) (length rungs)) [
         | inl less ↦
             (let later = ltb-false _ _ (point.1 (suc n) d (omega (arith, s)) less) in
             let at_next = ap (λ (rs : List Rung). (get_or rs (suc n) d).before.volume) e
-            ∙ row_volume 0 (pos 0) (p ∷ ps) (suc n) d (omega (arith, long, less)) in
+            ∙ rung_volume 0 (pos 0) (p ∷ ps) (suc n) d (omega (arith, long, less)) in
             omega (arith, later, at_next))
         | inr more ↦
             (let whole = ap (λ (qs : List Placed). total (λ q. q.step.qty) qs) (take_all (suc n) (p ∷ ps) (omega (arith, long, more))) in
@@ -284,10 +284,10 @@ holds_unit rows (p ∷ ps) unit n k e h s point last =
       ],
     )
 
-pub placed_at : (rows : List Rung) (k : ℕ) (row : Rung) → slice_get rows k ≡ Some row → slice_get (placed_of rows) k ≡ Some row.placed
-placed_at [] k row e = cc
-placed_at (r ∷ rows) zero row e = let same : r ≡ row = cc in ap (λ (q : Rung). Some q.placed) same
-placed_at (r ∷ rows) (suc k) row e = placed_at rows k row e
+pub placed_at : (rungs : List Rung) (k : ℕ) (rung : Rung) → slice_get rungs k ≡ Some rung → slice_get (placed_of rungs) k ≡ Some rung.placed
+placed_at [] k rung e = cc
+placed_at (r ∷ rungs) zero rung e = let same : r ≡ rung = cc in ap (λ (q : Rung). Some q.placed) same
+placed_at (r ∷ rungs) (suc k) rung e = placed_at rungs k rung e
 
 pub volume_small : (side : Side) (ps : List Placed) (ss : List Step) (k : ℕ) → AreOfSide side ps ss → IsHour ss → k ≤ length ps
     → volume_to k ps ≤ most_steps * greatest_volume

@@ -51,7 +51,7 @@ impl Step {
     }
 
     /// The limit times the volume, in cents per MWh times tenths of a MW.
-    pub(crate) fn value(self) -> i64
+    pub(crate) fn limit_times_volume(self) -> i64
         ensures value { result ≡ self.price *ℤ pos self.qty }
         ensures at_least { neg_ℤ (pos greatest_value) ≤ℤ result }
         ensures at_most { result ≤ℤ pos greatest_value }

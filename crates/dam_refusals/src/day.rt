@@ -49,6 +49,20 @@ fn are_equal(entries: &[PackedEntry], others: &[PackedEntry]) -> bool {
             .all(|(entry, other)| entry.equals(other))
 }
 
+/// Has the gate take the commands of a journal's entries, each by a pass of its giver.
+fn enter_entries<J: GateName, H: Wait + Drop>(
+    rt: &impl Wait,
+    gate: &Gate<J, H>,
+    passes: &mut Passes<J>,
+    entries: &[PackedEntry],
+) -> Result<(), Stop> {
+    for entry in entries {
+        let command = entry.command().command();
+        passes.enter(rt, gate, &command, entry.number().wrapping_sub(1))?;
+    }
+    Ok(())
+}
+
 /// Holds the keeper's day at a gate of this opening, whose book hashes names by the seed. Its journal has to equal the
 /// keeper's.
 fn hold_at_gate<J: GateName, R: Wait>(
@@ -64,10 +78,7 @@ fn hold_at_gate<J: GateName, R: Wait>(
     let accounts = Vec::with_capacity(alloc, MOST_PASSES as usize)?;
     let mut passes = Passes::<J>::new(alloc)?;
     let gate = Gate::<J, &R>::begin_seeded(rt, alloc, opening, seed)?;
-    for entry in keeper.entries() {
-        let command = entry.command().command();
-        passes.enter(rt, &gate, &command, entry.number().wrapping_sub(1))?;
-    }
+    enter_entries(rt, &gate, &mut passes, keeper.entries())?;
     let journal = gate.finish();
     let refused = passes.refused;
     let accounts = passes.into_accounts(accounts)?;

@@ -38,6 +38,20 @@ fn cancel_command() -> Option<Command> {
     })
 }
 
+/// Has the gate take the command this number of times.
+fn enter_repeatedly<J: GateName, H: Wait + Drop>(
+    rt: &impl Wait,
+    gate: &Gate<J, H>,
+    passes: &mut Passes<J>,
+    command: &Command,
+    times: u32,
+) -> Result<(), Stop> {
+    for earlier in 0..times {
+        passes.enter(rt, gate, command, earlier)?;
+    }
+    Ok(())
+}
+
 /// Fills the journal of a gate of this opening, but for one entry and the close, or with them too.
 fn fill_at_gate<J: GateName, R: Wait>(
     rt: &R,
@@ -51,9 +65,7 @@ fn fill_at_gate<J: GateName, R: Wait>(
     let mut passes = Passes::<J>::new(alloc)?;
     let gate = Gate::<J, &R>::begin_seeded(rt, alloc, opening, seed)?;
     let cancel = cancel_command().ok_or(Stop::Wrong)?;
-    for earlier in 0..BEFORE_CLOSE - 1 {
-        passes.enter(rt, &gate, &cancel, earlier)?;
-    }
+    enter_repeatedly(rt, &gate, &mut passes, &cancel, BEFORE_CLOSE - 1)?;
     if is_closed {
         fill_and_close(rt, &gate, &mut passes)?;
     }
@@ -92,6 +104,21 @@ pub fn fill_journal<R: Wait>(
     fill_at_gate::<Brand, R>(rt, alloc, Opening::new(24), seed, is_closed)
 }
 
+/// Asks the gate for all its passes: the participant's, the operator's, and then more for the participant.
+fn add_all_passes<J: GateName, H: Wait + Drop>(
+    rt: &impl Wait,
+    gate: &Gate<J, H>,
+    passes: &mut Passes<J>,
+    who: &Participant,
+) -> Result<(), Stop> {
+    passes.add_pass(rt, gate, Some(who))?;
+    passes.add_pass(rt, gate, None)?;
+    for _ in 2..MOST_PASSES {
+        passes.add_pass(rt, gate, Some(who))?;
+    }
+    Ok(())
+}
+
 /// Whether the gate gives no pass more, to a participant or to the operator.
 fn has_given_all<J: GateName, H: Wait + Drop>(
     rt: &impl Wait,
@@ -116,11 +143,7 @@ fn refuse_at_gate<J: GateName, R: Wait>(
     let mut passes = Passes::<J>::new(alloc)?;
     let gate = Gate::<J, &R>::begin_seeded(rt, alloc, opening, seed)?;
     let who = Participant::new(b"A").ok_or(Stop::Wrong)?;
-    passes.add_pass(rt, &gate, Some(&who))?;
-    passes.add_pass(rt, &gate, None)?;
-    for _ in 2..MOST_PASSES {
-        passes.add_pass(rt, &gate, Some(&who))?;
-    }
+    add_all_passes(rt, &gate, &mut passes, &who)?;
     if !has_given_all(rt, &gate, &who) {
         return Err(Stop::Wrong);
     }
@@ -229,6 +252,14 @@ fn enter_all<R: Wait>(
     enter_at_gate::<Brand, R>(rt, alloc, Opening::new(24), seed, commands)
 }
 
+/// Adds the accounts at the end of the others.
+fn append_accounts(accounts: &mut Vec<Account>, more: Vec<Account>) -> Result<(), Stop> {
+    for account in more {
+        accounts.push(account)?;
+    }
+    Ok(())
+}
+
 /// A journal of A's submit and the close, with the accounts of A and of the operator between two of other gates: each
 /// has one receipt, the first of number 3, the last of number 1.
 fn hold_among_others<R: Wait>(rt: &R, alloc: Global, seed: Seed) -> Result<Held, Stop> {
@@ -243,9 +274,7 @@ fn hold_among_others<R: Wait>(rt: &R, alloc: Global, seed: Seed) -> Result<Held,
         .wrapping_add(third.refused)
         .wrapping_add(first.refused);
     accounts.push(third.accounts.pop().ok_or(Stop::Wrong)?)?;
-    for account in held.accounts {
-        accounts.push(account)?;
-    }
+    append_accounts(&mut accounts, held.accounts)?;
     accounts.push(first.accounts.pop().ok_or(Stop::Wrong)?)?;
     Ok(Held {
         journal: held.journal,
@@ -254,13 +283,13 @@ fn hold_among_others<R: Wait>(rt: &R, alloc: Global, seed: Seed) -> Result<Held,
     })
 }
 
-/// Settles a journal with receipts of other gates, which is refused, and then with its own.
-pub fn settle_others<R: Wait>(rt: &R, alloc: Global, seed: Seed) -> Result<Told, Stop> {
-    let Held {
-        mut journal,
-        accounts,
-        mut refused,
-    } = hold_among_others(rt, alloc, seed)?;
+/// Settles the journal with receipts of other gates, in three ways, each refused for its mismatch.
+fn unsettled_by_others(
+    alloc: Global,
+    journal: Journal,
+    accounts: &[Account],
+) -> Result<(Journal, u32), Stop> {
+    let (mut journal, mut refused) = (journal, 0u32);
     for (range, wanted) in [
         (0..3, Mismatch::Extra(3)),
         (2..4, Mismatch::Differs(1)),
@@ -271,10 +300,21 @@ pub fn settle_others<R: Wait>(rt: &R, alloc: Global, seed: Seed) -> Result<Told,
         journal = back;
         refused = refused.wrapping_add(again);
     }
+    Ok((journal, refused))
+}
+
+/// Settles a journal with receipts of other gates, which is refused, and then with its own.
+pub fn settle_others<R: Wait>(rt: &R, alloc: Global, seed: Seed) -> Result<Told, Stop> {
+    let Held {
+        journal,
+        accounts,
+        refused,
+    } = hold_among_others(rt, alloc, seed)?;
+    let (journal, others) = unsettled_by_others(alloc, journal, &accounts)?;
     let own = accounts.get(1..3).ok_or(Stop::Wrong)?;
     let (settled, again) = settle_again(alloc, journal, own)?;
     Ok(Told {
         answer: Answer::Entries(settled.journal().entries().len()),
-        refused: refused.wrapping_add(again),
+        refused: refused.wrapping_add(others).wrapping_add(again),
     })
 }

@@ -18,7 +18,7 @@ use Rattle.dam_blocks.specs.declared.problem.Place.{Place}
 use Rattle.dam_blocks.specs.declared.problem.Place.TheVariants.{Hour as AtHour, Block as AtBlock}
 use Rattle.dam_blocks.specs.declared.problem.ProblemRow.{ProblemRow}
 use Rattle.dam_blocks.specs.Problem.{ProblemState, steps_in, blocks_in, place_after, rows_after, problem_of, IsProblem}
-use Rattle.dam_blocks.specs.Selection.{accepts, over_accepted, net_volume_of, bought_volume_of}
+use Rattle.dam_blocks.specs.Selection.{accepts, over_accepted, net_volume_of_block, bought_volume_of_block}
 use Rattle.dam_blocks.specs.Eligible.{IsClearingPrice, surplus_of}
 use Rattle.dam_blocks.specs.Result.{IsResult}
 use Rattle.dam_blocks.specs.Changes.{IsWithoutBlock, IsWithLimit}
@@ -221,8 +221,8 @@ record AreAlike (book other : BookState) (front back : List Row) (key : Key) (o 
   hours : (problem_of other).hours ≡ (problem_of book).hours
   blocks : blocks_in book.rows ≡ blocks_in front ++ gone_block key o ∷ blocks_in back
   others : blocks_in other.rows ≡ blocks_in front ++ gone_block key p ∷ blocks_in back
-  net : (t : ℕ) → net_volume_of t o ≡ net_volume_of t p
-  bought : (t : ℕ) → bought_volume_of t o ≡ bought_volume_of t p
+  net : (t : ℕ) → net_volume_of_block t o ≡ net_volume_of_block t p
+  bought : (t : ℕ) → bought_volume_of_block t o ≡ bought_volume_of_block t p
 
 sum_of : (book other : BookState) (front back : List Row) (key : Key) (o p : BlockTerms) (sel : List Bool) (f : BlockTerms → ℤ)
     → AreAlike book other front back key o p → f o ≡ f p
@@ -233,8 +233,8 @@ sum_of book other front back key o p sel f two e =
     ∙ ap (λ (bs : List Block). over_accepted f bs sel) (sym two.blocks)
 
 periods_alike : (blocks others : List Block) (sel : List Bool) (t : ℕ) (hours : List (List Step)) (periods : List PeriodResult)
-    → ((s : ℕ) → over_accepted (net_volume_of s) others sel ≡ over_accepted (net_volume_of s) blocks sel)
-    → ((s : ℕ) → over_accepted (bought_volume_of s) others sel ≡ over_accepted (bought_volume_of s) blocks sel)
+    → ((s : ℕ) → over_accepted (net_volume_of_block s) others sel ≡ over_accepted (net_volume_of_block s) blocks sel)
+    → ((s : ℕ) → over_accepted (bought_volume_of_block s) others sel ≡ over_accepted (bought_volume_of_block s) blocks sel)
     → ArePeriodResults blocks sel t hours periods → ArePeriodResults others sel t hours periods
 periods_alike blocks others sel t [] [] net bought are = tt
 periods_alike blocks others sel t [] (r ∷ periods) net bought are = absurd are
@@ -267,7 +267,7 @@ row_alike book other front back key o p sel prices row (HourResult own named exe
           stands = ap (λ (hours : List (List Step)). slice_get hours (is.2.0 - 1)) two.hours ∙ e.stands;
           executed = e.executed;
           best = subst (λ (z : ℤ). IsBest e.hour z e.executed)
-              (sym (sum_of book other front back key o p sel (net_volume_of is.2.0) two (two.net is.2.0))) e.best;
+              (sym (sum_of book other front back key o p sel (net_volume_of_block is.2.0) two (two.net is.2.0))) e.best;
           volume_is = e.volume_is;
         },
       ),
@@ -446,8 +446,8 @@ published_with_worse laws book other place order limit welfare periods rows who 
           welfare_is = after.eligible.welfare_is;
           periods_are = subst (λ (hours : List (List Step)). ArePeriodResults (blocks_in other.rows) sel 1 hours periods) (sym two.hours)
               (periods_alike (blocks_in book.rows) (blocks_in other.rows) sel 1 (problem_of book).hours periods
-              (λ t. sum_of book other front back key order p sel (net_volume_of t) two refl)
-              (λ t. sum_of book other front back key order p sel (bought_volume_of t) two refl) published.periods_are);
+              (λ t. sum_of book other front back key order p sel (net_volume_of_block t) two refl)
+              (λ t. sum_of book other front back key order p sel (bought_volume_of_block t) two refl) published.periods_are);
           rows_are = subst (λ (rs : List Row). AreRowResults (problem_of other) sel prices (rows_after [] rs)
               (set rows place (BlockResult who name false (surplus_of prices p)))) (sym change.others)
               (subst (λ (n : ℕ). AreRowResults (problem_of other) sel prices (rows_after [] (front ++ (key, BlockVariant p) ∷ back))

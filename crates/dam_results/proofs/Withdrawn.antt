@@ -18,7 +18,7 @@ use Rattle.dam_blocks.specs.declared.problem.Place.{Place}
 use Rattle.dam_blocks.specs.declared.problem.Place.TheVariants.{Hour as AtHour, Block as AtBlock}
 use Rattle.dam_blocks.specs.Problem.{ProblemState, step_in, steps_in, hours_from, block_under, blocks_in, place_after, rows_after, problem_of}
 use Rattle.dam_blocks.specs.Problem.{IsProblem}
-use Rattle.dam_blocks.specs.Selection.{accepts, over_accepted, net_volume_of, net_volume, bought_volume_of}
+use Rattle.dam_blocks.specs.Selection.{accepts, over_accepted, net_volume_of_block, net_volume, bought_volume_of_block}
 use Rattle.dam_blocks.specs.Eligible.{IsClearingPrice}
 use Rattle.dam_blocks.specs.Result.{IsResult}
 use Rattle.dam_blocks.specs.Changes.{without_place, IsWithoutBlock}
@@ -144,12 +144,12 @@ same_periods blocks others sel tel t [] [] sums are = tt
 same_periods blocks others sel tel t [] (r ∷ periods) sums are = absurd are
 same_periods blocks others sel tel t (ss ∷ hours) [] sums are = absurd are
 same_periods blocks others sel tel t (ss ∷ hours) (r ∷ periods) sums are =
-    let net : net_volume blocks sel t ≡ net_volume others tel t = sym (sums (net_volume_of t)) in (
+    let net : net_volume blocks sel t ≡ net_volume others tel t = sym (sums (net_volume_of_block t)) in (
       record {
         price = subst (λ (z : ℤ). IsClearingPrice ss z r.price) net are.0.price;
         executed = are.0.executed;
         best = subst (λ (z : ℤ). IsBest ss z are.0.executed) net are.0.best;
-        volume = are.0.volume ∙ ap (λ (z : ℤ). pos (executed_volume Buy ss are.0.executed) +ℤ z) (sym (sums (bought_volume_of t)));
+        volume = are.0.volume ∙ ap (λ (z : ℤ). pos (executed_volume Buy ss are.0.executed) +ℤ z) (sym (sums (bought_volume_of_block t)));
       },
       same_periods blocks others sel tel (suc t) hours periods sums are.1,
     )
@@ -163,7 +163,7 @@ same_executed book other front back key o sel t i volume two is = record {
   hour = is.hour;
   stands = ap (λ (hours : List (List Step)). slice_get hours (t - 1)) two.hours ∙ is.stands;
   executed = is.executed;
-  best = subst (λ (z : ℤ). IsBest is.hour z is.executed) (sym (two.sums (net_volume_of t))) is.best;
+  best = subst (λ (z : ℤ). IsBest is.hour z is.executed) (sym (two.sums (net_volume_of_block t))) is.best;
   volume_is = is.volume_is;
 }
 

@@ -5,7 +5,7 @@ ghost use Rattle.dam_blocks.specs.Eligible.{IsEligible};
 ghost use Rattle.dam_results.specs.inside.Cleared.{IsBalancedIn, IsCleared, AreCleared, volume_at};
 
 use crate::published::PeriodResult;
-use dam_blocks::{Best, Problem, Selection, bought_volume, net_volume};
+use dam_blocks::{Problem, Selection, Solution, bought_volume, net_volume};
 use dam_book::{Period, Price, laws};
 use std::alloc::{AllocError, Allocator};
 
@@ -58,7 +58,7 @@ fn clear_period<A: Allocator, B: Allocator>(
 pub(crate) fn clear_day<A: Allocator + Copy, B: Allocator>(
     alloc: A,
     problem: &Problem<B>,
-    best: Best,
+    best: Solution,
 ) -> Result<Clearing<A>, AllocError>
     requires { IsEligible problem.now best.selection (pos best.welfare) }
     ensures { IfOk result (λ c. AreCleared problem.now.blocks best.selection problem.now.hours

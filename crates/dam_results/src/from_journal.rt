@@ -8,14 +8,14 @@ use std::alloc::{AllocError, Global};
 
 /// A value made of the commands of a journal, one after another.
 pub trait FromJournal: Drop {
-    /// The seed by which its book hashes names: `Seed`, or `()` if it has no book.
-    type Seed: Drop;
+    /// The argument of `begin`: the `Seed` by which its book hashes names, or `()` if it has no book.
+    type Context: Drop;
 
     /// The value is made from these commands in a day of this many periods.
     ghost made_of: { ℕ → List Command → Self → Type 0 };
 
     /// The value of no commands.
-    fn begin(alloc: Global, seed: Self::Seed, periods: DayLength) -> Result<Self, AllocError>
+    fn begin(alloc: Global, context: Self::Context, periods: DayLength) -> Result<Self, AllocError>
         ensures { IfOk result (made_of periods []) };
 
     /// Takes the command of the entry of this number, counted from 1.

@@ -30,12 +30,12 @@ pub struct JournalRead {
 impl FromJournal for JournalRead {
     ghost use Rattle.std.specs.Prelude.{◌≡◌};
 
-    type Seed = ();
+    type Context = ();
 
     ghost made_of = { λ periods commands journal.
         (journal.periods ≡ periods) × (journal.commands.items ≡ commands) };
 
-    fn begin(alloc: Global, _seed: (), periods: DayLength) -> Result<JournalRead, AllocError> {
+    fn begin(alloc: Global, _context: (), periods: DayLength) -> Result<JournalRead, AllocError> {
         Ok(JournalRead {
             periods,
             commands: Vec::new(alloc),
@@ -204,7 +204,7 @@ fn take_records<T: FromJournal>(made: &mut T, records: &mut Records) -> Result<(
 /// The value that all the records make, with the record of the day first.
 fn read_records<T: FromJournal>(
     alloc: Global,
-    seed: T::Seed,
+    context: T::Context,
     records: &mut Records,
 ) -> Result<T, JournalFault>
     ensures { MatchResult result
@@ -213,14 +213,14 @@ fn read_records<T: FromJournal>(
         (IsFaultOfRecords (rows_left records.old)) }
 {
     let periods = read_day_record(records)?;
-    let mut made = T::begin(alloc, seed, periods)?;
+    let mut made = T::begin(alloc, context, periods)?;
     take_records(&mut made, records)?;
     Ok(made)
 }
 
 fn check_and_read<T: FromJournal>(
     alloc: Global,
-    seed: T::Seed,
+    context: T::Context,
     text: &[u8],
 ) -> Result<T, JournalFault>
     ensures ok { IfOk result (IsMadeFrom T.made_of text.now) }
@@ -228,14 +228,14 @@ fn check_and_read<T: FromJournal>(
 {
     check_bytes(text)?;
     let mut records = Records::of(alloc, text);
-    read_records(alloc, seed, &mut records)
+    read_records(alloc, context, &mut records)
 }
 
 /// The value that the journal in a text makes, or the first fault of the text. The records past the first faulty one
 /// aren't kept.
 pub fn read_into<T: FromJournal>(
     alloc: Global,
-    seed: T::Seed,
+    context: T::Context,
     text: &[u8],
 ) -> Result<T, JournalFault>
     ensures ok { IfOk result (IsMadeFrom T.made_of text.now) }
@@ -247,7 +247,7 @@ pub fn read_into<T: FromJournal>(
 {
     laws::text_is_one_journal();
     laws::fault_is_no_journal();
-    check_and_read(alloc, seed, text)
+    check_and_read(alloc, context, text)
 }
 
 /// The journal that a text says, or the first fault of the text.

@@ -21,12 +21,12 @@ pub struct PackedJournal {
 impl FromJournal for PackedJournal {
     ghost use Rattle.std.specs.Prelude.{◌≡◌};
 
-    type Seed = ();
+    type Context = ();
 
     ghost made_of = { λ periods commands journal.
         (journal.periods ≡ periods) × (journal.commands.items ≡ commands) };
 
-    fn begin(alloc: Global, _seed: (), periods: DayLength) -> Result<PackedJournal, AllocError> {
+    fn begin(alloc: Global, _context: (), periods: DayLength) -> Result<PackedJournal, AllocError> {
         Ok(PackedJournal {
             periods,
             commands: Vec::new(alloc),

@@ -5,7 +5,7 @@ ghost use Rattle.dam_results.specs.Published.{ArePublished};
 use crate::clearing::clear_day;
 use crate::outcome::outcomes;
 use crate::published::Results;
-use dam_blocks::{Best, Problem};
+use dam_blocks::{Problem, Solution};
 use std::alloc::{AllocError, Allocator};
 
 /// The published results of an eligible selection: the price of each period at which it clears, with the
@@ -16,13 +16,13 @@ use std::alloc::{AllocError, Allocator};
 pub fn results<A: Allocator + Copy, B: Allocator>(
     alloc: A,
     problem: &Problem<B>,
-    best: Best,
+    best: Solution,
 ) -> Result<Results<A>, AllocError>
     requires { IsEligible problem.now best.selection (pos best.welfare) }
     ensures { IfOk result (λ r.
         ArePublished problem.now best.selection r.welfare r.periods.items r.rows.items) }
 {
-    let Best { selection, welfare } = best;
+    let Solution { selection, welfare } = best;
     let clearing = clear_day(alloc, problem, best)?;
     let rows = outcomes(alloc, problem, selection, &clearing)?;
     Ok(Results {

@@ -65,7 +65,7 @@ impl FromJournal for Replay {
     ghost use Rattle.dam_results.specs.Replies.{AreReplies};
     ghost use Rattle.dam_results.specs.Run.{IsRun};
 
-    type Seed = Seed;
+    type Context = Seed;
 
     ghost made_of = { λ periods commands replay.
         IsRun periods commands replay.book × AreReplies periods commands replay.text.items };

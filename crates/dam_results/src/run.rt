@@ -25,7 +25,7 @@ impl FromJournal for Run {
     ghost use Rattle.std.specs.Prelude.{◌≡◌, ◌≤◌, length};
     ghost use Rattle.dam_results.specs.Run.{HasRefused, IsRun};
 
-    type Seed = Seed;
+    type Context = Seed;
 
     ghost made_of = { λ periods commands run. IsRun periods commands run.book
         × HasRefused periods commands run.refused × (run.refused ≤ length commands) };

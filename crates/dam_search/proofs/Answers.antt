@@ -9,7 +9,7 @@ use Rattle.std.proofs.lemmas.List.Sums.{sum_by-append, count_by_more_yes, count_
 use Rattle.std.proofs.lemmas.Bool.{eqb-true}
 use Rattle.std.proofs.lemmas.List.{length-set, length-replicate, get_or-set_other, get_or-replicate}
 use Rattle.std.proofs.lemmas.Grind.{get_or-set_at}
-use Rattle.dam_blocks.specs.declared.selection.Best.{Best}
+use Rattle.dam_blocks.specs.declared.selection.Solution.{Solution}
 use Rattle.dam_blocks.specs.Problem.{ProblemState, IsProblem}
 use Rattle.dam_search.specs.declared.answer.PieceAnswer.{PieceAnswer}
 use Rattle.dam_search.specs.Piece.{Rises}
@@ -21,28 +21,28 @@ use Rattle.dam_search.proofs.Ranks.{IsTransitive, rises_twice}
 
 -- ---- the highest that was found
 
-pub long_from : (best next result : Option Best) → IsLong best → IsLong next → (result ≡ best) ⊎ (result ≡ next) → IsLong result
+pub long_from : (best next result : Option Solution) → IsLong best → IsLong next → (result ≡ best) ⊎ (result ≡ next) → IsLong result
 long_from best next result l m (inl e) = subst IsLong (sym e) l
 long_from best next result l m (inr e) = subst IsLong (sym e) m
 
 -- the selections that the answers found rank at or below the highest
-below_highest : (answers : List PieceAnswer) (best : Option Best) → IsHighestFound answers best
+below_highest : (answers : List PieceAnswer) (best : Option Solution) → IsHighestFound answers best
     → All (λ (x : PieceAnswer). Rises x.best best) answers
 below_highest answers None h = All-weaker (λ (x : PieceAnswer). x.best ≡ None) (λ (x : PieceAnswer). Rises x.best None)
-    (λ (x : PieceAnswer) (e : x.best ≡ None). subst (λ (o : Option Best). Rises o None) (sym e) tt) answers h
+    (λ (x : PieceAnswer) (e : x.best ≡ None). subst (λ (o : Option Solution). Rises o None) (sym e) tt) answers h
 below_highest answers (Some b) h = h.others
 
-no_more : (o : Option Best) → Rises o None → o ≡ None
+no_more : (o : Option Solution) → Rises o None → o ≡ None
 no_more None h = refl
 no_more (Some b) h = absurd h
 
 -- one of the answers found it
-among_highest : (answers : List PieceAnswer) (b : Best) (best : Option Best) → best ≡ Some b → IsHighestFound answers best
+among_highest : (answers : List PieceAnswer) (b : Solution) (best : Option Solution) → best ≡ Some b → IsHighestFound answers best
     → (a : PieceAnswer) × Contains answers a × (a.best ≡ Some b)
-among_highest answers b best e h = let k = subst (λ (o : Option Best). IsHighestFound answers o) e h in k.among
+among_highest answers b best e h = let k = subst (λ (o : Option Solution). IsHighestFound answers o) e h in k.among
 
 -- the answers so far and the next one
-everyone : (answers : List PieceAnswer) (a : PieceAnswer) (best result : Option Best) → IsTransitive
+everyone : (answers : List PieceAnswer) (a : PieceAnswer) (best result : Option Solution) → IsTransitive
     → All (λ (x : PieceAnswer). IsLong x.best) answers → IsLong best → IsLong result → IsHighestFound answers best
     → Rises best result → Rises a.best result → All (λ (x : PieceAnswer). Rises x.best result) (answers ++ a ∷ [])
 everyone answers a best result through long lb lr h before next =
@@ -50,7 +50,7 @@ everyone answers a best result through long lb lr h before next =
     (λ k d l. rises_twice (slice_index_or answers k d).best best result through (long k d l) lb lr
     (below_highest answers best h k d l) before) next
 
-pub highest_step : (answers : List PieceAnswer) (a : PieceAnswer) (best result : Option Best) → IsTransitive
+pub highest_step : (answers : List PieceAnswer) (a : PieceAnswer) (best result : Option Solution) → IsTransitive
     → All (λ (x : PieceAnswer). IsLong x.best) answers → IsLong best → IsLong result → IsHighestFound answers best
     → (result ≡ best) ⊎ (result ≡ a.best) → Rises best result → Rises a.best result → IsHighestFound (answers ++ a ∷ []) result
 highest_step answers a best None through long lb lr h either before next =

@@ -7,7 +7,7 @@ use Rattle.std.proofs.lemmas.Int.{ints}
 use Rattle.std.proofs.lemmas.List.{length-take-le, take-append-drop}
 use Rattle.std.proofs.lemmas.List.Elements.{All-contains, All-head, All-tail, All-weaker}
 use Rattle.dam_book.specs.Limits.{most_blocks}
-use Rattle.dam_blocks.specs.declared.selection.Best.{Best}
+use Rattle.dam_blocks.specs.declared.selection.Solution.{Solution}
 use Rattle.dam_blocks.specs.Problem.{ProblemState, IsProblem}
 use Rattle.dam_blocks.specs.Selection.{choice}
 use Rattle.dam_blocks.specs.Eligible.{IsEligible}
@@ -74,16 +74,16 @@ result_matched problem depth answers sel w choices few are reached result =
       | inr matched ↦ (a, answer.1, matched)
     ]
 
-matched_found : (w : ℤ) (sel : List Bool) (best : Option Best) → IsMatched w sel best
-    → (c : Best) × (best ≡ Some c) × RanksAtOrBelow w sel (pos c.welfare) c.selection
+matched_found : (w : ℤ) (sel : List Bool) (best : Option Solution) → IsMatched w sel best
+    → (c : Solution) × (best ≡ Some c) × RanksAtOrBelow w sel (pos c.welfare) c.selection
 matched_found w sel None h = absurd h
 matched_found w sel (Some c) h = (c, refl, h)
 
-found_eligible : (problem : ProblemState) (prefix : List Bool) (best : Option Best) (b : Best) → best ≡ Some b → IsFind problem prefix best
+found_eligible : (problem : ProblemState) (prefix : List Bool) (best : Option Solution) (b : Solution) → best ≡ Some b → IsFind problem prefix best
     → IsEligible problem b.selection (pos b.welfare)
-found_eligible problem prefix best b e h = (subst (λ (o : Option Best). IsFind problem prefix o) e h).1
+found_eligible problem prefix best b e h = (subst (λ (o : Option Solution). IsFind problem prefix o) e h).1
 
-pub collected : (problem : ProblemState) (depth : ℕ) (answers : List PieceAnswer) (b : Best) → IsSolvable → AreChoices → IsTransitive
+pub collected : (problem : ProblemState) (depth : ℕ) (answers : List PieceAnswer) (b : Solution) → IsSolvable → AreChoices → IsTransitive
     → IsProblem problem → depth ≤ length problem.blocks
     → AreAnswered problem depth answers → AreReached problem answers → IsHighest answers b
     → IsResult problem b.selection (pos b.welfare)
@@ -95,7 +95,7 @@ collected problem depth answers b solvable choices through is deep are reached h
     let found = matched_found w sel answer.0.best answer.2 in
     let c = found.0 in
     let rises = All-contains (λ (x : PieceAnswer). Rises x.best (Some b)) answers answer.0 highest.others answer.1 in
-    let c_below = subst (λ (o : Option Best). Rises o (Some b)) found.1 rises in
+    let c_below = subst (λ (o : Option Solution). Rises o (Some b)) found.1 rises in
     let sound = sound_one problem depth answers answer.0 are answer.1 in
     let c_eligible = found_eligible problem (choice depth answer.0.piece) answer.0.best c found.1 sound.found in
     let top = highest.among in
@@ -119,7 +119,7 @@ some_found problem depth answers solvable choices is deep are reached none =
     let best = solvable problem is in
     let answer = result_matched problem depth answers best.0 best.1.0 choices few are reached best.1.1 in
     let nothing = All-contains (λ (x : PieceAnswer). x.best ≡ None) answers answer.0 none answer.1 in
-    subst (λ (o : Option Best). IsMatched best.1.0 best.0 o) nothing answer.2
+    subst (λ (o : Option Solution). IsMatched best.1.0 best.0 o) nothing answer.2
 
 -- ---- values that are reached
 
@@ -141,7 +141,7 @@ reached_greater problem a b r s = either (le_or_gt a b)
     either (inl h) = reached_less problem a (max a b) h r
     either (inr h) = reached_less problem b (max a b) h s
 
-pub reached_found : (problem : ProblemState) (prefix : List Bool) (best : Option Best) → IsReached problem 0 → IsFind problem prefix best
+pub reached_found : (problem : ProblemState) (prefix : List Bool) (best : Option Solution) → IsReached problem 0 → IsFind problem prefix best
     → IsReached problem (welfare_found best)
 reached_found problem prefix None zero_reached h = zero_reached
 reached_found problem prefix (Some b) zero_reached h =
@@ -184,14 +184,14 @@ spent_less problem prefix left told nodes visited read done s = record {
 -- ---- the limit on nodes
 
 -- a value that is reached is no greater than the result's welfare
-reached_at_most : (problem : ProblemState) (value : ℕ) (b : Best) → IsReached problem value → IsResult problem b.selection (pos b.welfare)
+reached_at_most : (problem : ProblemState) (value : ℕ) (b : Solution) → IsReached problem value → IsResult problem b.selection (pos b.welfare)
     → value ≤ b.welfare
 reached_at_most problem value b r result =
     let reaches = r.reaches in let below = result.others r.selection r.welfare r.eligible in let most = below.by_welfare in
     omega (arith, ints, reaches, most)
 
 -- the limit allows as many nodes as the piece of an answer that is done needs
-pub answer_needed : (problem : ProblemState) (prefix : List Bool) (left nodes visited read : ℕ) (done : Bool) (b : Best)
+pub answer_needed : (problem : ProblemState) (prefix : List Bool) (left nodes visited read : ℕ) (done : Bool) (b : Solution)
     → (nodes < node_count left → IsSpent problem prefix left 0 nodes visited read done) → done ≡ true → IsReached problem read
     → IsResult problem b.selection (pos b.welfare) → HasNeeded problem prefix left b.welfare nodes
 answer_needed problem prefix left nodes visited read done b spent is reached result = elim (cases_lt nodes (node_count left)) [
@@ -201,7 +201,7 @@ answer_needed problem prefix left nodes visited read done b spent is reached res
   | inr many ↦ all_needed problem prefix left b.welfare nodes (omega (arith, many))
 ]
 
-pub limit_needed : (problem : ProblemState) (depth nodes : ℕ) (answers : List PieceAnswer) (b : Best)
+pub limit_needed : (problem : ProblemState) (depth nodes : ℕ) (answers : List PieceAnswer) (b : Solution)
     → All (λ (a : PieceAnswer). IsWorked problem depth nodes a) answers → AreAnswered problem depth answers
     → IsResult problem b.selection (pos b.welfare) → LimitHasNeeded problem depth nodes b.welfare
 limit_needed problem depth nodes answers b worked are result piece less =

@@ -6,7 +6,7 @@ use Rattle.std.proofs.lemmas.Bool.Decides.{nat_tests}
 use Rattle.std.proofs.lemmas.Option.{slice_get_within}
 use Rattle.std.proofs.lemmas.List.{length-replicate}
 use Rattle.dam_book.specs.Limits.{most_blocks}
-use Rattle.dam_blocks.specs.declared.selection.Best.{Best}
+use Rattle.dam_blocks.specs.declared.selection.Solution.{Solution}
 use Rattle.dam_blocks.specs.Problem.{ProblemState}
 use Rattle.dam_blocks.specs.Selection.{accepts, padded, choice, IsAdmissible}
 use Rattle.dam_bound.specs.Open.{is_among, IsOpen, AreFree}
@@ -138,24 +138,24 @@ completion_open problem prefix selection order is admissible whole = record {
 
 -- ---- the answer
 
-find_completion : (problem : ProblemState) (prefix : List Bool) (order : List ℕ) (best : Option Best) → length prefix ≤ most_blocks
+find_completion : (problem : ProblemState) (prefix : List Bool) (order : List ℕ) (best : Option Solution) → length prefix ≤ most_blocks
     → IsDecisionOrder (length prefix) (length problem.blocks) order → IsOpenFind problem (padded prefix) order best → IsFind problem prefix best
 find_completion problem prefix order None few is h = tt
 find_completion problem prefix order (Some b) few is h =
     (open_completion prefix b.selection (length problem.blocks) order few is h.0, h.1)
 
-pub sound_from : (problem : ProblemState) (prefix : List Bool) (order : List ℕ) (best : Option Best) (read : ℕ) → length prefix ≤ most_blocks
+pub sound_from : (problem : ProblemState) (prefix : List Bool) (order : List ℕ) (best : Option Solution) (read : ℕ) → length prefix ≤ most_blocks
     → IsDecisionOrder (length prefix) (length problem.blocks) order → FindsOpen problem (padded prefix) order None best
     → CoversOpen problem (padded prefix) order best read → IsSound problem prefix best read true
 sound_from problem prefix order best read few is finds covers = record {
   found = elim finds.found [
-    | inl e ↦ subst (λ (o : Option Best). IsFind problem prefix o) (sym e) tt
+    | inl e ↦ subst (λ (o : Option Solution). IsFind problem prefix o) (sym e) tt
     | inr h ↦ find_completion problem prefix order best few is h
   ];
   others = λ done sel w whole e. covers sel w (completion_open problem prefix sel order is e.admissible whole) e;
 }
 
-pub piece_sound : (problem : ProblemState) (depth piece : ℕ) (taken : List Bool) (order : List ℕ) (best : Option Best) (read : ℕ)
+pub piece_sound : (problem : ProblemState) (depth piece : ℕ) (taken : List Bool) (order : List ℕ) (best : Option Solution) (read : ℕ)
     → taken ≡ padded (choice depth piece) → depth ≤ most_blocks → IsDecisionOrder depth (length problem.blocks) order
     → FindsOpen problem taken order None best → CoversOpen problem taken order best read → IsSound problem (choice depth piece) best read true
 piece_sound problem depth piece taken order best read is few ordered finds covers =

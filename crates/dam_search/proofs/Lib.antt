@@ -10,7 +10,7 @@ pub mod Rule
 pub mod Seats
 pub mod Opens
 pub mod FirstNode
-pub mod Rooms
+pub mod Slacks
 pub mod OneAnswer
 pub mod Sets
 pub mod RulingOut

@@ -5,7 +5,7 @@ use Rattle.std.proofs.lemmas.Int.{ints, clamps}
 use Rattle.std.proofs.lemmas.Bool.{cases_eq, eqb-true}
 use Rattle.std.proofs.lemmas.List.{length-set}
 use Rattle.dam_book.specs.Limits.{most_blocks}
-use Rattle.dam_blocks.specs.declared.selection.Best.{Best}
+use Rattle.dam_blocks.specs.declared.selection.Solution.{Solution}
 use Rattle.dam_blocks.specs.Problem.{ProblemState}
 use Rattle.dam_blocks.specs.Selection.{accepts, IsAdmissible}
 use Rattle.dam_blocks.specs.Eligible.{ArePrices, HasNoLoss, selection_welfare, IsEligible}
@@ -192,26 +192,26 @@ not_above false Above Below e h = h
 
 -- ---- the finds
 
-pub finds_none : (problem : ProblemState) (taken : List Bool) (left : List ℕ) (best : Option Best) → FindsOpen problem taken left best best
+pub finds_none : (problem : ProblemState) (taken : List Bool) (left : List ℕ) (best : Option Solution) → FindsOpen problem taken left best best
 finds_none problem taken left best = record { found = inl refl; rises = stays best }
 
-long_open : (problem : ProblemState) (taken : List Bool) (left : List ℕ) (best : Option Best) → IsOpenFind problem taken left best → IsLong best
+long_open : (problem : ProblemState) (taken : List Bool) (left : List ℕ) (best : Option Solution) → IsOpenFind problem taken left best → IsLong best
 long_open problem taken left None h = tt
 long_open problem taken left (Some b) h = h.0.as_long
 
-pub long_after : (problem : ProblemState) (taken : List Bool) (left : List ℕ) (a b : Option Best) → IsLong a → FindsOpen problem taken left a b
+pub long_after : (problem : ProblemState) (taken : List Bool) (left : List ℕ) (a b : Option Solution) → IsLong a → FindsOpen problem taken left a b
     → IsLong b
 long_after problem taken left a b long f = elim f.found [
   | inl e ↦ subst IsLong (sym e) long
   | inr g ↦ long_open problem taken left b g
 ]
 
-any_open_find : (accept : Bool) (problem : ProblemState) (taken : List Bool) (place : ℕ) (left : List ℕ) (best : Option Best)
+any_open_find : (accept : Bool) (problem : ProblemState) (taken : List Bool) (place : ℕ) (left : List ℕ) (best : Option Solution)
     → IsOpenFind problem (with_place_if accept taken place) left best → IsOpenFind problem taken (place ∷ left) best
 any_open_find accept problem taken place left None h = tt
 any_open_find accept problem taken place left (Some b) h = (open_any accept taken place left b.selection h.0, h.1)
 
-finds_either : (one other : Bool) (problem : ProblemState) (taken : List Bool) (place : ℕ) (left : List ℕ) (a b c : Option Best) → IsTransitive
+finds_either : (one other : Bool) (problem : ProblemState) (taken : List Bool) (place : ℕ) (left : List ℕ) (a b c : Option Solution) → IsTransitive
     → IsLong a → FindsOpen problem (with_place_if one taken place) left a b → FindsOpen problem (with_place_if other taken place) left b c
     → FindsOpen problem taken (place ∷ left) a c
 finds_either one other problem taken place left a b c through long f g =
@@ -221,21 +221,21 @@ finds_either one other problem taken place left a b c through long f g =
       found = elim g.found [
         | inl e ↦ elim f.found [
           | inl d ↦ inl (e ∙ d)
-          | inr h ↦ inr (subst (λ (o : Option Best). IsOpenFind problem taken (place ∷ left) o) (sym e) (any_open_find one problem taken place left b h))
+          | inr h ↦ inr (subst (λ (o : Option Solution). IsOpenFind problem taken (place ∷ left) o) (sym e) (any_open_find one problem taken place left b h))
         ]
         | inr h ↦ inr (any_open_find other problem taken place left c h)
       ];
       rises = rises_twice a b c through long long_b long_c f.rises g.rises;
     }
 
-covers_later : (problem : ProblemState) (taken : List Bool) (left : List ℕ) (a b : Option Best) (read next : ℕ) → IsTransitive → IsLong a → IsLong b
+covers_later : (problem : ProblemState) (taken : List Bool) (left : List ℕ) (a b : Option Solution) (read next : ℕ) → IsTransitive → IsLong a → IsLong b
     → Rises a b → read ≤ next → CoversOpen problem taken left a read → CoversOpen problem taken left b next
 covers_later problem taken left a b read next through la lb h more covers sel w is e = elim (covers sel w is e) [
   | inl less ↦ inl (omega (arith, ints, less, more))
   | inr m ↦ inr (matched_rises w sel a b through e.as_long la lb m h)
 ]
 
-covers_either : (first : Bool) (problem : ProblemState) (taken rejected : List Bool) (place : ℕ) (left : List ℕ) (best : Option Best) (read : ℕ)
+covers_either : (first : Bool) (problem : ProblemState) (taken rejected : List Bool) (place : ℕ) (left : List ℕ) (best : Option Solution) (read : ℕ)
     → IsNode taken rejected (place ∷ left)
     → CoversOpen problem (with_place_if first taken place) left best read → CoversOpen problem (with_place_if (not first) taken place) left best read
     → CoversOpen problem taken (place ∷ left) best read
@@ -260,7 +260,7 @@ pub walked_over : (problem : ProblemState) (taken : List Bool) (left : List ℕ)
     → IsReady read offer before → now.best ≡ before.best → before.read ≤ now.read → now.read ≡ read' → offer' ≡ offer
     → CoversOpen problem taken left now.best now.read → IsWalkedOpen problem taken left offer read' offer' before now
 walked_over problem taken left read offer read' offer' before now ready same more told kept covers = record {
-  finds = subst (λ (o : Option Best). FindsOpen problem taken left before.best o) (sym same) (finds_none problem taken left before.best);
+  finds = subst (λ (o : Option Solution). FindsOpen problem taken left before.best o) (sym same) (finds_none problem taken left before.best);
   covers = covers;
   grows = more;
   read = told;
@@ -308,7 +308,7 @@ pub is_open : (taken : List Bool) → length taken ≡ most_blocks → IsOpen ta
 is_open taken long = record { as_long = long; agrees = λ place e. refl }
 
 -- what holds of the node's selection at its welfares holds of each open one
-pub covers_leaf : (problem relaxed : ProblemState) (taken : List Bool) (best : Option Best) (read : ℕ) → length taken ≡ most_blocks
+pub covers_leaf : (problem relaxed : ProblemState) (taken : List Bool) (best : Option Solution) (read : ℕ) → length taken ≡ most_blocks
     → relaxed ≡ without_rows problem
     → ((w : ℤ) → IsEligible problem taken w → selection_welfare relaxed taken ≡ Some w → (w <ℤ pos read) ⊎ IsMatched w taken best)
     → CoversOpen problem taken [] best read
@@ -352,29 +352,29 @@ pub with_rows : (problem relaxed : ProblemState) (taken : List Bool) (w : ℤ) �
 with_rows problem relaxed taken w same e = subst (λ (p : ProblemState). selection_welfare p taken ≡ Some w) same e
 
 -- it is found
-pub walked_leaf : (problem : ProblemState) (taken : List Bool) (read offer read' offer' : ℕ) (before after : WalkState) (best : Best)
+pub walked_leaf : (problem : ProblemState) (taken : List Bool) (read offer read' offer' : ℕ) (before after : WalkState) (best : Solution)
     → length taken ≡ most_blocks → IsReady read offer before → after.best ≡ Some best → after.read ≡ before.read → best.selection ≡ taken
     → IsEligible problem taken (pos best.welfare) → Rises before.best (Some best) → read' ≡ read → offer' ≡ max offer best.welfare
     → IsWalkedOpen problem taken [] offer read' offer' before after
 walked_leaf problem taken read offer read' offer' before after best long ready found kept is eligible rises told offered = record {
   finds = record {
-    found = inr (subst (λ (o : Option Best). IsOpenFind problem taken [] o) (sym found) (
+    found = inr (subst (λ (o : Option Solution). IsOpenFind problem taken [] o) (sym found) (
       subst (λ (xs : List Bool). IsOpen taken [] xs) (sym is) (is_open taken long),
       subst (λ (xs : List Bool). IsEligible problem xs (pos best.welfare)) (sym is) eligible,
     ));
-    rises = subst (λ (o : Option Best). Rises before.best o) (sym found) rises;
+    rises = subst (λ (o : Option Solution). Rises before.best o) (sym found) rises;
   };
   covers = λ sel w opened e.
       (let only = open_nothing taken sel long opened in
       let welfare = subst (λ (xs : List Bool). selection_welfare problem xs ≡ Some w) only e.welfare_is in
       let same = one_welfare (selection_welfare problem taken) w (pos best.welfare) welfare eligible.welfare_is in
-      inr (subst (λ (o : Option Best). IsMatched w sel o) (sym found)
+      inr (subst (λ (o : Option Solution). IsMatched w sel o) (sym found)
       (subst (λ (xs : List Bool). RanksAtOrBelow w xs (pos best.welfare) best.selection) (is ∙ sym only)
       (subst (λ (z : ℤ). RanksAtOrBelow z best.selection (pos best.welfare) best.selection) (sym same)
       (ranks_with_itself (pos best.welfare) best.selection)))));
   grows = omega (arith, kept);
   read = (let was = ready.read in omega (arith, kept, was, told));
-  offered = offered ∙ ap (λ (o : Option Best). max offer (welfare_found o)) (sym found);
+  offered = offered ∙ ap (λ (o : Option Solution). max offer (welfare_found o)) (sym found);
 }
 
 -- ---- the parts of a node as they are passed on

@@ -3,7 +3,7 @@ use Rattle.std.proofs.Common.{◌≡◌, ℕ, ◌≤◌, ◌<◌, ◌⊎◌, inl
 use Rattle.std.proofs.Common.{length, append_assoc, ◌∙◌, sym, subst, refl, arith}
 use Rattle.std.proofs.lemmas.Int.{ints}
 use Rattle.dam_book.specs.Limits.{most_blocks}
-use Rattle.dam_blocks.specs.declared.selection.Best.{Best}
+use Rattle.dam_blocks.specs.declared.selection.Solution.{Solution}
 use Rattle.dam_blocks.specs.Problem.{ProblemState}
 use Rattle.dam_blocks.specs.Result.{accepts_first, RanksAbove, RanksAtOrBelow}
 use Rattle.dam_bound.specs.Prefix.{IsCompletion}
@@ -39,32 +39,32 @@ IsTransitive = (u v w : ℤ) (xs ys zs : List Bool) → length xs ≡ most_block
 
 -- ---- the selection that is found
 
-pub stays : (best : Option Best) → Rises best best
+pub stays : (best : Option Solution) → Rises best best
 stays None = tt
 stays (Some b) = ranks_with_itself (pos b.welfare) b.selection
 
-pub welfare_rises : (a b : Option Best) → Rises a b → welfare_found a ≤ welfare_found b
+pub welfare_rises : (a b : Option Solution) → Rises a b → welfare_found a ≤ welfare_found b
 welfare_rises None b h = omega arith
 welfare_rises (Some a) None h = absurd h
 welfare_rises (Some a) (Some b) h = let by = h.by_welfare in omega (arith, ints, by)
 
-pub long_find : (problem : ProblemState) (prefix : List Bool) (best : Option Best) → IsFind problem prefix best → IsLong best
+pub long_find : (problem : ProblemState) (prefix : List Bool) (best : Option Solution) → IsFind problem prefix best → IsLong best
 long_find problem prefix None h = tt
 long_find problem prefix (Some b) h = h.0.as_long
 
-pub matched_rises : (w : ℤ) (sel : List Bool) (a b : Option Best) → IsTransitive → length sel ≡ most_blocks → IsLong a → IsLong b
+pub matched_rises : (w : ℤ) (sel : List Bool) (a b : Option Solution) → IsTransitive → length sel ≡ most_blocks → IsLong a → IsLong b
     → IsMatched w sel a → Rises a b → IsMatched w sel b
 matched_rises w sel None b through long la lb m h = absurd m
 matched_rises w sel (Some a) None through long la lb m h = absurd h
 matched_rises w sel (Some a) (Some b) through long la lb m h =
     through w (pos a.welfare) (pos b.welfare) sel a.selection b.selection long la lb m h
 
-pub rises_twice : (a b c : Option Best) → IsTransitive → IsLong a → IsLong b → IsLong c → Rises a b → Rises b c → Rises a c
+pub rises_twice : (a b c : Option Solution) → IsTransitive → IsLong a → IsLong b → IsLong c → Rises a b → Rises b c → Rises a c
 rises_twice None b c through la lb lc h g = tt
 rises_twice (Some a) b c through la lb lc h g = matched_rises (pos a.welfare) a.selection b c through la lb lc h g
 
 -- the selection that is matched, with its welfare
-pub matched_as : (w v : ℤ) (sel found : List Bool) (best : Option Best) → sel ≡ found → w ≡ v → IsMatched v found best → IsMatched w sel best
+pub matched_as : (w v : ℤ) (sel found : List Bool) (best : Option Solution) → sel ≡ found → w ≡ v → IsMatched v found best → IsMatched w sel best
 matched_as w v sel found best e f m =
     subst (λ (xs : List Bool). IsMatched w xs best) (sym e) (subst (λ (z : ℤ). IsMatched z found best) (sym f) m)
 
@@ -73,39 +73,39 @@ matched_as w v sel found best e f m =
 pub shorter : (prefix extra sel : List Bool) → IsCompletion (prefix ++ extra) sel → IsCompletion prefix sel
 shorter prefix extra sel h = record { as_long = h.as_long; rest = extra ++ h.rest; agrees = h.agrees ∙ append_assoc prefix extra h.rest }
 
-pub any_find : (problem : ProblemState) (prefix : List Bool) (best : Option Best) → IsFind problem prefix best → IsFind problem [] best
+pub any_find : (problem : ProblemState) (prefix : List Bool) (best : Option Solution) → IsFind problem prefix best → IsFind problem [] best
 any_find problem prefix None h = tt
 any_find problem prefix (Some b) h = (record { as_long = h.0.as_long; rest = b.selection; agrees = refl }, h.1)
 
-shorter_find : (problem : ProblemState) (prefix extra : List Bool) (best : Option Best) → IsFind problem (prefix ++ extra) best
+shorter_find : (problem : ProblemState) (prefix extra : List Bool) (best : Option Solution) → IsFind problem (prefix ++ extra) best
     → IsFind problem prefix best
 shorter_find problem prefix extra None h = tt
 shorter_find problem prefix extra (Some b) h = (shorter prefix extra b.selection h.0, h.1)
 
-pub found_after : (problem : ProblemState) (prefix : List Bool) (a b : Option Best) → IsFind problem [] a → Finds problem prefix a b
+pub found_after : (problem : ProblemState) (prefix : List Bool) (a b : Option Solution) → IsFind problem [] a → Finds problem prefix a b
     → IsFind problem [] b
 found_after problem prefix a b find f =
     elim f.found [
-      | inl e ↦ subst (λ (o : Option Best). IsFind problem [] o) (sym e) find
+      | inl e ↦ subst (λ (o : Option Solution). IsFind problem [] o) (sym e) find
       | inr g ↦ any_find problem prefix b g
     ]
 
-pub finds_nothing : (problem : ProblemState) (prefix : List Bool) (best : Option Best) → Finds problem prefix best best
+pub finds_nothing : (problem : ProblemState) (prefix : List Bool) (best : Option Solution) → Finds problem prefix best best
 finds_nothing problem prefix best = record { found = inl refl; rises = stays best }
 
-pub finds_shorter : (problem : ProblemState) (prefix extra : List Bool) (a b : Option Best) → Finds problem (prefix ++ extra) a b
+pub finds_shorter : (problem : ProblemState) (prefix extra : List Bool) (a b : Option Solution) → Finds problem (prefix ++ extra) a b
     → Finds problem prefix a b
 finds_shorter problem prefix extra a b f =
     record { found = elim f.found [ inl e ↦ inl e | inr g ↦ inr (shorter_find problem prefix extra b g) ]; rises = f.rises }
 
-pub finds_twice : (problem : ProblemState) (prefix : List Bool) (a b c : Option Best) → IsTransitive → IsFind problem [] a
+pub finds_twice : (problem : ProblemState) (prefix : List Bool) (a b c : Option Solution) → IsTransitive → IsFind problem [] a
     → Finds problem prefix a b → Finds problem prefix b c → Finds problem prefix a c
 finds_twice problem prefix a b c through find f g =
     let find_b = found_after problem prefix a b find f in
     let find_c = found_after problem prefix b c find_b g in
     record {
       found = elim g.found [
-        | inl e ↦ elim f.found [ inl d ↦ inl (e ∙ d) | inr h ↦ inr (subst (λ (o : Option Best). IsFind problem prefix o) (sym e) h) ]
+        | inl e ↦ elim f.found [ inl d ↦ inl (e ∙ d) | inr h ↦ inr (subst (λ (o : Option Solution). IsFind problem prefix o) (sym e) h) ]
         | inr h ↦ inr h
       ];
       rises = rises_twice a b c through (long_find problem [] a find) (long_find problem [] b find_b)
@@ -118,7 +118,7 @@ AreExtended = (prefix sel : List Bool) → length prefix < most_blocks → IsCom
     → IsCompletion (prefix ++ true ∷ []) sel ⊎ IsCompletion (prefix ++ false ∷ []) sel
 
 -- covered selections stay so as the value read and the selection found rise
-covers_rises : (problem : ProblemState) (prefix : List Bool) (a b : Option Best) (read next : ℕ) → IsTransitive → IsFind problem [] a
+covers_rises : (problem : ProblemState) (prefix : List Bool) (a b : Option Solution) (read next : ℕ) → IsTransitive → IsFind problem [] a
     → IsFind problem [] b
     → Covers problem prefix a read → Rises a b → read ≤ next → Covers problem prefix b next
 covers_rises problem prefix a b read next through find find' covers h more sel w whole e =
@@ -134,7 +134,7 @@ extended_by true prefix sel extended few whole = extended prefix sel few whole
 extended_by false prefix sel extended few whole =
     elim (extended prefix sel few whole) [ inl accepted ↦ inr accepted | inr rejected ↦ inl rejected ]
 
-pub covers_both : (problem : ProblemState) (prefix : List Bool) (first : Bool) (a b c : Option Best) (read next : ℕ) → IsTransitive
+pub covers_both : (problem : ProblemState) (prefix : List Bool) (first : Bool) (a b c : Option Solution) (read next : ℕ) → IsTransitive
     → AreExtended → length prefix < most_blocks → IsFind problem [] a
     → Finds problem (prefix ++ first ∷ []) a b → Covers problem (prefix ++ first ∷ []) b read
     → Finds problem (prefix ++ not first ∷ []) b c → Covers problem (prefix ++ not first ∷ []) c next → read ≤ next

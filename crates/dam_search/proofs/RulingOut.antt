@@ -215,7 +215,7 @@ limits_with_rows problem priced limits same are = record {
       (let is = are.each k l in record {
         long = is.long;
         small = is.small;
-        room_is = is.room_is;
+        slack_is = is.slack_is;
         keeps = λ sel w e. is.keeps sel w (subst (λ (p : ProblemState). IsEligible p sel w) (sym same) (with_rows_eligible problem sel w e));
       });
 }

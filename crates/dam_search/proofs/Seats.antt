@@ -18,7 +18,7 @@ use Rattle.dam_search.specs.Answer.{IsReached, greatest_found}
 use Rattle.dam_search.specs.inside.Collect.{IsWorked, answers_about, AreOneEach, IsCollected}
 use Rattle.dam_search.specs.declared.fault.SearchFault.{SearchFault}
 use Rattle.dam_search.specs.declared.fault.SearchFault.TheVariants.{Collected}
-use Rattle.dam_blocks.specs.declared.selection.Best.{Best}
+use Rattle.dam_blocks.specs.declared.selection.Solution.{Solution}
 use Rattle.dam_blocks.specs.Eligible.{IsEligible}
 use Rattle.dam_search.specs.Words.{times, once_below, first_view, joined_view, standing, AreClosedWords}
 use Rattle.dam_search.specs.Work.{IsExplored, AreAnswersOf}
@@ -207,7 +207,7 @@ all_worked problem depth nodes first answers reached h =
       done = explored.done;
     })
 
-pub first_reached : (problem : ProblemState) (b : Best) → IsEligible problem b.selection (pos b.welfare) → IsReached problem b.welfare
+pub first_reached : (problem : ProblemState) (b : Solution) → IsEligible problem b.selection (pos b.welfare) → IsReached problem b.welfare
 first_reached problem b e = record { selection = b.selection; welfare = pos b.welfare; eligible = e; reaches = omega (arith, ints) }
 
 -- ---- one answer about each piece
@@ -227,7 +227,7 @@ pub one_each : (problem : ProblemState) (depth nodes first : ℕ) (answers : Lis
 one_each problem depth nodes first answers h piece less = about_times answers piece ∙ h.each piece ∙ below_once piece (2 ^ depth) less
 
 -- then no piece is faulty
-pub none_faulty : (depth : ℕ) (answers : List PieceAnswer) (result : Result Best SearchFault) (piece : ℕ) → IsCollected depth answers result
+pub none_faulty : (depth : ℕ) (answers : List PieceAnswer) (result : Result Solution SearchFault) (piece : ℕ) → IsCollected depth answers result
     → AreOneEach answers (2 ^ depth) → ¬ (IsErrOf result (Collected piece))
 none_faulty depth answers result piece h one e =
-    let fault = subst (λ (r : Result Best SearchFault). IsCollected depth answers r) e h in fault.1.faulty (one piece fault.0)
+    let fault = subst (λ (r : Result Solution SearchFault). IsCollected depth answers r) e h in fault.1.faulty (one piece fault.0)

@@ -1,6 +1,6 @@
 -- The answers about the pieces of a search, and which of them settle its result.
 use Rattle.std.specs.Prelude.{◌≡◌, ℕ, ◌^◌, ◌<◌, ◌≤◌, max, ℤ, pos, ◌≤ℤ◌, Bool, true, Some, List, [], ◌∷◌, length, All, Contains}
-use Rattle.dam_blocks.specs.declared.selection.Best.{Best}
+use Rattle.dam_blocks.specs.declared.selection.Solution.{Solution}
 use Rattle.dam_blocks.specs.Problem.{ProblemState, IsProblem}
 use Rattle.dam_blocks.specs.Selection.{choice}
 use Rattle.dam_blocks.specs.Eligible.{IsEligible}
@@ -41,6 +41,6 @@ greatest_found [] = 0
 greatest_found (a ∷ answers) = max (welfare_found a.best) (greatest_found answers)
 
 -- one of the selections that the answers found, and the others rank at or below it
-pub record IsHighest (answers : List PieceAnswer) (b : Best) : Type 0 where
+pub record IsHighest (answers : List PieceAnswer) (b : Solution) : Type 0 where
   pub among : (a : PieceAnswer) × Contains answers a × (a.best ≡ Some b)
   pub others : All (λ (a : PieceAnswer). Rises a.best (Some b)) answers

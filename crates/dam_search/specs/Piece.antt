@@ -1,7 +1,7 @@
 -- Pieces of a search, the finds in them, and their costs.
 use Rattle.std.specs.Prelude.{◌≡◌, ℕ, zero, suc, ◌+◌, ◌-◌, ◌*◌, ◌^◌, ◌≤◌, ℤ, pos, ◌<ℤ◌, ◌⊎◌, Bool, true, false, if◌then◌else◌}
 use Rattle.std.specs.Prelude.{Option, Some, None, List, [], ◌∷◌, ◌++◌}
-use Rattle.dam_blocks.specs.declared.selection.Best.{Best}
+use Rattle.dam_blocks.specs.declared.selection.Solution.{Solution}
 use Rattle.dam_blocks.specs.Problem.{ProblemState}
 use Rattle.dam_blocks.specs.Selection.{padded, IsAdmissible}
 use Rattle.dam_blocks.specs.Eligible.{IsEligible}
@@ -13,30 +13,30 @@ use Rattle.dam_bound.specs.Relaxed.{relaxed_welfare, reaches, live_count}
 -- that length; the prefix of piece j is `choice depth j`.
 
 -- a find: none, or an eligible completion of the prefix with its welfare
-abbrev pub IsFind : ProblemState → List Bool → Option Best → Type 0
+abbrev pub IsFind : ProblemState → List Bool → Option Solution → Type 0
 IsFind problem prefix None = Unit {0}
 IsFind problem prefix (Some b) =
     IsCompletion prefix b.selection × IsEligible problem b.selection (pos b.welfare)
 
 -- the selection ranks at or below the one that was found
-abbrev pub IsMatched : ℤ → List Bool → Option Best → Type 0
+abbrev pub IsMatched : ℤ → List Bool → Option Solution → Type 0
 IsMatched welfare sel None = ⊥
 IsMatched welfare sel (Some b) = RanksAtOrBelow welfare sel (pos b.welfare) b.selection
 
 -- the find rises: there was none before, or it ranks at or below the next one
-abbrev pub Rises : Option Best → Option Best → Type 0
+abbrev pub Rises : Option Solution → Option Solution → Type 0
 Rises None next = Unit {0}
 Rises (Some b) next = IsMatched (pos b.welfare) b.selection next
 
 -- the welfare of the selection that was found, 0 if there was none
-abbrev pub welfare_found : Option Best → ℕ
+abbrev pub welfare_found : Option Solution → ℕ
 welfare_found None = 0
 welfare_found (Some b) = b.welfare
 
 -- a sound answer about the completions of this prefix: the selection that was found is one of them,
 -- and if the answer is done, each eligible one ranks at or below it or has less welfare than the
 -- value read
-pub record IsSound (problem : ProblemState) (prefix : List Bool) (best : Option Best) (read : ℕ)
+pub record IsSound (problem : ProblemState) (prefix : List Bool) (best : Option Solution) (read : ℕ)
     (done : Bool) : Type 0 where
   pub found : IsFind problem prefix best
   pub others : done ≡ true → (sel : List Bool) (welfare : ℤ) → IsCompletion prefix sel

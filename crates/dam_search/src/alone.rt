@@ -15,7 +15,7 @@ use crate::incumbent::{Incumbent, Private};
 use crate::order::decision_order;
 use crate::priced_problem::PricedProblem;
 use crate::space::SearchSpace;
-use dam_blocks::{Best, Problem};
+use dam_blocks::{Problem, Solution};
 use dam_bound::{ClassCurves, Relaxed};
 use dam_plan::Nodes;
 use std::alloc::Global;
@@ -26,8 +26,8 @@ fn search_alone_with_explorer<E: Explorer>(
     explorer: &E,
     first_welfare: u64,
     nodes: Nodes,
-) -> Result<Best, SearchFault>
-    requires same { E.explored explorer.now ≡ problem.now }
+) -> Result<Solution, SearchFault>
+    requires same { E.problem explorer.now ≡ problem.now }
     requires suits { E.suits explorer.now 0 nodes ≡ true }
     requires reached { IsReached problem.now first_welfare }
     ensures ok { IfOk result (λ best. IsResult problem.now best.selection (pos best.welfare)) }
@@ -49,7 +49,7 @@ fn search_alone_priced<P: PricedProblem>(
     problem: &Problem,
     priced: &P,
     nodes: Nodes,
-) -> Result<Best, SearchFault>
+) -> Result<Solution, SearchFault>
     requires { P.problem priced.now ≡ without_rows problem.now }
     ensures ok { IfOk result (λ best. IsResult problem.now best.selection (pos best.welfare)) }
     ensures unfinished { (piece visited : ℕ)
@@ -81,7 +81,7 @@ fn search_alone_priced<P: PricedProblem>(
 ///
 /// It finds the result of `search`, whose clauses it has for a plan that cuts nothing. The whole search
 /// is piece 0. If it needs more than `nodes` nodes, it is unfinished; `MOST_NODES` are enough for any problem.
-pub fn search_alone(alloc: Global, problem: &Problem, nodes: Nodes) -> Result<Best, SearchFault>
+pub fn search_alone(alloc: Global, problem: &Problem, nodes: Nodes) -> Result<Solution, SearchFault>
     ensures ok { IfOk result (λ best. IsResult problem.now best.selection (pos best.welfare)) }
     ensures unfinished { (piece visited : ℕ)
         → IsErrOf result (SearchFault.Unfinished piece visited)

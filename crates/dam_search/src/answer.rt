@@ -1,4 +1,4 @@
-use dam_blocks::Best;
+use dam_blocks::Solution;
 use dam_plan::Nodes;
 
 /// The answer of a walk over one piece.
@@ -10,7 +10,7 @@ pub struct PieceAnswer {
     /// The number of the piece, from 0.
     pub piece: u32,
     /// The best eligible selection that was found in the piece, `None` if none was.
-    pub best: Option<Best>,
+    pub best: Option<Solution>,
     /// The greatest value that was read of the incumbent on the way, in cents per MWh times tenths
     /// of a MW; 0 if nothing was read.
     pub read: u64,

@@ -14,7 +14,7 @@ use crate::fault::SearchFault;
 use crate::laws;
 use crate::piece::ranks_above_found;
 use crate::space::use_invariant;
-use dam_blocks::{Best, Problem};
+use dam_blocks::{Problem, Solution};
 use dam_plan::{MOST_CUT, Nodes};
 use std::alloc::Allocator;
 
@@ -82,7 +82,7 @@ fn least_unfinished(answers: &[PieceAnswer]) -> Option<PieceAnswer>
 }
 
 /// The earlier selection or the answer's, whichever ranks higher.
-fn higher(best: Option<Best>, answer: &PieceAnswer) -> Option<Best>
+fn higher(best: Option<Solution>, answer: &PieceAnswer) -> Option<Solution>
     ensures either { (result ≡ best) ⊎ (result ≡ answer.now.best) }
     ensures before { Rises best result }
     ensures answer { Rises answer.now.best result }
@@ -98,7 +98,7 @@ fn higher(best: Option<Best>, answer: &PieceAnswer) -> Option<Best>
 }
 
 /// The highest of the selections that the answers found.
-fn highest(answers: &[PieceAnswer]) -> Option<Best>
+fn highest(answers: &[PieceAnswer]) -> Option<Solution>
     requires { All (λ a. IsLong a.best) answers.now }
     ensures { IsHighestFound answers.now result }
 {
@@ -117,7 +117,7 @@ pub(crate) fn collected<A: Allocator>(
     depth: usize,
     nodes: Nodes,
     answers: &[PieceAnswer],
-) -> Result<Best, SearchFault>
+) -> Result<Solution, SearchFault>
     requires depth { depth ≤ length problem.now.blocks }
     requires few { depth ≤ most_cut }
     requires worked { All (λ a. IsWorked problem.now depth nodes a) answers.now }

@@ -24,7 +24,7 @@ use std::alloc::Allocator;
 /// A way to explore the pieces of a problem's cutting.
 pub trait Explorer {
     /// The problem.
-    ghost explored: { Self → ProblemState };
+    ghost problem: { Self → ProblemState };
 
     /// Whether it explores the pieces of a cutting of this depth, each with this limit on nodes.
     ghost suits: { Self → ℕ → ℕ → Bool };
@@ -39,10 +39,10 @@ pub trait Explorer {
         incumbent: &mut I,
     ) -> PieceAnswer
         requires suits { suits self.now depth nodes ≡ true }
-        requires depth { depth ≤ length (explored self.now).blocks }
+        requires depth { depth ≤ length (problem self.now).blocks }
         requires piece { piece < 2 ^ depth }
         ensures piece { result.piece ≡ piece }
-        ensures explored { IsExplored (explored self.now) depth nodes result }
+        ensures explored { IsExplored (problem self.now) depth nodes result }
         ensures offered { I.greatest_offer incumbent.new
             ≡ max (I.greatest_offer incumbent.old) (welfare_found result.best) }
         ensures greatest_read { I.greatest_read incumbent.new
@@ -54,7 +54,7 @@ pub trait Explorer {
 impl<A: Allocator, B: Allocator> Explorer for SearchSpace<'_, A, B> {
     ghost use Rattle.std.specs.Prelude.{true};
 
-    ghost explored = { λ space. space.problem.now };
+    ghost problem = { λ space. space.problem.now };
 
     ghost suits = { λ _ _ _. true };
 
@@ -106,7 +106,7 @@ impl<A: Allocator, P: PricedProblem> Explorer for ByPrices<'_, A, P> {
     ghost use Rattle.std.specs.Prelude.{◌-◌, ◌==◌, ◌&&◌, nat_le, length};
     ghost use Rattle.dam_search.specs.Piece.{node_count};
 
-    ghost explored = { λ by. by.problem.now };
+    ghost problem = { λ by. by.problem.now };
 
     ghost suits = { λ by depth nodes. (by.depth == depth)
         && nat_le (node_count (length by.problem.now.blocks - depth)) nodes };

@@ -8,7 +8,7 @@ ghost use Rattle.atomic_table.specs.Table.{State};
 ghost use Rattle.dam_search.specs.declared.view.View.{View};
 ghost use Rattle.dam_search.specs.Words.{most_seats, AreWords, AreClosedWords};
 ghost use Rattle.std.specs.Prelude.{◌≡◌, ◌+◌, ◌≤◌, max, ℕ, pos, None, List, length, All};
-ghost use Rattle.dam_blocks.specs.declared.selection.Best.{Best};
+ghost use Rattle.dam_blocks.specs.declared.selection.Solution.{Solution};
 ghost use Rattle.dam_blocks.specs.Problem.{ProblemState, IsProblem};
 ghost use Rattle.dam_blocks.specs.Result.{IsResult};
 ghost use Rattle.dam_search.specs.declared.answer.PieceAnswer.{PieceAnswer};
@@ -35,7 +35,7 @@ pub fn limits()
 /// welfare that they found, or the welfare of another eligible selection, such as one that was offered to
 /// the workers before they started.
 pub fn collecting()
-    ensures result { (problem : ProblemState) (depth : ℕ) (answers : List PieceAnswer) (b : Best)
+    ensures result { (problem : ProblemState) (depth : ℕ) (answers : List PieceAnswer) (b : Solution)
         → AreConclusive problem depth answers
         → IsHighest answers b → IsResult problem b.selection (pos b.welfare) }
     ensures found { (problem : ProblemState) (depth : ℕ) (answers : List PieceAnswer)

@@ -18,7 +18,7 @@ pub(crate) struct Node<'a> {
     /// The places that are left, in the order of the decisions on them.
     pub(crate) left: &'a [u8],
     /// At least the welfare of each open selection.
-    pub(crate) bound: i64,
+    pub(crate) most: i64,
 }
 
 /// The selection, which accepts the block at `place` too if `decided`.
@@ -68,18 +68,18 @@ impl Node<'_> {
         gain: i64,
     ) -> Node<'b>
         requires place { place < most_blocks }
-        requires bound { pos 0 ≤ℤ self.now.bound }
+        requires bound { pos 0 ≤ℤ self.now.most }
         requires gain { IsWithin greatest_priced_gain gain }
         ensures taken { result.taken ≡ with_place_if accept self.now.taken place }
         ensures rejected { result.rejected ≡ with_place_if (not accept) self.now.rejected place }
         ensures left { result.left.now ≡ left.now }
-        ensures bound { result.bound ≡ bound_after accept self.now.bound gain }
+        ensures bound { result.most ≡ bound_after accept self.now.most gain }
     {
         Node {
             taken: with_place_if(accept, self.taken, place),
             rejected: with_place_if(!accept, self.rejected, place),
             left,
-            bound: bound_after(accept, self.bound, gain),
+            most: bound_after(accept, self.most, gain),
         }
     }
 }

@@ -1,5 +1,5 @@
 ghost use Rattle.std.specs.Prelude.{◌≡◌, ◌⊎◌, ◌-◌, ◌^◌, ◌<◌, ◌≤◌, max, pos, true, false, Some};
-ghost use Rattle.std.specs.Prelude.{length, IsTrue, ◌↔◌, MatchBool, MatchOption};
+ghost use Rattle.std.specs.Prelude.{length, IsTrue, ◌↔◌, ◌≤ℤ◌, MatchBool, MatchOption};
 ghost use Rattle.dam_blocks.specs.Selection.{choice};
 ghost use Rattle.dam_bound.specs.Relaxed.{without_rows, relaxed_welfare, reaches};
 ghost use Rattle.dam_search.specs.Piece.{IsMatched, Rises, welfare_found, IsSound, IsSpent};
@@ -9,7 +9,7 @@ use crate::answer::PieceAnswer;
 use crate::incumbent::Incumbent;
 use crate::prefix::Prefix;
 use crate::space::{SearchSpace, use_invariant};
-use dam_blocks::{Best, Problem, Verdict, ranks_above, score};
+use dam_blocks::{Problem, Solution, Verdict, ranks_above, score};
 use dam_bound::Relaxed;
 use dam_plan::Nodes;
 use std::alloc::Allocator;
@@ -17,14 +17,14 @@ use std::alloc::Allocator;
 /// The state of a walk: its finding, reads and visits so far.
 #[derive(Drop)]
 pub(crate) struct WalkState {
-    pub(crate) best: Option<Best>,
+    pub(crate) best: Option<Solution>,
     /// The greatest value read.
     pub(crate) read: u64,
     pub(crate) visited: Nodes,
 }
 
 /// Whether the candidate ranks above the selection found.
-pub(crate) fn ranks_above_found(candidate: &Best, best: &Option<Best>) -> bool
+pub(crate) fn ranks_above_found(candidate: &Solution, best: &Option<Solution>) -> bool
     ensures { MatchBool result (Rises best.now (Some candidate.now))
         (IsMatched (pos candidate.now.welfare) candidate.now.selection best.now) }
 {
@@ -33,6 +33,13 @@ pub(crate) fn ranks_above_found(candidate: &Best, best: &Option<Best>) -> bool
         Some(best) => ranks_above(*candidate, *best),
         None => true,
     }
+}
+
+/// Whether the bound is at least the value.
+pub(crate) fn bound_reaches(bound: i64, value: u64) -> bool
+    ensures { IsTrue result ↔ (pos value ≤ℤ bound) }
+{
+    bound >= 0 && value <= bound as u64
 }
 
 /// Whether the bound equals the value.
@@ -52,7 +59,7 @@ impl<A: Allocator, B: Allocator> SearchSpace<'_, A, B> {
             × (reaches (relaxed_welfare self.now.problem.now prefix.now) least ≡ true)) }
     {
         let bound = self.relaxed.bound(prefix.selection(), prefix.depth())?;
-        if bound >= 0 && least <= bound as u64 {
+        if bound_reaches(bound, least) {
             Some(bound)
         } else {
             None
@@ -80,7 +87,7 @@ impl<A: Allocator, B: Allocator> SearchSpace<'_, A, B> {
         let Verdict::Eligible(welfare) = score(self.problem, selection) else {
             return;
         };
-        let candidate = Best { selection, welfare };
+        let candidate = Solution { selection, welfare };
         if welfare < found.read || !ranks_above_found(&candidate, &found.best) {
             return;
         }

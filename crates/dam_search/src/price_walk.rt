@@ -1,7 +1,7 @@
 //! The walk by prices, with which a search explores a piece if its limit on nodes can't bind.
 
 ghost use Rattle.std.specs.Prelude.{◌≡◌, ◌^◌, ◌<◌, ◌≤◌, ◌⊎◌, max, ℕ, ℤ, pos, ◌≤ℤ◌, ◌<ℤ◌, true, false, not};
-ghost use Rattle.std.specs.Prelude.{Some, List, Bool, [], ◌∷◌, length, IsTrue, ◌↔◌, IfSome, IfNone};
+ghost use Rattle.std.specs.Prelude.{Some, List, Bool, [], ◌∷◌, length, IfSome, IfNone};
 ghost use Rattle.dam_book.specs.Limits.{most_blocks};
 ghost use Rattle.dam_blocks.specs.Selection.{accepts, choice};
 ghost use Rattle.dam_blocks.specs.Eligible.{IsEligible};
@@ -9,18 +9,18 @@ ghost use Rattle.dam_bound.specs.Relaxed.{without_rows};
 ghost use Rattle.dam_bound.specs.Open.{IsOpen};
 ghost use Rattle.dam_search.specs.Piece.{IsMatched, Rises, welfare_found, IsSound};
 ghost use Rattle.dam_search.specs.inside.Conflicts.{AcceptsAll, AcceptsNone, AreConflicts};
-ghost use Rattle.dam_search.specs.inside.PriceWalk.{IsNode, IsBounded, IsReady, IsRoom, IsWalkedOpen, IsDecisionOrder, with_place_if};
+ghost use Rattle.dam_search.specs.inside.PriceWalk.{IsNode, IsBounded, IsReady, IsSlack, IsWalkedOpen, IsDecisionOrder, with_place_if};
 
 use crate::answer::PieceAnswer;
 use crate::conflicts::Conflicts;
 use crate::incumbent::Incumbent;
 use crate::node::Node;
-use crate::piece::{WalkState, bound_equals, ranks_above_found};
+use crate::piece::{WalkState, bound_equals, bound_reaches, ranks_above_found};
 use crate::priced_problem::PricedProblem;
-use crate::root::{room_of_piece, write_bound_of_piece};
+use crate::root::{slack_of_piece, write_bound_of_piece};
 use crate::space::use_invariant;
-use dam_blocks::{Best, Problem, Selection, admissible, ranks_above};
-use dam_bound::{ClassPrices, PriceBound, Room};
+use dam_blocks::{Problem, Selection, Solution, admissible, ranks_above};
+use dam_bound::{ClassPrices, PriceBound, Slack};
 use std::alloc::Allocator;
 
 /// The least number of places left for which a node gets prices of its own.
@@ -36,16 +36,9 @@ struct PriceWalk<'a, A: Allocator, P: PricedProblem> {
     ghost are_conflicts: { AreConflicts problem.now conflicts.now },
 }
 
-/// Whether the bound is at least the value.
-fn bound_reaches(bound: i64, value: u64) -> bool
-    ensures { IsTrue result ↔ (pos value ≤ℤ bound) }
-{
-    bound >= 0 && value <= bound as u64
-}
-
 /// The selection with its welfare, if that is at least the value read and the selection, if it is eligible, is the best
 /// so far. The welfare of an eligible selection is never below 0.
-fn better_than_found(selection: Selection, welfare: i64, found: &WalkState) -> Option<Best>
+fn better_than_found(selection: Selection, welfare: i64, found: &WalkState) -> Option<Solution>
     ensures none { IfNone result
         ((welfare <ℤ pos found.now.read) ⊎ IsMatched welfare selection found.now.best) }
     ensures some { IfSome result (λ b. (b.selection ≡ selection) × (pos b.welfare ≡ welfare)
@@ -54,7 +47,7 @@ fn better_than_found(selection: Selection, welfare: i64, found: &WalkState) -> O
     if welfare < 0 {
         return None;
     }
-    let best = Best {
+    let best = Solution {
         selection,
         welfare: welfare as u64,
     };
@@ -70,21 +63,21 @@ fn better_than_found(selection: Selection, welfare: i64, found: &WalkState) -> O
 fn is_passed(node: &Node, found: &WalkState) -> bool
     requires { IsNode node.now.taken node.now.rejected node.now.left.now }
     ensures passed { result ≡ true → (selection : List Bool) (w : ℤ)
-        → IsOpen node.now.taken node.now.left.now selection → w ≤ℤ node.now.bound
+        → IsOpen node.now.taken node.now.left.now selection → w ≤ℤ node.now.most
         → (w <ℤ pos found.now.read) ⊎ IsMatched w selection found.now.best }
     ensures reached { result ≡ false
-        → (pos found.now.read ≤ℤ node.now.bound) × (found.now.read < 2 ^ 63) }
+        → (pos found.now.read ≤ℤ node.now.most) × (found.now.read < 2 ^ 63) }
 {
-    if !bound_reaches(node.bound, found.read) {
+    if !bound_reaches(node.most, found.read) {
         return true;
     }
     let Some(best) = found.best else {
         return false;
     };
-    if !bound_equals(node.bound, best.welfare) {
+    if !bound_equals(node.most, best.welfare) {
         return false;
     }
-    let top = Best {
+    let top = Solution {
         selection: node.highest_selection(),
         welfare: best.welfare,
     };
@@ -116,7 +109,7 @@ impl<A: Allocator, P: PricedProblem> PriceWalk<'_, A, P> {
         dam_blocks::laws::ranking_is_total();
         dam_bound::laws::balanced_selections_have_prices();
         use_invariant(self.problem);
-        let mut prices = ClassPrices::empty();
+        let mut prices = ClassPrices::placeholder();
         let Some(welfare) = self
             .priced
             .clear_selection(taken, bound, found.read as i64, &mut prices)
@@ -160,15 +153,15 @@ impl<A: Allocator, P: PricedProblem> PriceWalk<'_, A, P> {
         &self,
         node: &Node,
         bound: &PriceBound,
-        room: &Room,
+        slack: &Slack,
         incumbent: &mut I,
         found: &mut WalkState,
     )
         requires node { IsNode node.now.taken node.now.rejected node.now.left.now }
         requires bounded { IsBounded (P.problem self.now.priced.now) bound.now
-            node.now.taken node.now.left.now node.now.bound }
-        requires room { IsRoom self.now.problem.now self.now.conflicts.now.limits.limits
-            node.now.taken node.now.left.now room.now }
+            node.now.taken node.now.left.now node.now.most }
+        requires slack { IsSlack self.now.problem.now self.now.conflicts.now.limits.limits
+            node.now.taken node.now.left.now slack.now }
         requires ready { IsReady
             (I.greatest_read incumbent.old) (I.greatest_offer incumbent.old) found.old }
         ensures walked { IsWalkedOpen self.now.problem.now node.now.taken node.now.left.now
@@ -184,31 +177,31 @@ impl<A: Allocator, P: PricedProblem> PriceWalk<'_, A, P> {
             return;
         }
         if node.left.len() < LEAST_LEFT_TO_REPRICE {
-            self.branch(node, bound, room, incumbent, found);
+            self.branch(node, bound, slack, incumbent, found);
             return;
         }
-        self.explore_repriced(node, bound, room, incumbent, found);
+        self.explore_repriced(node, bound, slack, incumbent, found);
     }
 
     /// Explores a node with prices of its own, if they give it a lesser bound.
     ///
-    /// It isn't inlined, since the prices take room on the stack.
+    /// It isn't inlined, since the prices take space on the stack.
     #[cycle(visit)]
     #[inline(never)]
     fn explore_repriced<I: Incumbent>(
         &self,
         node: &Node,
         bound: &PriceBound,
-        room: &Room,
+        slack: &Slack,
         incumbent: &mut I,
         found: &mut WalkState,
     )
         requires node { IsNode node.now.taken node.now.rejected node.now.left.now }
         requires bounded { IsBounded (P.problem self.now.priced.now) bound.now
-            node.now.taken node.now.left.now node.now.bound }
-        requires room { IsRoom self.now.problem.now self.now.conflicts.now.limits.limits
-            node.now.taken node.now.left.now room.now }
-        requires reached { (pos found.old.read ≤ℤ node.now.bound) × (found.old.read < 2 ^ 63) }
+            node.now.taken node.now.left.now node.now.most }
+        requires slack { IsSlack self.now.problem.now self.now.conflicts.now.limits.limits
+            node.now.taken node.now.left.now slack.now }
+        requires reached { (pos found.old.read ≤ℤ node.now.most) × (found.old.read < 2 ^ 63) }
         requires ready { IsReady
             (I.greatest_read incumbent.old) (I.greatest_offer incumbent.old) found.old }
         ensures walked { IsWalkedOpen self.now.problem.now node.now.taken node.now.left.now
@@ -218,24 +211,24 @@ impl<A: Allocator, P: PricedProblem> PriceWalk<'_, A, P> {
         ensures kept { I.kept incumbent.new ≡ I.kept incumbent.old }
     {
         dam_bound::laws::most_bounds_open_selections();
-        let mut own_bound = PriceBound::empty();
+        let mut own_bound = PriceBound::placeholder();
         self.priced
             .write_price_bound(node.taken, node.left, &mut own_bound);
         let most = own_bound.most(node.taken, node.left);
-        if most >= node.bound {
-            self.branch(node, bound, room, incumbent, found);
+        if most >= node.most {
+            self.branch(node, bound, slack, incumbent, found);
             return;
         }
         let node = Node {
             taken: node.taken,
             rejected: node.rejected,
             left: node.left,
-            bound: most,
+            most,
         };
         if is_passed(&node, found) {
             return;
         }
-        self.branch(&node, &own_bound, room, incumbent, found);
+        self.branch(&node, &own_bound, slack, incumbent, found);
     }
 
     /// Explores both decisions on the next place, first the one that the sign of the block's gain is for. If no place
@@ -245,16 +238,16 @@ impl<A: Allocator, P: PricedProblem> PriceWalk<'_, A, P> {
         &self,
         node: &Node,
         bound: &PriceBound,
-        room: &Room,
+        slack: &Slack,
         incumbent: &mut I,
         found: &mut WalkState,
     )
         requires node { IsNode node.now.taken node.now.rejected node.now.left.now }
         requires bounded { IsBounded (P.problem self.now.priced.now) bound.now
-            node.now.taken node.now.left.now node.now.bound }
-        requires room { IsRoom self.now.problem.now self.now.conflicts.now.limits.limits
-            node.now.taken node.now.left.now room.now }
-        requires reached { (pos found.old.read ≤ℤ node.now.bound) × (found.old.read < 2 ^ 63) }
+            node.now.taken node.now.left.now node.now.most }
+        requires slack { IsSlack self.now.problem.now self.now.conflicts.now.limits.limits
+            node.now.taken node.now.left.now slack.now }
+        requires reached { (pos found.old.read ≤ℤ node.now.most) × (found.old.read < 2 ^ 63) }
         requires ready { IsReady
             (I.greatest_read incumbent.old) (I.greatest_offer incumbent.old) found.old }
         ensures walked { IsWalkedOpen self.now.problem.now node.now.taken node.now.left.now
@@ -270,12 +263,12 @@ impl<A: Allocator, P: PricedProblem> PriceWalk<'_, A, P> {
         };
         let place = usize::from(*place);
         let accept = bound.gains[place] >= 0;
-        self.decide(node, place, left, accept, bound, room, incumbent, found);
-        self.decide(node, place, left, !accept, bound, room, incumbent, found);
+        self.decide(node, place, left, accept, bound, slack, incumbent, found);
+        self.decide(node, place, left, !accept, bound, slack, incumbent, found);
     }
 
     /// Explores the node with this decision on the block at `place`, unless no eligible selection has it, by the conflicts
-    /// or by the room that it leaves. `left` are the places that are left then.
+    /// or by the slack that it leaves. `left` are the places that are left then.
     #[cycle(visit)]
     fn decide<I: Incumbent>(
         &self,
@@ -284,17 +277,17 @@ impl<A: Allocator, P: PricedProblem> PriceWalk<'_, A, P> {
         left: &[u8],
         accept: bool,
         bound: &PriceBound,
-        room: &Room,
+        slack: &Slack,
         incumbent: &mut I,
         found: &mut WalkState,
     )
         requires split { node.now.left.now ≡ place ∷ left.now }
         requires node { IsNode node.now.taken node.now.rejected node.now.left.now }
         requires bounded { IsBounded (P.problem self.now.priced.now) bound.now
-            node.now.taken node.now.left.now node.now.bound }
-        requires room { IsRoom self.now.problem.now self.now.conflicts.now.limits.limits
-            node.now.taken node.now.left.now room.now }
-        requires reached { pos 0 ≤ℤ node.now.bound }
+            node.now.taken node.now.left.now node.now.most }
+        requires slack { IsSlack self.now.problem.now self.now.conflicts.now.limits.limits
+            node.now.taken node.now.left.now slack.now }
+        requires reached { pos 0 ≤ℤ node.now.most }
         requires ready { IsReady
             (I.greatest_read incumbent.old) (I.greatest_offer incumbent.old) found.old }
         ensures walked { IsWalkedOpen self.now.problem.now
@@ -308,11 +301,11 @@ impl<A: Allocator, P: PricedProblem> PriceWalk<'_, A, P> {
             return;
         }
         let limits = &self.conflicts.limits;
-        let Some(room) = limits.room_after(room, place, accept) else {
+        let Some(slack) = limits.slack_after(slack, place, accept) else {
             return;
         };
         let next = node.after_decision(place, left, accept, bound.gains[place]);
-        self.visit(&next, bound, &room, incumbent, found);
+        self.visit(&next, bound, &slack, incumbent, found);
     }
 }
 
@@ -373,7 +366,7 @@ pub(crate) fn explore_by_prices<A: Allocator, P: PricedProblem, I: Incumbent>(
             done: true,
         };
     }
-    let Some(room) = room_of_piece(&conflicts.limits, taken, depth) else {
+    let Some(slack) = slack_of_piece(&conflicts.limits, taken, depth) else {
         return PieceAnswer {
             piece,
             best: None,
@@ -382,13 +375,13 @@ pub(crate) fn explore_by_prices<A: Allocator, P: PricedProblem, I: Incumbent>(
             done: true,
         };
     };
-    let mut bound = PriceBound::empty();
+    let mut bound = PriceBound::placeholder();
     let most = write_bound_of_piece(priced, taken, order, depth, &mut bound);
     let node = Node {
         taken,
         rejected: rejected_under(depth, taken),
         left: order,
-        bound: most,
+        most,
     };
     let mut found = WalkState {
         best: None,
@@ -400,7 +393,7 @@ pub(crate) fn explore_by_prices<A: Allocator, P: PricedProblem, I: Incumbent>(
         priced,
         conflicts,
     };
-    walk.visit(&node, &bound, &room, incumbent, &mut found);
+    walk.visit(&node, &bound, &slack, incumbent, &mut found);
     PieceAnswer {
         piece,
         best: found.best,

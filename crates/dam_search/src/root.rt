@@ -1,17 +1,17 @@
-//! The bound and the room with which the exploration of a piece begins.
+//! The bound and the slack with which the exploration of a piece begins.
 
 ghost use Rattle.std.specs.Prelude.{◌≡◌, ◌<◌, ◌≤◌, ℤ, List, Bool, None, not, nat_lt, length, All, IfSome};
 ghost use Rattle.dam_book.specs.Limits.{most_blocks};
 ghost use Rattle.dam_blocks.specs.Eligible.{IsEligible};
 ghost use Rattle.dam_blocks.specs.Problem.{ProblemState};
-ghost use Rattle.dam_bound.specs.NetLimits.{AreLimits, AreRooms, HasRoom};
+ghost use Rattle.dam_bound.specs.NetLimits.{AreLimits, AreSlacks, HasSlack};
 ghost use Rattle.dam_bound.specs.Prices.{most_of, IsPriceBound};
 ghost use Rattle.dam_search.specs.inside.PriceWalk.{AgreesUnder};
 
 use crate::first::all_places;
 use crate::priced_problem::PricedProblem;
 use dam_blocks::Selection;
-use dam_bound::{NetLimits, PriceBound, Room};
+use dam_bound::{NetLimits, PriceBound, Slack};
 
 /// Writes a bound by prices, and returns its bound of the selections that accept `taken`, any of the places of `order`, and
 /// nothing else. `taken` are decisions on the first `depth` blocks.
@@ -40,7 +40,7 @@ pub(crate) fn write_bound_of_piece<P: PricedProblem>(
         if taken.has(at) {
             prefix = prefix.with(at);
         }
-        let mut own_bound = PriceBound::empty();
+        let mut own_bound = PriceBound::placeholder();
         priced.write_price_bound(prefix, &places[at + 1..], &mut own_bound);
         let own_most = own_bound.most(taken, order);
         if own_most < most {
@@ -51,25 +51,25 @@ pub(crate) fn write_bound_of_piece<P: PricedProblem>(
     most
 }
 
-/// The room that the decisions of `taken` on the first `depth` blocks leave; `None` only if no eligible selection has them.
-pub(crate) fn room_of_piece(limits: &NetLimits, taken: Selection, depth: usize) -> Option<Room>
+/// The slack that the decisions of `taken` on the first `depth` blocks leave; `None` only if no eligible selection has them.
+pub(crate) fn slack_of_piece(limits: &NetLimits, taken: Selection, depth: usize) -> Option<Slack>
     requires depth { depth ≤ most_blocks }
     requires limits { (problem : ProblemState) × AreLimits problem limits.now.limits }
     ensures none { result ≡ None → (problem : ProblemState) (selection : List Bool) (w : ℤ)
         → AreLimits problem limits.now.limits → IsEligible problem selection w
         → AgreesUnder depth taken selection → ⊥ }
-    ensures rooms { IfSome result (λ room. AreRooms room.rooms) }
-    ensures some { IfSome result (λ room. (problem : ProblemState) (selection : List Bool) (w : ℤ)
+    ensures slacks { IfSome result (λ slack. AreSlacks slack.slacks) }
+    ensures some { IfSome result (λ slack. (problem : ProblemState) (selection : List Bool) (w : ℤ)
         → AreLimits problem limits.now.limits → IsEligible problem selection w
         → AgreesUnder depth taken selection
-        → HasRoom limits.now.limits selection (λ place. not (nat_lt place depth)) room.rooms) }
+        → HasSlack limits.now.limits selection (λ place. not (nat_lt place depth)) slack.slacks) }
 {
-    let mut room = limits.room();
+    let mut slack = limits.slack();
     for at in 0..depth {
-        let Some(next) = limits.room_after(&room, at, taken.has(at)) else {
+        let Some(next) = limits.slack_after(&slack, at, taken.has(at)) else {
             return None;
         };
-        room = next;
+        slack = next;
     }
-    Some(room)
+    Some(slack)
 }

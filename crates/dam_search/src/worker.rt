@@ -5,7 +5,7 @@ ghost use Rattle.dam_search.specs.Words.{view_of};
 
 use crate::answer::PieceAnswer;
 use crate::explorer::Explorer;
-use crate::shared::Shared;
+use crate::worker_seat::WorkerSeat;
 use dam_plan::{Nodes, Turnstile};
 use std::alloc::{AllocError, Allocator};
 
@@ -13,7 +13,7 @@ use std::alloc::{AllocError, Allocator};
 /// none left.
 ///
 /// It answers for just the pieces that its seat drew, in the order of the draws, with the limit
-/// `nodes` on each. It takes room for an answer about every piece from `alloc` before the first
+/// `nodes` on each. It takes memory for an answer about every piece from `alloc` before the first
 /// draw: after a refusal nothing was drawn, and it asks for nothing more later.
 ///
 /// Only [`search`](crate::search) makes seats, and so it alone can call this, once for each worker, on a
@@ -25,14 +25,14 @@ pub fn work<A: Allocator, E: Explorer, T: Turnstile>(
     explorer: &E,
     depth: usize,
     nodes: Nodes,
-    seat: &mut Shared,
+    seat: &mut WorkerSeat,
     turnstile: &T,
 ) -> Result<Vec<PieceAnswer, A>, AllocError>
     requires suits { E.suits explorer.now depth nodes ≡ true }
-    requires depth { depth ≤ length (E.explored explorer.now).blocks }
+    requires depth { depth ≤ length (E.problem explorer.now).blocks }
     requires fresh { IsFresh (2 ^ depth) (view_of seat.old.seat) }
     ensures answers { IfOk result (λ answers.
-        AreAnswersOf (E.explored explorer.now) depth nodes 0
+        AreAnswersOf (E.problem explorer.now) depth nodes 0
         (view_of seat.new.seat) answers.items) }
     ensures offered { IfOk result (λ answers.
         (view_of seat.new.seat).greatest_offer ≡ greatest_found answers.items) }

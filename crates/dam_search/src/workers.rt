@@ -18,11 +18,11 @@ use crate::first::first_selection;
 use crate::incumbent::Incumbent;
 use crate::order::decision_order;
 use crate::priced_problem::PricedProblem;
-use crate::shared::Shared;
 use crate::space::SearchSpace;
 use crate::words::{ClosedWords, close_words, new_words};
 use crate::worker::work;
-use dam_blocks::{Best, Problem};
+use crate::worker_seat::WorkerSeat;
+use dam_blocks::{Problem, Solution};
 use dam_bound::{ClassCurves, Relaxed};
 use dam_plan::{Nodes, Plan, Turnstile};
 use std::alloc::{AllocError, Global};
@@ -32,7 +32,7 @@ use std::thread::Threads;
 /// A worker's seat after its work, and its answers.
 #[derive(Drop)]
 pub(crate) struct WorkedSeat<'a> {
-    seat: Shared<'a>,
+    seat: WorkerSeat<'a>,
     answers: Result<Vec<PieceAnswer>, AllocError>,
 }
 
@@ -48,16 +48,16 @@ pub(crate) struct Task<'a, E: Explorer> {
     /// The welfare that is offered before any worker starts.
     pub(crate) first_welfare: u64,
     ghost inside: { depth ≤ length problem.now.blocks },
-    ghost same: { E.explored explorer.now ≡ problem.now },
+    ghost same: { E.problem explorer.now ≡ problem.now },
     ghost suits: { E.suits explorer.now depth nodes ≡ true },
 }
 
 /// A seat for each worker, split off the first one.
 fn seats_for<'a>(
-    first: &mut Shared<'a>,
+    first: &mut WorkerSeat<'a>,
     alloc: Global,
     workers: u8,
-) -> Result<Vec<Shared<'a>>, AllocError>
+) -> Result<Vec<WorkerSeat<'a>>, AllocError>
     requires { workers ≤ (view_of first.old.seat).seats_left }
     ensures table { first.new.seat.table_id ≡ first.old.seat.table_id }
     ensures first { IfOk result (λ _. view_of first.new.seat ≡ record (view_of first.old.seat) {
@@ -78,7 +78,7 @@ fn seats_for<'a>(
 fn work_at_seat<'a, E: Explorer, T: Turnstile>(
     task: &Task<E>,
     turnstile: &T,
-    seat: Shared<'a>,
+    seat: WorkerSeat<'a>,
 ) -> WorkedSeat<'a>
     requires new { IsNewSeat seat.seat.table_id (2 ^ task.now.depth) seat }
     ensures { IsWorkedSeat task.now.problem.now task.now.depth task.now.nodes
@@ -101,7 +101,7 @@ fn work_all<'a, R: Threads + Sync, E: Explorer + Sync, T: Turnstile + Sync>(
     rt: &R,
     task: &Task<E>,
     turnstile: &T,
-    seats: Vec<Shared<'a>>,
+    seats: Vec<WorkerSeat<'a>>,
 ) -> Result<Vec<WorkedSeat<'a>>, AllocError>
     requires new { All (λ s. IsNewSeat s.seat.table_id (2 ^ task.now.depth) s) seats.items }
     ensures many { IfOk result (λ worked. vec_len worked ≡ vec_len seats.entry) }
@@ -113,7 +113,7 @@ fn work_all<'a, R: Threads + Sync, E: Explorer + Sync, T: Turnstile + Sync>(
     thread::map_vec(
         rt,
         seats,
-        &|seat: Shared| -> WorkedSeat
+        &|seat: WorkerSeat| -> WorkedSeat
             requires { IsNewSeat seat.seat.table_id (2 ^ task.now.depth) seat }
             ensures { IsWorkedSeat task.entry.now.problem.now task.entry.now.depth
                 task.entry.now.nodes seat.entry.seat.table_id result }
@@ -122,10 +122,10 @@ fn work_all<'a, R: Threads + Sync, E: Explorer + Sync, T: Turnstile + Sync>(
 }
 
 /// Joins the workers' seats into the first one, and their answers into one list, which was made with
-/// room for them before the work.
+/// memory for them before the work.
 fn join_seats<'a, E: Explorer>(
     task: &Task<E>,
-    first: &mut Shared<'a>,
+    first: &mut WorkerSeat<'a>,
     mut worked: Vec<WorkedSeat<'a>>,
     mut answers: Vec<PieceAnswer>,
 ) -> Result<Vec<PieceAnswer>, AllocError>
@@ -155,7 +155,7 @@ fn explore_with_workers<'a, R: Threads + Sync, E: Explorer + Sync, T: Turnstile 
     rt: &R,
     task: &Task<E>,
     turnstile: &T,
-    first: &mut Shared<'a>,
+    first: &mut WorkerSeat<'a>,
 ) -> Result<Vec<PieceAnswer>, AllocError>
     requires pieces { (view_of first.old.seat).pieces ≡ 2 ^ task.now.depth }
     requires undrawn { (view_of first.old.seat).drawn ≡ [] }
@@ -195,7 +195,7 @@ pub(crate) fn explore_all<R: Threads + Sync, E: Explorer + Sync, T: Turnstile + 
 {
     let count = piece_count(task.depth);
     let (words, seat) = new_words(task.alloc, count)?;
-    let mut first = Shared::first(&words, seat, count);
+    let mut first = WorkerSeat::first(&words, seat, count);
     first.offer(task.first_welfare);
     let answers = explore_with_workers(rt, task, turnstile, &mut first)?;
     let seat = first.into_seat();
@@ -213,8 +213,8 @@ fn search_with_explorer<R: Threads + Sync, E: Explorer + Sync, T: Turnstile + Sy
     plan: Plan,
     first_welfare: u64,
     turnstile: &T,
-) -> Result<Best, SearchFault>
-    requires same { E.explored explorer.now ≡ problem.now }
+) -> Result<Solution, SearchFault>
+    requires same { E.problem explorer.now ≡ problem.now }
     requires depth { depth ≡ min plan.cut (length problem.now.blocks) }
     requires suits { E.suits explorer.now depth plan.nodes ≡ true }
     requires reached { IsReached problem.now first_welfare }
@@ -248,7 +248,7 @@ fn search_priced<R: Threads + Sync, P: PricedProblem + Sync, T: Turnstile + Sync
     priced: &P,
     plan: Plan,
     turnstile: &T,
-) -> Result<Best, SearchFault>
+) -> Result<Solution, SearchFault>
     requires { P.problem priced.now ≡ without_rows problem.now }
     ensures ok { IfOk result (λ best. IsResult problem.now best.selection (pos best.welfare)) }
     ensures unfinished { (piece visited : ℕ)
@@ -311,7 +311,7 @@ pub fn search<R: Threads + Sync, T: Turnstile + Sync>(
     problem: &Problem,
     plan: Plan,
     turnstile: &T,
-) -> Result<Best, SearchFault>
+) -> Result<Solution, SearchFault>
     ensures ok { IfOk result (λ best. IsResult problem.now best.selection (pos best.welfare)) }
     ensures unfinished { (piece visited : ℕ)
         → IsErrOf result (SearchFault.Unfinished piece visited)

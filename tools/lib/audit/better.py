@@ -71,4 +71,4 @@ def told(problem, said, found):
     prices = [cleared.price for cleared in selection.outcome(problem, found.accepted).cleared.values()]
     changed = [(number, *pair) for number, pair in enumerate(zip(prices, said.prices), 1) if pair[0] != pair[1]]
     for number, price, published in changed:
-        yield f"its price in period {number} is {text.cents(price)} EUR/MWh, and the results have {text.cents(published)}"
+        yield f"its price in period {number} is {text.eur_per_mwh(price)} EUR/MWh, and the results have {text.eur_per_mwh(published)}"

@@ -13,7 +13,7 @@ from ..sheets import sheets
 from ..tool import command
 from . import verdict
 from ..runs.engine import Running
-from ..base.progress import Bar
+from ..base.progress import StepBar
 
 MORE_SECONDS = 600  # that the audit of a day may take besides its search, before it is taken for one that hangs
 MOST_SECONDS = 2_000_000  # that it may take at all: the system waits for no more than 2**31 ms
@@ -206,7 +206,7 @@ def ran(pair, options, running, seconds):
     this number of seconds it is ended."""
     files = [file_name(path) for path in (pair.journal, pair.results) if path is not None]
     words = [*command.this_python(), os.fspath(TOOL), "--json", *options, "--", *files]
-    with running.started(words, stdin=subprocess.DEVNULL, stdout=subprocess.PIPE, stderr=subprocess.PIPE) as process, process:
+    with running.start(words, stdin=subprocess.DEVNULL, stdout=subprocess.PIPE, stderr=subprocess.PIPE) as process, process:
         try:
             out, err = process.communicate(timeout=seconds)
         except BaseException:
@@ -344,4 +344,4 @@ def audit(args):
     """As much as is kept of the records of all days."""
     pairs = pairs_of(args.days)
     jobs = min(args.jobs or os.cpu_count() or 1, len(pairs))
-    return audit_all(pairs, options_of(args), jobs, Bar("audit", len(pairs), "days", args.quiet), seconds_of(args), args.json)
+    return audit_all(pairs, options_of(args), jobs, StepBar("audit", len(pairs), "days", args.quiet), seconds_of(args), args.json)

@@ -305,7 +305,7 @@ def figures(problem, said):
     if said is not None:
         amounts = {"welfare": said.welfare, **sums.sums(problem, said)._asdict()}
         made["accepted"] = len(said.accepted)
-        made.update((f"{name}_eur", text.euros(amount, problem.hours, "")) for name, amount in amounts.items())
+        made.update((f"{name}_eur", text.eur(amount, problem.hours, "")) for name, amount in amounts.items())
     return made
 
 

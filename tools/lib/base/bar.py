@@ -14,7 +14,7 @@ def minutes(seconds):
     return f"{seconds // 60} min {seconds % 60} s" if seconds >= 60 else f"{seconds} s"
 
 
-class Bar:
+class ShareBar:
     """A line on standard error, if that is a terminal: the bar, how long it has taken, and some words."""
 
     def __init__(self, name):

@@ -85,7 +85,7 @@ class Progress(Line):
         super().end()
 
 
-class Bar(Line):
+class StepBar(Line):
     """How far a run of many equal steps is: a line on standard error, if that is a terminal and the run takes longer than a moment."""
 
     MOMENT = 0.5  # seconds before the first line

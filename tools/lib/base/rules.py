@@ -22,19 +22,6 @@ MOST_BYTES, MOST_RECORDS = 16_777_216, 10_001  # of a journal
 MOST_DAY_COMMANDS, MOST_DAY_PARTICIPANTS = 9_999, 8  # of the input of `dam day`
 
 
-def rescuers(place, blocks):
-    """The places of the blocks that, if they are accepted, make up for the loss of the block at this place: the ones that descend
-    from it, its children and theirs. Each comes after its parent."""
-    family = {(blocks[place].who, blocks[place].name)}
-    found = []
-    for other in range(place + 1, len(blocks)):
-        block = blocks[other]
-        if (block.who, block.order.parent) in family:
-            family.add((block.who, block.name))
-            found.append(other)
-    return found
-
-
 def price_between(low, high):
     """The price of a period whose supporting prices go from `low` to `high`, and which case of the rule it is."""
     if low == LEAST_PRICE and high < GREATEST_PRICE:

@@ -179,33 +179,38 @@ def fixed(value, digits, thousands=""):
     return f"{sign}{whole:,}".replace(",", thousands) + point
 
 
+def trimmed(number):
+    """A number without the zeros after the second digit of its fraction."""
+    whole, _, digits = number.partition(".")
+    return f"{whole}.{digits[:2]}{digits[2:].rstrip('0')}"
+
+
 def grouped(number):
     """An exact amount such as `-1234.500` for readers: with commas between thousands, and no zeros after its second digit."""
-    whole, _, digits = number.partition(".")
+    whole, _, digits = trimmed(number).partition(".")
     sign = "-" if whole.startswith("-") else ""
-    return f"{sign}{abs(int(whole)):,}.{digits[:2]}{digits[2:].rstrip('0')}"
+    return f"{sign}{abs(int(whole)):,}.{digits}"
 
 
-def cents(price, thousands=""):
+def eur_per_mwh(price, thousands=""):
     """A price in EUR/MWh."""
     return fixed(Fraction(price, 100), 2, thousands)
 
 
-def tenths(volume, thousands=""):
+def mw(volume, thousands=""):
     """A volume in MW."""
     return fixed(Fraction(volume, 10), 1, thousands)
 
 
-def euros(amount, hours, thousands=","):
+def eur(amount, hours, thousands=","):
     """An amount in cents per MWh times tenths of a MW, over periods of this many hours, in EUR: with as many digits as it may
     have."""
     return fixed(Fraction(amount) * hours / 1_000, 3 if hours == 1 else 5, thousands)
 
 
-def exact_euros(amount, hours):
-    """An amount as `euros` takes it, for readers: in EUR, exactly, with at least two digits and no zeros after these."""
-    whole, _, digits = euros(amount, hours).partition(".")
-    return f"{whole}.{digits[:2]}{digits[2:].rstrip('0')}"
+def exact_eur(amount, hours):
+    """An amount as `eur` takes it, for readers: in EUR, exactly, with at least two digits and no zeros after these."""
+    return trimmed(eur(amount, hours))
 
 
 THOUSANDS = ","  # between thousands, for readers
@@ -231,7 +236,7 @@ def shown_volume(tenths):
 
 
 def amount(value, hours, thousands=THOUSANDS):
-    """An amount as `euros` takes it, for readers: in EUR with two digits."""
+    """An amount as `eur` takes it, for readers: in EUR with two digits."""
     return shown(Fraction(value) * hours / 1_000, 2, thousands)
 
 

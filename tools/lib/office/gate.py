@@ -40,14 +40,14 @@ class Clock:
 
 @dataclasses.dataclass(eq=False)
 class Waiting:
-    """Commands of one request. `first` is the number that the participant gave the first one. `is_right` tells whether its token is still
-    the participant's. The close has no participant."""
+    """Commands of one request. `first` is the number that the participant gave the first one. `is_authorized` tells whether its token is
+    still the participant's. The close has no participant."""
 
     who: str
     first: int
     commands: list
     done: asyncio.Future
-    is_right: object = lambda: True
+    is_authorized: object = lambda: True
 
 
 class Gate:
@@ -80,7 +80,7 @@ class Gate:
         return folder.OPEN if self.is_open() else folder.CLOSING
 
     @property
-    def is_right(self):
+    def is_healthy(self):
         """Whether the day takes commands, or after its close has the files that it should, and its newest head is kept."""
         return self.is_ready.is_set() and self.trouble is None and not self.newest.is_failing
 
@@ -93,7 +93,7 @@ class Gate:
 
     # --- requests
 
-    def submit(self, who, first, commands, is_right=lambda: True):
+    def submit(self, who, first, commands, is_authorized=lambda: True):
         """The future numbers of the entries of commands. It is called once the whole request is here, and its time counts."""
         if (held := self.held(who, first, commands)) is not None:
             return held
@@ -106,7 +106,7 @@ class Gate:
         share, count = self.ledger.share(who), self.ledger.count(who)
         if first + len(commands) - 1 > share:
             raise Refused("ShareUsed", f"you may enter {share} commands on this day, and have entered {count}", next=count + 1)
-        return self.wait(Waiting(who, first, commands, asyncio.get_running_loop().create_future(), is_right))
+        return self.wait(Waiting(who, first, commands, asyncio.get_running_loop().create_future(), is_authorized))
 
     def wait(self, waiting):
         self.waiting.append(waiting)
@@ -118,7 +118,7 @@ class Gate:
         if first + len(commands) - 1 > self.ledger.count(who):
             return None
         done = asyncio.get_running_loop().create_future()
-        self.settle(Waiting(who, first, commands, done))
+        self.answer_entered(Waiting(who, first, commands, done))
         return done
 
     def conflict(self, who, first, commands):
@@ -156,7 +156,7 @@ class Gate:
                 continue
             new = one.commands[last - one.first + 1 :]
             if not new:
-                self.settle(one)
+                self.answer_entered(one)
                 continue
             if fault := token_fault(one):
                 fail(one.done, fault)
@@ -166,7 +166,7 @@ class Gate:
         self.waiting = later + self.waiting
         return found
 
-    def settle(self, one):
+    def answer_entered(self, one):
         """Answers a request whose commands are all entered."""
         if fault := self.conflict(one.who, one.first, one.commands):
             fail(one.done, fault)
@@ -194,7 +194,7 @@ class Gate:
             if one.who is None:
                 one.done.cancel()
             else:
-                self.settle(one)
+                self.answer_entered(one)
 
     async def run(self):
         """Keeps the day until it is published. It ends earlier only if the journal contradicts the ledger or its head."""
@@ -239,7 +239,7 @@ class Gate:
         while not self.ledger.is_closed:
             size = self.ledger.size
             try:
-                await self.open()
+                await self.open_desk()
                 while not self.ledger.is_closed:
                     await self.wait_for_commands()
                     self.entering = self.batch()
@@ -297,7 +297,7 @@ class Gate:
             again = [one for one in again if one.who is None]
         self.waiting = again + self.waiting
 
-    async def open(self):
+    async def open_desk(self):
         began = time.monotonic()
         path = str(self.files.file(folder.DESK))
         self.desk, records, replies = await Desk.opened(self.programs.desk, path, self.terms.periods)
@@ -348,7 +348,7 @@ class Gate:
 def token_fault(one):
     """The fault of a request whose token isn't its participant's now; None if it is."""
     try:
-        return None if one.is_right() else Refused("Token", "the token isn't of this participant any more")
+        return None if one.is_authorized() else Refused("Token", "the token isn't of this participant any more")
     except folder.UNREADABLE:  # the requests behind this one, and the close, mustn't be lost
         return without_tokens()
 

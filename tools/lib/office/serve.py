@@ -143,8 +143,8 @@ class Office:
         self.missed = missed
 
     @property
-    def is_right(self):
-        return not self.missed and all(gate.is_right for gate in self.gates.values())
+    def is_healthy(self):
+        return not self.missed and all(gate.is_healthy for gate in self.gates.values())
 
     async def run(self):
         while True:

@@ -213,10 +213,10 @@ class Web:
         """The participant whose token the request has, and whose name its path has; all others are refused alike."""
         who = request.match_info["who"]
         try:
-            is_right = self.is_right(request)
+            is_authorized = self.is_authorized(request)
         except folder.UNREADABLE:
             raise without_tokens() from None
-        if not is_right:
+        if not is_authorized:
             self.counts.add("wrong_tokens_total")
             if not self.behind_proxy and (seconds := self.guesses.take(source(request.remote))):
                 request.protocol.is_deaf = True
@@ -224,7 +224,7 @@ class Web:
             raise Refused("Token", "the token isn't of this participant")
         return who
 
-    def is_right(self, request):
+    def is_authorized(self, request):
         """Whether the token is the participant's now."""
         scheme, _, token = request.headers.get("Authorization", "").partition(" ")
         known = self.office.register.knows(request.match_info["who"], token)
@@ -289,7 +289,7 @@ class Web:
 
     async def entered(self, gate, who, first, commands, request):
         """The numbers of the entries of commands, once they are on the disk. A token that was revoked by then enters nothing more."""
-        done = gate.submit(who, first, commands, lambda: self.is_right(request))
+        done = gate.submit(who, first, commands, lambda: self.is_authorized(request))
         await asyncio.wait((done,), timeout=ANSWER_SECONDS)
         if not done.done():
             raise Refused("Unavailable", "the desk hasn't answered yet: send the same command again", seconds=1)
@@ -444,16 +444,16 @@ class Web:
         return response
 
     async def health(self, request):
-        is_right = self.office.is_right
-        return web.json_response({"status": "ok" if is_right else "unavailable"}, status=200 if is_right else 503)
+        is_healthy = self.office.is_healthy
+        return web.json_response({"status": "ok" if is_healthy else "unavailable"}, status=200 if is_healthy else 503)
 
     async def metrics(self, request):
         self.charge_days(request)
-        gauges = [("right", int(self.office.is_right))]
+        gauges = [("right", int(self.office.is_healthy))]
         for name, gate in self.office.gates.items():
             label = f'{{day="{name}"}}'
             gauges += [(f"entries{label}", gate.ledger.size), (f"waiting{label}", len(gate.waiting))]
-            gauges += [(f"ready{label}", int(gate.is_right)), (f"open{label}", int(gate.state == folder.OPEN))]
+            gauges += [(f"ready{label}", int(gate.is_healthy)), (f"open{label}", int(gate.state == folder.OPEN))]
         return web.Response(text=self.counts.text(gauges), content_type="text/plain")
 
     # --- the demo

@@ -31,3 +31,9 @@ with apart():
     import matplotlib
 
 from matplotlib import pyplot
+from matplotlib.collections import LineCollection, PolyCollection
+from matplotlib.patches import Patch, Polygon, Rectangle
+from matplotlib.ticker import AutoLocator
+
+# The other modules import them from here alone.
+__all__ = ["AutoLocator", "LineCollection", "Patch", "PolyCollection", "Polygon", "Rectangle", "matplotlib", "pyplot"]

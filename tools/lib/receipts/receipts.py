@@ -128,7 +128,7 @@ class Links:
     def path_fault(self, path, extension):
         """Why the path of an extension doesn't connect its heads; None if it does. Anyone can make another path, so it is nobody's fault."""
         self.signed.add_extension(extension, Place(path), signing.signer(self.key, extension.old))
-        return None if extension.is_right() else "its path doesn't lead from the earlier one to the later one"
+        return None if extension.is_valid() else "its path doesn't lead from the earlier one to the later one"
 
     def add_head(self, path, head, findings, about=HEAD):
         """Whether a key signed a head. If none did, `findings` gets that."""

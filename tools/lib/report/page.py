@@ -13,13 +13,13 @@ from markupsafe import Markup, escape
 
 from ..base import aside, clock, spans, text
 from ..journal import book
-from ..pictures import pictures
+from ..pictures import canvas, curves, pictures
 from ..results import decisions, published, trades
 from ..sheets import tables
 from ..whatif import limits
 from . import style
 from ..journal.journal import command_line
-from ..base.progress import Bar
+from ..base.progress import StepBar
 
 MARKS = {decisions.ACCEPTED: "accepted", decisions.REJECTED: "rejected", decisions.PARADOX: "paradox"}
 MOST_SHOWN = 4  # curves that stand open
@@ -73,15 +73,15 @@ def with_hover(drawn, hover):
 
 def inline(figure, name, kind, words):
     """A picture within the page: its colours are the page's, and its identifiers its own."""
-    hover = pictures.hover_of(figure)
-    drawn = with_hover(pictures.picture(figure, "svg", words_as_text=True).decode(), hover)
+    hover = canvas.hover_of(figure)
+    drawn = with_hover(canvas.picture(figure, "svg", words_as_text=True).decode(), hover)
     drawn = drawn[drawn.index("<svg") :]
     drawn = re.sub(r"<metadata>.*?</metadata>", "", drawn, flags=re.DOTALL)
     drawn = re.sub(r'(<svg[^>]*?) width="[^"]*" height="[^"]*"', r"\1", drawn, count=1)
     drawn = drawn.replace("<svg", f'<svg class="{kind}" role="img" aria-label="{escape(words)}"', 1)
     for pattern in (r'(id=")', r"(url\(#)", r'(href="#)'):
         drawn = re.sub(pattern, rf"\g<1>{name}-{kind}-", drawn)
-    for colour, hexadecimal in pictures.COLOURS.items():
+    for colour, hexadecimal in canvas.COLOURS.items():
         drawn = drawn.replace(f'fill="{hexadecimal}"', f'style="fill: var(--{colour})"')
         drawn = drawn.replace(hexadecimal, f"var(--{colour})")
     return Markup(drawn)
@@ -89,7 +89,7 @@ def inline(figure, name, kind, words):
 
 def drawn(draw, name, words):
     """A picture, for broad screens and for narrow ones."""
-    broad, narrow = (inline(draw(width), name, kind, words) for kind, width in pictures.WIDTHS.items())
+    broad, narrow = (inline(draw(width), name, kind, words) for kind, width in canvas.WIDTHS.items())
     return Picture(words, broad, narrow)
 
 
@@ -240,7 +240,7 @@ def block_words(found):
 
 @functools.cache
 def sheet(width):
-    return pictures.CurveSheet(width)
+    return curves.CurveSheet(width)
 
 
 def curve(day, number, folded):
@@ -268,7 +268,7 @@ def curves_of(day, numbers):
     if len(numbers) <= FEW_CURVES or jobs == 1:
         yield (curve(day, number, len(numbers) > MOST_SHOWN) for number in numbers)
         return
-    curves_of.day, bar = day, Bar("report", len(numbers), "curves")
+    curves_of.day, bar = day, StepBar("report", len(numbers), "curves")
     with aside.deaf():
         made = multiprocessing.get_context("fork").Pool(jobs)
     with made as pool:

@@ -212,7 +212,7 @@ class Judge:
             net += dict(selection.signed(self.problem.blocks[place].order)).get(number, 0)
         side, word = ("buy", "buyer") if net > 0 else ("sell", "seller")
         volume = abs(net) - sum(quantity for one, _, quantity in self.problem.orders[number] if one == side)
-        return f"{text.tenths(volume)} MW would have no {word}"
+        return f"{text.mw(volume)} MW would have no {word}"
 
     def worth(self, other):
         if self.outcome.welfare is None:
@@ -249,7 +249,7 @@ def hourly(day, row, executed):
         return NO_TRADE, f"nothing is traded in period {number}"
     price, limit = day.said.prices[number - 1], row.order.price
     gain = limit - price if row.order.side == "buy" else price - limit
-    shown = f"the price, {text.cents(price)} EUR/MWh"
+    shown = f"the price, {text.eur_per_mwh(price)} EUR/MWh"
     if gain > 0:
         return IN_THE_MONEY, f"its limit is better than {shown}"
     if gain < 0:

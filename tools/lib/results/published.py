@@ -38,11 +38,11 @@ def curves(day):
         for curve, side in (("demand", "buy"), ("supply", "sell")):
             end = 0
             for part, limit, volume in steps(day, number, side):
-                yield [number, curve, part, text.cents(limit), text.tenths(end), text.tenths(end + volume)]
+                yield [number, curve, part, text.eur_per_mwh(limit), text.mw(end), text.mw(end + volume)]
                 end += volume
         if trades.is_traded(day, number):
-            volume = text.tenths(day.said.volumes[number - 1])
-            yield [number, "clearing", "", text.cents(day.said.prices[number - 1]), volume, volume]
+            volume = text.mw(day.said.volumes[number - 1])
+            yield [number, "clearing", "", text.eur_per_mwh(day.said.prices[number - 1]), volume, volume]
 
 
 def is_peak(periods, number):
@@ -78,13 +78,13 @@ def mean_prices(day):
 def figures(day):
     """The figures of a day, in a few numbers."""
     yield ["figure", "unit", "value"]
-    yield ["welfare", "EUR", text.euros(day.said.welfare, day.problem.hours, "")]
+    yield ["welfare", "EUR", text.eur(day.said.welfare, day.problem.hours, "")]
     yield ["energy", "MWh", text.energy(sum(day.said.volumes), day.problem.hours, "")]
     yield ["traded_periods", "", len(trades.traded(day))]
     for name, price in mean_prices(day).items():
-        yield [f"{name}_price", "EUR/MWh", "" if price is None else text.cents(price)]
+        yield [f"{name}_price", "EUR/MWh", "" if price is None else text.eur_per_mwh(price)]
     for name, amount in sums.sums(day.problem, day.said)._asdict().items():
-        yield [name, "EUR", text.euros(amount, day.problem.hours, "")]
+        yield [name, "EUR", text.eur(amount, day.problem.hours, "")]
 
 
 def long_periods(rows):
@@ -108,10 +108,10 @@ def long_orders(day, kind=None):
             if kind in (None, row.order.kind):
                 trade = executed.get(number)
                 amount = 0 if trade is None else trade.amount() * (1 if trade.side == "sell" else -1)
-                order = [row.who, row.name, row.order.kind, row.order.side, text.cents(row.order.price), number]
-                volumes = [text.tenths(offered), text.tenths(trade.volume if trade else 0)]
-                price = text.cents(day.said.prices[number - 1]) if trades.is_traded(day, number) else ""
-                yield [*order, *volumes, price, text.euros(amount, day.problem.hours, "")]
+                order = [row.who, row.name, row.order.kind, row.order.side, text.eur_per_mwh(row.order.price), number]
+                volumes = [text.mw(offered), text.mw(trade.volume if trade else 0)]
+                price = text.eur_per_mwh(day.said.prices[number - 1]) if trades.is_traded(day, number) else ""
+                yield [*order, *volumes, price, text.eur(amount, day.problem.hours, "")]
 
 
 def long_participants(day):
@@ -124,5 +124,5 @@ def long_participants(day):
             sums[trade.side == "sell"] += trade.volume
             sums[2 + (trade.side == "sell")] += trade.amount()
     for (who, number), sums in sorted(found.items()):
-        amounts = [text.euros(amount, day.problem.hours, "") for amount in sums[2:]]
-        yield [who, number, *map(text.tenths, sums[:2]), *amounts]
+        amounts = [text.eur(amount, day.problem.hours, "") for amount in sums[2:]]
+        yield [who, number, *map(text.mw, sums[:2]), *amounts]

@@ -33,7 +33,7 @@ class Problem:
             for number, rows in self.hourly.items()
         }
         self.parents = [self.place(block.who, block.order.parent) for block in self.blocks]
-        self.rescuers = [rules.rescuers(place, self.blocks) for place in range(len(self.blocks))]
+        self.rescuers = [descendants(place, self.blocks) for place in range(len(self.blocks))]
 
     def place(self, who, name):
         """The place of the block with this name among the blocks; None if there is none."""
@@ -42,7 +42,7 @@ class Problem:
 
     def euros(self, amount):
         """An amount in cents per MWh times tenths of a MW, over periods of this day, in EUR."""
-        return text.exact_euros(amount, self.hours)
+        return text.exact_eur(amount, self.hours)
 
     def groups(self):
         """The places of the blocks of each exclusive group."""
@@ -115,6 +115,19 @@ def outcome(problem, accepted):
         [surplus(block.order, prices) for block in problem.blocks],
         value + sum(found.welfare for found in cleared.values()) if balanced else None,
     )
+
+
+def descendants(place, blocks):
+    """The places of the blocks that, if they are accepted, make up for the loss of the block at this place: the ones that descend
+    from it, its children and theirs. Each comes after its parent."""
+    family = {(blocks[place].who, blocks[place].name)}
+    found = []
+    for other in range(place + 1, len(blocks)):
+        block = blocks[other]
+        if (block.who, block.order.parent) in family:
+            family.add((block.who, block.name))
+            found.append(other)
+    return found
 
 
 def helping(problem, accepted, place):

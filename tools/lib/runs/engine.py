@@ -164,7 +164,7 @@ class Buffers(threading.local):
 buffers = Buffers()
 
 
-def called(path, text, nodes=MOST_NODES):
+def call_library(path, text, nodes=MOST_NODES):
     """The status and the text that the library prints for a text; names are hashed with random bytes. Other threads run in the meantime."""
     secret, buffer = os.urandom(16), buffers.own
     with ending.at_once():
@@ -182,13 +182,13 @@ def program_of(program=None):
     return os.fspath(named or found.path)
 
 
-def ran(words, text, timeout=None, running=None):
+def run_program(words, text, timeout=None, running=None):
     """The status of a run of a program, its output, and its lines on standard error. While it runs, it is among `running`."""
     if not children.are_heeded():
         raise Unstarted(f"{words[0]} can't be run: this process ignores SIGCHLD, so it wouldn't see with which status a run ends")
     with contextlib.ExitStack() as ends:
         try:
-            process = ends.enter_context((running or Running()).started(words, **PIPES))
+            process = ends.enter_context((running or Running()).start(words, **PIPES))
         except OSError as fault:
             raise Unstarted(f"{words[0]} can't be run: {fault.strerror}") from None
         ends.enter_context(process)
@@ -214,9 +214,9 @@ def relay(said):
                 print(line, file=sys.stderr, flush=True)
 
 
-def printed(words, text, timeout=None):
+def output_of(words, text, timeout=None):
     """The output of a run of a program."""
-    status, out, said = ran(words, text, timeout)
+    status, out, said = run_program(words, text, timeout)
     if status:
         raise Fault(fault_words(status, said), status)
     return out
@@ -234,7 +234,7 @@ def has_results(out):
 
 def cleared_by_library(path, text):
     """The output of `dam clear` for a text, by the library for C."""
-    status, shown = called(path, text)
+    status, shown = call_library(path, text)
     if status:
         raise Fault(shown.decode(errors="replace").strip(), status)
     return shown
@@ -248,7 +248,7 @@ class Running:
         self.starting, self.changed = 0, threading.Condition()
 
     @contextlib.contextmanager
-    def started(self, words, **streams):
+    def start(self, words, **streams):
         """A process of these words. None is started any more once the threads are no longer wanted."""
         with self.changed:
             if self.is_over:
@@ -349,11 +349,11 @@ def answer(text, program=None, running=None, nodes=MOST_NODES, timeout=None):
     try:
         path = None if program is not None or timeout is not None else library()
         if path:
-            status, out = called(path, text, nodes)
+            status, out = call_library(path, text, nodes)
             said = out
         else:
             words = [program_of(program), *ONE_WORKER, f"--nodes={nodes}"]
-            status, out, said = ran(words, text, RUN_SECONDS if timeout is None else timeout, running)
+            status, out, said = run_program(words, text, RUN_SECONDS if timeout is None else timeout, running)
             if not status and not has_results(out):
                 return 0, f"{words[0]} printed no results of this journal"
     except TimedOut as fault:
@@ -385,37 +385,37 @@ def answers(texts, jobs=None, executor=None, program=None, call=answer):
     if jobs is not None and jobs < 1:
         raise ValueError("jobs should be 1 or more")
     if executor is not None:
-        yield from ordered(texts, lambda text: executor.submit(call, text, program), jobs or MOST_AHEAD)
+        yield from in_order(texts, lambda text: executor.submit(call, text, program), jobs or MOST_AHEAD)
         return
     jobs = jobs or processors()
     with team_of(jobs) as (team, running):
-        yield from ordered(texts, lambda text: team.submit(call, text, program, running), AHEAD * jobs)
+        yield from in_order(texts, lambda text: team.submit(call, text, program, running), AHEAD * jobs)
 
 
-def ordered(texts, submit, most):
-    """The results of the jobs submitted for the texts, in order. At most `waiting` of them wait."""
+def in_order(texts, submit, most):
+    """The results of the jobs submitted for the texts, in order. At most `most` of them wait."""
     waiting = collections.deque()
     try:
         for text in texts:
-            waiting.append(text if isinstance(text, Fault) else submitted(submit, text))
+            waiting.append(text if isinstance(text, Fault) else submit_text(submit, text))
             if len(waiting) >= most:
-                yield waited(waiting.popleft())
+                yield wait_for(waiting.popleft())
         while waiting:
-            yield waited(waiting.popleft())
+            yield wait_for(waiting.popleft())
     finally:
         for future in waiting:
             if not isinstance(future, Fault):
                 future.cancel()
 
 
-def submitted(submit, text):
+def submit_text(submit, text):
     try:
         return submit(text)
     except (OSError, RuntimeError) as fault:  # of a broken pool, or one that was shut down
         raise Fault(f"the executor takes no more journals: {fault}") from None
 
 
-def waited(future):
+def wait_for(future):
     """The result of a future; a fault if its executor has lost it."""
     if isinstance(future, Fault):
         return future

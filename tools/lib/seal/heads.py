@@ -95,7 +95,7 @@ class Extension(NamedTuple):
     def value(self):
         return {"format": EXTENSION, "from": self.old.value(), "to": self.new.value(), "path": [packed(hashed) for hashed in self.path]}
 
-    def is_right(self):
+    def is_valid(self):
         """Whether the proof shows that the new head's tree begins with the old head's, of the same day."""
         same = self.old.day == self.new.day and self.old.periods == self.new.periods
         return same and merkle.is_consistent(self.old.size, self.old.root, self.new.size, self.new.root, self.path)

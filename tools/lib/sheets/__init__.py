@@ -1,3 +1,3 @@
 """Tables, as CSV or workbooks: reading orders and commands, and writing what the tools show.
 
-It may import: base, journal, results."""
+It may import: base, journal, results, workbooks."""

@@ -5,7 +5,7 @@ import re
 import zipfile
 
 from ..base import place, text
-from . import workbooks
+from ..workbooks import limits, package
 
 JOURNAL, RESULTS, REPLIES, DAY, ORDERS = "a journal", "results", "replies", "the text of a day", "a table of orders"
 EXCEL, OLD_EXCEL, OPEN = "an Excel workbook (.xlsx)", "an old Excel workbook (.xls)", "an OpenDocument workbook (.ods)"
@@ -40,7 +40,7 @@ REPLY = re.compile(rb"\d+,(?:done|refused,)")
 
 def kind_of_archive(data):
     """The kind of an archive, by its parts: a workbook if it is broken, or has more parts than a workbook may have."""
-    if data.count(workbooks.DIRECTORY) > workbooks.MOST_PARTS:
+    if data.count(package.DIRECTORY) > limits.MOST_PARTS:
         return EXCEL
     try:
         with zipfile.ZipFile(io.BytesIO(data)) as archive:

@@ -10,7 +10,8 @@ from typing import NamedTuple
 
 from ..base import clock, rules, spans, text
 from ..journal import book, fields, journal
-from . import kinds, sheets, workbooks
+from ..workbooks.cells import Percentage, Uncomputed, Unlike
+from . import kinds, sheets
 from .tables import ORDER, REPLY, RESULT
 
 # The columns that a row may leave empty, or a table out.
@@ -60,7 +61,7 @@ def columns_of(line, header, needed, further):
     for at, (name, cell) in enumerate(zip(names, header), 1):
         if name in places or name in further and names.index(name) < at - 1:
             wrong.append(f"line {line}, column {at}: the column {text.quoted(name)} appears twice")
-        elif isinstance(cell, workbooks.Uncomputed):
+        elif isinstance(cell, Uncomputed):
             wrong.append(f"line {line}, column {at}: {unlike(cell)}")
         elif name in ORDER + RESULT:
             places[name] = at - 1
@@ -91,7 +92,7 @@ def unlike(cell):
 def refuse_unlike(cell, is_name):
     """Refuses a cell of a workbook that isn't what Excel shows: a formula without its value, a percentage, or in a column of names also a
     date."""
-    if isinstance(cell, (workbooks.Uncomputed, workbooks.Percentage)) or is_name and isinstance(cell, workbooks.Unlike):
+    if isinstance(cell, (Uncomputed, Percentage)) or is_name and isinstance(cell, Unlike):
         raise Wrong(unlike(cell))
 
 

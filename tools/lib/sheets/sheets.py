@@ -8,11 +8,13 @@ import itertools
 import os
 import re
 
-from . import shapes, workbooks
+from ..workbooks import limits, reading
+from ..workbooks.cells import escaped, trimmed
+from . import shapes
 
 XLSX = b"PK\x03\x04"  # the first bytes of a workbook
 PART, LONGEST_ROW = 1 << 20, 1 << 20  # bytes that are decoded at once, and characters of a row of a text
-MOST_LINES = workbooks.LAST_ROW  # of a text
+MOST_LINES = limits.LAST_ROW  # of a text
 MANY = 10  # how many times the cells and the text of a workbook a text may have if its rows aren't limited
 WORD = re.compile(r"[^\s,;\"]")  # a character that no empty row has
 PREFERRED = "orders"  # the sheet that is read if there are several
@@ -42,8 +44,8 @@ def rows_of(data, needed=(), notes=None, most=None, is_long=False):
         text = Text(data, notes, most, MANY if is_long or most is None else 1)
         return text if is_long else list(text), text.has_decimal_comma
     try:
-        rows, note = workbooks.rows_of(data, PREFERRED, needed, most)
-    except workbooks.Wrong as fault:
+        rows, note = reading.rows_of(data, PREFERRED, needed, most)
+    except limits.Wrong as fault:
         raise Wrong(str(fault)) from None
     notes += [note] if note else []
     return rows, True
@@ -105,18 +107,18 @@ class Count:
     """The cells and the text of a table, which are limited as the ones of a workbook."""
 
     def __init__(self, times):
-        self.most_cells, self.most_text = times * workbooks.MOST_CELLS, times * workbooks.MOST_TEXT
+        self.most_cells, self.most_text = times * limits.MOST_CELLS, times * limits.MOST_TEXT
         self.cells = self.size = 0
 
     def add(self, line, cells):
-        if len(cells) > workbooks.LAST_COLUMN:
-            raise Wrong(f"line {line}: a row has at most {workbooks.LAST_COLUMN} cells")
+        if len(cells) > limits.LAST_COLUMN:
+            raise Wrong(f"line {line}: a row has at most {limits.LAST_COLUMN} cells")
         whole = "".join(cells)
-        for column, cell in enumerate(cells if len(whole) > workbooks.LONGEST_CELL else [], 1):
-            if len(cell) > workbooks.LONGEST_CELL:
-                raise Wrong(f"line {line}, column {column}: it has more than {workbooks.LONGEST_CELL:,} characters")
+        for column, cell in enumerate(cells if len(whole) > limits.LONGEST_CELL else [], 1):
+            if len(cell) > limits.LONGEST_CELL:
+                raise Wrong(f"line {line}, column {column}: it has more than {limits.LONGEST_CELL:,} characters")
         self.cells += len(cells)
-        self.size += len(whole) if whole.isascii() else sum(map(workbooks.size_of, cells))
+        self.size += len(whole) if whole.isascii() else sum(map(limits.size_of, cells))
         for count, most, things in (
             (self.cells, self.most_cells, "cells"),
             (self.size, self.most_text, "bytes of text"),
@@ -149,7 +151,7 @@ class Text:
         lines, found, count = Lines(self.file(), self.delimiter), 0, Count(self.times)
         try:
             for cells in csv.reader(lines, delimiter=self.delimiter, strict=True):
-                if cells := workbooks.trimmed(cells):
+                if cells := trimmed(cells):
                     if not self.is_counted:
                         count.add(lines.number, cells)
                     found += 1
@@ -189,7 +191,7 @@ def cell(kind, value, decimal_comma):
 
 def fits(words):
     """Whether words, as they are written in a text or a workbook, aren't longer than a cell may be."""
-    return max(len(cell("string", words, False)), len(workbooks.escaped(words))) <= workbooks.LONGEST_CELL
+    return max(len(cell("string", words, False)), len(escaped(words))) <= limits.LONGEST_CELL
 
 
 def unescaped(cell):
@@ -244,5 +246,5 @@ def fill(cell, kind, value):
     elif kind == "boolean":
         cell.value = value == "yes"
     else:
-        cell.value = workbooks.escaped(str(value))
+        cell.value = escaped(str(value))
         cell.data_type = "s"

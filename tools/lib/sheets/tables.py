@@ -19,7 +19,7 @@ MOST_NAMED = 5  # participants whose commands were refused
 
 
 def euros(day, amount):
-    return text.euros(amount, day.problem.hours, thousands="")
+    return text.eur(amount, day.problem.hours, thousands="")
 
 
 def energy(day, tenths):
@@ -31,19 +31,19 @@ def periods(day):
     yield heads + [f"{'hourly' if kind == 'hour' else kind}_{side}s_mw" for kind, side in trades.SHARES]
     for number, parts in trades.shares(day).items():
         found = day.outcome.cleared[number]
-        ends = ["", ""] if found is None else [text.cents(found.low), text.cents(found.high)]
-        price_and_volume = [text.cents(day.said.prices[number - 1]), text.tenths(day.said.volumes[number - 1])]
+        ends = ["", ""] if found is None else [text.eur_per_mwh(found.low), text.eur_per_mwh(found.high)]
+        price_and_volume = [text.eur_per_mwh(day.said.prices[number - 1]), text.mw(day.said.volumes[number - 1])]
         traded = "yes" if trades.is_traded(day, number) else "no"
-        yield [number, float(day.problem.hours), *price_and_volume, traded, *ends, *map(text.tenths, parts.values())]
+        yield [number, float(day.problem.hours), *price_and_volume, traded, *ends, *map(text.mw, parts.values())]
 
 
 def order_cells(row):
     """The cells of `ORDER`."""
     order = row.order
-    volumes = [text.tenths(tenths) for _, tenths in order.volumes]
+    volumes = [text.mw(tenths) for _, tenths in order.volumes]
     each = volumes[0] if len(set(volumes)) == 1 else ";".join(volumes)
     numbers = spans.written(number for number, _ in order.volumes)
-    return [row.who, row.name, order.kind, order.side, text.cents(order.price), numbers, each, order.parent, order.group]
+    return [row.who, row.name, order.kind, order.side, text.eur_per_mwh(order.price), numbers, each, order.parent, order.group]
 
 
 def outcomes(day):

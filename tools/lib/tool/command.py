@@ -358,8 +358,8 @@ class Day:
             raise Stop(f"{shown(results_path)} has no results of this journal: {self.wrong[0]}")
         self.outcome = selection.outcome(self.problem, self.said.accepted)
 
-    def told(self, tool, quiet=False):
-        """The status of a tool that has shown the results. If they break the rules, or else if their encoding differs, it says so on
+    def report_status(self, tool, quiet=False):
+        """Returns the status of a tool that has shown the results. If they break the rules, or else if their encoding differs, it says so on
         standard error."""
         if self.wrong and not quiet:
             tell(tool, f"the results break the rules ({self.wrong[0]}): {SEE_AUDIT}")

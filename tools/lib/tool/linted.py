@@ -5,7 +5,7 @@ import hashlib
 from ..base import text
 from ..lint import lint
 from . import command
-from ..base.progress import Bar
+from ..base.progress import StepBar
 from ..base.rules import VERSION
 
 RIGHT, REFUSED, FAULTY, UNREAD, FAILED = "right", "refused", "faulty", "unread", "failed"
@@ -24,7 +24,7 @@ class Linted:
     def run(self):
         data = command.read_bytes(self.path)
         self.input.update(bytes=len(data), sha256=hashlib.sha256(data).hexdigest())
-        bar = Bar("lint", len(data), "bytes", self.quiet)
+        bar = StepBar("lint", len(data), "bytes", self.quiet)
         try:
             self.found = lint.faults(data, self.purpose, bar)
         finally:

@@ -18,13 +18,13 @@ class Written:
 
     def row(self, what, unit, before, after, who="", name="", period="", outcomes=("", "")):
         """A row of the table; of a number that is None in one of the days the cells are empty."""
-        write = {"EUR": self.eur, "EUR/MWh": text.cents, "MWh": self.mwh, "MW": text.tenths}[unit]
+        write = {"EUR": self.eur, "EUR/MWh": text.eur_per_mwh, "MWh": self.mwh, "MW": text.mw}[unit]
         change = "" if None in (before, after) else write(after - before)
         cells = ["" if value is None else write(value) for value in (before, after)]
         return [what, unit, who, name, period, *cells, change, *outcomes]
 
     def eur(self, amount):
-        return text.euros(amount, self.hours, thousands="")
+        return text.eur(amount, self.hours, thousands="")
 
     def mwh(self, tenths):
         return text.energy(tenths, self.hours, thousands="")

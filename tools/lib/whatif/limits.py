@@ -12,7 +12,7 @@ from ..tool import command
 from . import changes
 from ..runs.cleared import Cleared, book_text
 from ..runs.engine import Fault
-from ..base.progress import Bar
+from ..base.progress import StepBar
 
 COUNT = rules.GREATEST_PRICE - rules.LEAST_PRICE + 1  # of limits
 # A bisection over the limits on one side of a block's own, and none of them, needs at most as many clearings.
@@ -127,12 +127,12 @@ def others(search, found):
 def row(search, found):
     """The cells of `HEADS` for a block."""
     order, own = search.order, search.at(search.order.price)
-    cells = [*search.key, order.side, text.cents(order.price), own.outcome(search.key)]
+    cells = [*search.key, order.side, text.eur_per_mwh(order.price), own.outcome(search.key)]
     if found.limit is None:
         return [*cells, "", "", "", "", f"no limit of the range is enough: with the best, {why_never(search, found)}"]
-    amounts = [text.euros(amount, own.hours, thousands="") for amount in (found.at.surplus(search.key), found.at.welfare)]
+    amounts = [text.eur(amount, own.hours, thousands="") for amount in (found.at.surplus(search.key), found.at.welfare)]
     why = "every limit of the range is enough" if found.past is None else ""
-    return [*cells, text.cents(found.limit), *amounts, len(others(search, found)), why]
+    return [*cells, text.eur_per_mwh(found.limit), *amounts, len(others(search, found)), why]
 
 
 def cases(search, found):
@@ -151,7 +151,7 @@ def record(search, found):
 
     def case(name, limit, day):
         amounts = day.surplus(search.key), day.gain(search.key[0]), day.welfare
-        surplus, gain, welfare = (float(text.euros(amount, day.hours, "")) for amount in amounts)
+        surplus, gain, welfare = (float(text.eur(amount, day.hours, "")) for amount in amounts)
         numbers = {"limit_eur_mwh": limit / 100, "accepted": day.orders[search.key], "surplus_eur": surplus, "gain_eur": gain}
         numbers["welfare_eur"] = welfare
         traded = [volume > 0 for volume in day.volumes]
@@ -210,7 +210,7 @@ def of_rejected(day, who=None, is_asked=True):
     own = engine.result(engine.answer(book_text(day.book.rows, day.problem.periods)))
     if why := why_none(day, own):
         return dict.fromkeys(places, not_computed(why))
-    bar = Bar("report", len(places), "limits of rejected blocks")
+    bar = StepBar("report", len(places), "limits of rejected blocks")
     with engine.team_of(engine.processors()) as (team, running):
         waiting = [team.submit(sentence, day.book, day.problem.blocks[place], own, running) for place in places]
         try:

@@ -1,7 +1,7 @@
 """A picture of blocks over many scenarios: of each how often it is accepted, and the distribution of its surplus then."""
 
 from ..base import text
-from ..pictures import pictures
+from ..pictures import canvas
 from ..pictures.drawing import pyplot
 from .scenarios import quantile
 
@@ -12,13 +12,13 @@ HEIGHT = 1.7  # inches, of a block
 
 def picture(over, suffix):
     """The bytes of the picture of a distribution."""
-    with pyplot.rc_context(pictures.STYLE):
-        figure, rows = pyplot.subplots(len(over.keys), 1, figsize=(pictures.BROAD, HEIGHT * len(over.keys) + 0.6), squeeze=False)
+    with pyplot.rc_context(canvas.STYLE):
+        figure, rows = pyplot.subplots(len(over.keys), 1, figsize=(canvas.BROAD, HEIGHT * len(over.keys) + 0.6), squeeze=False)
         for (axes,), key in zip(rows, over.keys):
             draw(axes, over, key)
         rows[-1][0].set_xlabel("surplus in the scenarios that accept the block, EUR")
         figure.tight_layout()
-        return pictures.picture(figure, suffix)
+        return canvas.picture(figure, suffix)
 
 
 def draw(axes, over, key):
@@ -26,10 +26,10 @@ def draw(axes, over, key):
     whole = len(found) + over.rejected[key]
     share = f"accepted in {len(found):,} of {whole:,} scenarios ({100 * len(found) / whole:.1f} %)"
     axes.set_title(f"{' '.join(key)}, limit {text.shown_price(over.rows[key].price)} EUR/MWh: {share}", loc="left", fontsize=9)
-    axes.hist(found, bins=BINS, color=pictures.COLOURS["accepted"], edgecolor=pictures.COLOURS["paper"])
+    axes.hist(found, bins=BINS, color=canvas.COLOURS["accepted"], edgecolor=canvas.COLOURS["paper"])
     axes.set_ylabel("scenarios")
     axes.xaxis.set_major_formatter(lambda value, _: f"{value:,.0f}")
     if found:
         middle = f"{MEDIAN}: {quantile(sorted(found), 50):,.2f} EUR"
-        axes.axvline(quantile(sorted(found), 50), color=pictures.COLOURS["ink"], linewidth=1, linestyle="--", label=middle)
+        axes.axvline(quantile(sorted(found), 50), color=canvas.COLOURS["ink"], linewidth=1, linestyle="--", label=middle)
         axes.legend(loc="lower right", bbox_to_anchor=(1, 1), borderaxespad=0, fontsize=8, frameon=False)  # next to the title

@@ -200,7 +200,7 @@ def welfare(scenario, before, after, _):
 
 def prices(scenario, before, after, _):
     for period, (cents, volume, was) in enumerate(zip(after.prices, after.volumes, before.prices), 1):
-        yield [scenario, period, text.cents(cents), text.tenths(volume), text.cents(cents - was)]
+        yield [scenario, period, text.eur_per_mwh(cents), text.mw(volume), text.eur_per_mwh(cents - was)]
 
 
 def orders(scenario, _, after, is_asked):
@@ -262,7 +262,7 @@ class Distribution:
             whole = len(found) + self.rejected[key]
             amounts = [Fraction(sum(found), whole), *(quantile(found, part) for part in PARTS)]
             shares = [whole, len(found), f"{len(found) / whole:.4f}"]
-            yield [*key, text.cents(self.rows[key].price), *shares, *map(self.eur, amounts)]
+            yield [*key, text.eur_per_mwh(self.rows[key].price), *shares, *map(self.eur, amounts)]
 
     def eur(self, amount):
         return "" if amount is None else f"{float(amount * self.hours / 1_000):.2f}"

@@ -24,7 +24,7 @@ def eur_mwh(word):
         raise argparse.ArgumentTypeError(f"{text.quoted(word)} should be a price in EUR/MWh, such as 92.50")
     cents = round(float(word) * 100)
     if not rules.LEAST_PRICE <= cents <= rules.GREATEST_PRICE:
-        ends = [text.cents(end) for end in (rules.LEAST_PRICE, rules.GREATEST_PRICE)]
+        ends = [text.eur_per_mwh(end) for end in (rules.LEAST_PRICE, rules.GREATEST_PRICE)]
         raise argparse.ArgumentTypeError(f"{text.quoted(word)} should be from {ends[0]} to {ends[1]} EUR/MWh")
     return cents
 
@@ -202,8 +202,8 @@ def sampled(args, held, key):
     rows = [["limit_eur_mwh", "executed_mw", "price_eur_mwh", "surplus_eur", "welfare_eur"]]
     for cents in grid:
         day = search.at(cents)
-        amounts = [text.euros(amount, day.hours, thousands="") for amount in (day.surplus(key), day.welfare)]
-        rows.append([text.cents(cents), text.tenths(day.executed(key)), text.cents(day.prices[period - 1]), *amounts])
+        amounts = [text.eur(amount, day.hours, thousands="") for amount in (day.surplus(key), day.welfare)]
+        rows.append([text.eur_per_mwh(cents), text.mw(day.executed(key)), text.eur_per_mwh(day.prices[period - 1]), *amounts])
     own = search.order.price
     extra = "" if own in range(least, greatest + 1, step) else f", one of them the order's own, {text.shown_price(own)} EUR/MWh"
     count = text.counted(len(grid), "limit") + extra

@@ -14,7 +14,7 @@ abbrev pub segment_at_price : ℕ → ℕ → ℤ → ℤ → ℕ → ℕ → Se
 segment_at_price volume worth previous price before cost = record {
   most = pos volume -ℤ pos before;
   price = price;
-  dot = price_between previous price;
+  end_price = price_between previous price;
   surplus = (pos worth -ℤ pos cost) -ℤ pos (height_of price) *ℤ (pos volume -ℤ pos before);
 }
 
@@ -27,14 +27,14 @@ segments_from volume worth previous before cost (step ∷ steps) =
 
 -- the clearing prices, added up, at a net volume at which no later segment holds
 abbrev pub price_at : Segment → ℤ → ℤ
-price_at segment net = if int_eq segment.most net then segment.dot else segment.price
+price_at segment net = if int_eq segment.most net then segment.end_price else segment.price
 
 -- the sum of two segments, at the net volumes at which both hold, up to this one
 abbrev pub joint_segment : Segment → Segment → ℤ → Segment
 joint_segment a b most = record {
   most = most;
   price = a.price +ℤ b.price;
-  dot = price_at a most +ℤ price_at b most;
+  end_price = price_at a most +ℤ price_at b most;
   surplus = a.surplus +ℤ b.surplus;
 }
 

@@ -4,7 +4,7 @@ use mathlib.Core.List.{IsPrefix}
 use Rattle.dam_book.specs.Book.{commands_of}
 use Rattle.dam_book.specs.declared.command.Command.{Command}
 use Rattle.dam_book.specs.declared.command.Command.TheVariants.{Close}
-use Rattle.dam_gate.specs.Pass.{Knowledge, PassState, IsPass, with_receipt}
+use Rattle.dam_gate.specs.Pass.{Knowledge, AccountState, IsAccount, with_receipt}
 use Rattle.dam_gate.specs.Journal.{JournalState, IsJournal, journal_after, next_entry}
 use Rattle.dam_gate.specs.Limits.{most_participants}
 use Rattle.dam_gate.specs.Settled.{IsMismatch}
@@ -56,32 +56,32 @@ abbrev pub share_at : List (List ℕ) → ℕ → List ℕ
 share_at shares at = slice_index_or shares at []
 
 -- the pass has receipts of the earlier commands, and then of some of its own, the first ones
-pub record HasEntered (earlier own : List Command) (p : PassState) : Type 0 where
+pub record HasEntered (earlier own : List Command) (p : AccountState) : Type 0 where
   pub entered : List Command
   pub left : List Command
   pub own_is : own ≡ entered ++ left
   pub receipts : commands_of p.receipts ≡ earlier ++ entered
 
 -- the pass after has the holder and the receipts of the pass before, and then receipts of the first of its own commands
-pub record Enters (own : List Command) (before after : PassState) : Type 0 where
+pub record Enters (own : List Command) (before after : AccountState) : Type 0 where
   pub holder : after.holder ≡ before.holder
   pub entered : HasEntered (commands_of before.receipts) own after
 
 -- each participant's pass has receipts of just its own commands
-abbrev pub AreServed : List Command → List (List ℕ) → List PassState → Type 0
+abbrev pub AreServed : List Command → List (List ℕ) → List AccountState → Type 0
 AreServed given [] [] = Unit {0}
 AreServed given (who ∷ participants) (p ∷ ps) =
-    (commands_of p.receipts ≡ commands_by who given) × IsPass p × AreServed given participants ps
+    (commands_of p.receipts ≡ commands_by who given) × IsAccount p × AreServed given participants ps
 AreServed given [] (p ∷ ps) = ⊥
 AreServed given (who ∷ participants) [] = ⊥
 
 -- the pass has as many receipts as there are places in its share
-pub record HasAll (share : List ℕ) (p : PassState) : Type 0 where
-  pub pass : IsPass p
+pub record HasAll (share : List ℕ) (p : AccountState) : Type 0 where
+  pub pass : IsAccount p
   pub as_many : length p.receipts ≡ length share
 
 -- the faults of a day if this journal and these passes aren't found settled: why they aren't, or that memory ran out
-abbrev pub IsUnsettled : JournalState → List PassState → DayFault → Type 0
+abbrev pub IsUnsettled : JournalState → List AccountState → DayFault → Type 0
 IsUnsettled j passes TooManyCommands = ⊥
 IsUnsettled j passes (CloseGiven place) = ⊥
 IsUnsettled j passes (TooManyParticipants place) = ⊥
@@ -90,10 +90,10 @@ IsUnsettled j passes Memory = Unit {0}
 
 -- the operator, whose pass knew this before, closed: the journal went on, by the close, from one that begins with all that
 -- the pass had learnt of, and the close's entry is the receipt
-pub record IsClosedByOperator (before : Knowledge) (after : PassState) (j : JournalState) : Type 0 where
+pub record IsClosedByOperator (before : Knowledge) (after : AccountState) (j : JournalState) : Type 0 where
   pub earlier : JournalState
   pub journal : IsJournal earlier
   pub learnt : IsPrefix before.learnt earlier.entries
   pub closed : j ≡ journal_after earlier Close
   pub receipt : after ≡ with_receipt before.account (next_entry earlier Close)
-  pub pass : IsPass after
+  pub pass : IsAccount after

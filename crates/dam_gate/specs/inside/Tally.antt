@@ -52,21 +52,21 @@ pub record IsTally (es : List Entry) (found : List Mark) (extra : Option ℕ) (r
   pub positive : numbered 0 rs ≡ []
 
 -- the least fault of these receipts of these entries, or that there is none
-abbrev pub IsFirstFault : List Entry → List Entry → Option Mismatch → Type 0
-IsFirstFault es rs why = MatchOption why (AreReceipts es rs) (IsFaultOfReceipts es rs)
+abbrev pub IsFirstMismatch : List Entry → List Entry → Option Mismatch → Type 0
+IsFirstMismatch es rs why = MatchOption why (AreReceipts es rs) (IsFaultOfReceipts es rs)
 
 -- the fault of the first of these that isn't as it should be
-abbrev pub fault_of : ℕ → Mark → Option Mismatch
-fault_of n Nothing = Some (Missing n)
-fault_of n Same = None
-fault_of n Other = Some (Differs n)
-fault_of n Several = Some (Doubled n)
+abbrev pub mismatch_of : ℕ → Mark → Option Mismatch
+mismatch_of n Nothing = Some (Missing n)
+mismatch_of n Same = None
+mismatch_of n Other = Some (Differs n)
+mismatch_of n Several = Some (Doubled n)
 
 -- the fault, or if there is none, the other
-abbrev pub fault_or : Option Mismatch → Option Mismatch → Option Mismatch
-fault_or None other = other
-fault_or (Some fault) other = Some fault
+abbrev pub mismatch_or : Option Mismatch → Option Mismatch → Option Mismatch
+mismatch_or None other = other
+mismatch_or (Some fault) other = Some fault
 
-abbrev pub first_fault : ℕ → List Mark → Option Mismatch
-first_fault n [] = None
-first_fault n (f ∷ fs) = fault_or (fault_of n f) (first_fault (suc n) fs)
+abbrev pub first_mismatch_in_marks : ℕ → List Mark → Option Mismatch
+first_mismatch_in_marks n [] = None
+first_mismatch_in_marks n (f ∷ fs) = mismatch_or (mismatch_of n f) (first_mismatch_in_marks (suc n) fs)

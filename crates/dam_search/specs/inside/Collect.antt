@@ -3,7 +3,7 @@
 use Rattle.std.specs.Prelude.{◌≡◌, ◌≢◌, ℕ, ◌-◌, ◌^◌, ◌<◌, ◌≤◌, ◌==◌, Bool, true, false, not, ◌&&◌, nat_lt, Result, Ok, Err}
 use Rattle.std.specs.Prelude.{Option, Some, None, List, length, slice_index_or, All, Contains, count_by}
 use Rattle.dam_book.specs.Limits.{most_blocks}
-use Rattle.dam_blocks.specs.declared.selection.Best.{Best}
+use Rattle.dam_blocks.specs.declared.selection.Solution.{Solution}
 use Rattle.dam_blocks.specs.Problem.{ProblemState}
 use Rattle.dam_blocks.specs.Selection.{choice}
 use Rattle.dam_search.specs.declared.answer.PieceAnswer.{PieceAnswer}
@@ -49,12 +49,12 @@ is_lesser_unfinished a None = not a.done
 is_lesser_unfinished a (Some u) = not a.done && nat_lt a.piece u.piece
 
 -- a selection that was found is as long as selections are
-abbrev pub IsLong : Option Best → Type 0
+abbrev pub IsLong : Option Solution → Type 0
 IsLong None = Unit {0}
 IsLong (Some b) = length b.selection ≡ most_blocks
 
 -- the highest selection that the answers found, or none if they found none
-abbrev pub IsHighestFound : List PieceAnswer → Option Best → Type 0
+abbrev pub IsHighestFound : List PieceAnswer → Option Solution → Type 0
 IsHighestFound answers None = All (λ (a : PieceAnswer). a.best ≡ None) answers
 IsHighestFound answers (Some b) = IsHighest answers b
 
@@ -67,7 +67,7 @@ IsLeastUnfinished answers (Some u) =
 
 -- the result of answers about the pieces of a cutting of this depth: the first piece that lacks one
 -- or has several, else the least unfinished one, else the highest selection that was found
-abbrev pub IsCollected : ℕ → List PieceAnswer → Result Best SearchFault → Type 0
+abbrev pub IsCollected : ℕ → List PieceAnswer → Result Solution SearchFault → Type 0
 IsCollected depth answers (Err Memory) = ⊥
 IsCollected depth answers (Err (Collected piece)) =
     (piece < 2 ^ depth) × IsFirstFaulty answers piece

@@ -5,14 +5,14 @@ use Rattle.std.specs.Coded.{×_prop, Unit-prop}
 use Rattle.std.specs.Int.{int_min, int_max}
 use mathlib.Core.Bool.{Bool-set}
 use Rattle.dam_book.specs.Limits.{most_blocks}
-use Rattle.dam_blocks.specs.declared.selection.Best.{Best}
+use Rattle.dam_blocks.specs.declared.selection.Solution.{Solution}
 use Rattle.dam_blocks.specs.Problem.{ProblemState}
 use Rattle.dam_blocks.specs.Selection.{accepts}
 use Rattle.dam_blocks.specs.Eligible.{IsEligible}
 use Rattle.dam_bound.specs.declared.price_bound.PriceBound.{PriceBound}
 use Rattle.dam_bound.specs.declared.net_limits.NetLimit.{NetLimit}
-use Rattle.dam_bound.specs.declared.net_limits.Room.{Room}
-use Rattle.dam_bound.specs.NetLimits.{AreRooms, HasRoom}
+use Rattle.dam_bound.specs.declared.net_limits.Slack.{Slack}
+use Rattle.dam_bound.specs.NetLimits.{AreSlacks, HasSlack}
 use Rattle.dam_bound.specs.Open.{is_among, IsOpen, AreFree}
 use Rattle.dam_bound.specs.Prices.{most_of, IsPriceBound}
 use Rattle.dam_search.specs.declared.piece.WalkState.{WalkState}
@@ -35,12 +35,12 @@ pub record IsBounded (problem : ProblemState) (prices : PriceBound) (taken : Lis
   pub is_price_bound : IsPriceBound problem prices
   pub most : most_of prices taken left ≤ℤ bound
 
--- what the decisions of each eligible open selection take on the places that are left is no more than the room
-pub record IsRoom (problem : ProblemState) (limits : List NetLimit) (taken : List Bool) (left : List ℕ) (room : Room)
+-- what the decisions of each eligible open selection take on the places that are left is no more than the slack
+pub record IsSlack (problem : ProblemState) (limits : List NetLimit) (taken : List Bool) (left : List ℕ) (slack : Slack)
     : Type 0 where
-  pub rooms : AreRooms room.rooms
+  pub slacks : AreSlacks slack.slacks
   pub has : (selection : List Bool) (w : ℤ) → IsOpen taken left selection → IsEligible problem selection w
-      → HasRoom limits selection (λ place. is_among place left) room.rooms
+      → HasSlack limits selection (λ place. is_among place left) slack.slacks
 
 -- the selection decides on the first places as the other one does
 abbrev pub AgreesUnder : ℕ → List Bool → List Bool → Type 0
@@ -64,19 +64,19 @@ bound_after false bound gain = bound -ℤ int_max gain (pos 0)
 -- ---- the account of the walk
 
 -- a find: none, or an eligible open selection with its welfare
-abbrev pub IsOpenFind : ProblemState → List Bool → List ℕ → Option Best → Type 0
+abbrev pub IsOpenFind : ProblemState → List Bool → List ℕ → Option Solution → Type 0
 IsOpenFind problem taken left None = Unit {0}
 IsOpenFind problem taken left (Some b) =
     IsOpen taken left b.selection × IsEligible problem b.selection (pos b.welfare)
 
 -- the find changes to an eligible open selection, or not at all, and only rises
 pub record FindsOpen (problem : ProblemState) (taken : List Bool) (left : List ℕ)
-    (before after : Option Best) : Type 0 where
+    (before after : Option Solution) : Type 0 where
   pub found : (after ≡ before) ⊎ IsOpenFind problem taken left after
   pub rises : Rises before after
 
 -- each eligible open selection has less welfare than the value read or ranks at or below the selection that was found
-abbrev pub CoversOpen : ProblemState → List Bool → List ℕ → Option Best → ℕ → Type 0
+abbrev pub CoversOpen : ProblemState → List Bool → List ℕ → Option Solution → ℕ → Type 0
 CoversOpen problem taken left best read =
     (selection : List Bool) (w : ℤ) → IsOpen taken left selection → IsEligible problem selection w
     → (w <ℤ pos read) ⊎ IsMatched w selection best

@@ -5,7 +5,7 @@ use Rattle.std.specs.declared.alloc.Global.{Global}
 use Rattle.atomic_table.specs.Seated.{TableId}
 use Rattle.dam_blocks.specs.Problem.{ProblemState}
 use Rattle.dam_search.specs.declared.answer.PieceAnswer.{PieceAnswer}
-use Rattle.dam_search.specs.declared.shared.Shared.{Shared}
+use Rattle.dam_search.specs.declared.worker_seat.WorkerSeat.{WorkerSeat}
 use Rattle.dam_search.specs.declared.workers.WorkedSeat.{WorkedSeat}
 use Rattle.dam_search.specs.declared.view.View.{View}
 use Rattle.dam_search.specs.Answer.{greatest_found}
@@ -13,7 +13,7 @@ use Rattle.dam_search.specs.Words.{times, once_below, view_of, new_view}
 use Rattle.dam_search.specs.Work.{IsExplored, AreAnswersOf}
 
 -- a seat for a worker, at the table of this identity
-pub record IsNewSeat (table : TableId) (pieces : ℕ) (s : Shared) : Type 0 where
+pub record IsNewSeat (table : TableId) (pieces : ℕ) (s : WorkerSeat) : Type 0 where
   pub table_is : s.seat.table_id ≡ table
   pub new : view_of s.seat ≡ new_view pieces 0
 

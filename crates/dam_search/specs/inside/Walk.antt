@@ -2,7 +2,7 @@
 -- incumbent.
 use Rattle.std.specs.Prelude.{◌≡◌, ℕ, ◌+◌, ◌-◌, ◌*◌, ◌^◌, ◌<◌, ◌≤◌, max, ℤ, pos, ◌<ℤ◌, ◌⊎◌, Bool, true, false, Option}
 use Rattle.std.specs.Prelude.{List, [], length}
-use Rattle.dam_blocks.specs.declared.selection.Best.{Best}
+use Rattle.dam_blocks.specs.declared.selection.Solution.{Solution}
 use Rattle.dam_blocks.specs.Problem.{ProblemState}
 use Rattle.dam_blocks.specs.Eligible.{IsEligible}
 use Rattle.dam_bound.specs.Prefix.{IsCompletion}
@@ -11,14 +11,14 @@ use Rattle.dam_search.specs.declared.piece.WalkState.{WalkState}
 use Rattle.dam_search.specs.Piece.{IsFind, IsMatched, Rises, welfare_found, HasNeeded}
 
 -- the find changes to an eligible completion of the prefix, or not at all, and only rises
-pub record Finds (problem : ProblemState) (prefix : List Bool) (before after : Option Best)
+pub record Finds (problem : ProblemState) (prefix : List Bool) (before after : Option Solution)
     : Type 0 where
   pub found : (after ≡ before) ⊎ IsFind problem prefix after
   pub rises : Rises before after
 
 -- once the walk is done, each eligible completion has less welfare than the value read or ranks at
 -- or below the selection that was found
-abbrev pub Covers : ProblemState → List Bool → Option Best → ℕ → Type 0
+abbrev pub Covers : ProblemState → List Bool → Option Solution → ℕ → Type 0
 Covers problem prefix best read =
     (sel : List Bool) (w : ℤ) → IsCompletion prefix sel → IsEligible problem sel w
     → (w <ℤ pos read) ⊎ IsMatched w sel best
@@ -50,7 +50,7 @@ pub record ReadsIncumbent (left visited_before visited_after read_before read_af
 -- of its incumbent and the greatest that was offered
 pub record IsGoing (problem : ProblemState) (nodes greatest_read greatest_offer : ℕ) (found : WalkState)
     : Type 0 where
-  pub room : found.visited ≤ nodes
+  pub within : found.visited ≤ nodes
   pub read : found.read ≤ greatest_read
   pub best : IsFind problem [] found.best
   pub offered : welfare_found found.best ≤ greatest_offer

@@ -3,7 +3,7 @@ use Rattle.std.proofs.Common.{pos, ap, ◌∙◌, sym, arith, rules}
 use Rattle.std.proofs.lemmas.Int.{ints}
 use Rattle.std.proofs.lemmas.Option.{slice_get_read}
 use Rattle.dam_book.specs.Limits.{greatest_volume}
-use Rattle.dam_blocks.specs.Selection.{bought_volume_of}
+use Rattle.dam_blocks.specs.Selection.{bought_volume_of_block}
 use Rattle.dam_blocks.proofs.RunningSums.{sum_more, sum_same}
 use Rattle.dam_blocks.proofs.accepted.bought_volume.Goals as goal
 use Rattle.dam_blocks.proofs.accepted.bought_volume.Goals.{then-has, else-has}
@@ -13,11 +13,11 @@ loop-place-preserved c =
     let few = c.requires in
     elim c.if-has.branch [
       | then-has w ↦
-          sum_more (bought_volume_of c.args.period) greatest_volume _ _ _ _ _ _ c.index-blocks-place.result
+          sum_more (bought_volume_of_block c.args.period) greatest_volume _ _ _ _ _ _ c.index-blocks-place.result
           (slice_get_read _ _ _ _ (search rules) c.loop-place-test.true c.index-blocks-place.is) (sym c.has.ensures.value ∙ w.if-has.true)
           (ap pos w.from-total.ensures
-          ∙ w.bought_volume_of.ensures.value) (omega (arith, ints)) (omega (arith, ints)) (omega (arith, ints, few, w.total-is))
+          ∙ w.bought_volume_of_block.ensures.value) (omega (arith, ints)) (omega (arith, ints)) (omega (arith, ints, few, w.total-is))
           c.loop-place.invariant
-      | else-has w ↦ sum_same (bought_volume_of c.args.period) greatest_volume _ _ _ _ _ (sym c.has.ensures.value
+      | else-has w ↦ sum_same (bought_volume_of_block c.args.period) greatest_volume _ _ _ _ _ (sym c.has.ensures.value
           ∙ w.if-has.false) (omega (arith, ints)) c.loop-place.invariant
     ]

@@ -3,7 +3,7 @@ use Rattle.std.proofs.Common.{◌∙◌, sym, arith, rules}
 use Rattle.std.proofs.lemmas.Int.{ints}
 use Rattle.std.proofs.lemmas.Option.{slice_get_read}
 use Rattle.dam_book.specs.Limits.{greatest_volume}
-use Rattle.dam_blocks.specs.Selection.{net_volume_of}
+use Rattle.dam_blocks.specs.Selection.{net_volume_of_block}
 use Rattle.dam_blocks.proofs.RunningSums.{sum_more, sum_same}
 use Rattle.dam_blocks.proofs.accepted.net_volume.Goals as goal
 use Rattle.dam_blocks.proofs.accepted.net_volume.Goals.{then-has, else-has}
@@ -13,10 +13,10 @@ loop-place-preserved c =
     let few = c.requires in
     elim c.if-has.branch [
       | then-has w ↦
-          sum_more (net_volume_of c.args.period) greatest_volume _ _ _ _ w.net_volume_of-total.result _ c.index-blocks-place.result
+          sum_more (net_volume_of_block c.args.period) greatest_volume _ _ _ _ w.net_volume_of_block-total.result _ c.index-blocks-place.result
           (slice_get_read _ _ _ _ (search rules) c.loop-place-test.true c.index-blocks-place.is) (sym c.has.ensures.value ∙ w.if-has.true)
-          w.net_volume_of-total.ensures.value (omega (arith, ints)) (omega (arith, ints)) (omega (arith, ints, few, w.total-is))
+          w.net_volume_of_block-total.ensures.value (omega (arith, ints)) (omega (arith, ints)) (omega (arith, ints, few, w.total-is))
           c.loop-place.invariant
-      | else-has w ↦ sum_same (net_volume_of c.args.period) greatest_volume _ _ _ _ _ (sym c.has.ensures.value
+      | else-has w ↦ sum_same (net_volume_of_block c.args.period) greatest_volume _ _ _ _ _ (sym c.has.ensures.value
           ∙ w.if-has.false) (omega (arith, ints)) c.loop-place.invariant
     ]

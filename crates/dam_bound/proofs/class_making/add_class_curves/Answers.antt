@@ -2,7 +2,7 @@
 use Rattle.std.proofs.Common.{◌≡◌, ◌≢◌, ◌+◌, ◌<◌, length, [], ◌∷◌, ◌++◌, slice_index_or, ap, ◌∙◌, sym, subst, refl, rules, arith}
 use Rattle.dam_book.specs.Limits.{most_blocks}
 use Rattle.dam_curve.specs.Curve.{CurvesState}
-use Rattle.dam_blocks.specs.Selection.{net_volume_of}
+use Rattle.dam_blocks.specs.Selection.{net_volume_of_block}
 use Rattle.dam_bound.specs.Classes.{first_of}
 use Rattle.dam_bound.specs.Relaxed.{without_rows}
 use Rattle.dam_bound.specs.Sums.{at_places}
@@ -26,7 +26,7 @@ loop-at-preserved g c =
           (one_class problem c.loop-at.curves _ at c.loop-at.classes.items
           (record { at = at; curve = w.in_ok-curve.curve; nets = w.net_volumes_in-nets.result }) w.add_curve.ensures.kept (sym first ∙ here) refl
           c.blocks-blocks.ensures.valid.few_blocks w.in_ok-curve.ensures.curve
-          (w.net_volumes_in-nets.ensures.value ∙ ap (at_places most_blocks (net_volume_of (at + 1))) c.blocks-blocks.ensures.value)
+          (w.net_volumes_in-nets.ensures.value ∙ ap (at_places most_blocks (net_volume_of_block (at + 1))) c.blocks-blocks.ensures.value)
           c.loop-at.invariant)))
       | else-firsts-at w ↦
           (let apart : slice_index_or c.firsts_of-firsts.result at 0 ≢ at = search (rules, w.if-firsts-at.false) in

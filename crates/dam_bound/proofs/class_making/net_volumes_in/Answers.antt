@@ -1,17 +1,17 @@
 -- A block more, and all of them.
 use Rattle.std.proofs.Common.{◌+◌, ◌∙◌, ap, rules}
 use Rattle.std.proofs.lemmas.Option.{slice_get_read}
-use Rattle.dam_blocks.specs.Selection.{net_volume_of}
+use Rattle.dam_blocks.specs.Selection.{net_volume_of_block}
 use Rattle.dam_bound.proofs.MakingClasses.{number_more, nets_within, net_fits}
 use Rattle.dam_bound.proofs.class_making.net_volumes_in.Goals as goal
 
 pub loop-place-preserved : goal.loop-place-preserved
 loop-place-preserved c =
     let b = c.index-blocks-place.result in
-    number_more (net_volume_of (c.args.at + 1)) c.args.blocks.now c.loop-place.place b c.loop-place.nets _
+    number_more (net_volume_of_block (c.args.at + 1)) c.args.blocks.now c.loop-place.place b c.loop-place.nets _
     (slice_get_read _ _ _ _ (search rules) c.loop-place-test.true c.index-blocks-place.is) c.requires.few
-    (net_fits _ c.net_volume_of.ensures.low c.net_volume_of.ensures.high ∙ c.net_volume_of.ensures.value
-    ∙ ap (λ (t : _). net_volume_of t b.order) c.at-period.ensures)
+    (net_fits _ c.net_volume_of_block.ensures.low c.net_volume_of_block.ensures.high ∙ c.net_volume_of_block.ensures.value
+    ∙ ap (λ (t : _). net_volume_of_block t b.order) c.at-period.ensures)
     c.loop-place.invariant
 
 pub returns-clause-size : goal.returns-clause-size

@@ -1,9 +1,9 @@
 -- The net volumes of the blocks so far.
 use Rattle.std.proofs.Common.{◌≡◌, ◌+◌, take}
 use Rattle.dam_book.specs.Limits.{most_blocks}
-use Rattle.dam_blocks.specs.Selection.{net_volume_of}
+use Rattle.dam_blocks.specs.Selection.{net_volume_of_block}
 use Rattle.dam_bound.specs.Sums.{at_places}
 use Rattle.dam_bound.proofs.class_making.net_volumes_in.Given as goal
 
 abbrev pub invariant-loop-place : goal.invariant-loop-place
-invariant-loop-place l = l.nets ≡ at_places most_blocks (net_volume_of (l.at + 1)) (take l.place l.blocks)
+invariant-loop-place l = l.nets ≡ at_places most_blocks (net_volume_of_block (l.at + 1)) (take l.place l.blocks)

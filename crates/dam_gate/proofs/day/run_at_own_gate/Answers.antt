@@ -4,7 +4,7 @@ use mathlib.Core.List.{IsPrefix}
 use Rattle.dam_book.specs.Book.{IsLegalHistory}
 use Rattle.dam_gate.specs.Journal.{JournalState}
 use Rattle.dam_gate.specs.Opening.{OpeningState}
-use Rattle.dam_gate.specs.Pass.{Knowledge, PassState, after_learning, holders, knowing_nothing}
+use Rattle.dam_gate.specs.Pass.{Knowledge, AccountState, after_learning, holders, knowing_nothing}
 use Rattle.dam_gate.specs.Headline.{IsWholeAccount}
 use Rattle.dam_gate.specs.Settled.{IsSettled, receipts_of}
 use Rattle.dam_gate.specs.inside.Entering.{IsClosedByOperator}
@@ -21,28 +21,28 @@ returns-clause-day g c =
     let participants = c.args.participants.now in
     let ks : List Knowledge = c.in_ok-passes.passes.items in
     let before : Knowledge = c.learn_from_all.new.pass in
-    let op : PassState = c.close_into_locked.new.operator.account in
+    let op : AccountState = c.close_into_locked.new.operator.account in
     let j = c.into_audited_journal-journal.result in
-    let passes = c.in_ok-passes-2.passes.items in
+    let passes = c.in_ok-accounts.accounts.items in
     let closed : IsClosedByOperator before op j = subst (IsClosedByOperator before op) (sym c.into_audited_journal-journal.ensures.value) c.in_ok-closed.ensures in
     let is : before ≡ after_learning (knowing_nothing None) before.learnt =
     c.learn_from_all.ensures.pass ∙ ap (λ (k : Knowledge). after_learning k before.learnt) c.in_ok-operator.ensures in
     let begin = subst (λ (xs : List Knowledge). (i : ℕ) (d : Knowledge) → i < length xs → IsPrefix (get_or xs i d).history before.learnt)
     c.deref.ensures.value c.learn_from_all.ensures.learnt in
     let most = sym (ap (λ (o : OpeningState). o.passes) c.requires.name) ∙ c.requires.passes in
-    let day = counted given participants ks before op j passes c.in_ok-passes-2.parts.parts g.J.GateName.opening.passes
-    c.in_ok-passes-2.parts.amount closed is c.into_audited_journal-journal.ensures.valid c.requires.givers.apart
-    c.in_ok-passes.ensures.ok c.in_ok-passes.ensures.holders c.in_ok-passes.ensures.valid begin c.in_ok-passes-2.ensures.accounts
-    c.in_ok-passes-2.ensures.parts most c.in_ok-passes-2.ensures.count c.into_audited_journal-journal.ensures.count in
+    let day = counted given participants ks before op j passes c.in_ok-accounts.parts.parts g.J.GateName.opening.passes
+    c.in_ok-accounts.parts.amount closed is c.into_audited_journal-journal.ensures.valid c.requires.givers.apart
+    c.in_ok-passes.ensures.ok c.in_ok-passes.ensures.holders c.in_ok-passes.ensures.valid begin c.in_ok-accounts.ensures.accounts
+    c.in_ok-accounts.ensures.parts most c.in_ok-accounts.ensures.count c.into_audited_journal-journal.ensures.count in
     let ps = accounts ks in
     let settled = c.in_ok-settled.settled in
     let same : settled ≡ j = c.in_ok-settled.ensures.journal in
     let periods : j.book.periods ≡ c.args.periods =
     c.into_audited_journal-journal.ensures.day ∙ (sym (ap (λ (o : OpeningState). o.periods) c.requires.name) ∙ c.requires.day) in
     let legal = subst (λ (n : ℕ). IsLegalHistory n j.entries) periods c.into_audited_journal-journal.ensures.valid.history.legal in
-    let all : passes ≡ ps ++ op ∷ [] = c.in_ok-passes-2.ensures.accounts in
+    let all : passes ≡ ps ++ op ∷ [] = c.in_ok-accounts.ensures.accounts in
     let run = day_run c.args.periods given participants j.entries ps op day.before legal
-    (subst (λ (xs : List PassState). AreReceipts j.entries (receipts_of xs)) all day.are) c.requires.givers c.in_ok-passes.ensures.ok
+    (subst (λ (xs : List AccountState). AreReceipts j.entries (receipts_of xs)) all day.are) c.requires.givers c.in_ok-passes.ensures.ok
     day.closes closed.pass day.last in
     rw same (record {
       taken = c.requires.taken;
@@ -50,7 +50,7 @@ returns-clause-day g c =
       journal = c.into_audited_journal-journal.ensures.valid;
       run = run;
       account = subst (λ (x : JournalState). IsWholeAccount x passes) same
-          (subst (λ (xs : List PassState). IsWholeAccount settled xs) c.deref-2.ensures.value c.in_ok-settled.ensures.account);
+          (subst (λ (xs : List AccountState). IsWholeAccount settled xs) c.deref-2.ensures.value c.in_ok-settled.ensures.account);
       held_by = ap holders all ∙ held_by given participants ps op c.in_ok-passes.ensures.holders day.nobody c.requires.order;
     })
 
@@ -61,20 +61,20 @@ returns-in_err-settled-clause-err g c =
     let participants = c.args.participants.now in
     let ks : List Knowledge = c.in_ok-passes.passes.items in
     let before : Knowledge = c.learn_from_all.new.pass in
-    let op : PassState = c.close_into_locked.new.operator.account in
+    let op : AccountState = c.close_into_locked.new.operator.account in
     let j = c.into_audited_journal-journal.result in
-    let passes = c.in_ok-passes-2.passes.items in
+    let passes = c.in_ok-accounts.accounts.items in
     let closed : IsClosedByOperator before op j = subst (IsClosedByOperator before op) (sym c.into_audited_journal-journal.ensures.value) c.in_ok-closed.ensures in
     let is : before ≡ after_learning (knowing_nothing None) before.learnt =
     c.learn_from_all.ensures.pass ∙ ap (λ (k : Knowledge). after_learning k before.learnt) c.in_ok-operator.ensures in
     let begin = subst (λ (xs : List Knowledge). (i : ℕ) (d : Knowledge) → i < length xs → IsPrefix (get_or xs i d).history before.learnt)
     c.deref.ensures.value c.learn_from_all.ensures.learnt in
     let most = sym (ap (λ (o : OpeningState). o.passes) c.requires.name) ∙ c.requires.passes in
-    let day = counted given participants ks before op j passes c.in_ok-passes-2.parts.parts g.J.GateName.opening.passes
-    c.in_ok-passes-2.parts.amount closed is c.into_audited_journal-journal.ensures.valid c.requires.givers.apart
-    c.in_ok-passes.ensures.ok c.in_ok-passes.ensures.holders c.in_ok-passes.ensures.valid begin c.in_ok-passes-2.ensures.accounts
-    c.in_ok-passes-2.ensures.parts most c.in_ok-passes-2.ensures.count c.into_audited_journal-journal.ensures.count in
-    let settled = subst (λ (xs : List PassState). IsSettled j xs) (sym c.deref-2.ensures.value) day.settled in
+    let day = counted given participants ks before op j passes c.in_ok-accounts.parts.parts g.J.GateName.opening.passes
+    c.in_ok-accounts.parts.amount closed is c.into_audited_journal-journal.ensures.valid c.requires.givers.apart
+    c.in_ok-passes.ensures.ok c.in_ok-passes.ensures.holders c.in_ok-passes.ensures.valid begin c.in_ok-accounts.ensures.accounts
+    c.in_ok-accounts.ensures.parts most c.in_ok-accounts.ensures.count c.into_audited_journal-journal.ensures.count in
+    let settled = subst (λ (xs : List AccountState). IsSettled j xs) (sym c.deref-2.ensures.value) day.settled in
     let fault = c.in_err-settled.field-0.0 in
     passed_on (λ (f : DayFault). f ≡ Memory) c.from_residual-in_err-settled.result fault c.from_residual-in_err-settled.ensures.1
     (c.in_err-settled.ensures.exact settled)

@@ -15,7 +15,7 @@ returns g c =
       book = sym is.book_is;
       closed = c.requires.closed;
       each_once = c.requires.each_once;
-      in_order = in_order (empty_book j.book.periods) j.entries c.args.passes.now is.history.legal
-          (each_number j.book.periods j.entries (receipts_of c.args.passes.now) is.history.legal c.requires.each_once) c.are_passes.ensures;
-      own = of_holders c.args.passes.now c.are_passes.ensures;
+      in_order = in_order (empty_book j.book.periods) j.entries c.args.accounts.now is.history.legal
+          (each_number j.book.periods j.entries (receipts_of c.args.accounts.now) is.history.legal c.requires.each_once) c.are_accounts.ensures;
+      own = of_holders c.args.accounts.now c.are_accounts.ensures;
     }

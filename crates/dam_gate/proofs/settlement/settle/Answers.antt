@@ -10,13 +10,13 @@ whole_account-requires g c =
     let legal = c.book.ensures.valid.history.legal in
     record {
       closed = search;
-      each_once = each_once 1 (empty_book c.args.journal.book.periods) c.args.journal.entries (receipts_of c.args.passes.now) legal
+      each_once = each_once 1 (empty_book c.args.journal.book.periods) c.args.journal.entries (receipts_of c.args.accounts.now) legal
           (rw c.in-Ok-None.field-0-is at c.in-Ok-None.ensures);
     }
 
 pub returns-in-Ok-Some-clause-exact : goal.returns-in-Ok-Some-clause-exact
 returns-in-Ok-Some-clause-exact g c = λ settled.
     let legal = c.book.ensures.valid.history.legal in
-    absurd (no_fault c.args.journal.entries (receipts_of c.args.passes.now) c.in-Ok-Some.why
+    absurd (no_fault c.args.journal.entries (receipts_of c.args.accounts.now) c.in-Ok-Some.why
     (rw c.in-Ok-Some.field-0-is at c.in-Ok-Some.ensures)
-    (each_number c.args.journal.book.periods c.args.journal.entries (receipts_of c.args.passes.now) legal settled.each_once))
+    (each_number c.args.journal.book.periods c.args.journal.entries (receipts_of c.args.accounts.now) legal settled.each_once))

@@ -1,4 +1,4 @@
--- The limit of the row that holds the unit, or the end of the range if all sells are less.
+-- The limit of the rung that holds the unit, or the end of the range if all sells are less.
 use Rattle.std.proofs.Common.{◌∙◌, arith}
 use Rattle.std.proofs.lemmas.Int.{ints}
 use Rattle.dam_book.specs.declared.order.Side.TheVariants.{Sell}

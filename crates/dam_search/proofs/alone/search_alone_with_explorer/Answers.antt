@@ -16,7 +16,7 @@ collected-requires-clause-worked g c =
     c.offer.ensures.greatest_offer in let none =
     c.new-incumbent.ensures.greatest_offer in omega (arith, told, top, known, offered, none)) in
     all_one (λ (x : PieceAnswer). IsWorked problem 0 c.args.nodes x) a
-    (worked_is problem (g.E.Explorer.explored c.args.explorer.now) first c.args.nodes a c.requires.same explored.explored c.requires.reached read)
+    (worked_is problem (g.E.Explorer.problem c.args.explorer.now) first c.args.nodes a c.requires.same explored.explored c.requires.reached read)
 
 pub returns-clause-whole : goal.returns-clause-whole
 returns-clause-whole g c piece e =

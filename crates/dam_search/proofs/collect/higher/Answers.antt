@@ -1,6 +1,6 @@
 -- The selection found before stays, or the answer's own takes its place.
 use Rattle.std.proofs.Common.{Option, Some, sym, subst}
-use Rattle.dam_blocks.specs.declared.selection.Best.{Best}
+use Rattle.dam_blocks.specs.declared.selection.Solution.{Solution}
 use Rattle.dam_search.specs.Piece.{Rises}
 use Rattle.dam_search.proofs.Ranks.{stays}
 use Rattle.dam_search.proofs.collect.higher.Goals as goal
@@ -10,7 +10,7 @@ returns-in_default-clause-before c = stays c.args.best
 
 pub returns-then-ranks_above_found-clause-answer : goal.returns-then-ranks_above_found-clause-answer
 returns-then-ranks_above_found-clause-answer c =
-    subst (λ (o : Option Best). Rises o (Some c.in-Some.candidate)) (sym c.in-Some.is) (stays (Some c.in-Some.candidate))
+    subst (λ (o : Option Solution). Rises o (Some c.in-Some.candidate)) (sym c.in-Some.is) (stays (Some c.in-Some.candidate))
 
 pub returns-else-ranks_above_found-clause-before : goal.returns-else-ranks_above_found-clause-before
 returns-else-ranks_above_found-clause-before c = stays c.args.best

@@ -1,6 +1,6 @@
 -- The walk from the decisions of the piece, with nothing found before.
 use Rattle.std.proofs.Common.{◌≡◌, inl, inr, ℕ, ◌-◌, List, Bool, true, Option, None, length, ◌∙◌, ap, sym, subst, arith}
-use Rattle.dam_blocks.specs.declared.selection.Best.{Best}
+use Rattle.dam_blocks.specs.declared.selection.Solution.{Solution}
 use Rattle.dam_blocks.specs.Problem.{ProblemState}
 use Rattle.dam_blocks.specs.Selection.{choice}
 use Rattle.dam_search.specs.Piece.{IsFind, IsSound, IsSpent}
@@ -12,10 +12,10 @@ use Rattle.dam_search.proofs.piece.search_piece.Goals as goal
 as_long : (prefix : List Bool) (depth piece : ℕ) → prefix ≡ choice depth piece → length prefix ≡ depth
 as_long prefix depth piece e = ap (λ (xs : List Bool). length xs) e ∙ length-choice depth piece
 
-sound : (problem : ProblemState) (prefix : List Bool) (best : Option Best) (read : ℕ) (done : Bool) → Finds problem prefix None best
+sound : (problem : ProblemState) (prefix : List Bool) (best : Option Solution) (read : ℕ) (done : Bool) → Finds problem prefix None best
     → (done ≡ true → Covers problem prefix best read) → IsSound problem prefix best read done
 sound problem prefix best read done f covers = record {
-  found = elim f.found [ inl e ↦ subst (λ (o : Option Best). IsFind problem prefix o) (sym e) tt | inr g ↦ g ];
+  found = elim f.found [ inl e ↦ subst (λ (o : Option Solution). IsFind problem prefix o) (sym e) tt | inr g ↦ g ];
   others = covers;
 }
 
@@ -25,7 +25,7 @@ walk-done-requires-clause-depth g c =
     omega (arith, long, c.requires.depth)
 
 pub walk-done-requires-clause-going : goal.walk-done-requires-clause-going
-walk-done-requires-clause-going g c = record { room = omega arith; read = omega arith; best = tt; offered = omega arith }
+walk-done-requires-clause-going g c = record { within = omega arith; read = omega arith; best = tt; offered = omega arith }
 
 pub returns-clause-sound : goal.returns-clause-sound
 returns-clause-sound g c =

@@ -3,7 +3,7 @@ use Rattle.std.proofs.Common.{◌≡◌, inr, pos, Bool, List, Option, ◌∙◌
 use Rattle.std.proofs.lemmas.Int.{ints, to_z-of_z}
 use mir.Syntax.{w64}
 use mir.Val.{SFits}
-use Rattle.dam_blocks.specs.declared.selection.Best.{Best}
+use Rattle.dam_blocks.specs.declared.selection.Solution.{Solution}
 use Rattle.dam_blocks.specs.Result.{RanksAtOrBelow}
 use Rattle.dam_search.specs.Piece.{IsMatched}
 use Rattle.dam_search.specs.inside.PriceWalk.{with_all}
@@ -16,11 +16,11 @@ highest_selection-requires c = all_within c.args.node.now.taken c.args.node.now.
 pub returns-clause-passed : goal.returns-clause-passed
 returns-clause-passed c passed sel w is le =
     let node = c.args.node.now in let best = c.in-Some.best in
-    let fits : SFits w64 node.bound = search rules in
-    let same : node.bound ≡ pos best.welfare = sym (to_z-of_z w64 node.bound fits) ∙ c.bound_equals.ensures.0 (search rules) in
+    let fits : SFits w64 node.most = search rules in
+    let same : node.most ≡ pos best.welfare = sym (to_z-of_z w64 node.most fits) ∙ c.bound_equals.ensures.0 (search rules) in
     let below = not_above c.ranks_above.result _ _ passed c.ranks_above.ensures in
     let top = subst (λ (xs : List Bool). RanksAtOrBelow (pos best.welfare) xs (pos best.welfare) best.selection) c.highest_selection.ensures below in
     let long = is.as_long ∙ sym (long_top node.left.now node.taken ∙ c.requires.as_long) in
-    inr (subst (λ (o : Option Best). IsMatched w sel o) (sym c.in-Some.is)
+    inr (subst (λ (o : Option Solution). IsMatched w sel o) (sym c.in-Some.is)
     (ranks_less w (pos best.welfare) (pos best.welfare) sel (with_all node.taken node.left.now) best.selection long
     (under_top node.taken node.left.now sel c.requires.as_long c.requires.free is) (omega (arith, ints, same, le)) top))

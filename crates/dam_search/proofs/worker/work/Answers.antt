@@ -10,16 +10,16 @@ use Rattle.dam_search.proofs.worker.work.Goals as goal
 
 pub loop-piece-init : goal.loop-piece-init
 loop-piece-init g c = record {
-  answers = subst (λ (xs : List PieceAnswer). AreAnswersOf (g.E.Explorer.explored c.args.explorer.now) c.args.depth c.args.nodes 0 c.args.seat.now.seat.me.0 xs)
+  answers = subst (λ (xs : List PieceAnswer). AreAnswersOf (g.E.Explorer.problem c.args.explorer.now) c.args.depth c.args.nodes 0 c.args.seat.now.seat.me.0 xs)
       (sym c.in_ok-answers.ensures.items)
-      (none_yet (g.E.Explorer.explored c.args.explorer.now) c.args.depth c.args.nodes c.args.seat.now.seat.me.0 c.requires.fresh.undrawn c.requires.fresh.unoffered);
+      (none_yet (g.E.Explorer.problem c.args.explorer.now) c.args.depth c.args.nodes c.args.seat.now.seat.me.0 c.requires.fresh.undrawn c.requires.fresh.unoffered);
   going = c.requires.fresh.going;
   pieces = c.requires.fresh.pieces_are;
   seats = refl;
   seats_left = refl;
   table = refl;
-  room = (let room = c.in_ok-answers.ensures.capacity in let count = c.piece_count.ensures in let pieces = c.requires.fresh.pieces_are in omega
-      (arith, room, count, pieces));
+  capacity = (let capacity = c.in_ok-answers.ensures.capacity in let count = c.piece_count.ensures in let pieces = c.requires.fresh.pieces_are in omega
+      (arith, capacity, count, pieces));
 }
 
 pub draw-requires : goal.draw-requires
@@ -32,11 +32,11 @@ explore-requires-clause-piece g c =
 pub push_reserved-requires : goal.push_reserved-requires
 push_reserved-requires g c =
     let i = c.loop-piece.invariant in let v = c.loop-piece.seat.seat.me.0 in
-    let many = as_many (g.E.Explorer.explored c.args.explorer.now) c.args.depth c.args.nodes 0 v c.loop-piece.answers.items i.answers in
-    let long = c.loop-piece.answers.ok.0 in let room = i.room in
+    let many = as_many (g.E.Explorer.problem c.args.explorer.now) c.args.depth c.args.nodes 0 v c.loop-piece.answers.items i.answers in
+    let long = c.loop-piece.answers.ok.0 in let capacity = i.capacity in
     let drawn = one_drawn v c.draw.new.self.seat.me.0 c.in-Some.piece c.in-Some.ensures.piece.1 c.in-Some.ensures.few in
     let pieces = i.pieces in
-    omega (arith, many, long, room, drawn, pieces)
+    omega (arith, many, long, capacity, drawn, pieces)
 
 pub loop-piece-smaller : goal.loop-piece-smaller
 loop-piece-smaller g c =
@@ -57,21 +57,21 @@ loop-piece-preserved g c =
     let told = c.explore.ensures.greatest_read ∙ ap (λ (x : View). max x.greatest_read a.read) drawn in
     let top = c.explore.ensures.offered ∙ ap (λ (x : View). max x.greatest_offer (welfare_found a.best)) drawn in
     record {
-      answers = subst (λ (xs : List PieceAnswer). AreAnswersOf (g.E.Explorer.explored c.args.explorer.now) c.args.depth c.args.nodes 0 u xs)
+      answers = subst (λ (xs : List PieceAnswer). AreAnswersOf (g.E.Explorer.problem c.args.explorer.now) c.args.depth c.args.nodes 0 u xs)
           (sym c.push_reserved.ensures.items)
-          (one_more (g.E.Explorer.explored c.args.explorer.now) c.args.depth c.args.nodes 0 v u c.loop-piece.answers.items a i.answers
+          (one_more (g.E.Explorer.problem c.args.explorer.now) c.args.depth c.args.nodes 0 v u c.loop-piece.answers.items a i.answers
           (next.drawn ∙ ap (λ (n : ℕ). v.drawn ++ n ∷ []) (sym c.explore.ensures.piece)) told top c.explore.ensures.explored);
       going = next.draws_past_the_end ∙ i.going;
       pieces = next.pieces ∙ i.pieces;
       seats = next.seats ∙ i.seats;
       seats_left = next.seats_left ∙ i.seats_left;
       table = ap (λ (k : View × TableId). k.1) kept ∙ c.in-Some.ensures.table ∙ i.table;
-      room = subst (λ (n : ℕ). 2 ^ c.args.depth ≤ n) (sym c.push_reserved.ensures.capacity) i.room;
+      capacity = subst (λ (n : ℕ). 2 ^ c.args.depth ≤ n) (sym c.push_reserved.ensures.capacity) i.capacity;
     }
 
 pub returns-clause-answers : goal.returns-clause-answers
 returns-clause-answers g c =
-    past_end (g.E.Explorer.explored c.args.explorer.now) c.args.depth c.args.nodes 0 1 c.loop-piece.seat.seat.me.0 c.draw.new.self.seat.me.0
+    past_end (g.E.Explorer.problem c.args.explorer.now) c.args.depth c.args.nodes 0 1 c.loop-piece.seat.seat.me.0 c.draw.new.self.seat.me.0
     c.loop-piece.answers.items (c.in_default.ensures.draws_past_the_end refl) c.loop-piece.invariant.answers
 
 pub returns-clause-offered : goal.returns-clause-offered

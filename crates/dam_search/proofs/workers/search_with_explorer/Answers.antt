@@ -1,7 +1,7 @@
 -- The answers of the workers are the ones that are collected, and they are one about each piece.
 use Rattle.std.proofs.Common.{ℕ, List, IfOk, sym, subst}
 use Rattle.std.specs.List.{All}
-use Rattle.dam_blocks.specs.declared.selection.Best.{Best}
+use Rattle.dam_blocks.specs.declared.selection.Solution.{Solution}
 use Rattle.dam_search.specs.declared.answer.PieceAnswer.{PieceAnswer}
 use Rattle.dam_search.specs.Search.{IsUnfinished, LimitHasNeeded}
 use Rattle.dam_search.specs.inside.Collect.{IsWorked, IsCollected}
@@ -26,8 +26,8 @@ returns-clause-unfinished g c piece visited e =
 pub returns-clause-needed : goal.returns-clause-needed
 returns-clause-needed g c =
     let problem = c.args.problem.now in let result = c.collected.result in
-    subst (λ (n : ℕ). IfOk result (λ (best : Best). LimitHasNeeded problem n c.args.plan.nodes best.welfare)) c.requires.depth
-    (subst (λ (n : ℕ). IfOk result (λ (best : Best). LimitHasNeeded problem c.args.depth n best.welfare)) c.nodes.ensures.value
+    subst (λ (n : ℕ). IfOk result (λ (best : Solution). LimitHasNeeded problem n c.args.plan.nodes best.welfare)) c.requires.depth
+    (subst (λ (n : ℕ). IfOk result (λ (best : Solution). LimitHasNeeded problem c.args.depth n best.welfare)) c.nodes.ensures.value
     c.collected.ensures.needed)
 
 pub returns-clause-whole : goal.returns-clause-whole

@@ -11,7 +11,7 @@ returns c state given after none read =
     let piece = c.args.piece.now in
     let line = read.begun ++ piece in
     let before = desk_journal_text state.journal in
-    let taken = c.in_ok-answer_line.ensures.step before read.last.journal line (record { day = read.now.day; text = read.text })
+    let taken = c.in_ok-enter_line.ensures.step before read.last.journal line (record { day = read.now.day; text = read.text })
     (c.in_ok-extend.ensures read.begun read.now.line) in
     let number = ap next read.now.answered in
     let answer = taken.answer
@@ -25,7 +25,7 @@ returns c state given after none read =
       answers = subst (λ (t : List ℕ). AreAnswers state (read.lines ++ line ∷ []) t (state_after read.last taken.said)) (sym answer)
           (answers_snoc state read.lines line c.args.self.now.answers.items read.last taken.said read.answers taken.says);
       now = record {
-        answered = c.in_ok-answer_line.ensures.answered ∙ number;
+        answered = c.in_ok-enter_line.ensures.answered ∙ number;
         day = taken.at.day;
         line = c.clear.ensures;
         unended = refl;

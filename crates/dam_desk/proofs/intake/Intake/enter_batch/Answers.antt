@@ -6,7 +6,7 @@ use Rattle.dam_desk.proofs.intake.Intake.enter_batch.Goals as goal
 
 pub returns : goal.returns
 returns c state begun is =
-    c.answer_lines.ensures state (begun ++ c.args.bytes.now) (record {
+    c.enter_lines.ensures state (begun ++ c.args.bytes.now) (record {
       lines = [];
       begun = begun;
       last = state;

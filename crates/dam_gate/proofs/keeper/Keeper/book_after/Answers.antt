@@ -10,7 +10,7 @@ returns-in-Some-clause-book g c =
     let b = c.args.self.now.journal.book in
     let same = refused_stays b c.args.command.now c.in-Some.field-0 (sym c.requires ∙ sym c.in-Some.ensures) in
     let here : c.self.inside.books.book ≡ b = ap (λ (k : KeeperState). k.journal.book) c.self.view_is in
-    IfOk-weaker c.share_book.result _ _ (λ book is. is ∙ (here ∙ sym same)) c.share_book.ensures
+    IfOk-weaker c.clone_book_handle.result _ _ (λ book is. is ∙ (here ∙ sym same)) c.clone_book_handle.ensures
 
 -- the book that is changed is another, and the keeper's stays
 pub returns-clause-same : goal.returns-clause-same

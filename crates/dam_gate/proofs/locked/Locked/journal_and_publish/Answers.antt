@@ -1,4 +1,4 @@
--- The step that was made ready is the next of the journal, and a refused one leaves the journal.
+-- The step that was prepared is the next of the journal, and a refused one leaves the journal.
 use Rattle.std.proofs.Common.{◌≡◌, ℕ, false, length, Result, Ok, Err, OnErr, sym, ap, ap₂, ◌∙◌}
 use Rattle.dam_book.specs.Book.{BookState, book_after}
 use Rattle.dam_book.specs.declared.command.Entry.{Entry}
@@ -13,21 +13,21 @@ pub extend_history_and_fill-requires-clause-journal : goal.extend_history_and_fi
 extend_history_and_fill-requires-clause-journal g c =
     let j : JournalState = c.self.inside.keeper.journal in
     let command = c.args.command.now in
-    let ready = c.in_ok-ready.ensures.ready in
-    let same : c.ready_packed.new.self.journal ≡ j = c.ready_packed.ensures.journal in
-    let entry : c.in_ok-ready.ready.entry ≡ next_entry j command = ready.entry ∙ ap (λ (x : JournalState). next_entry x command) same in
-    let book : c.in_ok-ready.ready.book ≡ book_after j.book command = ready.book
+    let prepared = c.in_ok-prepared.ensures.prepared in
+    let same : c.prepare_packed.new.self.journal ≡ j = c.prepare_packed.ensures.journal in
+    let entry : c.in_ok-prepared.prepared.entry ≡ next_entry j command = prepared.entry ∙ ap (λ (x : JournalState). next_entry x command) same in
+    let book : c.in_ok-prepared.prepared.book ≡ book_after j.book command = prepared.book
     ∙ ap (λ (x : JournalState). book_after x.book command) same in
     let left : is_journal_full (length j.entries) command ≡ false = ap (λ (x : JournalState). is_journal_full (length x.entries) command) (sym same)
-    ∙ ready.left in
+    ∙ prepared.left in
     rw (c.self.invariant.0, entry, book) (journal_after_is j command c.len-held.ensures.valid left)
 
 pub extend_history_and_fill-requires-clause-day : goal.extend_history_and_fill-requires-clause-day
 extend_history_and_fill-requires-clause-day g c =
     let j : JournalState = c.self.inside.keeper.journal in
     let command = c.args.command.now in
-    let book : c.in_ok-ready.ready.book ≡ book_after j.book command =
-    c.in_ok-ready.ensures.ready.book ∙ ap (λ (x : JournalState). book_after x.book command) c.ready_packed.ensures.journal in
+    let book : c.in_ok-prepared.prepared.book ≡ book_after j.book command =
+    c.in_ok-prepared.ensures.prepared.book ∙ ap (λ (x : JournalState). book_after x.book command) c.prepare_packed.ensures.journal in
     ap (λ (b : BookState). b.periods) book ∙ (book_after-periods j.book command ∙ c.self.invariant.1)
 
 pub returns-clause-entry : goal.returns-clause-entry
@@ -35,8 +35,8 @@ returns-clause-entry g c =
     let command = c.args.command.now in
     ap₂ (λ (n : ℕ) (r : Reply). entry_of command (n, r)) c.number.ensures c.reply.ensures
     ∙ ap (λ (e : Entry). entry_of command (e.number, e.reply))
-    (c.entry-entry.ensures ∙ (c.in_ok-ready.ensures.ready.entry
-    ∙ ap (λ (x : JournalState). next_entry x command) (c.ready_packed.ensures.journal ∙ ap (λ (d : LockedState). d.journal) c.self.view_is)))
+    (c.entry-entry.ensures ∙ (c.in_ok-prepared.ensures.prepared.entry
+    ∙ ap (λ (x : JournalState). next_entry x command) (c.prepare_packed.ensures.journal ∙ ap (λ (d : LockedState). d.journal) c.self.view_is)))
 
 pub returns-clause-history : goal.returns-clause-history
 returns-clause-history g c =
@@ -47,14 +47,14 @@ returns-clause-history g c =
       c.number.ensures,
       c.reply.ensures,
       c.entry-entry.ensures,
-      c.in_ok-ready.ensures.ready.entry,
+      c.in_ok-prepared.ensures.prepared.entry,
     )
 
 pub returns-clause-journal : goal.returns-clause-journal
 returns-clause-journal g c =
-    c.append_ready.ensures.step
-    ∙ ap₂ journal_after (c.ready_packed.ensures.journal ∙ ap (λ (d : LockedState). d.journal) c.self.view_is)
-    (ap (λ (e : Entry). e.command) c.in_ok-ready.ensures.ready.entry)
+    c.append_prepared.ensures.step
+    ∙ ap₂ journal_after (c.prepare_packed.ensures.journal ∙ ap (λ (d : LockedState). d.journal) c.self.view_is)
+    (ap (λ (e : Entry). e.command) c.in_ok-prepared.ensures.prepared.entry)
 
 pub returns-clause-passes : goal.returns-clause-passes
 returns-clause-passes g c = ap (λ (d : LockedState). d.passes) c.self.view_is
@@ -69,11 +69,11 @@ with_journal passes journal = record { journal = journal; passes = passes }
 
 pub returns-in_err-slot-clause-err : goal.returns-in_err-slot-clause-err
 returns-in_err-slot-clause-err g c =
-    when_refused c.from_residual-in_err-slot.result (ap (with_journal c.self.inside.passes) c.ready_packed.ensures.journal ∙ c.self.view_is)
+    when_refused c.from_residual-in_err-slot.result (ap (with_journal c.self.inside.passes) c.prepare_packed.ensures.journal ∙ c.self.view_is)
 
 pub returns-in_err-after-clause-err : goal.returns-in_err-after-clause-err
 returns-in_err-after-clause-err g c =
-    when_refused c.from_residual-in_err-after.result (ap (with_journal c.self.inside.passes) c.ready_packed.ensures.journal ∙ c.self.view_is)
+    when_refused c.from_residual-in_err-after.result (ap (with_journal c.self.inside.passes) c.prepare_packed.ensures.journal ∙ c.self.view_is)
 
 pub invariant_of-self : goal.invariant_of-self
-invariant_of-self g c = rw c.ready_packed.ensures.journal c.self.invariant
+invariant_of-self g c = rw c.prepare_packed.ensures.journal c.self.invariant

@@ -1,4 +1,4 @@
--- The volume of all rows.
+-- The volume of all rungs.
 use Rattle.std.proofs.Common.{◌∙◌, arith}
 use Rattle.dam_hour.proofs.Ladders.{offered_total}
 use Rattle.dam_hour.proofs.Positions.{offered_small}

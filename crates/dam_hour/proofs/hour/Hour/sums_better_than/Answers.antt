@@ -1,4 +1,4 @@
--- The sums of the rows before the cut, and their gain.
+-- The sums of the rungs before the cut, and their gain.
 use Rattle.std.proofs.Common.{ℕ, pos, ◌-ℤ◌, ◌*ℤ◌, ℤ, ap₂, ◌∙◌, subst, arith}
 use Rattle.dam_hour.specs.Best.{signed}
 use Rattle.dam_hour.specs.inside.Ladder.{IsCut}

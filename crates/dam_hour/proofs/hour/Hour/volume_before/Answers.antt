@@ -1,4 +1,4 @@
--- The volume of the rows before the cut, which is at most the volume of all steps.
+-- The volume of the rungs before the cut, which is at most the volume of all steps.
 use Rattle.std.proofs.Common.{ℕ, ◌∙◌, subst, arith}
 use Rattle.dam_hour.specs.inside.Ladder.{IsCut}
 use Rattle.dam_hour.proofs.Ladders.{volume_before}

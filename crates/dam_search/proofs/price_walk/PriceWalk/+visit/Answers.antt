@@ -3,10 +3,10 @@ use Rattle.std.proofs.Common.{◌≡◌, ℕ, ℤ, pos, List, ◌∷◌, length,
 use Rattle.std.proofs.lemmas.Int.{ints, to_z-of_z}
 use mir.Syntax.{w64}
 use mir.Val.{SFits}
-use Rattle.dam_search.specs.inside.PriceWalk.{IsNode, IsBounded, IsRoom, IsWalkedOpen, with_place_if, bound_after}
+use Rattle.dam_search.specs.inside.PriceWalk.{IsNode, IsBounded, IsSlack, IsWalkedOpen, with_place_if, bound_after}
 use Rattle.dam_search.proofs.Opens.{all_within, accepts_taken, accepts_none_rejected, node_after, bounded_after, open_any, open_here, not_both}
 use Rattle.dam_search.proofs.Opens.{walked_nothing, walked_over, walked_both, node_is, bounded_is, under_bound}
-use Rattle.dam_search.proofs.Rooms.{no_room, room_after_is}
+use Rattle.dam_search.proofs.Slacks.{no_slack, slack_after_is}
 use Rattle.dam_search.proofs.price_walk.PriceWalk.+visit.Goals as goal
 
 -- ---- both decisions
@@ -45,8 +45,8 @@ decide-returns-then-forbids-clause-walked g t c =
     (accepts_none_rejected node.taken node.rejected (place ∷ left) sel is any) in
     absurd (not_both _ accept here other)))
 
-pub decide-room_after-requires-clause-place : goal.decide-room_after-requires-clause-place
-decide-room_after-requires-clause-place g t c =
+pub decide-slack_after-requires-clause-place : goal.decide-slack_after-requires-clause-place
+decide-slack_after-requires-clause-place g t c =
     let node = c.args.node.now in
     (subst (λ (xs : List ℕ). IsNode node.taken node.rejected xs) c.requires.split c.requires.node).free.0
 
@@ -56,35 +56,35 @@ decide-returns-in_default-clause-walked g t c =
     let limits = c.args.self.now.conflicts.now.limits.limits in
     let accept = c.args.accept in let place = c.args.place in let left = c.args.left.now in
     let is = subst (λ (xs : List ℕ). IsNode node.taken node.rejected xs) c.requires.split c.requires.node in
-    let room = subst (λ (xs : List ℕ). IsRoom problem limits node.taken xs c.args.room.now) c.requires.split c.requires.room in
+    let slack = subst (λ (xs : List ℕ). IsSlack problem limits node.taken xs c.args.slack.now) c.requires.split c.requires.slack in
     walked_nothing problem (with_place_if accept node.taken place) left _ _ c.args.found.now c.requires.ready
-    (λ sel w opened e. absurd (no_room problem limits accept node.taken node.rejected place left c.args.room.now sel w is room
-    (c.room_after.ensures.none c.in_default.is) opened e))
+    (λ sel w opened e. absurd (no_slack problem limits accept node.taken node.rejected place left c.args.slack.now sel w is slack
+    (c.slack_after.ensures.none c.in_default.is) opened e))
 
 pub decide-visit-requires : goal.decide-visit-requires
 decide-visit-requires g t c κs within =
     let node = c.args.node.now in let next = c.after_decision-next.result in let relaxed = g.P.PricedProblem.problem c.args.self.now.priced.now in
     let accept = c.args.accept in let place = c.args.place in let left = c.args.left.now in
     let is = subst (λ (xs : List ℕ). IsNode node.taken node.rejected xs) c.requires.split c.requires.node in
-    let bounded = subst (λ (xs : List ℕ). IsBounded relaxed c.args.bound.now node.taken xs node.bound) c.requires.split c.requires.bounded in
+    let bounded = subst (λ (xs : List ℕ). IsBounded relaxed c.args.bound.now node.taken xs node.most) c.requires.split c.requires.bounded in
     let ensured = c.after_decision-next.ensures in
     let gain = get_or c.args.bound.now.gains place (pos 0) in
     let own = bounded.is_price_bound.small_gains place (pos 0) is.free.0 in
     let low = own.at_least in let high = own.at_most in
     let value = to_z-of_z w64 gain (omega (arith, ints, low, high)) in
-    let bound = ensured.bound ∙ ap (λ (z : ℤ). bound_after accept node.bound z) value in
+    let bound = ensured.bound ∙ ap (λ (z : ℤ). bound_after accept node.most z) value in
     let node' : IsNode next.taken next.rejected next.left.now =
     node_is _ _ next.taken next.rejected left next.left.now ensured.taken ensured.rejected ensured.left
     (node_after accept node.taken node.rejected place left is) in
-    let bounded' : IsBounded relaxed c.args.bound.now next.taken next.left.now next.bound =
-    bounded_is relaxed c.args.bound.now _ next.taken left next.left.now _ next.bound ensured.taken ensured.left bound
-    (bounded_after accept relaxed c.args.bound.now node.taken node.rejected place left node.bound is bounded) in
+    let bounded' : IsBounded relaxed c.args.bound.now next.taken next.left.now next.most =
+    bounded_is relaxed c.args.bound.now _ next.taken left next.left.now _ next.most ensured.taken ensured.left bound
+    (bounded_after accept relaxed c.args.bound.now node.taken node.rejected place left node.most is bounded) in
     let long = ap (λ (xs : List ℕ). length xs) ensured.left in
     let limits = c.args.self.now.conflicts.now.limits.limits in
-    let had = subst (λ (xs : List ℕ). IsRoom c.args.self.now.problem.now limits node.taken xs c.args.room.now) c.requires.split c.requires.room in
-    let room' : IsRoom c.args.self.now.problem.now limits next.taken next.left.now c.in-Some.room =
-    room_after_is c.args.self.now.problem.now limits accept node.taken node.rejected next.taken place left next.left.now c.args.room.now c.in-Some.room
-    ensured.taken ensured.left is c.in-Some.ensures.rooms c.in-Some.ensures.some had in
+    let had = subst (λ (xs : List ℕ). IsSlack c.args.self.now.problem.now limits node.taken xs c.args.slack.now) c.requires.split c.requires.slack in
+    let slack' : IsSlack c.args.self.now.problem.now limits next.taken next.left.now c.in-Some.slack =
+    slack_after_is c.args.self.now.problem.now limits accept node.taken node.rejected next.taken place left next.left.now c.args.slack.now c.in-Some.slack
+    ensured.taken ensured.left is c.in-Some.ensures.slacks c.in-Some.ensures.some had in
     search rules
 
 -- ---- prices of its own

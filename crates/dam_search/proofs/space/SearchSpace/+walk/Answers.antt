@@ -32,7 +32,7 @@ returns-then-not-is_admissible-clause-walked g t c =
       finds = finds_nothing problem prefix found.best;
       covers = λ done sel w whole e.
           absurd (c.is_admissible.ensures.completions c.if-not-is_admissible.true sel whole e.admissible);
-      spends = spends_nothing problem prefix left told c.args.nodes found.visited going.room;
+      spends = spends_nothing problem prefix left told c.args.nodes found.visited going.within;
       needed = λ done admissible. absurd
           (not_admitted c.is_admissible.result c.if-not-is_admissible.true (c.is_admissible.ensures.value.1 admissible));
       reads = reads_nothing left found.visited found.visited found.read told told going.read refl (inl refl);
@@ -60,13 +60,13 @@ returns-then-depth-block_count-clause-walked g t c =
     let going = c.requires.going in let after = c.try_selection.new.found in
     let visited : after.visited ≡ found.visited + 1 = c.try_selection.ensures.visited in
     let full : left ≡ 0 = omega (arith, c.depth.ensures.value, c.block_count.ensures.value, c.if-depth-block_count.true) in
-    let room = unmet found.visited c.args.nodes going.room c.if-found-nodes.false in
+    let within = unmet found.visited c.args.nodes going.within c.if-found-nodes.false in
     record {
       finds = c.try_selection.ensures.finds;
       covers = λ done. c.try_selection.ensures.covers;
       spends =
           subst (λ (n : ℕ). Spends problem prefix left (told c.args.incumbent.now) c.args.nodes found.visited n true) (sym visited)
-          (spends_one problem prefix left (told c.args.incumbent.now) c.args.nodes found.visited room);
+          (spends_one problem prefix left (told c.args.incumbent.now) c.args.nodes found.visited within);
       needed = λ done. needed_one problem prefix left after.read found.visited after.visited visited (inl full);
       reads =
           subst (λ (n : ℕ). ReadsIncumbent left found.visited after.visited found.read n (told c.args.incumbent.now)
@@ -94,7 +94,7 @@ returns-in_default-clause-walked g t c =
           inl (less w most.0 least most.2 (subst (λ (bound : Option ℤ). reaches bound least ≡ false) most.1 none)));
       spends =
           spends_one problem prefix left (told c.args.incumbent.now) c.args.nodes found.visited
-          (unmet found.visited c.args.nodes going.room c.if-found-nodes.false);
+          (unmet found.visited c.args.nodes going.within c.if-found-nodes.false);
       needed = λ done. needed_one problem prefix left least found.visited (found.visited + 1) refl
           (inr (λ value le. unreached (relaxed_welfare problem prefix) value least none le));
       reads =

@@ -1,0 +1,46 @@
+#!/usr/bin/env python3
+"""office.py FILE PORT: an office to compare with. aiohttp takes a command, the book of tools/lib replies, and SQLite has a row for it
+on the disk before the answer. It has the office's routes for one participant's commands, but neither tokens nor receipts."""
+
+import sqlite3
+import sys
+from pathlib import Path
+
+from aiohttp import web
+
+sys.path.insert(0, str(Path(__file__).resolve().parents[2] / "tools"))
+
+from lib.journal import book
+from lib.seal import heads
+
+TABLE = "CREATE TABLE entries (entry INTEGER PRIMARY KEY, who TEXT, number INTEGER, record TEXT, reply TEXT, UNIQUE (who, number))"
+
+
+class PlainOffice:
+    def __init__(self, path, periods=24):
+        self.rows = sqlite3.connect(path, isolation_level=None)
+        for words in ("PRAGMA journal_mode=WAL", "PRAGMA synchronous=FULL", TABLE):
+            self.rows.execute(words)
+        self.book = book.Book(periods)
+
+    async def next(self, request):
+        (count,) = self.rows.execute("SELECT count(*) FROM entries WHERE who = ?", (request.match_info["who"],)).fetchone()
+        return web.json_response({"next": count + 1})
+
+    async def put(self, request):
+        record = (await request.text()).rstrip("\n")
+        reason = self.book.apply(heads.command_of(record))
+        reply = f"refused,{reason}" if reason else heads.DONE
+        row = request.match_info["who"], int(request.match_info["number"]), record, reply
+        added = self.rows.execute("INSERT INTO entries (who, number, record, reply) VALUES (?, ?, ?, ?)", row)
+        return web.json_response({"number": added.lastrowid, "record": record, "reply": reply})
+
+
+def main(path, port):
+    office, app = PlainOffice(path), web.Application()
+    app.router.add_get("/days/{day}/commands/{who}", office.next)
+    app.router.add_put("/days/{day}/commands/{who}/{number}", office.put)
+    web.run_app(app, host="127.0.0.1", port=int(port), print=None, access_log=None)
+
+
+main(*sys.argv[1:])

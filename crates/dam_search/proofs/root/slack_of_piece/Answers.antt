@@ -1,0 +1,38 @@
+-- Before the loop every place is open; each decision closes one.
+use Rattle.std.proofs.Common.{◌≡◌, ℕ, ◌+◌, Bool, List, not, ◌∙◌, sym, subst, refl, arith}
+use Rattle.std.specs.Prelude.{nat_lt}
+use Rattle.dam_bound.specs.NetLimits.{HasSlack, every_place}
+use Rattle.dam_search.proofs.Slacks.{less_open, open_at, decided_at, others_open, agrees_less, agrees_here}
+use Rattle.dam_search.proofs.root.slack_of_piece.Goals as goal
+
+pub loop-at-init : goal.loop-at-init
+loop-at-init c = record {
+  slacks = c.slack-slack.ensures.slacks;
+  has = λ problem sel w are e agrees.
+      less_open c.args.limits.now.limits sel every_place (λ place. not (nat_lt place 0)) c.slack-slack.result.slacks (λ place on. refl)
+      (c.slack-slack.ensures.eligible problem sel w are e);
+}
+
+pub loop-at-preserved : goal.loop-at-preserved
+loop-at-preserved c =
+    let at = c.loop-at.at in record {
+      slacks = c.in-Some.ensures.slacks;
+      has = λ problem sel w are e agrees.
+          c.in-Some.ensures.some sel (λ p. not (nat_lt p at)) (λ p. not (nat_lt p (at + 1)))
+          (c.loop-at.invariant.has problem sel w are e (agrees_less at c.args.taken sel agrees)) (open_at at) (decided_at at) (others_open at)
+          (agrees_here at c.args.taken sel agrees ∙ sym c.has.ensures.value);
+    }
+
+pub returns-in_default-clause-none : goal.returns-in_default-clause-none
+returns-in_default-clause-none c empty problem sel w are e agrees =
+    let at = c.loop-at.at in let test = c.loop-at-test.true in
+    c.slack_after.ensures.none c.in_default.is sel (λ p. not (nat_lt p at))
+    (c.loop-at.invariant.has problem sel w are e (λ p l. agrees p (omega (arith, l, test)))) (open_at at)
+    (agrees at test ∙ sym c.has.ensures.value)
+
+pub returns-clause-some : goal.returns-clause-some
+returns-clause-some c problem sel w are e agrees =
+    let past = c.loop-at-test.false in let end = c.loop-at.auto.at-end in
+    let same : c.loop-at.at ≡ c.args.depth = omega (arith, past, end) in
+    subst (λ (n : ℕ). HasSlack c.args.limits.now.limits sel (λ p. not (nat_lt p n)) c.loop-at.slack.slacks) same
+    (c.loop-at.invariant.has problem sel w are e (λ p l. agrees p (omega (arith, l, same))))

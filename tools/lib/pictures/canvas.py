@@ -1,0 +1,140 @@
+"""Figures of matplotlib: their style, panels, legends, margins, and the words that a page shows when the pointer is there.
+
+They are made for black and white: parts that matter differ in lightness, hatching or line. The colours stand in `COLOURS` by what
+they are for, so that a page can replace them by its own."""
+
+import io
+from fractions import Fraction
+
+from ..base import text
+from . import colours
+from .drawing import PolyCollection, matplotlib, pyplot
+
+COLOURS = colours.PICTURES
+
+STYLE = {
+    "font.family": "DejaVu Sans",
+    "font.size": 9,
+    "text.color": COLOURS["ink"],
+    "axes.edgecolor": COLOURS["soft"],
+    "axes.labelcolor": COLOURS["ink"],
+    "axes.facecolor": COLOURS["paper"],
+    "figure.facecolor": COLOURS["paper"],
+    "axes.grid": True,
+    "axes.axisbelow": True,
+    "axes.spines.top": False,
+    "axes.spines.right": False,
+    "grid.color": COLOURS["grid"],
+    "grid.linewidth": 0.6,
+    "xtick.color": COLOURS["ink"],
+    "ytick.color": COLOURS["ink"],
+    "xtick.major.size": 0,
+    "hatch.linewidth": 0.6,
+    "hatch.color": COLOURS["ink"],
+    "legend.frameon": False,
+    "svg.hashsalt": "dam",
+}
+
+# The widths of figures, in inches: for a page or a screen, and for a telephone's.
+WIDTHS = {"broad": 10, "narrow": 4.6}
+BROAD = WIDTHS["broad"]
+
+
+def eur(cents):
+    return cents / 100
+
+
+def mw(tenths):
+    return tenths / 10
+
+
+def is_narrow(axes):
+    return axes.figure.get_figwidth() < BROAD
+
+
+def legend(axes, *entries, columns, below=False, right=1):
+    """A legend above the panel: right of its heading, up to this share of its width, or under it if the figure is narrow; or then below the
+    panel."""
+    if is_narrow(axes) and below:
+        look = {"loc": "upper left", "bbox_to_anchor": (0, -0.2), "fontsize": 7}
+    elif is_narrow(axes):
+        look = {"loc": "lower left", "bbox_to_anchor": (0, 1), "fontsize": 7, "columnspacing": 1, "handlelength": 1.4}
+    else:
+        look = {"loc": "lower right", "bbox_to_anchor": (right, 1)}
+    axes.legend(*entries, ncols=columns, borderaxespad=0, **look)
+
+
+def picture(figure, suffix, words_as_text=False):
+    """The bytes of a figure, in the format `svg` or `png`."""
+    out = io.BytesIO()
+    if not words_as_text:
+        remove_hover(figure)
+    with matplotlib.rc_context({"svg.fonttype": "none" if words_as_text else "path", "svg.hashsalt": "dam"}):
+        kind = {"metadata": {"Date": None, "Creator": None}} if suffix == "svg" else {"dpi": 150}
+        # To find the box that fits takes as long as to draw.
+        fitted = {} if has_margins(figure) else {"bbox_inches": "tight"}
+        figure.savefig(out, format=suffix, **fitted, **kind)
+    pyplot.close(figure)
+    return out.getvalue()
+
+
+def set_margins(figure, left, right, bottom, top):
+    """Gives a figure fixed margins, in inches, so that its layout needn't be found by drawing it."""
+    width, height = figure.get_size_inches()
+    figure.subplots_adjust(left / width, bottom / height, 1 - right / width, 1 - top / height)
+    figure.has_margins = True
+
+
+def set_label_places(axes, under, left):
+    """Puts the axes' labels at distances in inches under and left of them, so that no place has to be found for it by drawing the ticks."""
+    width, height = axes.get_position().size * axes.figure.get_size_inches()
+    axes.xaxis.set_label_coords(0.5, -under / height)
+    axes.yaxis.set_label_coords(-left / width, 0.5)
+
+
+def has_margins(figure):
+    return getattr(figure, "has_margins", False)
+
+
+def add_hover(axes, name, areas, words):
+    """Areas in which a page shows words when the pointer is there: they aren't drawn. `page` finds them by their name."""
+    look = {"facecolors": [(*matplotlib.colors.to_rgb(COLOURS["ink"]), 0)], "edgecolors": "none", "linewidths": 0, "zorder": 10}
+    if areas:
+        axes.add_collection(PolyCollection(areas, gid=f"hover-{name}", **look), autolim=False)
+        axes.figure.hover = {**hover_of(axes.figure), name: list(words)}
+
+
+def remove_hover(figure):
+    """Takes away the areas that only a page has a use for."""
+    for axes in figure.axes:
+        for area in [area for area in axes.collections if str(area.get_gid()).startswith("hover-")]:
+            area.remove()
+
+
+def hover_of(figure):
+    """The words of each area of a figure, by the name of their group."""
+    return getattr(figure, "hover", {})
+
+
+def digits_up_to(most):
+    """How many digits the numbers of an axis have that goes up to this volume in MW."""
+    return 0 if most >= 5 else 1
+
+
+def thousands(axis, digits=0):
+    """Numbers along an axis in the same form as everywhere."""
+    axis.set_major_formatter(lambda value, _: text.shown(Fraction(value).limit_denominator(10_000), digits))
+
+
+def panels(heights, width):
+    """A figure of panels under one another."""
+    figure, axes = pyplot.subplots(
+        len(heights), 1, figsize=(width, sum(heights)), sharex=True, height_ratios=heights, squeeze=False
+    )
+    return figure, [row[0] for row in axes]
+
+
+def heading(axes, words):
+    # The place is given, since to find one takes as long as to draw the rest.
+    look = {"fontweight": "bold", "fontsize": 10, "color": COLOURS["ink"]}
+    axes.set_title(words, loc="left", y=1, pad=20 if is_narrow(axes) else 6, **look)

@@ -1,0 +1,134 @@
+"""Prices and volumes over the periods of a day, each in a panel."""
+
+import math
+
+from ..base import clock, spans, text
+from ..results import trades
+from .drawing import Patch
+from .canvas import COLOURS, add_hover, digits_up_to, eur, heading, is_narrow, legend, mw, thousands
+
+# Up to this many periods each bar has an outline.
+MOST_OUTLINED = 25
+
+
+def period_axis(axes, day):
+    """Periods along the bottom: the number of the first one of each hour, or of three, and under it when it begins."""
+    periods = day.problem.periods
+    numbers = range(1, periods + 1, int((3 if is_narrow(axes) else 1) / day.problem.hours))
+    axes.set_xlim(0.5, periods + 0.5)
+    axes.set_xticks(numbers, [f"{number}\n{clock.begins(periods, number)}" for number in numbers], fontsize=6.5)
+    axes.set_xlabel("period of the day, and when it begins")
+
+
+def edges(values):
+    """A level for each period from 1, as the points of a line with a step at each border."""
+    xs, ys = [], []
+    for number, value in enumerate(values, 1):
+        xs += [number - 0.5, number + 0.5]
+        ys += [value, value]
+    return xs, ys
+
+
+def draw_prices(axes, day):
+    """The price of each period in which something is traded, and the prices that support it; others are left out."""
+    traded = trades.traded(day)
+    prices = {number: eur(day.said.prices[number - 1]) for number in traded}
+    cleared = {number: day.outcome.cleared[number] for number in traded}
+    ends = {number: (eur(found.low), eur(found.high)) if found else [prices[number]] * 2 for number, found in cleared.items()}
+    levels = [prices.get(number, math.nan) for number in day.problem.orders]
+    xs, lows = edges([ends.get(number, [math.nan])[0] for number in day.problem.orders])
+    _, highs = edges([ends.get(number, [math.nan])[-1] for number in day.problem.orders])
+    axes.fill_between(xs, lows, highs, color=COLOURS["band"], linewidth=0, label="supporting prices")
+    axes.plot(*edges(levels), color=COLOURS["ink"], linewidth=1.8, solid_joinstyle="miter", label="price")
+    if traded:
+        axes.set_ylim(*price_bounds(list(prices.values()), list(ends.values())))
+        legend(axes, columns=2)
+    else:
+        axes.set_yticks([])
+    without_trade(axes, [number for number in day.problem.orders if number not in prices], day.problem.periods)
+    axes.set_ylabel("price, EUR/MWh")
+    axes.grid(axis="x", visible=False)
+    thousands(axes.yaxis)
+    hover_periods(axes, day, "prices")
+    heading(axes, "Prices")
+
+
+def period_words(day, number):
+    """A period in a line: when it is, its price and its volume."""
+    words = f"period {number}, {clock.span(day.problem.periods, number)}"
+    if not trades.is_traded(day, number):
+        return f"{words}: no trade"
+    price, volume = day.said.prices[number - 1], day.said.volumes[number - 1]
+    return f"{words}: {text.shown_price(price)} EUR/MWh, {text.shown_volume(volume)} MW"
+
+
+def hover_periods(axes, day, name):
+    """Shows the price and the volume of each period over its width."""
+    bottom, top = axes.get_ylim()
+    numbers = list(day.problem.orders)
+    areas = [[(at - 0.5, bottom), (at - 0.5, top), (at + 0.5, top), (at + 0.5, bottom)] for at in numbers]
+    add_hover(axes, name, areas, [period_words(day, number) for number in numbers])
+
+
+def without_trade(axes, numbers, periods):
+    """Marks each run of periods in which nothing is traded."""
+    for first, last in spans.runs(numbers):
+        upright = (last - first + 1) / periods < 0.07
+        place = {"transform": axes.get_xaxis_transform(), "ha": "center", "va": "center"}
+        look = {"color": COLOURS["soft"], "fontsize": 7, "rotation": 90 if upright else 0}
+        axes.text((first + last) / 2, 0.5, "no trade", **place, **look)
+
+
+def price_bounds(prices, ends):
+    """The shown part of the price axis: the prices, and the supporting prices that aren't far off."""
+    least, most = min(prices), max(prices)
+    far = max(most - least, 20)
+    near = [end for pair in ends for end in pair if least - far <= end <= most + far]
+    least, most = min([least, *near]), max([most, *near])
+    room = max(0.08 * (most - least), 2)
+    return least - room, most + room
+
+
+def shares(day, side):
+    """The traded volume of a side in each period, in MW: by hourly orders, and by accepted blocks."""
+    found = trades.shares(day).values()
+    return [[mw(parts[kind, side]) for parts in found] for kind in ("hour", "block")]
+
+
+def draw_volumes(axes, day):
+    """The bought volume above the line, the sold volume below it; the blocks' shares are hatched."""
+    most = 1
+    for side, sign in (("buy", 1), ("sell", -1)):
+        hourly, blocks = shares(day, side)
+        ends = [one + other for one, other in zip(hourly, blocks)]
+        most = max(most, *ends)
+        draw_share(axes, [0] * len(ends), [sign * end for end in hourly], {"facecolor": COLOURS[side]})
+        hatched = {"hatch": "////", "facecolor": COLOURS["rejected"]}
+        draw_share(axes, [sign * end for end in hourly], [sign * end for end in ends], hatched)
+    axes.axhline(0, color=COLOURS["ink"], linewidth=0.9)
+    axes.set_ylim(-1.12 * most, 1.12 * most)
+    axes.yaxis.set_major_formatter(lambda value, _: text.shown(abs(value), digits_up_to(most)))
+    axes.set_ylabel("sold below, bought above, MW" if not is_narrow(axes) else "MW")
+    axes.grid(axis="x", visible=False)
+    key = [Patch(facecolor=COLOURS[side], edgecolor=COLOURS["ink"], linewidth=0.5) for side in ("buy", "sell")]
+    key.append(Patch(facecolor=COLOURS["rejected"], edgecolor=COLOURS["ink"], linewidth=0.5, hatch="////"))
+    words = ["bought by hourly orders", "sold by hourly orders", "by accepted blocks"]
+    if is_narrow(axes):
+        words = ["hourly buys (above)", "hourly sells (below)", "blocks"]
+    legend(axes, key, words, columns=3)
+    hover_periods(axes, day, "volumes")
+    heading(axes, "Volumes")
+
+
+def draw_share(axes, begins, ends, look):
+    """A bar for each period from one level to another; an area without lines in it if there are many periods."""
+    outline = {"edgecolor": COLOURS["ink"], "linewidth": 0.5}
+    if len(ends) > MOST_OUTLINED:
+        (xs, lows), (_, highs) = edges(begins), edges(ends)
+        drawn = [low != high for low, high in zip(lows, highs)]
+        axes.fill_between(xs, lows, highs, where=drawn, **outline, **look)
+        return
+    bars = [(number, end - begin, begin) for number, (begin, end) in enumerate(zip(begins, ends), 1) if begin != end]
+    if bars:
+        numbers, heights, bottoms = zip(*bars)
+        axes.bar(numbers, heights, bottom=bottoms, width=0.72, **outline, **look)

@@ -1,0 +1,158 @@
+"""The kinds of cells, the texts of cells, and rows of cells in little memory."""
+
+import array
+import bisect
+import functools
+import re
+
+COLUMN = re.compile(r"[A-Z]{1,3}")
+ESCAPE = re.compile(r"_x(?![dD][89a-fA-F])([0-9a-fA-F]{4})_")  # a character, but no half of one
+
+
+class Unlike(str):
+    """The text of a cell that Excel shows in another way than it is read."""
+
+    __slots__ = ()
+    kind, remedy = "", "make the cell one of text"
+
+
+class Date(Unlike):
+    __slots__ = ()
+    kind = "a date or a time"
+
+
+class Formatted(Unlike):
+    __slots__ = ()
+    kind = "a number with a format"
+
+
+class Percentage(Unlike):
+    """A number of which Excel shows a hundred times as much."""
+
+    __slots__ = ()
+    kind, remedy = "a number that Excel shows as a percentage", "give its cell the format General"
+
+
+class Styled(Unlike):
+    __slots__ = ()
+    kind = "a text with a format"
+
+
+class Shortened(Unlike):
+    __slots__ = ()
+    kind = "a number of which Excel shows fewer digits"
+
+
+class Truth(Unlike):
+    __slots__ = ()
+    kind = "a truth value"
+
+
+class StyledString(int):
+    """The number of a shared string whose cell shows it in another way."""
+
+    __slots__ = ()
+
+
+class Uncomputed(Unlike):
+    """The formula of a cell that was saved without its value."""
+
+    __slots__ = ()
+    kind, remedy = "a formula that was saved without its value", "open the workbook in Excel, and save it"
+
+
+class Numbers:
+    """A set of small numbers, which takes little memory."""
+
+    def __init__(self):
+        self.flags = bytearray()
+
+    def add(self, number):
+        if number >= len(self.flags):
+            self.flags.extend(bytes(number + 1 - len(self.flags)))
+        self.flags[number] = 1
+
+    def __contains__(self, number):
+        return number < len(self.flags) and self.flags[number] == 1
+
+    def __bool__(self):
+        return bool(self.flags)
+
+
+class Kept:
+    """Strings by their numbers, which increase: in UTF-8, and so in less memory than strings of their own."""
+
+    def __init__(self):
+        self.numbers, self.ends, self.data = array.array("I"), array.array("I"), bytearray()
+
+    def add(self, number, words):
+        self.data += words.encode(errors="surrogatepass")
+        self.numbers.append(number)
+        self.ends.append(len(self.data))
+
+    def get(self, number):
+        """A string; None if there is none of this number."""
+        at = bisect.bisect_left(self.numbers, number)
+        if at == len(self.numbers) or self.numbers[at] != number:
+            return None
+        return self.data[self.ends[at - 1] if at else 0 : self.ends[at]].decode()
+
+
+# The kinds of cells: before each cell of a packed row stands a half of a character, which no text has, and says its kind.
+CELLS = str, int, StyledString, Uncomputed, Date, Formatted, Percentage, Styled, Shortened, Truth
+HALVES = {kind: chr(0xD800 + at) for at, kind in enumerate(CELLS)}
+PACKED = re.compile("([\ud800-\udfff])([^\ud800-\udfff]*)")
+
+
+class Rows(Kept):
+    """Rows of cells by their numbers, packed: a cell of its own takes some 100 bytes. A caller that goes through them again unpacks each
+    again."""
+
+    def __len__(self):
+        return len(self.numbers)
+
+    def __iter__(self):
+        begin = 0
+        for number, end in zip(self.numbers, self.ends):
+            cells = PACKED.findall(self.data[begin:end].decode(errors="surrogatepass"))
+            yield number, [CELLS[ord(half) - 0xD800](words) for half, words in cells]
+            begin = end
+
+    def add(self, number, cells):
+        super().add(number, "".join([f"{HALVES[type(cell)]}{cell}" for cell in cells]))
+
+
+def trimmed(cells):
+    """The cells of a row without the empty ones at its end, which spreadsheets leave."""
+    count = len(cells)
+    while count and not cells[count - 1].strip():
+        count -= 1
+    return cells[:count]
+
+
+def escaped(words):
+    """A text of which no part is one of Excel's escapes of characters."""
+    return re.sub("_(?=x[0-9a-fA-F]{4}_)", "_x005F_", words)
+
+
+def unescaped(words):
+    """A text without Excel's escapes of characters."""
+    return ESCAPE.sub(lambda found: chr(int(found[1], 16)), words) if "_x" in words else words
+
+
+@functools.lru_cache(None)
+def name_of(column):
+    """The letters of a column."""
+    before, last = divmod(column - 1, 26)
+    return (name_of(before) if before else "") + chr(ord("A") + last)
+
+
+@functools.lru_cache(2**15)
+def number_of(letters):
+    """The number of a column; 0 if the letters are none."""
+    if not COLUMN.fullmatch(letters):
+        return 0
+    number = 0
+    for letter in letters:
+        number = 26 * number + ord(letter) - ord("A") + 1
+    return number

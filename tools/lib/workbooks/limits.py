@@ -1,0 +1,34 @@
+"""The limits of the workbooks that are read, and the faults of the others."""
+
+# A workbook that isn't larger than a table of orders needs keeps to these limits.
+MOST_PARTS = 2_000  # files in it
+MOST_UNPACKED = 96 * 2**20  # bytes of the parts that are read
+MOST_ELEMENTS = 1_500_000  # in these parts
+MOST_CELLS = 300_000  # of a table; an empty cell counts if one after it in its row has a value
+MOST_TEXT = 4 * 2**20  # bytes that the characters of these cells take
+MOST_NAMES, MOST_NAMED = 10_000, 2**20  # of elements, attributes and namespaces in a part, and characters of these
+MOST_NAMESPACES = 100_000  # declared in a part
+MOST_HEADS = 100_000  # shared strings in the first rows of all sheets
+MOST_SHEETS, MOST_OWN_FORMATS, MOST_FORMATS = 1_000, 5_000, 100_000
+LONGEST_MARKUP, LONGEST_NAME = 65_536, 1_000  # bytes of a tag or comment; characters of a name, or of a format
+DEEPEST = 32  # elements in one another
+CHUNK = 65_536
+# Those of Excel.
+LAST_ROW, LAST_COLUMN, LONGEST_CELL = 2**20, 2**14, 32_767
+
+
+class Wrong(Exception):
+    """A file that isn't a workbook, or a sheet that can't be read whole."""
+
+
+def broken(words):
+    return Wrong(f"line 1: the Excel workbook can't be read: {words}")
+
+
+def too_many(most, things):
+    return broken(f"it has more than {most:,} {things}")
+
+
+def size_of(words):
+    """The bytes that the characters of a text take in memory: each takes as many as the widest."""
+    return len(words) * (1 if words.isascii() or (widest := max(words)) <= "\xff" else 2 if widest <= "\uffff" else 4)

@@ -1,0 +1,72 @@
+"""The zip archive of a workbook, whose files are its parts."""
+
+import io
+import zipfile
+from xml.parsers import expat
+
+from ..base import text
+from .limits import CHUNK, MOST_PARTS, MOST_UNPACKED, broken, too_many
+
+DIRECTORY = b"PK\x01\x02"  # begins the entry of a file in the directory of a zip archive
+END, END_SIZE = b"PK\x05\x06", 22  # begins the end of the archive, which a comment may follow; its bytes
+
+
+class Package:
+    """The parts of a workbook: the files of a zip archive, whose names don't differ by capitals alone."""
+
+    def __init__(self, data):
+        # The archive's directory is read whole, so its entries are counted first.
+        if data.count(DIRECTORY) > MOST_PARTS:
+            raise too_many(MOST_PARTS, "parts")
+        self.archive = unzipped(lambda: zipfile.ZipFile(io.BytesIO(data)))
+        self.parts = {}
+        files = self.archive.infolist()
+        if files and min(info.header_offset for info in files):
+            raise broken("other bytes stand before its archive, such as another workbook")
+        if not data.startswith(END, len(data) - len(self.archive.comment) - END_SIZE):
+            raise broken("other bytes stand after its archive, such as another workbook")
+        for info in files:
+            if self.parts.setdefault(key(info.filename), info) is not info:
+                raise broken(f"two parts are named {text.quoted(info.filename)}")
+        self.unpacked = self.elements = 0
+
+    def has(self, name):
+        return key(name) in self.parts
+
+    def read(self, name, part):
+        """Reads a part from its beginning to its end."""
+        if not self.has(name):
+            raise broken(f"it has no part {text.quoted(name)}")
+        try:
+            part.read(self, self.chunks(self.parts[key(name)]))
+        except expat.ExpatError as fault:
+            raise broken(f"{text.quoted(name)}: {fault}") from None
+
+    def chunks(self, info):
+        if info.compress_type not in (zipfile.ZIP_STORED, zipfile.ZIP_DEFLATED):
+            raise broken(f"{text.quoted(info.filename)} is compressed in another way than Excel does it")
+        length = 0
+        with unzipped(lambda: self.archive.open(info)) as file:
+            while chunk := unzipped(lambda: file.read(CHUNK)):
+                length += len(chunk)
+                self.unpacked += len(chunk)
+                if self.unpacked > MOST_UNPACKED:
+                    raise too_many(MOST_UNPACKED // 2**20, "MiB in its parts")
+                yield chunk
+        if length != info.file_size:
+            raise broken(f"{text.quoted(info.filename)} has {length} bytes instead of {info.file_size}")
+
+
+def key(name):
+    """The name of a part, as it is looked up."""
+    return name.replace("\\", "/").lstrip("/").lower()
+
+
+def unzipped(call):
+    """The result of a call of zipfile, which raises any exception if the archive is broken."""
+    try:
+        return call()
+    except MemoryError:
+        raise
+    except Exception as fault:
+        raise broken(text.safe(str(fault) or type(fault).__name__)) from None

@@ -1,0 +1,231 @@
+"""A part of a workbook, read by expat: each element in its place by the schema."""
+
+import functools
+import itertools
+from typing import NamedTuple
+from xml.parsers import expat
+
+from ..base import text
+from .limits import DEEPEST, LONGEST_CELL, LONGEST_MARKUP, LONGEST_NAME
+from .limits import MOST_ELEMENTS, MOST_NAMED, MOST_NAMES, MOST_NAMESPACES, broken, too_many
+
+SPREADSHEET = ("http://schemas.openxmlformats.org/spreadsheetml/2006/main", "http://purl.oclc.org/ooxml/spreadsheetml/main")
+BLANK = " \t\r\n"  # the characters that may stand between elements
+EXTENSIONS, LEFT_OUT = "extLst", {"extLst", "rPr", "phoneticPr"}  # elements that are left out, with everything in them
+ANY_OTHERS = "*"
+
+
+class Place(NamedTuple):
+    """The place of an element in another one."""
+
+    rank: int  # among those that may stand there
+    repeats: bool  # whether several may
+
+
+class Part:
+    """A part, as expat reads it: each element in its place by the schema. The known ones go to the methods open_NAME and close_NAME. The
+    others are left out, with everything in them, in which no known element may stand."""
+
+    NAMESPACES, ROOT = SPREADSHEET, ""
+    PLACES = {}  # for each known element, the ones that may stand in it, in their order; several if a * follows the name
+    BETWEEN = {}  # others that may stand between these, in any order, with those of other namespaces; never after the extensions
+    ELSEWHERE = set()  # the known ones that have another meaning in elements that are left out
+
+    def __init__(self):
+        self.prefix = ""  # of the known names: the namespace
+        self.within, self.ranks = [""], [-1]  # the elements around this place, and the rank of the last one in each
+        self.left_out, self.outside = 0, ""  # how deep it is in an element that is left out, and the name of that
+        self.places, self.known = places_of(type(self))
+        self.opening, self.closing = ({name: getattr(self, f"{when}_{name}", None) for name in self.known} for when in ("open", "close"))
+        self.kept = {f"{space} {name}" for space in self.NAMESPACES for name in self.known - self.ELSEWHERE}
+        self.taken, self.length = [], 0
+
+    def read(self, package, chunks):
+        names, self.package, self.namespaces = {}, package, 0
+        self.parser = parser = expat.ParserCreate(None, " ", names)
+        parser.buffer_text = True
+        parser.XmlDeclHandler, parser.StartDoctypeDeclHandler = self.refuse_encoding, self.refuse_type
+        parser.StartNamespaceDeclHandler = self.declared
+        parser.StartElementHandler, parser.EndElementHandler = self.opened, self.closed
+        parser.CharacterDataHandler = self.refuse_text
+        fed = seen = characters = 0
+        try:
+            for chunk in chunks:
+                parser.Parse(chunk, False)
+                fed += len(chunk)
+                if len(names) > MOST_NAMES:
+                    raise too_many(MOST_NAMES, "names of elements")
+                characters += sum(map(checked, itertools.islice(names, seen, None)))
+                seen = len(names)
+                if characters > MOST_NAMED:
+                    raise too_many(MOST_NAMED, "characters in the names of elements")
+                if fed - parser.CurrentByteIndex > LONGEST_MARKUP:
+                    raise broken(f"a tag has more than {LONGEST_MARKUP} bytes")
+            parser.Parse(b"", True)
+        finally:
+            self.parser = None  # with its names
+
+    def refuse_encoding(self, version, encoding, standalone):
+        if encoding and encoding.lower() not in ("utf-8", "utf-16"):
+            raise broken(f"the encoding {text.quoted(encoding)} isn't one of Excel's")
+
+    def refuse_type(self, *type):
+        raise broken("it has a document type")
+
+    def declared(self, prefix, uri):
+        self.namespaces += 1
+        if self.namespaces > MOST_NAMESPACES:
+            raise too_many(MOST_NAMESPACES, "namespaces")
+        checked(uri)
+
+    def opened(self, name, attributes):
+        self.package.elements += 1
+        if self.package.elements > MOST_ELEMENTS:
+            raise too_many(MOST_ELEMENTS, "elements: delete the rows and columns that the table doesn't need")
+        if self.left_out:
+            self.leave_out(name)
+            return
+        if not self.prefix:
+            self.begin(name)
+        within, is_own = self.within[-1], name.startswith(self.prefix)
+        local = name[len(self.prefix) :] if is_own else name
+        place = self.places[within].get(local) if is_own else None
+        if place is None:
+            self.refuse_stranger(within, local if is_own else ANY_OTHERS, local)
+        else:
+            self.follow(within, local, place)
+        if place is None or local in LEFT_OUT:
+            self.left_out, self.outside = 1, local
+            self.parser.CharacterDataHandler = None
+            return
+        self.within.append(local)
+        self.ranks.append(-1)
+        if call := self.opening[local]:
+            call(attributes)
+
+    def leave_out(self, name):
+        """An element in one that is left out."""
+        self.left_out += 1
+        if self.left_out > DEEPEST:
+            raise broken(f"more than {DEEPEST} elements stand in one another")
+        if name in self.kept:
+            raise self.wrong(f"an element {text.quoted(name.rpartition(' ')[2])} stands in {text.quoted(self.outside)}")
+
+    def refuse_stranger(self, within, kind, name):
+        """Refuses an element that isn't a known one, unless it may stand here."""
+        if kind not in self.BETWEEN.get(within, ()):
+            raise self.wrong(f"an element {text.quoted(name)} stands in {text.quoted(within)}")
+        if EXTENSIONS in self.places[within] and self.ranks[-1] == self.places[within][EXTENSIONS].rank:
+            raise self.wrong(f"an element {text.quoted(name)} stands after the extensions of {text.quoted(within)}")
+
+    def follow(self, within, name, place):
+        """Refuses an element that should stand once, or before the one that it follows."""
+        if place.rank < self.ranks[-1]:
+            last = next(other for other, each in self.places[within].items() if each.rank == self.ranks[-1])
+            raise self.wrong(f"an element {name!r} of {within!r} stands after {last!r}, but should stand before it")
+        if place.rank == self.ranks[-1] and not place.repeats:
+            raise self.wrong(f"two elements {name!r} stand in {within!r}")
+        self.ranks[-1] = place.rank
+
+    def closed(self, name):
+        if self.left_out:
+            self.left_out -= 1
+            if not self.left_out:
+                self.parser.CharacterDataHandler = self.refuse_text
+            return
+        self.ranks.pop()
+        if call := self.closing[self.within.pop()]:
+            call()
+
+    def refuse_text(self, words):
+        if words := words.strip(BLANK):
+            raise self.wrong(f"the text {text.quoted(words)} stands in {text.quoted(self.within[-1])}")
+
+    def begin(self, name):
+        """The first element, which says the namespace."""
+        namespace, _, name = name.rpartition(" ")
+        if namespace not in self.NAMESPACES or name != self.ROOT:
+            raise broken(f"a part has {text.quoted(name)} instead of {self.ROOT!r} as its first element")
+        self.prefix = f"{namespace} "
+
+    def wrong(self, words):
+        return broken(words)
+
+    def take(self):
+        """From now on keeps the text of an element."""
+        self.parser.CharacterDataHandler = self.add
+
+    def add(self, words):
+        self.length += len(words)
+        if self.length > LONGEST_CELL:
+            raise self.wrong(f"it has more than {LONGEST_CELL:,} characters")
+        self.taken.append(words)
+
+    def skip(self):
+        """From now on leaves out the text of an element."""
+        self.parser.CharacterDataHandler = None
+
+    def leave(self):
+        """From now on there should be no text."""
+        self.parser.CharacterDataHandler = self.refuse_text
+
+    def content(self):
+        """The text that was kept, which is kept no longer."""
+        found = "".join(self.taken)
+        self.taken, self.length = [], 0
+        return found
+
+
+@functools.lru_cache(None)
+def places_of(kind):
+    """The places of a kind of parts, and its known elements."""
+    places, known = {}, set()
+    for within, names in kind.PLACES.items():
+        places[within] = {name.rstrip("*"): Place(rank, name.endswith("*")) for rank, name in enumerate(names.split())}
+        known.update(places[within])
+    return {**{name: {} for name in known}, **places}, known - LEFT_OUT
+
+
+def checked(name):
+    """The length of a name of XML, or of none, if it isn't too long."""
+    length = len(name or "")
+    if length > LONGEST_NAME:
+        raise broken(f"the name of an element has more than {LONGEST_NAME:,} characters")
+    return length
+
+
+class Texts(Part):
+    """A part with texts: each is whole, or in runs that have formats. How it is pronounced (`rPh`) may follow, and is left out."""
+
+    TEXT, RUN, PRONOUNCED = "t r* rPh* phoneticPr", "rPr t", "t"
+
+    is_whole = is_pronounced = False
+    is_taken = True
+
+    def begin_text(self, is_taken=True):
+        self.is_whole = self.is_pronounced = False
+        self.is_taken = is_taken
+
+    def open_t(self, _):
+        around = self.within[-2]
+        self.is_whole = self.is_whole or around not in ("r", "rPh")
+        if self.is_taken and around != "rPh":
+            self.take()
+        else:
+            self.skip()
+
+    def open_r(self, _):
+        if self.is_whole:
+            raise self.wrong("it has two texts: a whole one, and one in runs")
+
+    def open_rPh(self, _):
+        self.is_pronounced = True
+
+    def close_t(self):
+        self.leave()
+
+    def whole_text(self):
+        words = self.content()
+        if self.is_pronounced and not words:
+            raise self.wrong("its only text is how it is pronounced (rPh)")
+        return words

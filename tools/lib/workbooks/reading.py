@@ -1,0 +1,158 @@
+"""A workbook: its sheets, the parts that they share, and the rows of the sheet that is read."""
+
+import posixpath
+
+from ..base import text
+from .limits import LONGEST_NAME, MOST_HEADS, MOST_SHEETS, broken, too_many
+from .package import Package
+from .part import ANY_OTHERS, Part
+from .sheet import TRUTHS, FirstRow, Sheet, Strings, is_due
+from .styles import Styles
+
+PACKAGING = ("http://schemas.openxmlformats.org/package/2006/relationships",)
+RELATION = (
+    "http://schemas.openxmlformats.org/officeDocument/2006/relationships id",
+    "http://purl.oclc.org/ooxml/officeDocument/relationships id",
+)
+WORKBOOK, SHEET, OTHER_SHEETS = "officeDocument", "worksheet", ("chartsheet", "dialogsheet", "xlMacrosheet", "xlIntlMacrosheet")
+STRINGS, STYLES = "sharedStrings", "styles"
+KINDS = {WORKBOOK, SHEET, *OTHER_SHEETS, STRINGS, STYLES}
+
+
+def rows_of(data, preferred, needed=(), most=None):
+    """The rows of a workbook's sheet that aren't empty, with their numbers: of the preferred sheet, or else of the first with the needed names
+    in its first row, or else of the first. If there are `most`, more rows after the first are a fault. Also a note on the sheet, if there
+    are several."""
+    package = Package(data)
+    book = Book(package)
+    name, part, note = book.chosen(preferred, needed)
+    sheet = Sheet(name, part, book, most)
+    package.read(sheet.part, sheet)
+    return sheet.whole(book.strings(sheet.needed)), note
+
+
+class Relations(Part):
+    """The parts that belong to another one: the kind and the name of each by its identifier."""
+
+    NAMESPACES, ROOT = PACKAGING, "Relationships"
+    PLACES = {"": ROOT, ROOT: "Relationship*"}
+
+    def __init__(self, owner):
+        super().__init__()
+        folder, name = posixpath.split(owner)
+        self.folder = f"/{folder}"
+        self.part = posixpath.join(folder, "_rels", f"{name}.rels")
+        self.found = {}
+
+    def open_Relationship(self, attributes):
+        identifier, target = attributes.get("Id", ""), attributes.get("Target", "")
+        kind = attributes.get("Type", "").rpartition("/")[2]
+        if kind not in KINDS:
+            return
+        if max(len(identifier), len(target)) > LONGEST_NAME:
+            raise broken(f"the name of a part has more than {LONGEST_NAME:,} characters")
+        if identifier in self.found:
+            raise broken(f"two relations are named {text.quoted(identifier)}")
+        if len(self.found) == MOST_SHEETS:
+            raise too_many(MOST_SHEETS, "sheets")
+        if attributes.get("TargetMode") == "External":
+            raise broken(f"{text.quoted(target)} isn't a part of it")
+        self.found[identifier] = kind, posixpath.normpath(posixpath.join(self.folder, target)).lstrip("/")
+
+    def only(self, kind):
+        """The only part of a kind; None if there is none."""
+        found = [part for each, part in self.found.values() if each == kind]
+        if len(found) > 1:
+            raise broken(f"it has two parts of the kind {kind}")
+        return found[0] if found else None
+
+
+class Book(Part):
+    """The sheets of a workbook, and the parts that they share."""
+
+    ROOT = "workbook"
+    PLACES = {"": ROOT, ROOT: "workbookPr sheets calcPr extLst", "sheets": "sheet*"}
+    BETWEEN = {ROOT: {ANY_OTHERS, *(
+        "fileVersion fileSharing workbookProtection bookViews functionGroups externalReferences definedNames oleSize customWorkbookViews"
+        " pivotCaches smartTagPr smartTagTypes webPublishing fileRecoveryPr webPublishObjects").split()}}  # fmt: skip
+
+    def __init__(self, package):
+        super().__init__()
+        self.package, self.from_1904, self.is_computed, self.sheets = package, False, True, []
+        if not package.has("_rels/.rels"):
+            raise broken("it isn't an Excel workbook (.xlsx), but another archive")
+        part = self.relations_of("").only(WORKBOOK)
+        if part is None:
+            raise broken("it has no sheets")
+        self.relations = self.relations_of(part)
+        package.read(part, self)
+        styles = Styles()
+        if part := self.relations.only(STYLES):
+            package.read(part, styles)
+        self.formats, self.styled = styles.of_cells(), styles.of_texts()
+
+    def relations_of(self, owner):
+        relations = Relations(owner)
+        self.package.read(relations.part, relations)
+        return relations
+
+    def open_workbookPr(self, attributes):
+        self.from_1904 = TRUTHS.get(attributes.get("date1904")) == "TRUE"
+
+    def open_calcPr(self, attributes):
+        """A program that doesn't compute formulas stores any values, and lets Excel compute them once it opens the workbook."""
+        self.is_computed = not is_due(attributes) and TRUTHS.get(attributes.get("calcCompleted")) != "FALSE"
+
+    def open_sheet(self, attributes):
+        if len(self.sheets) == MOST_SHEETS:
+            raise too_many(MOST_SHEETS, "sheets")
+        name, identifier = attributes.get("name", ""), next((attributes[each] for each in RELATION if each in attributes), "")
+        if max(len(name), len(identifier)) > LONGEST_NAME:
+            raise broken(f"the name of a sheet has more than {LONGEST_NAME:,} characters")
+        self.sheets.append((name, identifier))
+
+    def tables(self):
+        """The sheets with cells: the part of each, by its name. Excel takes names that differ by capitals alone for one."""
+        sheets, names = {}, set()
+        for name, identifier in self.sheets:
+            kind, part = self.relations.found.get(identifier, (None, None))
+            if kind in OTHER_SHEETS:
+                continue
+            is_known = name.lower() in names
+            if kind != SHEET or is_known:
+                raise broken(f"{'two sheets are' if is_known else 'no part has the sheet'} named {text.quoted(name)}")
+            sheets[name] = part
+            names.add(name.lower())
+        if not sheets:
+            raise broken("it has no sheets")
+        return sheets
+
+    def chosen(self, preferred, needed):
+        """The name and the part of the sheet that is read, and a note on it if there are several."""
+        sheets = self.tables()
+        if len(sheets) == 1:
+            return *next(iter(sheets.items())), None
+        found = [name for name in sheets if name.lower() == preferred] or self.having(sheets, needed)
+        name = [*found, *sheets][0]
+        others = [text.quoted(other) for other in found[1:]]
+        more = f"; {', '.join(others)} {'has' if len(others) == 1 else 'have'} the columns of orders too" if others else ""
+        return name, sheets[name], f"of {len(sheets)} sheets, {text.quoted(name)} was read{more}"
+
+    def having(self, sheets, needed):
+        """The sheets with the needed names in their first rows."""
+        rows, heads = {name: FirstRow(name, part, self, needed) for name, part in sheets.items()} if needed else {}, 0
+        for row in rows.values():
+            row.begin_part()
+            heads += len(row.needed)
+            if heads > MOST_HEADS:
+                raise too_many(MOST_HEADS, "strings in the first rows of its sheets")
+        strings = self.strings(set().union(*(row.needed for row in rows.values())))
+        return [name for name, row in rows.items() if set(needed) <= row.names(strings)]
+
+    def strings(self, needed):
+        """Those of the shared strings that are needed, by their numbers."""
+        strings = Strings(needed)
+        part = self.relations.only(STRINGS)
+        if needed and part:
+            self.package.read(part, strings)
+        return strings.found

@@ -1,0 +1,316 @@
+"""The cells of a sheet, and the strings that sheets share."""
+
+import datetime
+import math
+import re
+
+from ..base import text
+from .cells import Date, Kept, Numbers, Rows, Styled, StyledString, Truth, Uncomputed, name_of, number_of, trimmed, unescaped
+from .limits import LAST_COLUMN, LAST_ROW, MOST_CELLS, MOST_ELEMENTS, MOST_TEXT, Wrong, broken, size_of, too_many
+from .part import ANY_OTHERS, Texts
+from .styles import digits_of, general
+
+NUMBER = re.compile(r"[+-]?(?:[0-9]+(?:\.[0-9]*)?|\.[0-9]+)(?:[eE][+-]?[0-9]{1,3})?")
+WHOLE = re.compile(r"-?[0-9]{1,15}")
+PLACE = re.compile(r"[1-9][0-9]{0,6}")
+RANGE = re.compile(r"\$?([A-Z]{1,3})\$?([1-9][0-9]{0,6})(?::\$?([A-Z]{1,3})\$?([1-9][0-9]{0,6}))?")
+DATE = re.compile(r"([0-9]{4}-[0-9]{2}-[0-9]{2})(?:T[0-9:.]*Z?)?")
+CLOCK = re.compile(r"T?([0-9]{2}:[0-9]{2})(?::[0-9.]*)?Z?")
+TRUTHS = {"1": "TRUE", "true": "TRUE", "0": "FALSE", "false": "FALSE"}
+
+
+def is_due(attributes):
+    """Whether Excel computes all formulas once it opens the workbook."""
+    return TRUTHS.get(attributes.get("fullCalcOnLoad")) == "TRUE"
+
+
+class Strings(Texts):
+    """The shared strings that are needed, by their numbers."""
+
+    ROOT = "sst"
+    PLACES = {"": ROOT, ROOT: "si* extLst", "si": Texts.TEXT, "r": Texts.RUN, "rPh": Texts.PRONOUNCED}
+
+    def __init__(self, needed):
+        super().__init__()
+        self.needed, self.number, self.found, self.size = needed, -1, Kept(), 0
+
+    def open_si(self, _):
+        self.number += 1
+        self.begin_text(self.number in self.needed)
+
+    def close_si(self):
+        if self.is_taken:
+            words = unescaped(self.whole_text())
+            self.size += size_of(words)
+            if self.size > MOST_TEXT:
+                raise too_many(MOST_TEXT, "bytes of text in its cells")
+            self.found.add(self.number, words)
+
+    def wrong(self, words):
+        return broken(f"string {self.number} of its cells: {words}")
+
+
+class Sheet(Texts):
+    """The cells of a sheet. Rows and cells have to increase, so that none takes the place of another."""
+
+    ROOT = "worksheet"
+    PLACES = {
+        "": ROOT,
+        ROOT: "sheetData sheetCalcPr mergeCells extLst",
+        "sheetData": "row*",
+        "row": "c* extLst",
+        "c": "f v is extLst",
+        "is": Texts.TEXT,
+        "r": Texts.RUN,
+        "rPh": Texts.PRONOUNCED,
+        "mergeCells": "mergeCell*",
+    }
+    BETWEEN = {ROOT: {ANY_OTHERS, *(
+        "sheetPr dimension sheetViews sheetFormatPr cols sheetProtection protectedRanges scenarios autoFilter sortState"
+        " dataConsolidate customSheetViews phoneticPr conditionalFormatting dataValidations hyperlinks printOptions pageMargins pageSetup"
+        " headerFooter rowBreaks colBreaks customProperties cellWatches ignoredErrors smartTags drawing legacyDrawing legacyDrawingHF"
+        " drawingHF picture oleObjects controls webPublishItems tableParts").split()}}  # fmt: skip
+
+    def __init__(self, name, part, book, most):
+        super().__init__()
+        self.place, self.part, self.book = f"sheet {text.quoted(name)}", part, book
+        self.last = None if most is None else most + 1  # how many rows it may have
+        self.rows, self.needed = Rows(), Numbers()
+        self.row = self.column = self.count_of_cells = self.size = 0
+        self.cells = None  # of a row; None outside
+        self.first_formula = None  # its row and its column
+        self.has_data = False
+
+    def wrong(self, words):
+        column = name_of(self.column) if self.column else ""
+        place = f", {'cell' if column else 'row'} {column}{self.row}" if self.row and self.cells is not None else ""
+        if self.row and self.cells is None and self.within[-1] == "sheetData":
+            place = f", after row {self.row}"
+        return Wrong(f"{self.place}{place}: {words}")
+
+    def open_sheetData(self, _):
+        self.has_data = True
+
+    def open_row(self, attributes):
+        found = attributes.get("r")
+        if found is None:
+            found = str(self.row + 1)
+        number = int(found) if PLACE.fullmatch(found) else 0
+        if not 1 <= number <= LAST_ROW:
+            raise self.wrong(f"a row has the number {text.quoted(found)}: they go from 1 to {LAST_ROW}")
+        last, self.row, self.column, self.cells = self.row, number, 0, []
+        if number <= last:
+            raise self.wrong("it occurs twice" if number == last else f"it stands after row {last}, but the rows should increase")
+
+    def close_row(self):
+        if self.cells:
+            if len(self.rows) == self.last:
+                self.column = 0
+                raise self.wrong(f"a table has at most {self.last - 1:,} rows after its first")
+            self.rows.add(self.row, self.cells)
+        self.column, self.cells = 0, None
+
+    def open_c(self, attributes):
+        last = self.column
+        found = attributes.get("r")
+        if found is None:
+            self.column += 1
+        else:
+            letters = found.rstrip("0123456789")
+            column = number_of(letters)
+            if not column or found != f"{letters}{self.row}":
+                raise self.wrong(f"a cell of this row has the place {text.quoted(found)}")
+            self.column = column
+        if self.column > LAST_COLUMN:
+            raise self.wrong(f"a row has at most {LAST_COLUMN} cells")
+        if self.column <= last:
+            words = f"it stands after {name_of(last)}{self.row}, but the cells of a row should increase"
+            raise self.wrong("it occurs twice" if self.column == last else words)
+        self.kind, self.style = attributes.get("t", "n"), attributes.get("s", "0")
+        self.value = self.formula = None
+
+    def open_v(self, _):
+        self.refuse_value(self.kind == "inlineStr")
+        self.take()
+
+    def open_is(self, _):
+        self.refuse_value(self.kind != "inlineStr")
+        self.begin_text()
+
+    def refuse_value(self, is_other):
+        if self.value is not None:
+            raise self.wrong("it has two values")
+        if is_other:
+            raise self.wrong(f"its value isn't of its type, {text.quoted(self.kind)}")
+
+    def open_f(self, _):
+        self.take()
+
+    def close_v(self):
+        self.leave()
+        self.value = self.content()
+
+    def close_is(self):
+        self.value = self.whole_text()
+
+    def close_f(self):
+        self.leave()
+        self.formula = self.content()
+        self.first_formula = self.first_formula or (self.row, self.column)
+
+    def close_c(self):
+        words = self.words()
+        if words == "":
+            return
+        self.count_of_cells += self.column - len(self.cells)
+        if self.count_of_cells > MOST_CELLS:
+            raise self.wrong(f"the sheet has more than {MOST_CELLS:,} cells before this one: delete those that the table doesn't need")
+        self.cells += [""] * (self.column - 1 - len(self.cells))
+        self.cells.append(words)
+        if isinstance(words, int):
+            self.needed.add(words)
+        else:
+            self.add_text(words)
+
+    def add_text(self, words):
+        self.size += size_of(words)
+        if self.size > MOST_TEXT:
+            raise self.wrong(f"the sheet has more than {MOST_TEXT:,} bytes of text before this cell")
+
+    def words(self):
+        """The content of a cell, as it would stand in a text; of a shared string its number. A formula that was saved without its value
+        stands for itself, so that it isn't taken for an empty cell."""
+        value, kind = self.value, self.kind
+        if self.formula is not None and (value is None or value == "" and kind != "str" or not self.book.is_computed):
+            return Uncomputed(f"={self.formula}")
+        if value is None or value == "" and kind in ("n", "str", "inlineStr"):
+            return ""
+        if kind == "n":
+            return self.number(value.strip())
+        if kind == "s":
+            if not WHOLE.fullmatch(value) or not 0 <= int(value) < MOST_ELEMENTS:
+                raise self.wrong(f"it has no string {text.quoted(value)}")
+            return StyledString(value) if self.is_styled() else int(value)
+        if kind in ("str", "inlineStr"):
+            return Styled(unescaped(value)) if self.is_styled() else unescaped(value)
+        if kind == "e" and value:
+            return value
+        if kind == "b" and value in TRUTHS:
+            return Truth(TRUTHS[value])
+        if kind == "d" and (found := DATE.fullmatch(value) or CLOCK.fullmatch(value)):
+            return Date(found[1])
+        raise self.wrong(f"{text.quoted(value)} isn't of its type, {text.quoted(kind)}")
+
+    def is_styled(self):
+        """Whether the cell's format shows a text in another way."""
+        styled = self.book.styled
+        return bool(styled) and WHOLE.fullmatch(self.style) is not None and int(self.style) in styled
+
+    def number(self, value):
+        """A number with the digits that Excel shows, or the date that it stands for."""
+        if not NUMBER.fullmatch(value) or not math.isfinite(float(value)):
+            raise self.wrong(f"{text.quoted(value)} isn't a number")
+        made = self.format()
+        if made is Date:
+            return Date(self.date(float(value)))
+        return made(int(value) if WHOLE.fullmatch(value) else digits_of(float(value)))
+
+    def format(self):
+        """How the cell's format shows numbers."""
+        style, formats = self.style, self.book.formats or [general]
+        if not WHOLE.fullmatch(style) or not 0 <= int(style) < len(formats):
+            raise self.wrong(f"it has no format {text.quoted(style)}")
+        return formats[int(style)]
+
+    def date(self, serial):
+        """The date, or of a number below 1 the time of day."""
+        seconds = round(serial % 1 * 86_400)
+        days = math.floor(serial) + seconds // 86_400
+        if days == 0:
+            return f"{seconds // 3_600:02}:{seconds // 60 % 60:02}"
+        # Excel's calendar has a 29th of February 1900.
+        first = datetime.date(1904, 1, 1) if self.book.from_1904 else datetime.date(1899, 12, 31 if days < 60 else 30)
+        try:
+            if days < 0:
+                raise OverflowError
+            return (first + datetime.timedelta(days)).isoformat()
+        except OverflowError:
+            raise self.wrong(f"{serial:.15g} is no date, which its format shows") from None
+
+    def open_sheetCalcPr(self, attributes):
+        """As `Book.open_calcPr`, but after the cells."""
+        if self.first_formula and is_due(attributes):
+            (self.row, self.column), self.cells = self.first_formula, []
+            raise self.wrong("its formula was saved without its value: open the workbook in Excel, and save it")
+
+    def open_mergeCell(self, attributes):
+        """Of merged cells only the first has a value, so that a row could seem to have none."""
+        ref = attributes.get("ref", "")
+        found = RANGE.fullmatch(ref)
+        if not found or not self.has_data:
+            raise self.wrong(f"the merged cells {text.quoted(ref)} can't be read")
+        if found[3] is None or not self.rows:
+            return
+        width = max(len(cells) for _, cells in self.rows) if self.width is None else self.width
+        self.width = width
+        (top, bottom), left = sorted((int(found[2]), int(found[4]))), min(number_of(found[1]), number_of(found[3]))
+        is_apart = bottom < self.rows.numbers[0] or top > self.rows.numbers[-1] or left > width
+        if not is_apart and (found[1], found[2]) != (found[3], found[4]):
+            raise self.wrong(f"the cells {ref} are merged, but each row of a table has its own")
+
+    width = None  # of the widest row, once it is needed
+
+    def whole(self, strings):
+        """The rows that aren't empty, with their shared strings."""
+        if not self.has_data:
+            raise self.wrong("it has no table of cells")
+        rows = Rows()
+        for self.row, self.cells in self.rows:
+            for at, cell in enumerate(self.cells):
+                if isinstance(cell, int):
+                    self.column = at + 1
+                    words = strings.get(cell)
+                    if words is None:
+                        raise self.wrong(f"it has no string '{cell}'")
+                    self.cells[at] = Styled(words) if isinstance(cell, StyledString) else words
+                    self.add_text(words)
+            if cells := trimmed(self.cells):
+                rows.add(self.row, cells)
+        return rows
+
+
+class Enough(Exception):
+    """The first row of a sheet was read."""
+
+
+class FirstRow(Sheet):
+    """The needed names in the first row of a sheet that isn't empty. A sheet that can't be read has none: if it is read as the table, it is a
+    fault."""
+
+    def __init__(self, name, part, book, names):
+        super().__init__(name, part, book, None)
+        self.sought, self.needed = names, set()
+
+    def words(self):
+        """The content of a cell, or a word in its place if it isn't needed."""
+        words = super().words()
+        return words if isinstance(words, int) or not words or words.strip().lower() in self.sought else "other"
+
+    def close_row(self):
+        super().close_row()
+        if self.rows:
+            raise Enough
+
+    def begin_part(self):
+        try:
+            self.book.package.read(self.part, self)
+        except Enough:
+            self.rows = [(row, list(set(cells))) for row, cells in self.rows]
+        except Wrong:
+            self.rows, self.needed = [], set()
+
+    def names(self, strings):
+        try:
+            return {cell.strip().lower() for _, cells in self.whole(strings) for cell in cells} & set(self.sought)
+        except Wrong:
+            return set()

@@ -1,0 +1,282 @@
+"""The office: the close of a day, and what is published."""
+
+import asyncio
+import datetime
+import errno
+import functools
+import io
+import json
+import threading
+from types import SimpleNamespace
+from unittest import mock
+
+from office_support import DAY, NAMES, PAST, Disk, Office, commands, opener
+
+from lib.seal import heads
+from lib.tool import command
+
+try:
+    from lib.office import clearing, folder, gate, observed, operate, web
+except ImportError:  # without python3-aiohttp and the like, whose tests are skipped
+    pass
+
+
+class Closing(Office):
+    def clock(self, now):
+        self.now = now
+        return gate.Clock(lambda: self.now)
+
+    async def test_the_close_comes_once_after_all_that_came_in_time(self):
+        self.make(closes=datetime.datetime.fromtimestamp(5_000, datetime.timezone.utc))
+        disk, clock = Disk(), self.clock(4_999)
+        with opener(disk):
+            given = self.gate(clock)
+            task = asyncio.create_task(given.run())
+            await given.is_ready.wait()
+            waiting = [given.submit(who, 1, commands(f"cancel,{who},A,,,,,,")) for who in NAMES]
+            self.now = 5_000
+            with self.assertRaises(gate.Refused) as caught:
+                given.submit("GAS", 2, commands("cancel,GAS,B,,,,,,"))
+            self.assertEqual(caught.exception.fault, "Closed")
+            self.now = 4_000  # set back: it doesn't open again
+            with self.assertRaises(gate.Refused):
+                given.submit("GAS", 2, commands("cancel,GAS,B,,,,,,"))
+            self.assertEqual(await asyncio.gather(*waiting), [[1], [2], [3]])
+            await task
+            self.assertEqual(given.state, "results")
+            self.assertEqual(await given.submit("GAS", 1, commands("cancel,GAS,A,,,,,,")), [2])  # sent again, after the close
+        self.assertEqual(disk.records, [*(f"cancel,{who},A,,,,,," for who in NAMES), "close,,,,,,,,"])
+        with opener(disk):  # and not after a start with a clock that is set back either
+            given = self.gate(self.clock(4_000))
+            await given.run()
+            with self.assertRaises(gate.Refused) as caught:
+                given.submit("GAS", 2, commands("cancel,GAS,B,,,,,,"))
+            self.assertEqual(caught.exception.fault, "Closed")
+        self.assertEqual(disk.records.count("close,,,,,,,,"), 1)
+
+    async def test_a_start_after_the_time_closes_before_it_enters_anything(self):
+        self.make(closes=PAST)
+        disk = Disk()
+        disk.ends = [(0, 0), (1, 0)]  # the desk ends before the close, and after it is on the disk
+        with opener(disk):
+            given = self.gate()
+            with self.assertRaises(gate.Refused):
+                given.submit("GAS", 1, commands("cancel,GAS,A,,,,,,"))
+            await given.run()
+        self.assertEqual((disk.records, given.state), (["close,,,,,,,,"], "results"))
+
+    async def closed(self):
+        """A closed day with its files."""
+        self.make()
+        with opener(Disk()), mock.patch.object(clearing, "output", mock.AsyncMock(return_value=b"{}")):
+            given = self.gate()
+            task = asyncio.create_task(given.run())
+            await given.is_ready.wait()
+            await given.submit("GAS", 1, commands("cancel,GAS,A,,,,,,"))
+            given.close()
+            await task
+            await clearing.sign(given)
+            await clearing.state(given)
+        return given
+
+    async def shows_nothing(self):
+        """A stopped day doesn't show the results, which may have been changed."""
+        again = self.gate()
+        await again.run()
+        request, served = SimpleNamespace(path=f"/days/{DAY}/results"), SimpleNamespace(gate=lambda request: again)
+        served.unstopped = functools.partial(web.Web.unstopped, served)
+        for answer in (web.Web.prices, web.Web.published):
+            with self.assertRaises(gate.Refused) as caught:
+                await answer(served, request)
+            self.assertEqual(caught.exception.fault, "Unavailable")
+
+    async def test_a_start_sees_results_and_a_statement_that_were_changed(self):
+        files = (await self.closed()).files
+        kept = {name: files.read(name) for name in (folder.RESULTS, folder.STATEMENT, folder.SUMS)}
+
+        async def fault():
+            again = self.gate()
+            await again.run()
+            return again.fault
+
+        self.assertIsNone(await fault())
+        for name, damages in (
+            (folder.RESULTS, (b"x", kept[folder.RESULTS] + b"\n")),
+            (folder.STATEMENT, (b"", b"{} ", b"\xff")),
+            (folder.SUMS, (b"", b"[]", b"{}", b"\xff", kept[folder.SUMS][:-9])),
+        ):
+            for damage in damages:
+                files.file(name).write_bytes(damage)
+                with self.subTest(name=name, damage=damage):
+                    self.assertEqual(await fault(), f"{name} isn't as it was made")
+                    await self.shows_nothing()
+            files.file(name).write_bytes(kept[name])
+        self.assertIsNone(await fault())
+        files.drop(folder.SUMS)  # as before there were sums
+        self.assertIsNone(await fault())
+
+    async def test_a_statement_has_its_sum_at_any_crash(self):
+        given = await self.closed()
+        kept, put = given.files.read(folder.SUMS), folder.put
+        given.files.drop(folder.SUMS)
+        given.files.drop(folder.STATEMENT)
+
+        def ends(path, data):
+            if path.name == folder.STATEMENT:
+                raise OSError(errno.ENOSPC, "full")
+            put(path, data)
+
+        with mock.patch.object(clearing, "output", mock.AsyncMock(return_value=b"{}")):
+            with mock.patch.object(folder, "put", ends), self.assertRaises(OSError):
+                await clearing.state(given)
+            self.assertEqual((given.files.read(folder.SUMS), given.published.is_whole), (kept, False))
+            await clearing.state(given)
+        self.assertEqual((given.files.read(folder.SUMS), given.published.is_whole), (kept, True))
+
+    async def test_a_published_day_is_that_of_its_head(self):
+        given = await self.closed()
+        begins, ends, load = threading.Event(), threading.Event(), clearing.load
+
+        def slow(*words):
+            made = load(*words)
+            begins.set()
+            ends.wait()
+            return made
+
+        with mock.patch.object(clearing, "load", slow):
+            again = self.gate()
+            task = asyncio.create_task(again.run())
+            await asyncio.to_thread(begins.wait)
+            self.assertEqual((again.is_known.is_set(), again.ledger.size), (False, 0))  # no part of the journal is seen
+            with self.assertRaises(gate.Refused) as caught:
+                web.Web.need_known(None, again)
+            self.assertEqual(caught.exception.fault, "Unavailable")
+            ends.set()
+            await task
+        self.assertTrue(again.is_known.is_set())
+        self.assertEqual((again.fault, heads.line(again.ledger.head())), (None, given.files.read(folder.HEAD)))
+        journal_file, kept = given.files.file(folder.JOURNAL), given.files.read(folder.JOURNAL)
+        journal_file.write_bytes(kept.replace(b"GAS,A,", b"GAS,B,"))
+        again = self.gate()
+        await again.run()
+        self.assertIn("isn't of the journal", again.fault or "")
+        replies = given.files.read(folder.REPLIES)
+        for name, whole, damages in (
+            (folder.JOURNAL, kept, (b"\xff", kept[:-3], kept + b"close,,,,,,,,\n", kept.replace(b"cancel", b"cancle"))),
+            (folder.REPLIES, replies, (replies.replace(b"\n1,", b"\n2,"), replies.replace(b"\n1,", b"\n01,"), replies[:-1] + b"x\n")),
+        ):
+            first = whole.replace(b"day,24", b"day,25")
+            for damage in (None, b"", first, whole.replace(b"\n", b"\r\n"), whole[:-1], whole + b"\n", b"\n" + whole, *damages):
+                given.files.drop(name)
+                if damage is not None:
+                    self.assertNotEqual(damage, whole)
+                    given.files.file(name).write_bytes(damage)
+                again = self.gate()
+                await again.run()
+                with self.subTest(name=name, damage=damage):
+                    self.assertEqual(again.fault, "journal.csv, replies.txt or head.json is missing or damaged")
+            given.files.file(name).write_bytes(whole)
+        again = self.gate()
+        await again.run()
+        self.assertIsNone(again.fault)
+        given.files.drop(folder.HEAD)
+        again = self.gate()
+        await again.run()
+        self.assertEqual(again.fault, "journal.csv, replies.txt or head.json is missing or damaged")
+
+    async def test_a_day_whose_files_cant_be_made_isnt_right(self):
+        self.make()
+        step, faults = clearing.sign, [OSError(errno.ENOSPC, "full")] * 2
+
+        async def sign(given):
+            if faults:
+                raise faults.pop()
+            await step(given)
+            rights.append(given.is_healthy)
+
+        async def made(given):
+            rights.append(given.is_healthy)
+
+        rights, log = [], io.StringIO()
+        with opener(Disk()), mock.patch.object(clearing, "publish", self.publish), mock.patch.multiple(
+            clearing, FIRST_PAUSE=0.001, sign=sign, clear=made, state=made
+        ):
+            given = self.gate(log=observed.Log(log))
+            task = asyncio.create_task(given.run())
+            await given.is_ready.wait()
+            given.close()
+            await task
+        self.assertEqual((rights, given.is_healthy), ([False, True, True], True))
+        self.assertEqual([one.get("file") for one in map(json.loads, log.getvalue().splitlines()) if one["event"] == "not made"], ["head.json"] * 2)
+
+    async def test_the_states_of_a_day(self):
+        """The office and the command status, which has the files alone, have the same words."""
+        self.make()
+        disk = Disk()
+
+        def states():
+            given.files.file(folder.DESK).touch()
+            with mock.patch.object(operate, "shown", mock.Mock()), mock.patch.object(operate.asyncio, "run", lambda _: ["day", *disk.records]):
+                return given.state, operate.state_of(given.files, "dam-desk")["state"]
+
+        with opener(disk), mock.patch.object(clearing, "publish", self.held):
+            given = self.gate()
+            task = asyncio.create_task(given.run())
+            await given.is_ready.wait()
+            self.assertEqual(states(), ("open", "open"))
+            operate.request(given.files, folder.CLOSE_NOW)
+            given.close()
+            self.assertEqual(states(), ("closing", "closing"))
+            await self.until(lambda: given.ledger.is_closed)
+            self.assertEqual(states(), ("closed", "closed"))
+            given.files.file(folder.RESULTS).write_bytes(b"")
+            self.assertEqual(states(), ("results", "results"))
+            self.assertIn("published", operate.publish(None, DAY, given.files))
+            self.assertEqual(states(), ("published", "published"))
+            task.cancel()
+            await asyncio.gather(task, return_exceptions=True)
+
+    async def held(self, _):
+        await asyncio.Event().wait()
+
+    def test_a_close_says_why_it_waits(self):
+        self.make()
+        files = self.office.days()[DAY]
+        for served, room, words in (
+            (False, None, []),
+            (True, None, [f"{DAY} has no head yet: the office's log says why"]),
+            (True, OSError(errno.ENOSPC, "No space left on device"), ["No space left on device"]),
+        ):
+            said = []
+            with (
+                mock.patch.multiple(operate, CLOSE_SECONDS=0.2, TELL_SECONDS=0.02, STEP=0.001),
+                mock.patch.object(self.office, "is_served", lambda: served),
+                mock.patch.object(files, "need_room", mock.Mock(side_effect=room)),
+                mock.patch.object(command, "tell", lambda _, line: said.append(line)),
+            ):
+                if served:
+                    with self.assertRaises(command.Stop) as caught:
+                        operate.close(self.office, DAY, files)
+                    self.assertEqual(caught.exception.status, command.UNDECIDED)
+                else:
+                    self.assertIn("once the office is served", operate.close(self.office, DAY, files))
+            self.assertEqual(len(said), len(words))
+            for line, part in zip(said, words):
+                self.assertIn(part, line)
+        self.assertTrue(files.has(folder.CLOSE_NOW))  # the request stays
+
+    async def test_the_operator_closes_early(self):
+        self.make()
+        disk = Disk()
+        with opener(disk):
+            given = self.gate()
+            task = asyncio.create_task(given.run())
+            await given.is_ready.wait()
+            await given.submit("GAS", 1, commands("cancel,GAS,A,,,,,,"))
+            operate.request(given.files, folder.CLOSE_NOW)
+            await task
+        self.assertEqual(disk.records, ["cancel,GAS,A,,,,,,", "close,,,,,,,,"])
+
+
+if __name__ == "__main__":
+    unittest.main()

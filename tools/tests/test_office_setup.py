@@ -1,0 +1,592 @@
+"""The office: its folder, its description and its operation."""
+
+import argparse
+import asyncio
+import contextlib
+import datetime
+import errno
+import io
+import json
+import os
+import re
+import subprocess
+from pathlib import Path
+from unittest import mock
+
+from office_support import DAY, FUTURE, NAMES, SECONDS, Disk, Office, commands, opener
+from support import AUCTION, TOOLS, TOP, tool, unsaid
+
+from lib.sheets import sheets
+from lib.tool import command
+
+try:
+    from lib.seal import signing
+    from lib.office import demo, folder, gate, guards, newest, observed, operate, setup, tokens, web
+    from lib.office import serve as serving
+    from lib.office.desk import how_ended
+except ImportError:  # without python3-aiohttp and the like, whose tests are skipped
+    pass
+
+
+def others(value):
+    """JSON like that of a file of an office, with a value in each place that this one may not have."""
+    yield json.dumps([*value.items()]).encode()
+    for name in value:
+        for other in ([], {"\ud800": 1}, {"GAS": "1"}, {"GAS": -1}, 1.5, True, "2026-11-28T11:00:00" if name == "closes" else []):
+            yield json.dumps({**value, name: other}).encode()
+    yield json.dumps({**value, "x": None}).encode()
+
+
+class Setup(Office):
+    def args(self, **words):
+        return argparse.Namespace(**{"day": DAY, "periods": 24, "close": "12:00", "zone": "Europe/Berlin", "participants": None, **words})
+
+    def terms(self, **words):
+        return setup.terms_of(self.args(**words), {}, datetime.datetime(2026, 1, 1, tzinfo=datetime.timezone.utc))
+
+    def test_the_close_is_on_the_day_before_in_its_zone(self):
+        self.assertEqual(self.terms().closes.isoformat(), "2026-11-28T11:00:00+00:00")
+        self.assertEqual(self.terms(day="2026-07-02").closes.isoformat(), "2026-07-01T10:00:00+00:00")
+        self.assertEqual(self.terms(close="2026-11-27T09:30", zone="UTC").closes.isoformat(), "2026-11-27T09:30:00+00:00")
+        twice = self.terms(close="2026-10-25T02:30", day="2026-10-26")  # the earlier one of the two
+        self.assertEqual(twice.closes.isoformat(), "2026-10-25T00:30:00+00:00")
+        for periods, day in ((23, "2026-03-29"), (92, "2026-03-29"), (25, "2026-10-25"), (100, "2026-10-25"), (96, DAY)):
+            self.assertEqual(self.terms(periods=periods, day=day).periods, periods)
+
+    def test_what_cant_be_is_refused(self):
+        for words in (
+            {"day": "tomorrow"},
+            {"day": "2026-02-30"},
+            {"periods": 25},
+            {"periods": 7},
+            {"periods": 24, "day": "2026-03-29"},
+            {"close": "24:00"},
+            {"close": "noon"},
+            {"close": "2026-03-29T02:30", "day": "2026-03-30"},  # the clocks change
+            {"close": "2025-11-27T09:30"},
+            {"zone": "Atlantis"},
+            {"zone": "../../etc/passwd"},
+        ):
+            with self.subTest(**words), self.assertRaises(command.Stop) as caught:
+                self.terms(**words)
+            self.assertEqual(caught.exception.status, command.COMMAND_LINE)
+
+    def test_a_day_that_is_not_made_makes_no_token(self):
+        """Nobody would see it, and a further day prints only new ones."""
+        self.participants("participant\nGAS\n")
+        words, path = ["--close", "12:00", "--participants", self.office.path.parent / "p.csv"], self.office.path
+        self.assertEqual(tool("office", "init", path, "--day", "2099-11-29", *words)[0], command.DONE)
+        self.participants("participant\nGAS\nWIND\n")
+        self.assertEqual(tool("office", "init", path, "--day", "2099-11-29", *words)[:2], (command.NO_INPUT, b""))
+        status, out, _ = tool("office", "init", path, "--day", "2099-11-30", *words)
+        self.assertEqual((status, [line[:5] for line in out.splitlines()[-1:]]), (command.DONE, [b"WIND."]))
+        self.assertEqual(sorted(self.office.days()), ["2099-11-29", "2099-11-30"])
+
+    @property
+    def table(self):
+        return self.office.path.parent / "p.csv"
+
+    def participants(self, text):
+        self.table.write_text(text)
+        return setup.participants_read(self.table)
+
+    def test_tokens_that_can_not_be_printed(self):
+        """The day is there, so it is said how the participants get others."""
+        self.participants("participant\nGAS\n")
+        words = ["init", self.office.path, "--close", "12:00", "--participants", self.table, "--day"]
+        closed, pipe = os.pipe()
+        os.close(closed)
+        full = os.open("/dev/full", os.O_WRONLY)
+        told = b"office: standard output can't be written: No space left on device"
+        for day, stdout, more, last in (("2099-11-28", full, [], [told]), ("2099-11-29", pipe, ["--json"], [])):
+            ran = subprocess.run([TOOLS / "office", *words, day, *more], stdout=stdout, stderr=subprocess.PIPE)
+            os.close(stdout)
+            said = b"%s was made; renew prints a new token for each participant whose token wasn't printed" % day.encode()
+            self.assertEqual((ran.returncode, ran.stderr.splitlines()), (command.NO_INPUT, [b"office: " + said, *last]))
+            self.assertIn(day, self.office.days())
+
+    def test_a_public_key_of_another_key_is_seen(self):
+        """By a start, and by a further day before it is made and a token is printed."""
+        self.participants("participant\nGAS\n")
+        words = ["--close", "12:00", "--participants", self.office.path.parent / "p.csv"]
+        self.assertEqual(tool("office", "init", self.office.path, "--day", "2099-11-29", *words)[0], command.DONE)
+        public = self.office.file(folder.PUBLIC)
+        kept = public.read_bytes()
+        self.participants("participant\nGAS\nWIND\n")
+        for other in (signing.public_text(signing.made()), b"", kept[:-30]):
+            public.write_bytes(other)
+            with self.subTest(other=other):
+                with self.assertRaisesRegex(command.Stop, "operator.pem.pub isn't the public key of operator.pem"):
+                    serving.Office(self.office, serving.Programs("dam", "dam-desk"), observed.Log(io.StringIO()))
+                status, out, err = tool("office", "init", self.office.path, "--day", "2099-11-30", *words)
+                self.assertEqual((status, out), (command.NO_INPUT, b""))
+                self.assertIn("isn't the public key of operator.pem", err)
+                self.assertEqual(list(self.office.days()), ["2099-11-29"])
+        public.write_bytes(kept.replace(b"\n", b"\r\n"))
+        self.assertEqual(self.office.public_text(self.office.key()).split(), kept.decode().split())
+
+    def test_shares_never_exceed_the_journal(self):
+        self.assertEqual(self.participants("participant\nA\nGAS\n"), {"A": None, "GAS": None})
+        found = self.participants("participant,commands\nA,100\nGAS,\nOIL,\n")
+        self.assertEqual(setup.shares_of(found), {"A": 100, "GAS": 4_949, "OIL": 4_949})
+        self.assertLessEqual(sum(setup.shares_of(dict.fromkeys(map(str, range(7)))).values()), folder.MOST_COMMANDS)
+        with self.assertRaises(command.Stop):
+            setup.shares_of({"A": 9_999, "B": None})
+        for text in (
+            "",
+            "name\nA\n",
+            "participant\na\n",
+            "participant\nA\nA\n",
+            "participant\nABCDEFGHI\n",
+            "participant,commands\nA,-1\n",
+            "participant\nÄ\n",
+        ):
+            with self.subTest(text=text), self.assertRaises(command.Stop):
+                self.participants(text)
+
+    def test_no_cell_of_the_participants_is_lost(self):
+        for table in (
+            "participant, commands\nGAS, 10\n WIND ,\n",
+            " Participant,COMMANDS\n\nGAS,10\n,\nWIND\n",
+            "commands\tparticipant\n10\tGAS\n\tWIND\n",
+        ):
+            with self.subTest(table=table):
+                self.assertEqual(self.participants(table), {"GAS": 10, "WIND": None})
+        columns, number = "the columns are participant, commands", "should be a whole number of at most 5 digits, such as 500"
+        for table, words in (
+            ("participant,max_commands\nGAS,10\n", f"line 1, column 2: 'max_commands' is not a column; {columns}"),
+            ("participant,participant\nGAS,COAL\n", "line 1, column 2: the column 'participant' appears twice"),
+            ("participant,commands,Commands\nGAS,10,20\n", "line 1, column 3: the column 'commands' appears twice"),
+            ("participant,,commands\nGAS,10,20\n", "line 2, column 2: '10' is in a column without a name: write one, or remove it"),
+            ("participant,commands\nGAS,1,500\nWIND,20\n", "line 2: it has 3 cells, but the header has 2"),
+            ("participant\nGAS,10\n", "line 2: it has 2 cells, but the header has 1"),
+            (
+                "participant,commands\nGAS,10\vOIL,5\n",
+                f"line 2: it has 3 cells, but the header has 2\n  line 2, column commands: '10\\x0bOIL' {number}",
+            ),
+            ("participant,commands\nGAS,1.5\n", f"line 2, column commands: '1.5' {number}"),
+            (
+                'participant,commands\n"GA\nS","1\n0"\n',
+                "line 2, column 1: a quote begins a cell that doesn't end on its line: write it on one line, or remove the quote",
+            ),
+            (
+                "participant\n\n\nGAS\n\nx\nGAS\n",
+                "line 6, column participant: 'x' should be 1 to 8 capitals A to Z: write X\n"
+                "  line 7, column participant: GAS is in line 4 too",
+            ),
+            ("%PDF-1.4\n", None),
+        ):
+            said = f"{self.table}: {words}" if words else f"{self.table} is a PDF: save the table as .xlsx or as CSV"
+            with self.subTest(table=table), self.assertRaises(command.Stop) as caught:
+                self.participants(table)
+            self.assertEqual(str(caught.exception), said)
+
+    def test_a_table_of_excel_is_read(self):
+        for text in ("\ufeffparticipant,commands\r\nA,100\r\nGAS,\r\n", "\ufeffparticipant;commands\r\nA;100\r\nGAS;\r\n"):
+            self.assertEqual(self.participants(text), {"A": 100, "GAS": None})
+        with self.assertRaisesRegex(command.Stop, "column commands: '²' should be a whole number"):
+            self.participants("participant,commands\nA,²\n")
+        path = self.office.path.parent / "p.xlsx"
+        path.write_bytes(b"PK\x03\x04\xff")
+        with self.assertRaisesRegex(command.Stop, "p.xlsx: line 1: the Excel workbook can't be read"):
+            setup.participants_read(path)
+
+    def test_a_workbook_of_participants_is_read(self):
+        if not command.has("openpyxl"):
+            self.skipTest("python3-openpyxl is missing")
+        made, path = sheets.writer().Workbook(), self.office.path.parent / "p.xlsx"
+        for row in (["Participant", "commands"], ["A", 100], [], ["GAS"]):
+            made.active.append(row)
+        made.create_sheet("notes", 0).append(["x"])
+        made.save(path)
+        words = ["--day", "2099-11-29", "--close", "12:00", "--participants", path, "--json"]
+        status, out, err = tool("office", "init", self.office.path, *words)
+        self.assertEqual((status, err), (command.DONE, f"office: note: {path}: of 2 sheets, 'Sheet' was read\n"))
+        self.assertEqual(list(json.loads(out)["tokens"]), ["A", "GAS"])
+        self.assertEqual(self.office.days()["2099-11-29"].terms().shares, {"A": 100, "GAS": 9_899})
+        made["Sheet"].append(["OIL", "=1+1"])
+        made.save(path)
+        said = "line 5, column commands: '=1\\+1' is a formula that was saved without its value: .*\n  of 2 sheets, 'Sheet' was read$"
+        with self.assertRaisesRegex(command.Stop, said):
+            setup.participants_read(path)
+
+    def test_a_table_without_the_column_is_named(self):
+        for text in ("GAS\nWIND\n", "name,commands\nGAS,1\n", "", "participants\nGAS\n"):
+            with self.subTest(text=text), self.assertRaisesRegex(command.Stop, "no column participant"):
+                self.participants(text)
+
+    def test_a_day_is_added_with_its_new_participants_alone(self):
+        later = "2099-11-28", "2099-11-29"
+        self.participants("participant\nA\nGAS\n")
+        path = str(self.office.path.parent / "p.csv")
+        _, made = setup.init(self.office, self.args(day=later[0], participants=path))
+        self.assertEqual(list(made), ["A", "GAS"])
+        self.participants("participant\nA\nOIL\n")
+        terms, made = setup.init(self.office, self.args(day=later[1], participants=path))
+        self.assertEqual((list(made), list(terms.shares)), (["OIL"], ["A", "OIL"]))
+        self.assertEqual(list(self.office.days()), list(later))
+        with self.assertRaisesRegex(command.Stop, "already"):
+            setup.init(self.office, self.args(day=later[1]))
+        self.assertEqual([path.name for path in self.office.file(folder.DAYS).iterdir() if path.name.startswith(".")], [])
+
+    def test_the_demo_has_the_orders_of_the_guide_and_more(self):
+        guide = (AUCTION.parent / "guide" / "1-hour.csv").read_text().splitlines()
+        self.assertEqual(demo.GUIDE, [record for record in guide[1:-1] if ",GAS," not in record])
+        found = commands(*demo.ORDERS)
+        shares = setup.shares_of(dict.fromkeys(demo.PARTICIPANTS))
+        self.assertLessEqual({one.who for one in found}, set(shares) - {"GAS"})
+        for side in ("buy", "sell"):
+            self.assertEqual({one.order.volumes[0][0] for one in found if one.order.side == side}, set(range(1, 25)))
+
+    def test_a_demo_that_closes_too_early(self):
+        """Before the orders are in that are its own."""
+        for seconds in ("0", "-1", "86401", "1.5", "x"):
+            self.assertEqual(tool("office", "demo", "--no-browser", "--seconds", seconds)[0], command.COMMAND_LINE, seconds)
+        told = mock.Mock(is_ready=mock.Mock(wait=mock.AsyncMock()), submit=mock.AsyncMock(side_effect=gate.Refused("Closed", "closed")))
+        with self.assertRaisesRegex(command.Stop, r"^the demo's own orders weren't entered \(closed\): give more --seconds$") as raised:
+            asyncio.run(demo.enter_orders(told))
+        self.assertEqual(raised.exception.status, command.COMMAND_LINE)
+
+    def test_the_command_line(self):
+        room = self.office.path.parent
+        (room / "p.csv").write_text("participant\nGAS\n")
+        words = ["--day", "2099-11-28", "--close", "12:00", "--participants", room / "p.csv"]
+        status, out, err = tool("office", "init", self.office.path, *words, "--json")
+        self.assertEqual((status, err), (0, ""))
+        made = json.loads(out)
+        self.assertEqual((made["command"], list(made["tokens"]), made["closes"]), ("init", ["GAS"], "2099-11-27T11:00:00+00:00"))
+        self.assertEqual(tool("office", "init", self.office.path, *words)[0], command.NO_INPUT)
+        self.assertEqual(tool("office", "serve", self.office.path, "--host", "0.0.0.0")[0], command.COMMAND_LINE)
+        said = f"office: {room} isn't the folder of an office: tools/office init makes one\n"
+        self.assertEqual(tool("office", "serve", room), (command.NO_INPUT, b"", said))
+        held, aside = self.office.file(folder.PARTICIPANTS), self.office.file("aside")
+        held.rename(aside)
+        said = f"office: {held} is missing: put it back\n"
+        self.assertEqual(tool("office", "serve", self.office.path), (command.NO_INPUT, b"", said))
+        aside.rename(held)
+        self.assertEqual(tool("office", "revoke", self.office.path, "OIL")[0], command.NO_INPUT)
+        status, out, _ = tool("office", "renew", self.office.path, "GAS")
+        self.assertTrue(tokens.Register(self.office.file(folder.PARTICIPANTS)).knows("GAS", out.decode().strip()))
+        self.assertEqual(tool("office", "publish", self.office.path)[0], command.NO_INPUT)
+        self.assertEqual(tool("office", "revoke", self.office.path, "GAS")[0], 0)
+        words[1] = "2099-11-29"
+        status, out, _ = tool("office", "init", self.office.path, *words)
+        self.assertEqual((status, out.decode().splitlines()[-1]), (0, "GAS has no token, which was revoked: renew gives it a new one"))
+        words[1] = "2099-11-30"
+        made = json.loads(tool("office", "init", self.office.path, *words, "--json")[1])
+        self.assertEqual((made["revoked"], made["tokens"]), (["GAS"], {}))
+        self.assertEqual(tool("office", "status", self.office.path, "--desk", "true")[0], 0)
+
+    def test_the_members_of_each_record_are_described(self):
+        (self.office.path.parent / "p.csv").write_text("participant\nGAS\n")
+        words = ["--day", "2099-11-28", "--close", "12:00", "--participants", self.office.path.parent / "p.csv"]
+        seen = []
+        for name, *more in (["init", *words], ["revoke", "GAS"], ["renew", "GAS"], ["close"], ["status", "--desk", "true"], ["publish"]):
+            if name == "publish":
+                (file,) = (files.file(folder.RESULTS) for files in self.office.days().values())
+                file.touch()
+            made = json.loads(tool("office", name, self.office.path, *more, "--json")[1])
+            parts = [part for day in made.get("days", []) for part in (day, *(of_one for of_one in day["commands"].values()))]
+            seen += parts
+            with self.subTest(name):
+                self.assertEqual((made["status"], made["message"]), (0, None))
+                self.assertEqual(unsaid("office", made, *parts), set())
+        self.assertEqual(len(seen), 2)
+
+    def test_the_events_of_the_page(self):
+        """The page has each event of the log, and no other."""
+        sources = "".join(path.read_text() for path in (TOOLS / "lib" / "office").glob("*.py"))
+        events = set(re.findall(r'\blog(?:_event|\.write)?\("([a-z ]+)"', sources))
+        table = (TOP / "docs" / "OFFICE.md").read_text().partition("\n| Event | Meaning |\n")[2].partition("\n\n")[0]
+        self.assertGreater(len(events), 10)
+        self.assertEqual({event for line in table.splitlines() for event in re.findall(r"`([a-z ]+)`", line.split("|")[1])}, events)
+
+    def test_the_limits_of_the_page(self):
+        text = " ".join((TOP / "docs" / "SECURITY.md").read_text().split())
+        for words in (
+            f"{guards.MOST_CONNECTIONS:,} connections, before",
+            f"{guards.MOST_HEAD >> 10} KiB for a request's head",
+            f"{guards.MOST_AHEAD} requests ahead",
+            f"{web.MOST_BODY >> 20} MiB a body",
+            f"{guards.IDLE_SECONDS} s for a head, {web.BODY_SECONDS} s for its body, {guards.BUSY_SECONDS} s until its answer",
+            f"{web.COMMANDS_A_SECOND} commands and {web.READS_A_SECOND} other requests a second",
+            f"(at first {web.MOST_COMMANDS:,} and {web.MOST_READS})",
+            f"{web.LOOKS_A_SECOND} requests a second for each address (at first {web.MOST_LOOKS:,})",
+            f"after {web.MOST_GUESSES} wrong tokens of an address, one more a second",
+            f"A /{guards.NETWORK} of IPv6",
+            f"all shares together are at most {folder.MOST_COMMANDS:,}",
+        ):
+            with self.subTest(words):
+                self.assertIn(words, text)
+        self.assertEqual(web.GUESSES_A_SECOND, 1)
+        self.assertIn(f"The file may lack the last {newest.PAUSE} s.", " ".join((TOP / "docs" / "OFFICE.md").read_text().split()))
+
+    def test_a_fault_of_the_disk_names_the_file(self):
+        self.addCleanup(os.umask, os.umask(0o077))
+        self.make()
+        room = self.office.path.parent
+        self.participants("participant\nGAS\n")
+        tokens.Register(self.office.file(folder.PARTICIPANTS)).add(["GAS"])
+        words = ["--day", "2099-11-28", "--close", "12:00", "--participants", room / "p.csv"]
+        day = self.office.file(folder.DAYS) / DAY
+        for path, asked in (
+            (day / folder.TERMS, ["status", self.office.path, "--desk", "true"]),
+            (self.office.file(f"{folder.PARTICIPANTS}.lock"), ["renew", self.office.path, "GAS"]),
+            (self.office.file(f"{folder.PARTICIPANTS}.lock"), ["init", self.office.path, *words]),
+        ):
+            with contextlib.suppress(FileNotFoundError):
+                path.unlink()
+            path.mkdir()  # which no user can read as a file
+            with self.subTest(path=path.name, asked=asked[0]):
+                status, out, err = tool("office", *asked)
+                said = f"not served, 1 participant\n{DAY}: can't be read\n".encode() if asked[0] == "status" else b""
+                self.assertEqual((status, out), (command.NO_INPUT, said))
+                self.assertIn(f"{path} can't be used: Is a directory", err)
+            path.rmdir()
+
+    def test_a_fault_of_a_write_names_the_file(self):
+        full = OSError(errno.ENOSPC, "No space left on device")
+        for fault in (full, OSError(errno.ENOSPC, full.strerror, ".dam-0123")):
+            with mock.patch.object(folder.replacing, "write", side_effect=fault), self.assertRaises(OSError) as caught:
+                self.make()
+            self.assertRegex(caught.exception.filename, "operator.pem")
+            self.assertEqual(command.end_of(caught.exception)[0], command.NO_INPUT)
+            self.assertIn(f"{caught.exception.filename} can't be used: No space", command.end_of(caught.exception)[1])
+        with mock.patch.object(os, "fsync", side_effect=full), self.assertRaises(OSError) as caught:
+            folder.sync(self.office.path)
+        self.assertEqual(caught.exception.filename, str(self.office.path))
+        with mock.patch.object(os, "fsync", side_effect=full), self.assertRaises(OSError) as caught:
+            folder.DayFolder(self.office.path).need_room()
+        self.assertEqual(caught.exception.filename, str(self.office.path))
+
+    def test_a_file_is_on_the_disk_before_it_has_its_name(self):
+        """And the folder with the name after that: a crash leaves the old file or the whole new one."""
+        self.make()
+        path, data, calls, rename = self.office.path / "results.txt", b"new" * 100, [], os.rename
+
+        def synced(number):
+            found = Path(os.readlink(f"/proc/self/fd/{number}"))
+            calls.append(("sync", found, found.is_file() and found.read_bytes()))
+
+        def renamed(made, target):
+            calls.append(("rename", Path(made), Path(target)))
+            rename(made, target)
+
+        for old in (None, b"old"):
+            calls.clear()
+            with mock.patch.object(os, "fsync", synced), mock.patch.object(os, "rename", renamed):
+                folder.put(path, data)
+            made = calls[0][1]
+            self.assertEqual(calls, [("sync", made, data), ("rename", made, path), ("sync", path.parent, False)], old)
+
+    async def test_a_day_that_cant_be_read_is_named_and_the_others_are_served(self):
+        self.make()
+        later = "2026-11-30"
+        setup.make_day(self.office, folder.Terms(later, 24, FUTURE, "UTC", dict.fromkeys(NAMES, 10)))
+        salts = self.office.days()[DAY].file(folder.SALTS)
+        kept = salts.read_bytes()
+        salts.unlink()
+        salts.mkdir()
+        log = io.StringIO()
+        with opener(Disk()), mock.patch.object(serving, "LOOK_SECONDS", 0.001):
+            served = serving.Office(self.office, serving.Programs("dam", "dam-desk"), observed.Log(log))
+            task = asyncio.create_task(served.run())
+            await self.until(lambda: later in served.gates)
+            await served.gates[later].is_ready.wait()
+            await asyncio.sleep(0.02)
+            self.assertFalse(served.is_healthy)
+            said = [one for one in map(json.loads, log.getvalue().splitlines()) if one["event"] == "not served"]
+            self.assertEqual([one["day"] for one in said], [DAY])
+            self.assertIn(str(salts), said[0]["fault"])
+            salts.rmdir()
+            salts.write_bytes(kept)
+            await self.until(lambda: DAY in served.gates)
+            await served.gates[DAY].is_ready.wait()
+            await self.until(lambda: served.is_healthy)
+            task.cancel()
+            await asyncio.gather(task, return_exceptions=True)
+            await served.stop()
+
+    async def looked(self):
+        """The reasons why days aren't served, after one look, and the days that are."""
+        with opener(Disk()):
+            served = serving.Office(self.office, serving.Programs("dam", "dam-desk"), observed.Log(io.StringIO()))
+            missed = served.look()
+            await served.stop()
+        return missed, list(served.gates)
+
+    async def test_a_day_with_a_damaged_file_is_named_and_the_others_are_served(self):
+        self.make()
+        later = "2026-11-30"
+        setup.make_day(self.office, folder.Terms(later, 24, FUTURE, "UTC", dict.fromkeys(NAMES, 10)))
+        files = self.office.days()[DAY]
+        for name in (folder.TERMS, folder.SALTS):
+            kept = files.read(name)
+            for damage in (b"", b"{\n", b"[]\n", b"{}\n", b"\xff", kept[:40]):
+                files.file(name).write_bytes(damage)
+                missed, served = await self.looked()
+                with self.subTest(name=name, damage=damage):
+                    self.assertEqual((list(missed), served), ([DAY], [later]))
+                    self.assertIn(f"{files.file(name)} can't be used: it isn't the ", missed[DAY])
+            files.file(name).write_bytes(kept)
+        self.assertEqual(await self.looked(), ({}, [DAY, later]))
+
+    async def test_a_day_whose_folder_cant_be_read_is_named_and_the_others_are_served(self):
+        self.make()
+        later = "2026-11-30"
+        setup.make_day(self.office, folder.Terms(later, 24, FUTURE, "UTC", dict.fromkeys(NAMES, 10)))
+        has = folder.DayFolder.has
+
+        def denied(files, name):
+            if files.path.name == DAY:
+                raise PermissionError(errno.EACCES, "Permission denied", str(files.file(name)))
+            return has(files, name)
+
+        with mock.patch.object(folder.DayFolder, "has", denied):
+            missed, served = await self.looked()
+        self.assertEqual((list(missed), served), ([DAY], [later]))
+        self.assertIn("Permission denied", missed[DAY])
+
+    async def test_damaged_tokens_are_named_and_no_defect_of_a_request(self):
+        self.make()
+        path, log = self.office.file(folder.PARTICIPANTS), io.StringIO()
+        token = tokens.Register(path).add(["GAS"])["GAS"]
+        kept = path.read_bytes()
+        asked = mock.Mock(match_info={"who": "GAS"}, headers={"Authorization": f"Bearer {token}"}, remote="127.0.0.1")
+        with opener(Disk()), mock.patch.object(serving, "LOOK_SECONDS", 0.001):
+            served = serving.Office(self.office, serving.Programs("dam", "dam-desk"), observed.Log(log))
+            answers = web.Web(served, False, False)
+            task = asyncio.create_task(served.run())
+            await self.until(lambda: DAY in served.gates and served.gates[DAY].is_ready.is_set() and served.is_healthy)
+            self.assertEqual(answers.participant(asked), "GAS")
+            for damage in (b"{", b"[1]", None):
+                path.unlink(missing_ok=True)
+                if damage is not None:
+                    path.write_bytes(damage)
+                with self.subTest(damage=damage), self.assertRaises(gate.Refused) as caught:
+                    answers.participant(asked)
+                self.assertEqual(caught.exception.fault, "Unavailable")
+                await self.until(lambda: not served.is_healthy)
+                said = json.loads(log.getvalue().splitlines()[-1])
+                self.assertEqual((said["event"], said["day"]), ("not served", None))
+                self.assertIn(str(path), said["fault"])
+                path.write_bytes(kept)
+                await self.until(lambda: served.is_healthy)
+                self.assertEqual(answers.participant(asked), "GAS")
+            task.cancel()
+            await asyncio.gather(task, return_exceptions=True)
+            await served.stop()
+
+    def test_a_damaged_file_is_no_defect_of_the_tool(self):
+        self.addCleanup(os.umask, os.umask(0o077))
+        self.make()
+        terms, participants = self.office.days()[DAY].file(folder.TERMS), self.office.file(folder.PARTICIPANTS)
+        for path, kind in ((terms, "the terms of a day"), (participants, "the digests of the participants' tokens")):
+            kept = path.read_bytes()
+            for damage in (b"{", b"[" * 100_000, *others(json.loads(kept))):
+                path.write_bytes(damage)
+                status, _, err = tool("office", "status", self.office.path, "--desk", "true")
+                self.assertEqual(status, command.NO_INPUT)
+                self.assertIn(f"{path} can't be used: it isn't {kind}", err)
+            path.write_bytes(kept)
+
+    def test_the_status_has_the_other_days_of_one_that_cant_be_read(self):
+        self.addCleanup(os.umask, os.umask(0o077))
+        self.make()
+        later = "2026-11-30"
+        setup.make_day(self.office, folder.Terms(later, 24, FUTURE, "UTC", dict.fromkeys(NAMES, 10)))
+        self.office.days()[DAY].file(folder.TERMS).write_bytes(b"{")
+        status, out, err = tool("office", "status", self.office.path, "--desk", "true")
+        self.assertEqual((status, out.decode().splitlines()[1]), (command.NO_INPUT, f"{DAY}: can't be read"))
+        self.assertTrue(out.decode().splitlines()[2].startswith(f"{later}: open, 0 entries"))
+        self.assertIn(f"{DAY}: ", err)
+        status, out, _ = tool("office", "status", self.office.path, "--desk", "true", "--json")
+        made = json.loads(out)
+        self.assertEqual((status, made["status"], [one["day"] for one in made["days"]]), (command.NO_INPUT,) * 2 + ([DAY, later],))
+        self.assertIn("terms.json can't be used", made["days"][0]["fault"])
+
+    def test_what_root_makes_is_the_owners(self):
+        self.make()
+        later = "2026-11-30"
+        with mock.patch.object(os, "geteuid", return_value=0), mock.patch.object(os, "chown") as chown:
+            setup.make_day(self.office, folder.Terms(later, 24, FUTURE, "UTC", dict.fromkeys(NAMES, 10)))
+            with self.office.held():
+                pass
+            tokens.Register(self.office.file(folder.PARTICIPANTS)).add(["GAS"])
+            operate.request(self.office.days()[later], folder.CLOSE_NOW)
+        owner = os.stat(self.office.path)
+        self.assertEqual({call.args[1:] for call in chown.call_args_list}, {(owner.st_uid, owner.st_gid)})
+        given = [call.args[0] for call in chown.call_args_list]
+        made, locks = [Path(path) for path in given if not isinstance(path, int)], [path for path in given if isinstance(path, int)]
+        self.assertEqual(sorted(path.name.partition("-")[0] for path in made), [".new", "close", folder.SALTS, folder.TERMS])
+        self.assertEqual(len(locks), 2)  # of the office, and of its participants
+
+    def test_a_program_that_cant_be_run_is_seen_at_the_start(self):
+        for dam, desk, missing in (("/nowhere/dam", "true", "dam"), ("true", "/nowhere/desk", "dam-desk"), ("true", __file__, "dam-desk")):
+            with self.subTest(dam=dam, desk=desk), self.assertRaisesRegex(command.Stop, f"the program {missing} can't be run: ") as caught:
+                serving.programs(dam, desk)
+            self.assertEqual(caught.exception.status, command.FAILED)
+
+    def test_a_program_that_isnt_dam_is_seen_at_the_start(self):
+        made = self.office.path.parent / "dam"
+        made.touch(mode=0o755)
+        prints = "test $1 = clear && cat > /dev/null && printf 'day,24\\nwelfare,0\\n'"
+        for lines, fault in (
+            ("#!/bin/sh\n", "it printed no results"),
+            ("#!/bin/sh\ncat", "it printed no results"),
+            (f"#!/bin/sh\n{prints}; exit 4", "it ended with status 4"),
+            ("#!/bin/sh\nkill -9 $$", "it was ended by signal 9"),
+            ("#!/bin/sh\nexec sleep 60", "it took more than 0.2 s"),
+            ("#!/nowhere/sh\n", "No such file or directory"),
+        ):
+            made.write_text(lines)
+            seconds = mock.patch.object(serving, "TRIAL_SECONDS", 0.2 if "sleep" in lines else SECONDS)
+            with seconds, self.subTest(lines), self.assertRaisesRegex(command.Stop, f"didn't clear an empty day: .*: {fault}$") as caught:
+                serving.programs(made, "true")
+            self.assertEqual(caught.exception.status, command.FAILED)
+        made.write_text(f"#!/bin/sh\n{prints}")
+        self.assertEqual(serving.programs(made, "false"), (str(made), "false"))
+
+    def test_how_a_program_ended(self):
+        self.assertEqual(how_ended(4), "ended with status 4")
+        self.assertEqual(how_ended(-9), "was ended by signal 9")
+
+    def test_the_proxy_of_the_examples_has_the_limits_of_the_office(self):
+        """It is in front of the port of the unit, and limits addresses as an office without a proxy does."""
+        text = (TOP / "examples" / "operating" / "nginx.conf").read_text()
+        self.assertNotIn("--port", (TOP / "examples" / "operating" / "dam-office.service").read_text())
+        port = re.search(r"^PORT = (\d+)$", (TOOLS / "office").read_text(), re.MULTILINE)[1]
+        for line in (
+            f"    server 127.0.0.1:{port};",
+            f"zone=office_requests:10m rate={web.LOOKS_A_SECOND}r/s;",
+            f"    limit_req zone=office_requests burst={web.MOST_LOOKS} nodelay;",
+            f"    client_max_body_size {web.MOST_BODY >> 20}m;",
+            f"    client_header_timeout {guards.IDLE_SECONDS}s;",
+            f"    client_body_timeout {web.BODY_SECONDS}s;",
+            "    add_header {} {} always;".format(*web.SECURE, *web.SECURE.values()),
+        ):
+            with self.subTest(line):
+                self.assertIn(line, text)
+        pause, kept = re.search(r"^    keepalive_timeout (\d+)s; # .* idle for (\d+) s$", text, re.MULTILINE).groups()
+        self.assertLess(int(pause), int(kept))
+        self.assertEqual(int(kept), serving.KEEP_SECONDS)
+
+    def test_a_close_after_the_day_has_begun_is_noted(self):
+        for close, is_late in (("23:59", False), ("2026-11-28T23:59", False), ("2026-11-29T00:00", True), ("2026-12-03T12:00", True)):
+            with self.subTest(close=close):
+                self.assertEqual(setup.closes_late(self.terms(day="2026-11-29", close=close)), is_late)
+        self.participants("participant\nGAS\n")
+        words = ["--day", "2099-11-28", "--close", "2099-11-28T12:00", "--participants", self.office.path.parent / "p.csv"]
+        status, _, err = tool("office", "init", self.office.path, *words)
+        self.assertEqual(status, 0)
+        self.assertIn("note: 2099-11-28 closes after it has begun", err)
+
+    def test_a_day_that_was_closed_early_doesnt_close_later(self):
+        days = [{"day": DAY, "state": state, "stopped": None, "entries": 1, "closes": "T"} for state in (folder.OPEN, folder.CLOSED, folder.PUBLISHED)]
+        found = {"served": True, "participants": 1, "revoked": [], "days": days}
+        lines = list(operate.status_lines(found))[1:]
+        self.assertEqual(lines, [f"{DAY}: open, 1 entry, closes T", f"{DAY}: closed, 1 entry", f"{DAY}: published, 1 entry"])
+
+
+if __name__ == "__main__":
+    unittest.main()

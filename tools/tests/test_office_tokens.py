@@ -1,0 +1,185 @@
+"""The office: tokens, limits and what is refused."""
+
+import argparse
+import io
+import json
+import logging
+import os
+import re
+import stat
+import threading
+from unittest import mock
+
+from office_support import DAY, NAMES, Office
+from support import TOOLS
+
+from lib.tool import command
+
+try:
+    from lib.office import folder, gate, guards, observed, tokens, web
+    from lib.office import serve as serving
+    from lib.office import tables as reader
+except ImportError:  # without python3-aiohttp and the like, whose tests are skipped
+    pass
+
+
+class Tokens(Office):
+    def test_tokens_are_random_hashed_and_one_participants(self):
+        self.make()
+        register = tokens.Register(self.office.file(folder.PARTICIPANTS))
+        made = {who: register.renew(who) for who in NAMES}
+        text = self.office.file(folder.PARTICIPANTS).read_text()
+        for who, token in made.items():
+            self.assertGreaterEqual(len(token.partition(".")[2]), 43)
+            self.assertNotIn(token.partition(".")[2], text)
+            self.assertEqual([other for other in NAMES if register.knows(other, token)], [who])
+        for wrong in ("", "GAS.", made["GAS"][:-1], made["GAS"] + "x", tokens.NOBODY, "\udc80"):
+            self.assertFalse(register.knows("GAS", wrong))
+        self.assertFalse(register.knows("NOBODY", made["GAS"]))
+        served = tokens.Register(self.office.file(folder.PARTICIPANTS))
+        self.assertTrue(served.knows("GAS", made["GAS"]))
+        register.revoke("GAS")
+        self.assertFalse(served.knows("GAS", made["GAS"]))
+        self.assertTrue(served.knows("A", made["A"]))
+        new = register.renew("GAS")
+        self.assertTrue(served.knows("GAS", new) and not served.knows("GAS", made["GAS"]))
+
+    def test_a_new_token_counts_also_within_the_resolution_of_the_file_s_time(self):
+        self.make()
+        path = self.office.file(folder.PARTICIPANTS)
+        register, served = tokens.Register(path), tokens.Register(path)
+        old = register.renew("GAS")
+        self.assertTrue(served.knows("GAS", old))
+        before = path.stat()
+        new = register.renew("GAS")
+        os.utime(path, ns=(before.st_atime_ns, before.st_mtime_ns))
+        self.assertEqual(path.stat().st_size, before.st_size)
+        self.assertEqual([served.knows("GAS", token) for token in (old, new)], [False, True])
+
+    def test_no_change_of_the_tokens_is_lost(self):
+        """Several processes change them at the same time: here threads, each with the file for itself."""
+        self.make()
+        path = self.office.file(folder.PARTICIPANTS)
+        names = [[thread + number for number in "VWXYZ"] for thread in "ABCDEFGH"]
+        made = {}
+
+        def change(own):
+            register = tokens.Register(path)
+            made.update(register.add(own[1:]))
+            made[own[0]] = register.renew(own[0])
+            register.revoke(own[1])
+
+        threads = [threading.Thread(target=change, args=(own,)) for own in names]
+        for thread in threads:
+            thread.start()
+        for thread in threads:
+            thread.join()
+        register = tokens.Register(path)
+        for own in names:
+            self.assertEqual([register.knows(who, made[who]) for who in own], [True, False, True, True, True])
+        self.assertEqual(register.add(names[0]), {})
+
+    def test_each_connection_may_be_sent_a_file(self):
+        """Slow downloads leave files for the close."""
+        needed = 2 * guards.MOST_CONNECTIONS + 100
+        with mock.patch.multiple(serving.resource, getrlimit=lambda _: (1_024, 1 << 20), setrlimit=mock.DEFAULT) as made:
+            serving.more_files()
+        soft, hard = made["setrlimit"].call_args.args[1]
+        self.assertTrue(needed <= soft <= hard)
+        unit = (TOOLS.parent / "examples" / "operating" / "dam-office.service").read_text()
+        self.assertLessEqual(needed, int(re.search("^LimitNOFILE=([0-9]+)$", unit, re.MULTILINE)[1]))
+        self.assertIn("\nStartLimitIntervalSec=0\n", unit, "systemd doesn't give up: the close comes also after many failed starts")
+
+    def test_files_are_the_owners_alone(self):
+        before = os.umask(0o077)
+        self.addCleanup(os.umask, before)
+        self.make()
+        for path in [self.office.path, *self.office.path.rglob("*")]:
+            self.assertEqual(stat.S_IMODE(path.stat().st_mode) & 0o077, 0, path)
+        self.office.file(folder.KEY).chmod(0o644)
+        with self.assertRaisesRegex(command.Stop, "can be read by others"):
+            self.office.need()
+
+    def test_defects_in_a_library_are_logged_once_a_minute(self):
+        stream, now = io.StringIO(), [0.0]
+        told = observed.Defects(observed.Log(stream), lambda: now[0])
+        for seconds in range(120):
+            now[0] = float(seconds)
+            for kind in (OSError, ValueError):
+                told.emit(logging.LogRecord("aiohttp", logging.ERROR, "", 0, "a stranger's words", (), (kind, kind(), None)))
+        lines = [(made["event"], made["kind"]) for made in map(json.loads, stream.getvalue().splitlines())]
+        self.assertEqual(lines, [("defect", "OSError"), ("defect", "ValueError")] * 2)
+        self.assertNotIn("stranger", stream.getvalue())
+
+    def test_a_network_of_ipv6_has_one_limit(self):
+        addresses = "192.0.2.1", "192.0.2.2", "::1", "2001:db8::1", "2001:db8::ffff:1:2:3", "2001:db8:0:1::1", "fe80::1%eth0"
+        sources = list(map(guards.source, addresses))
+        self.assertEqual(len(set(sources)), 6)
+        self.assertEqual(sources[3], sources[4])
+
+    async def test_the_length_of_the_records_of_a_table_counts(self):
+        self.make()
+        office = serving.Office(self.office, serving.Programs("dam", "dam-desk"), observed.Log(io.StringIO()))
+        office.gates[DAY] = self.gate()
+        office.gates[DAY].is_known.set()
+        made = web.Web(office)
+        made.reads = guards.Buckets(0.001, web.MOST_READS, lambda: 0.0)
+        headers = {"Authorization": f"Bearer {office.register.renew('GAS')}", "Content-Length": "1"}
+
+        async def read(*_):
+            return ["x" * 2_000_000], []
+
+        content = argparse.Namespace(is_eof=lambda: True)
+        asked = argparse.Namespace(headers=headers, match_info={"who": "GAS", "day": DAY}, content=content)
+        asked.transport, asked.read = content, mock.AsyncMock(return_value=b"x")
+        with mock.patch.object(reader, "read", read):
+            answer = await made.table(asked)
+        self.assertEqual(json.loads(answer.text)["notes"], [])
+        self.assertLess(made.reads.left("GAS"), web.MOST_READS - web.READS_OF_TABLE - 150)
+
+    async def test_limits_of_strangers_are_those_of_their_network(self):
+        self.make()
+        office = serving.Office(self.office, serving.Programs("dam", "dam-desk"), observed.Log(io.StringIO()))
+        made = web.Web(office)
+        protocol = argparse.Namespace(is_deaf=False)
+
+        def asked(number, who):
+            headers = {"Authorization": "Bearer GAS.wrong"}
+            return argparse.Namespace(remote=f"2001:db8::{number:x}", headers=headers, match_info=who, protocol=protocol)
+
+        found = []
+        for number in range(web.MOST_GUESSES + 5):
+            with self.assertRaises(gate.Refused) as caught:
+                made.participant(asked(number, {"who": "GAS"}))
+            found.append(caught.exception.fault)
+        self.assertEqual((found[0], found[-1]), ("Token", "TooFast"))
+        made.looks = guards.Buckets(0.001, 3, lambda: 0.0)
+        for number in range(3):
+            made.slow_down(asked(number, {}))
+        with self.assertRaises(gate.Refused):
+            made.slow_down(asked(4, {}))
+
+    def test_guesses_are_slowed_down_and_others_are_not(self):
+        now = [0.0]
+        buckets = guards.Buckets(1, 3, lambda: now[0])
+        self.assertEqual([buckets.take("a") > 0 for _ in range(5)], [False, False, False, True, True])
+        self.assertEqual(buckets.take("b"), 0)
+        now[0] = 1.0
+        self.assertEqual([buckets.take("a") > 0 for _ in range(2)], [False, True])
+        self.assertEqual(buckets.take("c", 1_000), 0)
+        self.assertGreater(buckets.take("c"), 900)
+        buckets.charge("c", 1_000)
+        self.assertGreater(buckets.take("c"), 1_900, "what is charged is owed, also in debt")
+        with mock.patch.object(guards, "MOST_BUCKETS", 5):
+            for number in range(100):
+                now[0] += 10_000
+                buckets.take(number)
+            self.assertLessEqual(len(buckets.held), 6)
+            buckets.take("d", 2)
+            for number in range(100):
+                buckets.take(number)
+        self.assertEqual(buckets.left("d"), 1, "many names don't fill a bucket again")
+
+
+if __name__ == "__main__":
+    unittest.main()
