@@ -286,14 +286,29 @@ class Days(unittest.TestCase):
         return [(day["name"], day["verdict"], day["message"] and day["message"].rpartition("/")[2]) for day in made["days"]]
 
     def test_a_name_that_would_be_standard_input(self):
-        """`-` in a manifest is a file; without one, nothing is judged."""
+        """`-` in a manifest is a file, and so is `--`, which a command line may leave out; without one, nothing is judged."""
         self.write(a=(DATA, TEXT))
-        (self.folder / "list").write_text("day,journal,results\nno file,a.csv,-\n")
-        for name, status, said in ((None, command.NO_INPUT, "- is missing"), ("-", command.DIFFERS, "the results are empty")):
-            if name:
-                (self.folder / name).write_bytes(b"")
-            ran = subprocess.run([sys.executable, TOOLS / "audit", "--days", "list"], cwd=self.folder, capture_output=True, text=True)
-            self.assertEqual((ran.returncode, ran.stdout.splitlines()[1].endswith(f"  {said}")), (status, True), ran.stdout)
+        for name in ("-", "--", "---", "-o", "--json"):
+            for row, others in ((f"a.csv,{name}", b""), (f"{name},a.txt", QUARTERS.read_bytes())):
+                (self.folder / "list").write_text(f"day,journal,results\nno file,{row}\n")
+                self.assertEqual(self.of_manifest(), (command.NO_INPUT, f"{name} is missing"), row)
+                (self.folder / name).write_bytes(others)
+                status, said = self.of_manifest()
+                self.assertEqual((status, said == "the results are empty"), (command.DIFFERS, not others), row)
+                (self.folder / name).unlink()
+
+    def of_manifest(self):
+        """The status of the audit of a manifest, and the first fault of its only day."""
+        ran = subprocess.run([sys.executable, TOOLS / "audit", "--days", "list"], cwd=self.folder, capture_output=True, text=True)
+        return ran.returncode, ran.stdout.splitlines()[1].rpartition("  ")[2]
+
+    def test_without_a_path(self):
+        """Python doesn't know then where it is."""
+        self.write(a=(DATA, TEXT))
+        for path in ({}, {"PATH": ""}, {"PATH": "/nowhere"}):
+            words = ["python3", "-I", "-S", TOOLS / "audit", "--days", self.folder]
+            ran = subprocess.run(words, executable=os.path.realpath(sys.executable), env=path, capture_output=True, text=True)
+            self.assertEqual((ran.returncode, ran.stderr), (0, ""), ran.stdout)
 
     def test_memory_or_threads_for_a_day_that_run_out(self):
         pairs, bar = [days.Pair(name, Path("a.csv"), Path("a.txt")) for name in "ab"], unittest.mock.Mock()

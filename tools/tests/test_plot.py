@@ -1,9 +1,11 @@
 """The pictures: that each is drawn, says the right things, and can be told apart without colours."""
 
+import os
 import sys
 import tempfile
 import unittest
 from pathlib import Path
+from unittest import mock
 
 import support
 from support import AUCTION, AUCTION_RESULTS, FIRST, QUARTERS, day_of, journal_of, results_of, tool
@@ -192,11 +194,43 @@ class Pictures(unittest.TestCase):
             status, _, err = tool("plot", *texts, "--period", 7, "--picture", "blocks", "-o", f"{folder}/b.svg")
             self.assertEqual((status, "not allowed with" in err), (command.COMMAND_LINE, True))
             self.assertEqual(tool("plot", *texts, "--pict", "day")[0], command.COMMAND_LINE)
-            for words in (["-o", f"{folder}/a.gif"], ["--period", 25, "-o", f"{folder}/a.svg"], ["--picture=x"]):
+            self.assertEqual(tool("plot", *texts, "-o", f"{folder}/.PNG"), (0, b"", ""))
+            self.assertTrue(Path(folder, ".PNG").read_bytes().startswith(begins["png"]))
+            for words in (["-o", f"{folder}/a.gif"], ["-o", "svg"], ["-o", f"{folder}/a.svg/png"], ["--period", 25, "-o", f"{folder}/a.svg"], ["--picture=x"]):
                 self.assertEqual(tool("plot", *texts, *words)[0], command.COMMAND_LINE)
             self.assertEqual(tool("plot", *texts, "-o", f"{folder}/none/a.svg")[0], command.NO_INPUT)
             status, _, err = tool("plot", AUCTION, AUCTION, "-o", f"{folder}/a.svg")
             self.assertEqual((status, "has a journal instead of results" in err), (command.NO_INPUT, True))
+
+
+@unittest.skipUnless(command.has("matplotlib"), "matplotlib is missing (Debian's python3-matplotlib)")
+class Apart(unittest.TestCase):
+    """matplotlib works in an empty folder of its own."""
+
+    def test_the_working_folder_comes_back(self):
+        from lib.pictures import drawing
+
+        before = os.getcwd()
+        with drawing.apart():
+            self.assertNotEqual(os.getcwd(), before)
+            self.assertEqual((os.listdir("."), os.environ["MPLCONFIGDIR"]), ([], os.getcwd()))
+        self.assertEqual(os.getcwd(), before)
+        self.assertNotIn("MPLCONFIGDIR", os.environ)
+
+    def test_a_working_folder_that_may_not_be_searched(self):
+        """None of its files can be read, so it may stay."""
+        from lib.pictures import drawing
+
+        before, opened = os.getcwd(), os.open
+
+        def refused(path, *others, **more):
+            if path == ".":
+                raise PermissionError
+            return opened(path, *others, **more)
+
+        with mock.patch.object(drawing.os, "open", refused), drawing.apart():
+            self.assertEqual(os.getcwd(), before)
+            self.assertEqual(os.listdir(os.environ["MPLCONFIGDIR"]), [])
 
 
 if __name__ == "__main__":

@@ -443,6 +443,13 @@ class Hanging(unittest.TestCase):
         with self.assertRaisesRegex(engine.Lost, "^the workers of the cluster C don't answer any more$"):
             self.look(made, 111, {"tcp://a:1": 1, "tcp://b:2": 2})
 
+    def test_an_answer_that_is_not_a_scheduler_s(self):
+        made = self.cluster()
+        for answer in (None, [], {}, {"workers": None}, {"workers": [1]}, {"workers": {"a": None}}, {"workers": {"a": {"status": "running"}}}):
+            made.client.sync.return_value = answer
+            with self.assertRaisesRegex(engine.Lost, "^the cluster C doesn't answer any more$"):
+                made.workers()
+
     def test_no_worker(self):
         made = self.cluster()
         self.assertEqual([self.look(made, clock, {}) for clock in (100, 109)], [0, 0])

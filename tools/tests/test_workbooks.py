@@ -382,6 +382,8 @@ class Unlike(unittest.TestCase):
                 ("<c><f>A1</f><v>0</v></c>", 'fullCalcOnLoad="1"'),
                 ("<c t='str'><f>A1</f><v></v></c>", 'fullCalcOnLoad="true"'),
                 ("<c t='s'><f>A1</f><v>0</v></c>", 'calcCompleted="0"'),
+                ("<c><f>A1</f><v>0</v></c>", 'fullCalcOnLoad="&#9;1 "'),
+                ("<c><f>A1</f><v>0</v></c>", 'calcCompleted=" false"'),
             ):
                 found, fault = self.read(self.computed(attributes), **{letter: cell})
                 self.assertEqual((fault, found is None), (said, True) if name != "note" else (None, False), cell)
@@ -395,6 +397,7 @@ class Unlike(unittest.TestCase):
         for cell, due, refused in (
             (b'<c r="E2"><f>5*4</f><v>0.1</v></c>', b' fullCalcOnLoad="1"', True),
             (b'<c r="E2" t="str"><f>5*4</f><v></v></c>', b' fullCalcOnLoad="true"', True),
+            (b'<c r="E2"><f>5*4</f><v>0.1</v></c>', b' fullCalcOnLoad=" 1 "', True),
             (price, b' fullCalcOnLoad="1"', False),
             (b'<c r="E2"><f>5*4</f><v>0.1</v></c>', b"", False),
         ):
@@ -442,16 +445,19 @@ class Unlike(unittest.TestCase):
 
     def test_percentages(self):
         """Excel shows a price of 0.95 as 95%, so either may be meant."""
-        codes = "0%", "[Red]0.0%;-0.0%", "# %", "0\\%", "0&quot;%&quot;", "0_%"
+        codes = "0%", "[Red]0.0%;-0.0%", "# %", "0 [$%]", "[$%-409]0", "0\\%", "0&quot;%&quot;", "0_%"
         formats = "".join(f'<numFmt numFmtId="{164 + at}" formatCode="{code}"/>' for at, code in enumerate(codes))
-        numbers = 9, 10, *range(164, 164 + len(codes))
+        # a number may have zeros, a sign and blanks before it
+        numbers = "9", "10", "09", "+10", " 9&#10;", "0164", *map(str, range(164, 164 + len(codes)))
         cells = "".join(f'<xf numFmtId="{number}"/>' for number in numbers)
         styles = f'<styleSheet xmlns="{made.MAIN[0]}"><numFmts>{formats}</numFmts><cellXfs>{cells}</cellXfs></styleSheet>'
         for style, number in enumerate(numbers):
             for letter, value in (("E", 0.95), ("F", 8), ("G", 0.9)):
                 found, fault = self.read({"xl/styles.xml": styles.encode()}, **{letter: f'<c s="{style}"><v>{value}</v></c>'})
                 said = f"line 2, column {self.COLUMNS[letter]}: {self.PERCENTAGE.format(value)}"
-                self.assertEqual((fault, found is None), (said, True) if number < 167 else (None, False), number)
+                self.assertEqual((fault, found is None), (said, True) if number not in numbers[-3:] else (None, False), number)
+        _, fault = self.read({"xl/styles.xml": styles.encode()}, E='<c s=" +0&#9;"><v>0.5</v></c>')
+        self.assertEqual(fault, f"line 2, column price_eur_mwh: {self.PERCENTAGE.format('0.5')}")
 
     def test_names_of_many_digits(self):
         """Excel shows 123456789012 as 1.23457E+11, unless its format is 0."""
@@ -481,10 +487,11 @@ class Unlike(unittest.TestCase):
 
     def test_formats_of_texts(self):
         """A format may hide a text, or show characters around it."""
-        codes = ("@", "General", "0;0;0;@", "[Red]_-@_-", "0.00", "0;&quot;@&quot;", "0;0;0;General",
-                 ";;;", "@&quot;-1&quot;", "0;0;0;&quot;G&quot;", "0;\\a@", "@@")  # fmt: skip
+        codes = ("@", "General", "0;0;0;@", "[Red]_-@_-", "0.00", "0;&quot;@&quot;", "0;0;0;General", "[$-409]@", "_-* @_-", "[$]@",
+                 ";;;", "@&quot;-1&quot;", "0;0;0;&quot;G&quot;", "0;\\a@", "@@", "@[$X]", "[$A-409]@", "@*0", "General[$X]", "@")  # fmt: skip
+        shown, fill = codes.index(";;;"), '><alignment horizontal="fill"/></xf>'
         formats = "".join(f'<numFmt numFmtId="{164 + at}" formatCode="{code}"/>' for at, code in enumerate(codes))
-        cells = "".join(f'<xf numFmtId="{164 + at}"/>' for at in range(len(codes)))
+        cells = "".join(f'<xf numFmtId="{164 + at}"{"/>" if at < len(codes) - 1 else fill}' for at in range(len(codes)))
         styles = f'<styleSheet xmlns="{made.MAIN[0]}"><numFmts>{formats}</numFmts><cellXfs>{cells}</cellXfs></styleSheet>'
         strings = f'<sst xmlns="{made.MAIN[0]}"><si><t>K7</t></si></sst>'
         parts = {"xl/styles.xml": styles.encode(), made.SHARED: strings.encode()}
@@ -493,10 +500,76 @@ class Unlike(unittest.TestCase):
                 for letter, name in (("B", "order"), ("I", "group")):
                     found, said = self.read(parts, **{letter: f'<c s="{style}" t="{kind}">{content}</c>'})
                     fault = f"line 2, column {name}: 'K7' is a text with a format: make the cell one of text"
-                    self.assertEqual(said, None if style < 7 else fault, (code, kind))
-                    self.assertTrue(style >= 7 or "K7" in (found.name, found.order.group))
-        found, _ = self.read(parts, C='<c s="7" t="str"><v>block</v></c>', J='<c s="7" t="str"><v>x</v></c>')
+                    self.assertEqual(said, None if style < shown else fault, (code, kind))
+                    self.assertTrue(style >= shown or "K7" in (found.name, found.order.group))
+        hidden = f'<c s="{shown}" t="str"><v>'
+        found, _ = self.read(parts, C=f"{hidden}block</v></c>", J=f"{hidden}x</v></c>")
         self.assertEqual(found.order.kind, "block")
+        _, said = self.read(parts, B=f'<c s=" {shown} " t="str"><v>K7</v></c>')
+        self.assertIn("'K7' is a text with a format", said)
+        _, said = self.read(parts, B=f'<c s="{len(codes) - 1}"><v>7</v></c>')
+        self.assertIn("'7' is a number with a format", said)
+
+    def test_formats_that_cant_be_read(self):
+        """Two formats of one number may be either, and Excel reads no other numbers than whole ones."""
+        for formats, fault in (
+            ('<numFmt numFmtId="164" formatCode="0"/><numFmt numFmtId="0164" formatCode="0%"/>', "two formats have the number 164"),
+            ('<numFmt numFmtId="-1" formatCode="0"/>', "a format has the number '-1'"),
+            ('<numFmt numFmtId="164" formatCode="0"/><numFmt numFmtId="164" formatCode="0"/>', None),
+        ):
+            styles = f'<styleSheet xmlns="{made.MAIN[0]}"><numFmts>{formats}</numFmts><cellXfs><xf numFmtId="164"/></cellXfs></styleSheet>'
+            data = made.of_sheet(made.OPEN, order(2, "K1"), made.CLOSE, **{"xl/styles.xml": styles.encode()})
+            if fault:
+                with self.assertRaisesRegex(sheets.Wrong, f"^line 1: the Excel workbook can't be read: {fault}$"):
+                    sheets.rows_of(data)
+            else:
+                self.assertEqual(len(order_table.read_tables([("", data)], 24).submits), 1)
+        for style in ("x", "-1", "1.0", ""):
+            for cell in (f'<c s="{style}"><v>7</v></c>', f'<c s="{style}" t="str"><v>K</v></c>'):
+                _, fault = self.read(B=cell)
+                self.assertEqual(fault, f"sheet 'orders', cell B2: it has no format '{style}'")
+
+    def test_conditional_formats(self):
+        """A condition may show a price as a percentage, or a name in another way; its colours change nothing."""
+        condition = '<conditionalFormatting sqref="E2:E9"><cfRule type="expression" dxfId="{}"><formula>1</formula></cfRule></conditionalFormatting>'
+        said = "^sheet 'orders': the cells 'E2:E9' have a conditional format with a number format: delete it$"
+        formats = ("0%", "&quot;X&quot;@", "d.m", "0", "General")
+        changed = "".join(f'<dxf><font/><numFmt numFmtId="{170 + at}" formatCode="{code}"/><fill/></dxf>' for at, code in enumerate(formats))
+        styles = f'<styleSheet xmlns="{made.MAIN[0]}"><dxfs><dxf><font/></dxf>{changed}</dxfs></styleSheet>'
+        for number, is_read in (("0", True), ("1", False), (" 02", False), ("3", False), ("4", True), ("5", True), ("9", True)):
+            close = made.CLOSE.replace(b"</sheetData>", f"</sheetData>{condition.format(0)}{condition.format(number)}".encode())
+            data = made.of_sheet(made.OPEN, order(2, "K1"), close, **{"xl/styles.xml": styles.encode()})
+            with self.subTest(number):
+                if is_read:
+                    self.assertEqual(len(order_table.read_tables([("", data)], 24).submits), 1)
+                else:
+                    with self.assertRaisesRegex(sheets.Wrong, said):
+                        sheets.rows_of(data)
+        extension = '</sheetData><extLst><ext><x:dxf xmlns:x="urn:x"><numFmt formatCode="0%"/></x:dxf></ext></extLst>'
+        data = made.of_sheet(made.OPEN, order(2, "K1"), made.CLOSE.replace(b"</sheetData>", extension.encode()))
+        with self.assertRaisesRegex(sheets.Wrong, "an element 'numFmt' stands in 'extLst'"):
+            sheets.rows_of(data)
+
+    def test_a_sheet_of_macros(self):
+        """It has cells, which aren't read: it is no table of orders, and it counts among the sheets."""
+        listed = '<workbook xmlns="{}" xmlns:r="{}"><sheets><sheet name="{}" r:id="r1"/><sheet name="{}" r:id="r9"/></sheets></workbook>'
+        relation = '<Relationship Id="r{}" Type="{}/{}" Target="sheets/{}.xml"/>'
+        for kind in ("xlMacrosheet", "xlIntlMacrosheet"):
+            relations = relation.format(1, made.OFFICE[0], "worksheet", 1) + relation.format(9, "http://schemas.microsoft.com/office", kind, 9)
+            for names, said in ((("a", "Orders"), "the sheet 'Orders' is one of macros: copy its table to another sheet"), (("a", "b"), None)):
+                parts = {
+                    "xl/workbook.xml": listed.format(made.MAIN[0], made.OFFICE[0], *names),
+                    "xl/_rels/workbook.xml.rels": f'<Relationships xmlns="{made.RELATIONS}">{relations}</Relationships>',
+                    "xl/sheets/1.xml": f'<worksheet xmlns="{made.MAIN[0]}"><sheetData/></worksheet>',
+                }
+                data = made.of_sheet(made.OPEN, made.CLOSE, **{name: part.encode() for name, part in parts.items()})
+                if said:
+                    with self.assertRaisesRegex(sheets.Wrong, said):
+                        sheets.rows_of(data)
+                else:
+                    notes = []
+                    sheets.rows_of(data, notes=notes)
+                    self.assertEqual(notes, ["of 2 sheets, 'a' was read"])
 
     def test_names_of_sheets(self):
         """Excel takes names that differ by capitals alone for one."""

@@ -136,8 +136,8 @@ def options_of(args):
 
 
 def file_name(path):
-    """The name of a file on the command line of a day; `-` alone would be standard input."""
-    return "./-" if str(path) == "-" else str(path)
+    """The name of a file on the command line of a day; `-` alone would be standard input, and argparse leaves out each `--`."""
+    return f"./{path}" if str(path) in ("-", "--") else str(path)
 
 
 def seconds_of(args):

@@ -2,6 +2,7 @@
 without those of the environment. Its cache of fonts stays the user's."""
 
 import contextlib
+import logging
 import os
 import tempfile
 
@@ -9,24 +10,36 @@ SETTINGS = ("MATPLOTLIBRC", "MPLCONFIGDIR")
 
 
 @contextlib.contextmanager
+def inside(folder):
+    """A working folder for a while. One that the user may not search stays: no file of it can be read."""
+    try:
+        here = os.open(".", os.O_PATH)
+    except PermissionError:
+        yield
+        return
+    try:
+        os.chdir(folder)
+        yield
+    finally:
+        os.fchdir(here)
+        os.close(here)
+
+
+@contextlib.contextmanager
 def apart():
     """An empty folder of our own, as the working folder and as matplotlib's folder of settings."""
-    here, kept = os.open(".", os.O_PATH), {name: os.environ.pop(name, "") for name in SETTINGS}
+    kept = {name: os.environ.pop(name, "") for name in SETTINGS}
     try:
-        with tempfile.TemporaryDirectory(prefix="dam-") as folder:
-            os.chdir(folder)
+        with tempfile.TemporaryDirectory(prefix="dam-") as folder, inside(folder):
             os.environ["MPLCONFIGDIR"] = folder
-            try:
-                yield
-            finally:
-                os.fchdir(here)
+            yield
     finally:
-        os.close(here)
         os.environ.pop("MPLCONFIGDIR", None)
         os.environ.update({name: path for name, path in kept.items() if os.path.isabs(path)})
 
 
 os.environ["MPLBACKEND"] = "Agg"
+logging.getLogger("matplotlib").setLevel(logging.ERROR)  # it warns if the user has no folder for its cache
 with apart():
     import matplotlib
 

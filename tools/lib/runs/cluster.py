@@ -60,9 +60,9 @@ class Cluster:
         scenarios would never come."""
         try:
             found = self.client.sync(self.client.scheduler.identity, callback_timeout=SECONDS)["workers"]
-        except Exception:
+            reports = {str(address): worker["last_seen"] for address, worker in found.items() if worker["status"] == "running"}
+        except Exception:  # also of an answer that isn't a scheduler's
             raise self.lost() from None
-        reports = {address: worker["last_seen"] for address, worker in found.items() if worker["status"] == "running"}
         now = time.monotonic()
         self.heard = {address: self.heard.get(address, now) if self.reports.get(address) == seen else now for address, seen in reports.items()}
         self.reports, self.had = reports, now if reports else self.had
@@ -83,8 +83,8 @@ class Cluster:
 
 
 def hanging(heard, now, name):
-    """The words on a cluster's workers that haven't reported for long, by when each was heard last: if one was heard lately, on the others. Nothing if
-    it isn't clear yet."""
+    """The words on a cluster's workers that haven't reported for long, by when each was heard last: if one was heard lately, on the others.
+    Nothing if it isn't clear yet."""
     silent = [address for address, last in heard.items() if now - last >= SECONDS]
     if silent and len(silent) == len(heard):
         return f"the workers of {name} don't answer any more"

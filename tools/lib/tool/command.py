@@ -385,7 +385,8 @@ def is_debians():
 
 def this_python():
     """The words that start this Python for another tool: isolated, if it is."""
-    return [sys.executable, *(["-I"] if sys.flags.isolated else [])]
+    # without a PATH, Python doesn't know its own name
+    return [sys.executable or os.path.realpath("/proc/self/exe"), *(["-I"] if sys.flags.isolated else [])]
 
 
 def elsewhere(*modules):

@@ -2,6 +2,7 @@
 
 import functools
 import itertools
+import re
 from typing import NamedTuple
 from xml.parsers import expat
 
@@ -13,6 +14,16 @@ SPREADSHEET = ("http://schemas.openxmlformats.org/spreadsheetml/2006/main", "htt
 BLANK = " \t\r\n"  # the characters that may stand between elements
 EXTENSIONS, LEFT_OUT = "extLst", {"extLst", "rPr", "phoneticPr"}  # elements that are left out, with everything in them
 ANY_OTHERS = "*"
+
+
+UNSIGNED = re.compile(r"\+?([0-9]{1,10})")
+
+
+@functools.lru_cache(64)
+def unsigned(words):
+    """The number of an attribute, around which blanks may stand; None if it has none."""
+    found = UNSIGNED.fullmatch(words.strip(BLANK))
+    return int(found[1]) if found else None
 
 
 class Place(NamedTuple):
@@ -30,6 +41,7 @@ class Part:
     PLACES = {}  # for each known element, the ones that may stand in it, in their order; several if a * follows the name
     BETWEEN = {}  # others that may stand between these, in any order, with those of other namespaces; never after the extensions
     ELSEWHERE = set()  # the known ones that have another meaning in elements that are left out
+    REFUSED = set()  # others that may not stand in elements that are left out
 
     def __init__(self):
         self.prefix = ""  # of the known names: the namespace
@@ -37,7 +49,7 @@ class Part:
         self.left_out, self.outside = 0, ""  # how deep it is in an element that is left out, and the name of that
         self.places, self.known = places_of(type(self))
         self.opening, self.closing = ({name: getattr(self, f"{when}_{name}", None) for name in self.known} for when in ("open", "close"))
-        self.kept = {f"{space} {name}" for space in self.NAMESPACES for name in self.known - self.ELSEWHERE}
+        self.kept = {f"{space} {name}" for space in self.NAMESPACES for name in self.known - self.ELSEWHERE | self.REFUSED}
         self.taken, self.length = [], 0
 
     def read(self, package, chunks):

@@ -6,7 +6,7 @@ from ..base import text
 from .limits import LONGEST_NAME, MOST_HEADS, MOST_SHEETS, broken, too_many
 from .package import Package
 from .part import ANY_OTHERS, Part
-from .sheet import TRUTHS, FirstRow, Sheet, Strings, is_due
+from .sheet import FirstRow, Sheet, Strings, is_due, truth_of
 from .styles import Styles
 
 PACKAGING = ("http://schemas.openxmlformats.org/package/2006/relationships",)
@@ -14,9 +14,9 @@ RELATION = (
     "http://schemas.openxmlformats.org/officeDocument/2006/relationships id",
     "http://purl.oclc.org/ooxml/officeDocument/relationships id",
 )
-WORKBOOK, SHEET, OTHER_SHEETS = "officeDocument", "worksheet", ("chartsheet", "dialogsheet", "xlMacrosheet", "xlIntlMacrosheet")
-STRINGS, STYLES = "sharedStrings", "styles"
-KINDS = {WORKBOOK, SHEET, *OTHER_SHEETS, STRINGS, STYLES}
+WORKBOOK, SHEET, STRINGS, STYLES = "officeDocument", "worksheet", "sharedStrings", "styles"
+WITHOUT_CELLS, OF_MACROS = ("chartsheet", "dialogsheet"), ("xlMacrosheet", "xlIntlMacrosheet")  # other kinds of sheets
+KINDS = {WORKBOOK, SHEET, *WITHOUT_CELLS, *OF_MACROS, STRINGS, STYLES}
 
 
 def rows_of(data, preferred, needed=(), most=None):
@@ -89,7 +89,7 @@ class Book(Part):
         styles = Styles()
         if part := self.relations.only(STYLES):
             package.read(part, styles)
-        self.formats, self.styled = styles.of_cells(), styles.of_texts()
+        self.formats, self.styled, self.conditional = styles.of_cells(), styles.of_texts(), styles.conditional
 
     def relations_of(self, owner):
         relations = Relations(owner)
@@ -97,11 +97,11 @@ class Book(Part):
         return relations
 
     def open_workbookPr(self, attributes):
-        self.from_1904 = TRUTHS.get(attributes.get("date1904")) == "TRUE"
+        self.from_1904 = truth_of(attributes, "date1904") == "TRUE"
 
     def open_calcPr(self, attributes):
         """A program that doesn't compute formulas stores any values, and lets Excel compute them once it opens the workbook."""
-        self.is_computed = not is_due(attributes) and TRUTHS.get(attributes.get("calcCompleted")) != "FALSE"
+        self.is_computed = not is_due(attributes) and truth_of(attributes, "calcCompleted") != "FALSE"
 
     def open_sheet(self, attributes):
         if len(self.sheets) == MOST_SHEETS:
@@ -112,18 +112,19 @@ class Book(Part):
         self.sheets.append((name, identifier))
 
     def tables(self):
-        """The sheets with cells: the part of each, by its name. Excel takes names that differ by capitals alone for one."""
+        """The sheets with cells: the part of each, by its name; None of a sheet of macros, whose cells aren't read. Excel takes names that
+        differ by capitals alone for one."""
         sheets, names = {}, set()
         for name, identifier in self.sheets:
             kind, part = self.relations.found.get(identifier, (None, None))
-            if kind in OTHER_SHEETS:
+            if kind in WITHOUT_CELLS:
                 continue
             is_known = name.lower() in names
-            if kind != SHEET or is_known:
+            if kind not in (SHEET, *OF_MACROS) or is_known:
                 raise broken(f"{'two sheets are' if is_known else 'no part has the sheet'} named {text.quoted(name)}")
-            sheets[name] = part
+            sheets[name] = part if kind == SHEET else None
             names.add(name.lower())
-        if not sheets:
+        if not any(sheets.values()):
             raise broken("it has no sheets")
         return sheets
 
@@ -132,8 +133,12 @@ class Book(Part):
         sheets = self.tables()
         if len(sheets) == 1:
             return *next(iter(sheets.items())), None
-        found = [name for name in sheets if name.lower() == preferred] or self.having(sheets, needed)
-        name = [*found, *sheets][0]
+        named = [name for name in sheets if name.lower() == preferred]
+        if named and sheets[named[0]] is None:
+            raise broken(f"the sheet {text.quoted(named[0])} is one of macros: copy its table to another sheet")
+        tables = {name: part for name, part in sheets.items() if part is not None}
+        found = named or self.having(tables, needed)
+        name = [*found, *tables][0]
         others = [text.quoted(other) for other in found[1:]]
         more = f"; {', '.join(others)} {'has' if len(others) == 1 else 'have'} the columns of orders too" if others else ""
         return name, sheets[name], f"of {len(sheets)} sheets, {text.quoted(name)} was read{more}"

@@ -7,7 +7,7 @@ import re
 from ..base import text
 from .cells import Date, Kept, Numbers, Rows, Styled, StyledString, Truth, Uncomputed, name_of, number_of, trimmed, unescaped
 from .limits import LAST_COLUMN, LAST_ROW, MOST_CELLS, MOST_ELEMENTS, MOST_TEXT, Wrong, broken, size_of, too_many
-from .part import ANY_OTHERS, Texts
+from .part import ANY_OTHERS, BLANK, EXTENSIONS, Texts, unsigned
 from .styles import digits_of, general
 
 NUMBER = re.compile(r"[+-]?(?:[0-9]+(?:\.[0-9]*)?|\.[0-9]+)(?:[eE][+-]?[0-9]{1,3})?")
@@ -19,9 +19,14 @@ CLOCK = re.compile(r"T?([0-9]{2}:[0-9]{2})(?::[0-9.]*)?Z?")
 TRUTHS = {"1": "TRUE", "true": "TRUE", "0": "FALSE", "false": "FALSE"}
 
 
+def truth_of(attributes, name):
+    """The truth value of an attribute, around which blanks may stand; None if it has none."""
+    return TRUTHS.get(attributes.get(name, "").strip(BLANK))
+
+
 def is_due(attributes):
     """Whether Excel computes all formulas once it opens the workbook."""
-    return TRUTHS.get(attributes.get("fullCalcOnLoad")) == "TRUE"
+    return truth_of(attributes, "fullCalcOnLoad") == "TRUE"
 
 
 class Strings(Texts):
@@ -56,7 +61,7 @@ class Sheet(Texts):
     ROOT = "worksheet"
     PLACES = {
         "": ROOT,
-        ROOT: "sheetData sheetCalcPr mergeCells extLst",
+        ROOT: "sheetData sheetCalcPr mergeCells conditionalFormatting* extLst",
         "sheetData": "row*",
         "row": "c* extLst",
         "c": "f v is extLst",
@@ -64,12 +69,16 @@ class Sheet(Texts):
         "r": Texts.RUN,
         "rPh": Texts.PRONOUNCED,
         "mergeCells": "mergeCell*",
+        "conditionalFormatting": "cfRule* extLst",
+        "cfRule": EXTENSIONS,
     }
     BETWEEN = {ROOT: {ANY_OTHERS, *(
         "sheetPr dimension sheetViews sheetFormatPr cols sheetProtection protectedRanges scenarios autoFilter sortState"
-        " dataConsolidate customSheetViews phoneticPr conditionalFormatting dataValidations hyperlinks printOptions pageMargins pageSetup"
+        " dataConsolidate customSheetViews phoneticPr dataValidations hyperlinks printOptions pageMargins pageSetup"
         " headerFooter rowBreaks colBreaks customProperties cellWatches ignoredErrors smartTags drawing legacyDrawing legacyDrawingHF"
-        " drawingHF picture oleObjects controls webPublishItems tableParts").split()}}  # fmt: skip
+        " drawingHF picture oleObjects controls webPublishItems tableParts").split()},
+        "conditionalFormatting": {ANY_OTHERS}, "cfRule": {ANY_OTHERS, *"formula colorScale dataBar iconSet".split()}}  # fmt: skip
+    REFUSED = {"numFmt"}  # in an extension: the format of a condition
 
     def __init__(self, name, part, book, most):
         super().__init__()
@@ -203,8 +212,7 @@ class Sheet(Texts):
 
     def is_styled(self):
         """Whether the cell's format shows a text in another way."""
-        styled = self.book.styled
-        return bool(styled) and WHOLE.fullmatch(self.style) is not None and int(self.style) in styled
+        return self.style_number() in self.book.styled
 
     def number(self, value):
         """A number with the digits that Excel shows, or the date that it stands for."""
@@ -217,10 +225,16 @@ class Sheet(Texts):
 
     def format(self):
         """How the cell's format shows numbers."""
-        style, formats = self.style, self.book.formats or [general]
-        if not WHOLE.fullmatch(style) or not 0 <= int(style) < len(formats):
-            raise self.wrong(f"it has no format {text.quoted(style)}")
-        return formats[int(style)]
+        number, formats = self.style_number(), self.book.formats or [general]
+        if number >= len(formats):
+            raise self.wrong(f"it has no format {text.quoted(self.style)}")
+        return formats[number]
+
+    def style_number(self):
+        number = unsigned(self.style)
+        if number is None:
+            raise self.wrong(f"it has no format {text.quoted(self.style)}")
+        return number
 
     def date(self, serial):
         """The date, or of a number below 1 the time of day."""
@@ -257,6 +271,14 @@ class Sheet(Texts):
         is_apart = bottom < self.rows.numbers[0] or top > self.rows.numbers[-1] or left > width
         if not is_apart and (found[1], found[2]) != (found[3], found[4]):
             raise self.wrong(f"the cells {ref} are merged, but each row of a table has its own")
+
+    def open_conditionalFormatting(self, attributes):
+        self.ranges = attributes.get("sqref", "")
+
+    def open_cfRule(self, attributes):
+        """A condition may give cells another format."""
+        if "dxfId" in attributes and unsigned(attributes["dxfId"]) in self.book.conditional:
+            raise self.wrong(f"the cells {text.quoted(self.ranges)} have a conditional format with a number format: delete it")
 
     width = None  # of the widest row, once it is needed
 

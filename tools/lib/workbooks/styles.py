@@ -3,16 +3,17 @@
 import decimal
 import re
 
+from ..base import text
 from .cells import Date, Formatted, Percentage, Shortened
 from .limits import LONGEST_NAME, MOST_FORMATS, MOST_OWN_FORMATS, broken, too_many
-from .part import ANY_OTHERS, EXTENSIONS, Part
+from .part import ANY_OTHERS, BLANK, Part, unsigned
 
 # The numbers of Excel's own formats of dates and times, and what in another format isn't one: texts, and a condition or colour.
 DATE_FORMATS = {*range(14, 23), *range(27, 37), *range(45, 48), *range(50, 59)}
-PERCENT_FORMATS = "9", "10"  # the numbers of Excel's own
+PERCENT_FORMATS = 9, 10  # the numbers of Excel's own
 MOST_DIGITS = 11  # that Excel shows of a number in the format General
 PIECE = re.compile(r'"[^"]*"|\\.|_.|\*.|\[[^\]\[]*\]|.')  # of a format
-UNSEEN = ("_", "*", "[", " ")  # begin a piece that adds no character
+UNSEEN = re.compile(r"_.|\* | |\[(?:\$(?:-.*)?|[^$].*)?\]", re.DOTALL)  # a piece that adds no character
 NO_DATE = re.compile(r'"[^"]*"|\\.|_.|\*.|\[(?!(?:h+|m+|s+)\])[^\]\[]*\]', re.IGNORECASE)
 
 
@@ -23,7 +24,7 @@ def general(number):
 
 
 # The formats, and their numbers in Excel, that show a number as it is.
-PLAIN_FORMATS, PLAIN_CODES = {"0": general, "1": str, "49": general}, {"general": general, "0": str, "@": general}
+PLAIN_FORMATS, PLAIN_CODES = {0: general, 1: str, 49: general}, {"general": general, "0": str, "@": general}
 
 
 def digits_of(number):
@@ -38,50 +39,100 @@ def shows_texts(code):
     for piece in PIECE.findall(code):
         if piece == ";":
             sections.append([])
-        elif not piece.startswith(UNSEEN):
+        elif not UNSEEN.fullmatch(piece):
             sections[-1].append(piece)
     of_texts = sections[3] if len(sections) > 3 else sections[-1]
-    return of_texts == ["@"] or len(sections) < 4 and "@" not in of_texts or "".join(of_texts).lower() == "general"
+    words = "".join(of_texts).lower()
+    if of_texts == ["@"] or words == "general":
+        return True
+    return len(sections) < 4 and "@" not in of_texts and not (len(sections) == 1 and "general" in words)
+
+
+def is_percentage(code):
+    """Whether a format shows a percentage; a currency may be named %, too."""
+    return any(piece == "%" or piece.startswith("[$") and "%" in piece for piece in PIECE.findall(code))
+
+
+def shown_by(code):
+    """How a format shows a number."""
+    is_date = re.search("[dmyhs]", NO_DATE.sub("", code).split(";")[0], re.IGNORECASE)
+    other = Date if is_date else Percentage if is_percentage(code) else Formatted
+    return PLAIN_CODES.get(code.strip().lower(), other)
+
+
+def number_in(attributes):
+    """The number of a format; 0 is that of General."""
+    words = attributes.get("numFmtId", "0")
+    number = unsigned(words)
+    if number is None:
+        raise broken(f"a format has the number {text.quoted(words)}")
+    return number
 
 
 class Styles(Part):
     """For each format of cells how it shows a number: as a `Date`, `Percentage`, `Formatted`, `general`, or as it is (`str`)."""
 
     ROOT = "styleSheet"
-    PLACES = {"": ROOT, ROOT: "numFmts cellXfs extLst", "numFmts": "numFmt*", "cellXfs": "xf*"}
-    BETWEEN = {
-        ROOT: {ANY_OTHERS, *"fonts fills borders cellStyleXfs cellStyles dxfs tableStyles colors".split()},
-        "xf": {ANY_OTHERS, "alignment", "protection", EXTENSIONS},
+    PLACES = {
+        "": ROOT,
+        ROOT: "numFmts cellXfs dxfs extLst",
+        "numFmts": "numFmt*",
+        "cellXfs": "xf*",
+        "xf": "alignment extLst",
+        "dxfs": "dxf*",
+        "dxf": "numFmt extLst",
     }
-    ELSEWHERE = {"numFmt", "xf"}
+    BETWEEN = {
+        ROOT: {ANY_OTHERS, *"fonts fills borders cellStyleXfs cellStyles tableStyles colors".split()},
+        "xf": {ANY_OTHERS, "protection"},
+        "dxf": {ANY_OTHERS, *"font fill alignment border protection".split()},
+    }
+    ELSEWHERE = {"numFmt", "xf", "alignment", "dxfs", "dxf"}
 
     def __init__(self):
         super().__init__()
-        self.shown = {**PLAIN_FORMATS, **{str(number): Date for number in DATE_FORMATS}, **dict.fromkeys(PERCENT_FORMATS, Percentage)}
-        self.formats, self.own = [], 0
+        self.codes = {}  # of the workbook's own formats, by their numbers
+        self.shown = {**PLAIN_FORMATS, **dict.fromkeys(DATE_FORMATS, Date), **dict.fromkeys(PERCENT_FORMATS, Percentage)}
+        self.formats, self.filled, self.own = [], set(), 0
         self.styled = set()  # the numbers of formats that show texts in another way
+        self.conditions, self.conditional = 0, set()  # how many formats of conditions there are, and those that change what is shown
 
     def open_numFmt(self, attributes):
-        number, code = attributes.get("numFmtId", ""), attributes.get("formatCode", "")
+        code = attributes.get("formatCode", "")
         if len(code) > LONGEST_NAME:
             raise broken(f"a format has more than {LONGEST_NAME:,} characters")
-        is_date = re.search("[dmyhs]", NO_DATE.sub("", code).split(";")[0], re.IGNORECASE)
-        other = Date if is_date else Percentage if "%" in PIECE.findall(code) else Formatted
-        self.shown[number[:10]] = PLAIN_CODES.get(code.strip().lower(), other)
-        if not shows_texts(code):
-            self.styled.add(number[:10])
         self.own += 1
         if self.own > MOST_OWN_FORMATS:
             raise too_many(MOST_OWN_FORMATS, "number formats")
+        shown, is_plain = shown_by(code), shows_texts(code)
+        if self.within[-2] == "dxf":
+            if shown not in (str, general) or not is_plain:
+                self.conditional.add(self.conditions - 1)
+            return
+        number = number_in(attributes)
+        if self.codes.setdefault(number, code) != code:
+            raise broken(f"two formats have the number {number}")
+        self.shown[number] = shown
+        if not is_plain:
+            self.styled.add(number)
+
+    def open_dxf(self, _):
+        self.conditions += 1
 
     def open_xf(self, attributes):
-        self.formats.append(attributes.get("numFmtId", "0")[:10])
+        self.formats.append(number_in(attributes))
         if len(self.formats) > MOST_FORMATS:
             raise too_many(MOST_FORMATS, "formats of cells")
 
+    def open_alignment(self, attributes):
+        """A cell may be filled with its text, again and again."""
+        if attributes.get("horizontal", "").strip(BLANK) == "fill":
+            self.filled.add(len(self.formats) - 1)
+
     def of_cells(self):
-        return [self.shown.get(number, Formatted) for number in self.formats]
+        made = [self.shown.get(number, Formatted) for number in self.formats]
+        return [Formatted if at in self.filled and shown in (str, general) else shown for at, shown in enumerate(made)]
 
     def of_texts(self):
         """The formats of cells that show texts in another way."""
-        return {at for at, number in enumerate(self.formats) if number in self.styled}
+        return {at for at, number in enumerate(self.formats) if number in self.styled} | self.filled
