@@ -14,7 +14,7 @@ from support import AUCTION, AUCTION_RESULTS, FIRST, QUARTERS, QUARTERS_RESULTS,
 from lib.base import rules, text
 from lib.journal import book, journal
 from lib.sheets import order_table, sheets, tables
-from lib.tool import command
+from lib.tool import command, output
 
 HEADER = "participant,order,kind,side,price_eur_mwh,periods,volume_mw,parent,group"
 HOUR = "NORD,WIND-8,hour,sell,12.5,8,45,,"
@@ -345,6 +345,11 @@ class CommandLine(unittest.TestCase):
             self.assertEqual(tool("table", *texts, "--date", date), (command.COMMAND_LINE, b"", f"table: {said}"))
             if command.has("matplotlib") and command.has("jinja2"):
                 self.assertEqual(tool("report", *texts, "-o", "-", "--date", date), (command.COMMAND_LINE, b"", f"report: {said}"))
+
+    def test_more_rows_than_a_sheet_has(self):
+        most, said = sheets.MOST_LINES, "the table prices has 1,048,577 rows, but a sheet of an Excel workbook has at most 1,048,576"
+        with self.assertRaisesRegex(command.Stop, f"^{said}: write it as .csv$"):
+            output.workbook({"few": [["hour"]], "prices": [["hour"]] * (most + 1)})
 
     def test_a_table_without_orders(self):
         status, out, err = tool("table", "--journal", "-", data=f"{HEADER}\n".encode())

@@ -27,7 +27,7 @@ UNESCAPED, ESCAPED = re.compile(CELL + MARK), re.compile(f"{CELL}'{MARK}")
 
 
 class Wrong(Exception):
-    """A file that isn't a table."""
+    """A file that isn't a table, or a table that has too many rows for a sheet."""
 
 
 def is_workbook(data):
@@ -209,6 +209,9 @@ def writer():
 
 def workbook(tables):
     """The bytes of a workbook with a sheet for each table, by name: numbers are numbers, and words are never formulas."""
+    for name, rows in tables.items():
+        if len(rows) > limits.LAST_ROW:
+            raise Wrong(f"the table {name} has {len(rows):,} rows, but a sheet of an Excel workbook has at most {limits.LAST_ROW:,}")
     openpyxl = writer()
     from openpyxl.styles import Font
     from openpyxl.utils import get_column_letter

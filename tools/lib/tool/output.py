@@ -34,11 +34,19 @@ def is_table(path):
     return is_workbook(path) or path.lower().endswith(CSV)
 
 
+def workbook(tables):
+    """The bytes of a workbook with a sheet for each table, by name."""
+    try:
+        return sheets.workbook(tables)
+    except sheets.Wrong as fault:
+        raise command.Stop(f"{fault}: write it as {CSV}", command.COMMAND_LINE) from None
+
+
 def write(tool, args, name, rows, periods):
     """Writes a table, which is whole before the first byte is written."""
     rows = list(rows)
     if is_workbook(args.out):
-        data = sheets.workbook({name: rows})
+        data = workbook({name: rows})
     elif args.json:
         data = shapes.as_json(name, rows, shapes.day_of_periods(periods)).encode()
     else:
