@@ -20,7 +20,7 @@ FAMILIES = [*make_family.FAMILIES, BASE]
 PICTURE = "../docs/growth.svg"
 
 
-def counted(family, periods, blocks):
+def nodes_of_book(family, periods, blocks):
     """The nodes of a book; None if the twin didn't end in time."""
     usual = ["./make_blocks.py", BASE, str(make_blocks.USUAL), "1", PERIODS[periods], str(blocks)]
     words = usual if family == BASE else ["./make_family.py", family, "500", str(blocks), PERIODS[periods]]
@@ -64,4 +64,4 @@ def draw(nodes):
 
 
 days = [(family, periods) for family in FAMILIES for periods in PERIODS]
-draw({day: show(*day, [counted(*day, blocks) for blocks in BLOCKS]) for day in days})
+draw({day: show(*day, [nodes_of_book(*day, blocks) for blocks in BLOCKS]) for day in days})

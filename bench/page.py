@@ -176,7 +176,7 @@ def section(part):
     return "\n".join(filter(None, [f"## `bench/run {part}`\n", words, shown(part, rows), held(TOGETHER, rows), PICTURES.get(part)]))
 
 
-def counted(part, date, commit, load, notes):
+def row_of_run(part, date, commit, load, notes):
     """The row of a part's run, with its figures and how many of its targets are missed; of the load the mean of the last minute."""
     rows = read(KEPT / f"{part}.csv")
     counts = collections.Counter(holds for _, _, _, holds, _ in rows)
@@ -198,7 +198,7 @@ def by_value(runs, column, words):
 def page():
     runs = read(KEPT / "runs.csv")
     notes = list(dict.fromkeys(note for run in runs for note in run[6].split("; ") if note))
-    lines = [counted(*run[:3], run[4], " ".join(f"({notes.index(note) + 1})" for note in run[6].split("; ") if note)) for run in runs]
+    lines = [row_of_run(*run[:3], run[4], " ".join(f"({notes.index(note) + 1})" for note in run[6].split("; ") if note)) for run in runs]
     when = table(["Part", "Figures", "Targets missed", "Day", "Commit", "Load", "Notes"], lines)
     notes = "; ".join(f"({number}) {note}" for number, note in enumerate(notes, 1))
     circumstances = by_value(runs, 3, "ran on {}") + by_value(runs, 5, "used the kit `{}`")

@@ -426,7 +426,7 @@ def trouble(rng):
     data = words if isinstance(words, bytes) else drawn.data()
     try:
         found = [(number, trimmed(cells)) for number, cells in sheets.rows_of(data)[0]]
-    except sheets.Wrong as fault:
+    except sheets.BadTable as fault:
         if broken is None:
             return f"it is right, and refused: {fault}"
         return None if isinstance(words, bytes) or words in str(fault) else f"{broken.__name__}: another fault: {fault}"
@@ -607,7 +607,7 @@ def told(data, words):
     try:
         order_table.read_tables([("", data)], 100)
         fault = None
-    except order_table.Wrong as wrong:
+    except order_table.BadOrders as wrong:
         fault = str(wrong)
     except MemoryError:
         return f"it takes more than {MOST_MEMORY // 2**20} MiB"

@@ -23,7 +23,7 @@ def as_faults() -> Iterator[None]:
     """The tools' message about a text, a table or a date is a fault here."""
     try:
         yield
-    except (command.Stop, order_table.Wrong, shapes.Wrong) as fault:
+    except (command.Stop, order_table.BadOrders, shapes.BadDate) as fault:
         raise Fault(str(fault)) from None
 
 

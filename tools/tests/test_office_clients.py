@@ -78,17 +78,17 @@ class Requests(unittest.TestCase):
             (json.dumps({**right, "what": []}).encode(), requests.JSON, "submit, amend or cancel"),
         ):
             with self.subTest(body=body[:80]):
-                with self.assertRaisesRegex(requests.Wrong, words):
+                with self.assertRaisesRegex(requests.BadRequest, words):
                     requests.commands_of(body, kind, "GAS", 7)
 
     def test_a_long_body_is_a_fault_with_its_place(self):
         body = b"cancel,GAS,A,,,,,,\n" * 2_000 + b"cancel,GAS,a,,,,,,\n"
-        with self.assertRaisesRegex(requests.Wrong, "BadField in record 2001 field 3"):
+        with self.assertRaisesRegex(requests.BadRequest, "BadField in record 2001 field 3"):
             requests.commands_of(body, requests.RECORDS, "GAS")
 
     def test_few_faults_of_a_long_body_are_looked_for(self):
         for body, words in ((b"a\r" * 8_191, "FieldCount in record 1$"), (b"a\n" * 21, "FieldCount in record 1$"), (b"a\n", "line 1")):
-            with self.subTest(body=body[:80]), self.assertRaisesRegex(requests.Wrong, words):
+            with self.subTest(body=body[:80]), self.assertRaisesRegex(requests.BadRequest, words):
                 requests.commands_of(body, requests.RECORDS, "GAS")
 
     def test_sums_of_all_orders_are_published_with_the_journal(self):
@@ -115,7 +115,7 @@ class Requests(unittest.TestCase):
             (b"%PDF-1.4", r"^this is a PDF: save the table as \.xlsx or as CSV$"),
             (b"\xd0\xcf\x11\xe0\xa1\xb1\x1a\xe1" + "EncryptedPackage".encode("utf-16-le"), "password: save it without the password$"),
         ):
-            with self.assertRaisesRegex(requests.Wrong, words):
+            with self.assertRaisesRegex(requests.BadRequest, words):
                 requests.table_records(data, "GAS", 24)
 
     def test_only_the_first_faults_of_a_table_are_told(self):
@@ -127,7 +127,7 @@ class Requests(unittest.TestCase):
             (",".join([heads, *["what"] * 4_000]), 4_000),
             (heads.replace(",group", f"{',' * 4_001}group") + "\n" + ",".join(["x"] * 4_010), 4_000),
         ):
-            with self.subTest(data=data[:80], count=count), self.assertRaises(requests.Wrong) as caught:
+            with self.subTest(data=data[:80], count=count), self.assertRaises(requests.BadRequest) as caught:
                 requests.table_records(data.encode(), "GAS", 24)
             lines = str(caught.exception).split("\n")
             self.assertEqual((len(lines), lines[-1]), (21, f"and {count - 20} more"))
@@ -142,7 +142,7 @@ class Requests(unittest.TestCase):
             ([("BASE", "hour")], "line 2, column parent: BASE in the book is an hourly order, not a block"),
             ([("BASE", "block"), *((f"B{number}", "block") for number in range(23))], "line 2: a book holds at most 24 blocks"),
         ):
-            with self.subTest(orders=orders), self.assertRaisesRegex(requests.Wrong, f"^{words}$"):
+            with self.subTest(orders=orders), self.assertRaisesRegex(requests.BadRequest, f"^{words}$"):
                 read(*orders)
 
     def test_a_table_is_read_in_a_process_of_its_own(self):
@@ -150,14 +150,14 @@ class Requests(unittest.TestCase):
         read = lambda data, periods=24: asyncio.run(reader.read(data, "GAS", periods))
         self.assertEqual(read(table % 8), (["submit,GAS,A,block,buy,1250,8:300,,"], []))
         self.assertEqual(read(table % 100, 100)[0], ["submit,GAS,A,block,buy,1250,100:300,,"])
-        with self.assertRaisesRegex(requests.Wrong, "there is no period 100$"):
+        with self.assertRaisesRegex(requests.BadRequest, "there is no period 100$"):
             read(table % 100, 96)
         child = (table % 8).replace(b"mw\n", b"mw,parent\n").replace(b",30\n", b",30,BASE\n")
         linked = asyncio.run(reader.read(child, "GAS", 24, [("BASE", "block")]))
         self.assertEqual(linked, (["submit,GAS,A,block,buy,1250,8:300,BASE,"], []))
-        with self.assertRaisesRegex(requests.Wrong, "you have no order BASE, neither in the book nor in a line above$"):
+        with self.assertRaisesRegex(requests.BadRequest, "you have no order BASE, neither in the book nor in a line above$"):
             read(child)
-        with self.assertRaisesRegex(requests.Wrong, "1 command of other"):
+        with self.assertRaisesRegex(requests.BadRequest, "1 command of other"):
             read(table.replace(b"GAS", b"OIL") % 8)
         words = "can't be read within 0.001 s: it is too large, or the office is busy$"
         with mock.patch.object(reader, "MOST_SECONDS", 0.001), self.assertRaisesRegex(gate.Refused, words):

@@ -159,7 +159,7 @@ class Times(unittest.TestCase):
                 self.assertEqual(len({time.timestamp() for time in times}), periods + 1)
                 self.assertEqual(times[-1].strftime("%H:%M"), "00:00")
             for wrong in set(rules.DAYS) - {hours, 4 * hours}:
-                with self.assertRaises(shapes.Wrong):
+                with self.assertRaises(shapes.BadDate):
                     shapes.begins(datetime.date(*date), wrong)
         autumn = [time.isoformat() for time in shapes.begins(datetime.date(2026, 10, 25), 25)[2:4]]
         self.assertEqual(autumn, ["2026-10-25T02:00:00+02:00", "2026-10-25T02:00:00+01:00"])

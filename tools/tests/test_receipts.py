@@ -92,11 +92,11 @@ class Receipts(unittest.TestCase):
                 if which == "receipt":
                     self.assertNotEqual(verdict_of(changed, head, self.public), receipts.RIGHT)
                 elif which == "head":
-                    with contextlib.suppress(heads.Wrong):
+                    with contextlib.suppress(heads.BadRecord):
                         other, is_written = heads.parsed(changed, heads.head_read)
                         self.assertFalse(is_written and signing.is_signed(self.public, other))
                 else:
-                    with contextlib.suppress(signing.Wrong):
+                    with contextlib.suppress(signing.BadKey):
                         other = signing.public(changed)
                         # Some bytes of PEM say nothing, such as a line end: then it is the same key.
                         self.assertTrue(raw_of(other) == raw_of(self.public) or not signing.is_signed(other, head))
@@ -159,13 +159,13 @@ class Receipts(unittest.TestCase):
         changed += [{**value, "head": {**value["head"], name: made}} for name in value["head"] for made in (said, [said], {said: said}, 10**200)]
         for made in changed:
             with self.subTest(made):
-                with self.assertRaises(heads.Wrong) as caught:
+                with self.assertRaises(heads.BadRecord) as caught:
                     heads.parsed(json.dumps(made).encode(), heads.receipt_read)
                 self.assertNotIn(said[:21], str(caught.exception))
                 self.assertLess(len(str(caught.exception)), 150)
-        with self.assertRaisesRegex(heads.Wrong, "^a dam-receipt-1 has no member 'the published head c..' \\(107 characters\\)$"):
+        with self.assertRaisesRegex(heads.BadRecord, "^a dam-receipt-1 has no member 'the published head c..' \\(107 characters\\)$"):
             heads.parsed(json.dumps(with_member).encode(), heads.receipt_read)
-        with self.assertRaisesRegex(heads.Wrong, "^it lacks the member salt$"):
+        with self.assertRaisesRegex(heads.BadRecord, "^it lacks the member salt$"):
             heads.parsed(json.dumps({**without, said: 1}).encode(), heads.receipt_read)
 
     def test_a_record_stands_in_its_written_form(self):
@@ -175,7 +175,7 @@ class Receipts(unittest.TestCase):
         self.assertEqual(heads.parsed(json.dumps(value).encode(), heads.receipt_read)[0].record, record)
         quoted = '"submit"' + record.removeprefix("submit")
         for other in (quoted, f"{record}\n", f"{record}\r", f"\n{record}", f"{record}\n{record}", f"{record} ", ""):
-            with self.subTest(other), self.assertRaisesRegex(heads.Wrong, "isn't a record of a written journal$"):
+            with self.subTest(other), self.assertRaisesRegex(heads.BadRecord, "isn't a record of a written journal$"):
                 heads.parsed(json.dumps({**value, "record": other}).encode(), heads.receipt_read)
 
     def test_each_base64(self):
@@ -189,7 +189,7 @@ class Receipts(unittest.TestCase):
             self.assertNotEqual(word, bits)
             wrong = [f"{word}=", word[:-1], f" {word}", f"{word}\n", word.replace(word[4], "-"), word[:-4], f"{word[:-1]}A", None, 1, [word]]
             for other in wrong:
-                with self.subTest(other), self.assertRaises(heads.Wrong):
+                with self.subTest(other), self.assertRaises(heads.BadRecord):
                     heads.bytes_read(other, count)
 
     def test_another_writing_of_a_right_receipt(self):
@@ -417,9 +417,9 @@ class Receipts(unittest.TestCase):
             for sign in (0, 128):
                 key = Ed25519PublicKey.from_public_bytes(raw[:31] + bytes([raw[31] | sign]))
                 form = serialization.PublicFormat.SubjectPublicKeyInfo
-                with self.assertRaisesRegex(signing.Wrong, "its order is small"):
+                with self.assertRaisesRegex(signing.BadKey, "its order is small"):
                     signing.public(key.public_bytes(serialization.Encoding.PEM, form))
-        with self.assertRaises(signing.Wrong):
+        with self.assertRaises(signing.BadKey):
             signing.public(signing.public_text(self.key) + signing.public_text(signing.made()))
 
     def test_which_check_of_a_signature(self):
@@ -453,7 +453,7 @@ class Receipts(unittest.TestCase):
     def test_the_head_of_no_entry(self):
         head = sealing.Seal(DAY, 24, sealing.new_salts(DAY), self.key).head()
         self.assertEqual(heads.parsed(heads.line(head), heads.head_read)[0], head)
-        with self.assertRaises(heads.Wrong):
+        with self.assertRaises(heads.BadRecord):
             heads.parsed(heads.line(head._replace(root=merkle.leaf_hash(b""))), heads.head_read)
 
     def test_extensions_that_connect_nothing(self):

@@ -32,7 +32,7 @@ def made(*rows, header=HEADER, periods=24):
 def wrong(*rows, header=HEADER, periods=24):
     try:
         made(*rows, header=header, periods=periods)
-    except order_table.Wrong as fault:
+    except order_table.BadOrders as fault:
         return str(fault).split("\n")
     raise AssertionError("the table is right")
 
@@ -57,7 +57,7 @@ class Columns(unittest.TestCase):
         first = ["line 2, column 1: 'X' is in a column without a name: write one, or remove it", said[0].replace("8", "9")]
         self.assertEqual(wrong(*(f"X,{row}" for row in rows), header=f",{header}"), first)
         self.assertEqual(made(*rows[:2], header=header), made(*rows[:2]))
-        with self.assertRaises(order_table.Wrong):  # also if the row is one of others
+        with self.assertRaises(order_table.BadOrders):  # also if the row is one of others
             order_table.read_tables([("", table(*rows, header=header))], 24, "A")
 
     def test_many_columns_without_a_name(self):

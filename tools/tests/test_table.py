@@ -101,7 +101,7 @@ class Orders(unittest.TestCase):
         return journal.journal_text(order_table.read_orders(table, periods, False)).splitlines()[1:]
 
     def wrong(self, *rows, header=HEADER):
-        with self.assertRaises(order_table.Wrong) as fault:
+        with self.assertRaises(order_table.BadOrders) as fault:
             self.made(*rows, header=header)
         return str(fault.exception)
 
@@ -234,7 +234,7 @@ class Orders(unittest.TestCase):
         self.assertEqual(self.made(f"submit,{HOUR}", header=f"what,{HEADER}"), self.made(HOUR))
 
     def test_days_that_are_none(self):
-        with self.assertRaisesRegex(order_table.Wrong, "^a day has 23, 24, 25, 92, 96 or 100 periods, not 26$"):
+        with self.assertRaisesRegex(order_table.BadOrders, "^a day has 23, 24, 25, 92, 96 or 100 periods, not 26$"):
             self.made(HOUR, periods=26)
 
     def test_tables_that_are_none(self):
@@ -253,7 +253,7 @@ class Orders(unittest.TestCase):
             self.assertIn(f"line {line}, column 4: the column 'side' appears twice", self.wrong(header=header.replace("kind", "side")))
         self.assertIn("the table is empty", self.wrong(header=""))
         self.assertIn("line 2: it has 10 cells, but the header has 9", self.wrong(BLOCK + ",1"))
-        with self.assertRaises(order_table.Wrong) as fault:
+        with self.assertRaises(order_table.BadOrders) as fault:
             order_table.read_orders(HEADER.encode() + b"\nN\x81RD", 24, True)
         said = "line 2: the table is neither in UTF-8 nor in Windows-1252: save it as CSV in UTF-8"
         self.assertEqual(str(fault.exception), said)

@@ -128,7 +128,7 @@ class Faults(Read):
             tracemalloc.start()
             try:
                 found = sheets.rows_of(data, most=most)[0]
-            except sheets.Wrong as fault:
+            except sheets.BadTable as fault:
                 found = str(fault)
             most_memory = tracemalloc.get_traced_memory()[1]
             tracemalloc.stop()
@@ -150,7 +150,7 @@ class Faults(Read):
             (made.of_sheet(made.OPEN, *[cells] * 3_000, made.CLOSE), 8, "bytes of text before this cell"),
         ):
             tracemalloc.start()
-            with self.assertRaises(order_table.Wrong) as wrong:
+            with self.assertRaises(order_table.BadOrders) as wrong:
                 order_table.read_tables([("", data)], 100)
             most_memory = tracemalloc.get_traced_memory()[1] / 2**20
             tracemalloc.stop()
@@ -158,7 +158,7 @@ class Faults(Read):
             self.assertLess(most_memory, most)
 
     def test_a_text_has_no_more_lines_than_a_sheet(self):
-        with self.assertRaisesRegex(sheets.Wrong, "^line 1048577: a table has at most 1,048,576 lines$"):
+        with self.assertRaisesRegex(sheets.BadTable, "^line 1048577: a table has at most 1,048,576 lines$"):
             sheets.rows_of(b"\n" * (2**20 + 1))
 
     def test_a_cell_of_a_text_that_does_not_end_on_its_line(self):
@@ -174,7 +174,7 @@ class Faults(Read):
             (f'{head}\n{one.replace(",", ";")};"\n{other}'.replace(",", ";"), "line 2, column 10"),
         ):
             for code in ("utf-8", "utf-8-sig", "utf-16"):
-                with self.subTest(text, code=code), self.assertRaisesRegex(order_table.Wrong, f"^{place}: {said}$"):
+                with self.subTest(text, code=code), self.assertRaisesRegex(order_table.BadOrders, f"^{place}: {said}$"):
                     order_table.read_tables([("", text.encode(code))], 24, "A")
         quoted = f'"{head}",note\n'.replace(",", '","').replace('","note', ',"note, of one ""line"""') + f'{one},"a, b"\n'
         self.assertEqual(len(order_table.read_tables([("", quoted.encode())], 24).submits), 1)
@@ -364,7 +364,7 @@ class Unlike(unittest.TestCase):
         data = made.of_sheet(self.HEADS, f"<row>{''.join({**plain, **cells}.values())}</row>".encode(), made.CLOSE, **dict(parts))
         try:
             return order_table.read_tables([("", data)], 24).submits[0][1], None
-        except order_table.Wrong as fault:
+        except order_table.BadOrders as fault:
             return None, str(fault).splitlines()[0]
 
     def computed(self, attributes):
@@ -406,14 +406,14 @@ class Unlike(unittest.TestCase):
             with self.subTest(cell, due=due):
                 if refused:
                     said = "^sheet 'orders', cell E2: its formula was saved without its value: open the workbook in Excel, and save it$"
-                    with self.assertRaisesRegex(sheets.Wrong, said):
+                    with self.assertRaisesRegex(sheets.BadTable, said):
                         sheets.rows_of(data)
                 else:
                     self.assertEqual(len(order_table.read_tables([("", data)], 24).submits), 2)
 
     def test_a_heading_without_its_value(self):
         heads = made.OPEN.replace(b"<is><t>group</t></is>", b"<f>A1</f>").replace(b"<c t='inlineStr'><f>", b"<c><f>")
-        with self.assertRaisesRegex(order_table.Wrong, "^line 1, column 9: '=A1' is a formula that was saved without its value"):
+        with self.assertRaisesRegex(order_table.BadOrders, "^line 1, column 9: '=A1' is a formula that was saved without its value"):
             order_table.read_tables([("", made.of_sheet(heads, order(2, "K1"), made.CLOSE))], 24)
 
     def test_names_that_excel_shows_in_another_way(self):
@@ -473,7 +473,7 @@ class Unlike(unittest.TestCase):
                     self.assertEqual(found.name, str(int(float(number))))
                 else:
                     self.assertEqual(said, fault, (style, number))
-        with self.assertRaisesRegex(order_table.Wrong, "column order: '123456789012' is a number of which"):
+        with self.assertRaisesRegex(order_table.BadOrders, "column order: '123456789012' is a number of which"):
             plain = b"<row><c t='str'><v>A</v></c><c><v>123456789012</v></c></row>"
             order_table.read_tables([("", made.of_sheet(made.OPEN, plain, made.CLOSE, **{"xl/styles.xml": styles_without_formats()}))], 24)
         found, _ = self.read(styles, E='<c s="0"><v>0.10</v></c>')  # a price is what it is
@@ -520,7 +520,7 @@ class Unlike(unittest.TestCase):
             styles = f'<styleSheet xmlns="{made.MAIN[0]}"><numFmts>{formats}</numFmts><cellXfs><xf numFmtId="164"/></cellXfs></styleSheet>'
             data = made.of_sheet(made.OPEN, order(2, "K1"), made.CLOSE, **{"xl/styles.xml": styles.encode()})
             if fault:
-                with self.assertRaisesRegex(sheets.Wrong, f"^line 1: the Excel workbook can't be read: {fault}$"):
+                with self.assertRaisesRegex(sheets.BadTable, f"^line 1: the Excel workbook can't be read: {fault}$"):
                     sheets.rows_of(data)
             else:
                 self.assertEqual(len(order_table.read_tables([("", data)], 24).submits), 1)
@@ -543,11 +543,11 @@ class Unlike(unittest.TestCase):
                 if is_read:
                     self.assertEqual(len(order_table.read_tables([("", data)], 24).submits), 1)
                 else:
-                    with self.assertRaisesRegex(sheets.Wrong, said):
+                    with self.assertRaisesRegex(sheets.BadTable, said):
                         sheets.rows_of(data)
         extension = '</sheetData><extLst><ext><x:dxf xmlns:x="urn:x"><numFmt formatCode="0%"/></x:dxf></ext></extLst>'
         data = made.of_sheet(made.OPEN, order(2, "K1"), made.CLOSE.replace(b"</sheetData>", extension.encode()))
-        with self.assertRaisesRegex(sheets.Wrong, "an element 'numFmt' stands in 'extLst'"):
+        with self.assertRaisesRegex(sheets.BadTable, "an element 'numFmt' stands in 'extLst'"):
             sheets.rows_of(data)
 
     def test_a_sheet_of_macros(self):
@@ -564,7 +564,7 @@ class Unlike(unittest.TestCase):
                 }
                 data = made.of_sheet(made.OPEN, made.CLOSE, **{name: part.encode() for name, part in parts.items()})
                 if said:
-                    with self.assertRaisesRegex(sheets.Wrong, said):
+                    with self.assertRaisesRegex(sheets.BadTable, said):
                         sheets.rows_of(data)
                 else:
                     notes = []
@@ -581,7 +581,7 @@ class Unlike(unittest.TestCase):
             if read:
                 self.assertEqual(order_table.read_tables([("", data)], 24).submits[0][1].name, read)
             else:
-                with self.assertRaisesRegex(order_table.Wrong, "two sheets are named 'Orders'"):
+                with self.assertRaisesRegex(order_table.BadOrders, "two sheets are named 'Orders'"):
                     order_table.read_tables([("", data)], 24)
 
     def test_names_of_scenarios(self):
@@ -620,7 +620,7 @@ class Long(unittest.TestCase):
         ):
             cells = dict(zip(order_table.ORDER, "A,K1,block,buy,1,8,5,,".split(",")), **{column: cell})
             began = time.process_time()
-            with self.assertRaisesRegex(order_table.Wrong, said):
+            with self.assertRaisesRegex(order_table.BadOrders, said):
                 order_table.read_tables([("", f"{','.join(cells)}\n{','.join(cells.values())}\n".encode())], 24)
             self.assertLess(time.process_time() - began, 1)
 

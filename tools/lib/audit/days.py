@@ -85,7 +85,7 @@ def listed_pairs(path):
         heads = [cell.strip().lower() for cell in next(rows, (0, []))[1]]
         refuse_heads(path, heads)
         pairs = [listed_pair(path.parent, dict(zip(heads, map(str.strip, row))), extra_cells(line, row, heads)) for line, row in rows]
-    except sheets.Wrong as fault:
+    except sheets.BadTable as fault:
         raise command.Stop(f"{command.shown(path)} isn't a table of days: {fault}") from None
     if not pairs:
         raise command.Stop(f"{command.shown(path)} has no days: it has no row below its header")

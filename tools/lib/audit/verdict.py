@@ -197,7 +197,7 @@ class Audit:
         has_none = bool(published) and all(who != options.participant for who, _ in closed.rows)
         try:
             own = sent.read_sent(self.read("sent", options.sent), options.participant, read.periods, has_none)
-        except sent.Wrong as fault:
+        except sent.BadSentText as fault:
             raise command.Stop(f"{command.shown(options.sent)} isn't what {options.participant} sent: {fault}") from None
         self.notes = [f"{command.shown(options.sent)}: {note}" for note in own.notes]
         for note in [] if options.quiet else self.notes:

@@ -349,7 +349,7 @@ def faults(data, command="clear", bar=None):
     return Lint(data, command, bar=bar).run()
 
 
-def counted(found):
+def summary(found):
     """How many faults there are, and how many commands the book would refuse."""
     refused = sum(1 for one in found if one.refusal)
     counts = [(len(found) - refused, "fault"), (refused, "refused command")]

@@ -16,7 +16,7 @@ SPACES = b' \t\r\n\f\v"'
 WORDS = re.compile(rb"(?:day|submit|amend|cancel|close)\b", re.IGNORECASE)
 
 
-class Wrong(Exception):
+class BadSentText(Exception):
     """The text isn't from a participant of that name on that day."""
 
 
@@ -77,7 +77,7 @@ def read_sent(data, who, periods, has_none):
         own, notes = [sent for sent in every if sent.command.who == who], []
         others = len(every) - len(own)
     if others and not own and not (is_table and has_none):
-        raise Wrong("\n".join([f"it has {text.counted(others, 'command')} of others, and none of {who}", *notes]))
+        raise BadSentText("\n".join([f"it has {text.counted(others, 'command')} of others, and none of {who}", *notes]))
     return Own(own, others, is_table, notes)
 
 
@@ -86,9 +86,9 @@ def read_records(data, periods):
     try:
         read = journal.read_journal(own)
     except journal.Fault:
-        raise Wrong(lint.in_few_words(data, periods).lstrip()) from None
+        raise BadSentText(lint.in_few_words(data, periods).lstrip()) from None
     if read.periods != periods:
-        raise Wrong(f"it is for a day of {read.periods} periods, but the journal is for one of {periods}")
+        raise BadSentText(f"it is for a day of {read.periods} periods, but the journal is for one of {periods}")
     first = 2 if own is data else 1
     return [Sent(at, command) for at, command in enumerate(read.commands, first) if not isinstance(command, journal.Close)]
 
@@ -98,12 +98,12 @@ def read_table(data, periods, who):
     try:
         table = order_table.cells_of(data)
         if command_table.is_command_table(table):
-            raise Wrong(f"it is a table of commands, with the column {command_table.WHAT}: give records of a journal, or a table of orders")
+            raise BadSentText(f"it is a table of commands, with the column {command_table.WHAT}: give records of a journal, or a table of orders")
         orders = order_table.read_tables([("", table)], periods, who)
-    except order_table.Wrong as fault:
+    except order_table.BadOrders as fault:
         is_table = kinds.kind_of(data) == kinds.ORDERS
         where = "its table has rows that aren't orders" if is_table else "it has no journal records and isn't a table of orders"
-        raise Wrong(f"{where}: {fault}") from None
+        raise BadSentText(f"{where}: {fault}") from None
     return [Sent(number, submit) for number, submit in orders.submits], orders.notes, orders.others
 
 

@@ -99,7 +99,7 @@ def sound(path, kind):
     """Ends what reads a file of the office with a fault that names it, if it is damaged."""
     try:
         yield
-    except (ValueError, TypeError, KeyError, RecursionError, heads.Wrong):
+    except (ValueError, TypeError, KeyError, RecursionError, heads.BadRecord):
         raise command.Stop(f"{command.shown(path)} can't be used: it isn't {kind}") from None
 
 

@@ -17,7 +17,7 @@ def read(path, key):
     and this key hasn't signed it: the office would sign a day with two keys."""
     try:
         head, _ = heads.parsed(path.read_bytes(), heads.head_read)
-    except (FileNotFoundError, heads.Wrong):
+    except (FileNotFoundError, heads.BadRecord):
         return None
     if not signing.is_signed(key.public_key(), head):
         raise Contradiction(f"OtherKey: the head in {path.name} isn't signed by {folder.KEY}, or was changed")

@@ -21,7 +21,7 @@ CODE = re.compile(rf" \((?:{'|'.join(book.REASONS)})\)$", re.MULTILINE)  # of th
 DAY = b"day,%d,,,,,,,\n" % rules.GREATEST_PERIOD  # before records; the desk's book knows the day's periods
 
 
-class Wrong(Exception):
+class BadRequest(Exception):
     """The body has no commands of this participant: the fault in words, by its place."""
 
 
@@ -30,18 +30,18 @@ def commands_of(body, kind, who, first=1):
     if kind == JSON:
         body = json_records(body, who, first)
     elif kind != RECORDS:
-        raise Wrong(f"the type of the content should be {RECORDS} or {JSON}")
+        raise BadRequest(f"the type of the content should be {RECORDS} or {JSON}")
     try:
         commands = journal.read_journal(DAY + body).commands
     except journal.Fault as fault:
-        raise Wrong(f"no records of a journal:{in_words(body, fault)}") from None
+        raise BadRequest(f"no records of a journal:{in_words(body, fault)}") from None
     if not commands:
-        raise Wrong("there is no command")
+        raise BadRequest("there is no command")
     for place, command in enumerate(commands, 1):
         if isinstance(command, journal.Close):
-            raise Wrong(f"{named(place, first)} is a close, which only the office enters")
+            raise BadRequest(f"{named(place, first)} is a close, which only the office enters")
         if command.who != who:
-            raise Wrong(f"{named(place, first)} isn't yours: its participant should be {who}")
+            raise BadRequest(f"{named(place, first)} isn't yours: its participant should be {who}")
     return commands
 
 
@@ -61,7 +61,7 @@ def members(pairs):
     """The members of an object, of which no two have one name: a reader that takes the first would see another command."""
     found = dict(pairs)
     if len(found) < len(pairs):
-        raise Wrong("an object has two members of one name")
+        raise BadRequest("an object has two members of one name")
     return found
 
 
@@ -69,13 +69,13 @@ def json_records(body, who, first):
     """The records of a command in JSON, or of a list of commands."""
     try:
         value = json.loads(body, object_pairs_hook=members)
-    except Wrong:
+    except BadRequest:
         raise
     except (ValueError, RecursionError):
-        raise Wrong("it isn't JSON") from None
+        raise BadRequest("it isn't JSON") from None
     commands = value if isinstance(value, list) else [value]
     if len(commands) > MOST_COMMANDS:
-        raise Wrong(f"there are more than {MOST_COMMANDS:,} commands")
+        raise BadRequest(f"there are more than {MOST_COMMANDS:,} commands")
     return "".join(f"{json_record(found, who, named(place, first))}\n" for place, found in enumerate(commands, 1)).encode()
 
 
@@ -83,11 +83,11 @@ def json_record(value, who, command):
     """The record of a command in JSON. Whether its fields are right is seen when the record is read."""
     kind = value.get("what") if isinstance(value, dict) else None
     if not isinstance(kind, str) or kind not in FIELDS:
-        raise Wrong(f"{command} should be an object whose member what is submit, amend or cancel")
+        raise BadRequest(f"{command} should be an object whose member what is submit, amend or cancel")
     needed, further = FIELDS[kind]
     given = set(value) - {"what"}
     if not needed <= given <= needed | further:
-        raise Wrong(f"{command}: {kind} has the members {', '.join(['what', *sorted(needed | further)])}")
+        raise BadRequest(f"{command}: {kind} has the members {', '.join(['what', *sorted(needed | further)])}")
     words = {name: word(value[name], command, name) for name in given - {"price", "volumes"}}
     price = number(value["price"], command, "price") if "price" in given else ""
     volumes = volumes_of(value["volumes"], command) if "volumes" in given else ""
@@ -97,22 +97,22 @@ def json_record(value, who, command):
 
 def word(value, command, name):
     if not isinstance(value, str) or not value.isascii() or not all(mark.isalnum() or mark == "-" for mark in value):
-        raise Wrong(f"{command}: {name} should be a text of letters, digits and -")
+        raise BadRequest(f"{command}: {name} should be a text of letters, digits and -")
     return value
 
 
 def number(value, command, name):
     if type(value) is not int or abs(value) > rules.GREATEST_PRICE:
-        raise Wrong(f"{command}: {name} should be an integer, prices in cents per MWh, volumes in tenths of a MW")
+        raise BadRequest(f"{command}: {name} should be an integer, prices in cents per MWh, volumes in tenths of a MW")
     return str(value)
 
 
 def volumes_of(value, command):
     """Pairs of a period and a volume."""
     if not isinstance(value, list) or not 0 < len(value) <= rules.GREATEST_PERIOD:
-        raise Wrong(f"{command}: volumes should be a list of 1 to {rules.GREATEST_PERIOD} pairs [period, volume]")
+        raise BadRequest(f"{command}: volumes should be a list of 1 to {rules.GREATEST_PERIOD} pairs [period, volume]")
     if not all(isinstance(pair, list) and len(pair) == 2 for pair in value):
-        raise Wrong(f"{command}: volumes should be a list of pairs [period, volume]")
+        raise BadRequest(f"{command}: volumes should be a list of pairs [period, volume]")
     return ";".join(":".join(number(part, command, "a volume") for part in pair) for pair in value)
 
 
@@ -121,7 +121,7 @@ def table_records(data, who, periods, orders=()):
     notes on how it was read. Nothing is entered."""
     kind = kinds.kind_of(data)
     if kind in kinds.FILES - {kinds.EXCEL, kinds.LOCKED}:  # a participant may have no tool that converts it
-        raise Wrong(f"this is {kind}: save the table as .xlsx or as CSV")
+        raise BadRequest(f"this is {kind}: save the table as .xlsx or as CSV")
     try:
         cells = order_table.cells_of(data)
         if command_table.is_command_table(cells):
@@ -130,16 +130,16 @@ def table_records(data, who, periods, orders=()):
             orders = order_table.read_tables([("", cells)], periods, held=(who, orders))
             placed, notes = orders.submits, orders.notes
             if not placed:
-                raise Wrong("the table has no order below its first line")
-    except order_table.Wrong as fault:
-        raise Wrong(CODE.sub("", str(fault))) from None
+                raise BadRequest("the table has no order below its first line")
+    except order_table.BadOrders as fault:
+        raise BadRequest(CODE.sub("", str(fault))) from None
     records, others = [], []
     for _, command in placed:
         records.append(journal.command_line(command))
         others += [] if command.who == who else [f"{command.name} of {command.who}"]
     if others:
         of_others = f"the table has {text.counted(len(others), 'command')} of other participants than {who}"
-        raise Wrong(f"{of_others}: the first one is for {others[0]}")
+        raise BadRequest(f"{of_others}: the first one is for {others[0]}")
     if not records:
-        raise Wrong("the table has no command")
+        raise BadRequest("the table has no command")
     return records, notes

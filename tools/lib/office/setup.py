@@ -23,7 +23,7 @@ def day_of(words):
     """The date of a word of the command line."""
     try:
         return shapes.date_of(words)
-    except shapes.Wrong as fault:
+    except shapes.BadDate as fault:
         raise command.Stop(f"--day {fault}", command.COMMAND_LINE) from None
 
 
@@ -58,7 +58,7 @@ def terms_of(args, shares, now=None):
         raise command.Stop(f"--periods should be one of {', '.join(map(str, sorted(rules.DAYS)))}", command.COMMAND_LINE)
     try:
         shapes.begins(date, args.periods, args.zone)
-    except shapes.Wrong as fault:
+    except shapes.BadDate as fault:
         raise command.Stop(f"--periods: {fault}", command.COMMAND_LINE) from None
     closes = close_of(args.close, date, zone)
     if closes <= (now or datetime.datetime.now(datetime.timezone.utc)):
@@ -80,7 +80,7 @@ def participants_read(path):
         raise command.Stop(f"{command.shown(path)} is {kind}: save the table as .xlsx or as CSV")
     try:
         found = participants_of(data, notes)
-    except (sheets.Wrong, order_table.Wrong) as fault:
+    except (sheets.BadTable, order_table.BadOrders) as fault:
         lines = "\n  ".join([*str(fault).split("\n"), *notes])
         raise command.Stop(f"{command.shown(path)}: {lines}") from None
     if not 0 < len(found) <= folder.MOST_COMMANDS:
@@ -114,19 +114,19 @@ def columns_of(line, header):
     """Where the columns of a table of participants stand. It has no others."""
     names, columns = [cell.strip().lower() for cell in header], f"the columns are {WHO}, {SHARE}"
     if WHO not in names:
-        raise order_table.Wrong(f"line {line}: there is no column {WHO}; {columns}")
+        raise order_table.BadOrders(f"line {line}: there is no column {WHO}; {columns}")
     for at, name in enumerate(names):
         if name and name in names[:at]:
-            raise order_table.Wrong(f"line {line}, column {at + 1}: the column {text.quoted(name)} appears twice")
+            raise order_table.BadOrders(f"line {line}, column {at + 1}: the column {text.quoted(name)} appears twice")
         if name not in (WHO, SHARE, ""):
-            raise order_table.Wrong(f"line {line}, column {at + 1}: {text.quoted(header[at])} is not a column; {columns}")
+            raise order_table.BadOrders(f"line {line}, column {at + 1}: {text.quoted(header[at])} is not a column; {columns}")
     return {name: at for at, name in enumerate(names) if name}
 
 
 def read_share(cell):
     """How many commands a participant may enter; None if its cell is empty."""
     if cell and not (cell.isascii() and cell.isdigit() and len(cell) < 6):
-        raise order_table.Wrong(f"{text.quoted(cell)} should be a whole number of at most 5 digits, such as 500")
+        raise order_table.BadOrders(f"{text.quoted(cell)} should be a whole number of at most 5 digits, such as 500")
     return int(cell) if cell else None
 
 

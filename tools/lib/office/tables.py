@@ -29,7 +29,7 @@ async def read(data, who, periods, orders=()):
         raise Refused("Malformed", f"the table can't be read within {MOST_SECONDS} s: it is too large, or the office is busy") from None
     value = json.loads(made)
     if "wrong" in value:
-        raise requests.Wrong(value["wrong"])
+        raise requests.BadRequest(value["wrong"])
     return value["records"], value["notes"]
 
 
@@ -41,7 +41,7 @@ def main(who, periods):
     try:
         records, notes = requests.table_records(sys.stdin.buffer.read(), who, int(periods), orders)
         made = {"records": records, "notes": notes}
-    except requests.Wrong as fault:
+    except requests.BadRequest as fault:
         made = {"wrong": str(fault)}
     json.dump(made, sys.stdout)
 

@@ -162,7 +162,7 @@ class Web:
             response = await handler(request)
         except Refused as refused:
             response = fault(refused.fault, str(refused), **refused.more)
-        except requests.Wrong as wrong:
+        except requests.BadRequest as wrong:
             response = fault("Malformed", str(wrong))
         except web.HTTPRequestEntityTooLarge:
             response = fault("TooLarge", f"a request has at most {MOST_BODY:,} bytes")

@@ -45,7 +45,7 @@ def key_of(path, data, read=signing.public):
     """The key in the bytes of a file."""
     try:
         return read(data)
-    except signing.Wrong as fault:
+    except signing.BadKey as fault:
         raise command.Stop(f"{command.shown(path)} can't be used: {fault}") from None
 
 
@@ -58,7 +58,7 @@ def value_of(path, data, read, name, odd):
     """The same from the bytes of the file."""
     try:
         value, is_written = heads.parsed(data, read)
-    except heads.Wrong as fault:
+    except heads.BadRecord as fault:
         raise command.Stop(f"{command.shown(path)} isn't {name}: {fault}") from None
     if not is_written:
         odd.append(Finding(path, None, ENCODING, NOT_WRITTEN))
@@ -175,7 +175,7 @@ class Links:
             *others, last = own
             yield f"{day}: {text.counted(len(others) + 1, 'head')}, the last with {text.counted(last.size, 'entry', 'entries')}"
 
-    def counted(self):
+    def summary(self):
         """How many heads there are, of how many days."""
         signed = self.signed.heads()
         return f"{text.counted(len(signed), 'head')} of {text.counted(len({head.day for head in signed}), 'day')}"
@@ -248,7 +248,7 @@ def judged_bytes(path, data, head, key, links, who=None):
     """The same from the bytes of the file."""
     try:
         lines = heads.lines_of(data)
-    except heads.Wrong as fault:
+    except heads.BadRecord as fault:
         yield Finding(path, None, UNREAD, f"it isn't read: {fault}")
         return
     if not lines:
@@ -256,7 +256,7 @@ def judged_bytes(path, data, head, key, links, who=None):
     for number, data in enumerate(lines, 1):
         try:
             receipt, is_written = heads.parsed(data, heads.receipt_read)
-        except heads.Wrong as fault:
+        except heads.BadRecord as fault:
             yield Finding(path, number, UNREAD, f"it isn't a receipt: {fault}", about=LINE)
             continue
         found, words = judge(receipt, head, key, links, Place(path, number))
@@ -309,7 +309,7 @@ def refusals(findings):
     return [f"entry {number}: {receipt.record}, {receipt.reply}" for number, receipt in sorted(every.items())]
 
 
-def counted(findings):
+def counts_of(findings):
     """How many findings there are of each kind and verdict, and how many receipts are of an entry that another one has too."""
     own = [(finding.verdict, finding.receipt.number, finding.receipt.leaf()) for finding in findings if finding.receipt]
     count = Counter((RECEIPT, kind) for kind, _, _ in set(own))
@@ -322,7 +322,7 @@ def summary(findings, unlike, head, as_sent=None):
     none. These commands are as they were sent in the published journal only if the receipts are right. Several receipts of an entry count
     once."""
     found, refused = verdict([*findings, *unlike]), len(refusals(findings))
-    count, more = counted(findings)
+    count, more = counts_of(findings)
     others = [f"{more} more of the same entries"] if more else []
     others += [f"{text.counted(len(unlike), 'difference')} from the commands that were sent"] if unlike else []
     sent_words = "as sent" if found in (RIGHT, ENCODING) else "with a receipt"

@@ -273,12 +273,13 @@ def curves_of(day, numbers):
         made = multiprocessing.get_context("fork").Pool(jobs)
     with made as pool:
         try:
-            yield counted(pool.imap(folded_curve, numbers), bar)
+            yield with_steps(pool.imap(folded_curve, numbers), bar)
         finally:
             bar.end()
 
 
-def counted(made, bar):
+def with_steps(made, bar):
+    """Yields each that is made, and takes a step of the bar after it."""
     for one in made:
         yield one
         bar.step()

@@ -26,7 +26,7 @@ MOST_SAID = 20  # characters of a stranger's text in a message
 LONGEST_LINE = 16_384  # bytes; no head, receipt or extension has as many
 
 
-class Wrong(Exception):
+class BadRecord(Exception):
     """The text isn't what it should be."""
 
 
@@ -149,7 +149,7 @@ def bytes_read(word, count):
     digits = -(-count * 8 // 6)
     if isinstance(word, str) and re.fullmatch(f"[A-Za-z0-9+/]{{{digits}}}={{{-digits % 4}}}", word):
         return base64.b64decode(word)
-    raise Wrong(f"{said(word)} should be {count} bytes in base64")
+    raise BadRecord(f"{said(word)} should be {count} bytes in base64")
 
 
 def said(value):
@@ -161,36 +161,36 @@ def said(value):
 
 def number_read(value, least, most, name):
     if type(value) is not int or not least <= value <= most:
-        raise Wrong(f"{name} {said(value)} should be a number from {least} to {most}")
+        raise BadRecord(f"{name} {said(value)} should be a number from {least} to {most}")
     return value
 
 
 def members(value, kind, names):
     """The values of an object that has these members and no others."""
     if not isinstance(value, dict) or value.get("format") != kind:
-        raise Wrong(f"it isn't an object with the format {kind}")
+        raise BadRecord(f"it isn't an object with the format {kind}")
     found = [name for name in value if name != "format"]
     if sorted(found) != sorted(names):
         lacking, others = ([name for name in one if name not in other] for one, other in ((names, found), (found, names)))
-        raise Wrong(f"it lacks the member {lacking[0]}" if lacking else f"a {kind} has no member {said(others[0])}")
+        raise BadRecord(f"it lacks the member {lacking[0]}" if lacking else f"a {kind} has no member {said(others[0])}")
     return [value[name] for name in names]
 
 
 def head_read(value):
     day, periods, size, root, signature = members(value, HEAD, ("day", "periods", "size", "root", "signature"))
     if not isinstance(day, str) or not DAY.fullmatch(day):
-        raise Wrong(f"the day {said(day)} should be {A_DAY}")
+        raise BadRecord(f"the day {said(day)} should be {A_DAY}")
     if type(periods) is not int or periods not in rules.DAYS:
-        raise Wrong(f"the periods {said(periods)} should be one of {', '.join(map(str, sorted(rules.DAYS)))}")
+        raise BadRecord(f"the periods {said(periods)} should be one of {', '.join(map(str, sorted(rules.DAYS)))}")
     size, root = number_read(size, 0, MOST_ENTRIES, "the size"), bytes_read(root, HASH_BYTES)
     if size == 0 and root != merkle.EMPTY:
-        raise Wrong(f"the root of no entry is {packed(merkle.EMPTY)}")
+        raise BadRecord(f"the root of no entry is {packed(merkle.EMPTY)}")
     return Head(day, periods, size, root, bytes_read(signature, SIGNATURE_BYTES))
 
 
 def path_read(value, most):
     if not isinstance(value, list) or len(value) > most:
-        raise Wrong(f"the path should be a list of at most {most} hashes")
+        raise BadRecord(f"the path should be a list of at most {most} hashes")
     return tuple(bytes_read(word, HASH_BYTES) for word in value)
 
 
@@ -198,9 +198,9 @@ def receipt_read(value):
     number, record, reply, salt, path, head = members(value, RECEIPT, ("number", "record", "reply", "salt", "path", "head"))
     number = number_read(number, 1, MOST_ENTRIES, "the number")
     if not isinstance(record, str) or command_of(record) is None:
-        raise Wrong(f"the record {said(record)} isn't a record of a written journal")
+        raise BadRecord(f"the record {said(record)} isn't a record of a written journal")
     if not isinstance(reply, str) or reply not in REPLIES:
-        raise Wrong(f"the reply {said(reply)} isn't one of the book's")
+        raise BadRecord(f"the reply {said(reply)} isn't one of the book's")
     return Receipt(number, record, reply, bytes_read(salt, HASH_BYTES), path_read(path, LONGEST_PATH), head_read(head))
 
 
@@ -212,7 +212,7 @@ def extension_read(value):
 def salts_read(value):
     day, secret = members(value, SALTS, ("day", "secret"))
     if not isinstance(day, str) or not DAY.fullmatch(day):
-        raise Wrong(f"the day {said(day)} should be {A_DAY}")
+        raise BadRecord(f"the day {said(day)} should be {A_DAY}")
     return Salts(day, bytes_read(secret, HASH_BYTES))
 
 
@@ -220,23 +220,23 @@ def once(pairs):
     """The object of these members, none of which comes twice."""
     made = dict(pairs)
     if len(made) != len(pairs):
-        raise Wrong("a member of an object comes twice")
+        raise BadRecord("a member of an object comes twice")
     return made
 
 
 def parsed(data, read):
     """The value that the text of a head, a receipt, an extension or salts has, and whether the text is its written form."""
     if len(data) > LONGEST_LINE:
-        raise Wrong(f"it has {len(data):,} bytes, and none has more than {LONGEST_LINE:,}")
+        raise BadRecord(f"it has {len(data):,} bytes, and none has more than {LONGEST_LINE:,}")
     try:
         value = read(json.loads(data.decode("ascii"), object_pairs_hook=once))
     except (ValueError, RecursionError):
-        raise Wrong("it isn't JSON in ASCII") from None
+        raise BadRecord("it isn't JSON in ASCII") from None
     return value, line(value) == data
 
 
 def lines_of(data):
     """The lines of a file, each with its end. There are at most as many as a journal has entries."""
     if data.count(b"\n") + data.count(b"\r") > 2 * MOST_ENTRIES or len(lines := data.splitlines(keepends=True)) > MOST_ENTRIES:
-        raise Wrong(f"it has more than {MOST_ENTRIES:,} lines")
+        raise BadRecord(f"it has more than {MOST_ENTRIES:,} lines")
     return lines

@@ -16,7 +16,7 @@ SMALL = {
 BEGIN = b"-----BEGIN "
 
 
-class Wrong(Exception):
+class BadKey(Exception):
     """The text isn't a key."""
 
 
@@ -60,7 +60,7 @@ def public(data):
     key = read(data, serialization.load_pem_public_key, Ed25519PublicKey, "a public key")
     raw = key.public_bytes(serialization.Encoding.Raw, serialization.PublicFormat.Raw)
     if raw[:31] + bytes([raw[31] & 127]) in SMALL:
-        raise Wrong("its order is small: anyone can sign for it")
+        raise BadKey("its order is small: anyone can sign for it")
     return key
 
 
@@ -70,7 +70,7 @@ def read(data, load, kind, name):
     except (ValueError, TypeError, UnsupportedAlgorithm):
         key = None
     if not isinstance(key, kind) or data.count(BEGIN) != 1:
-        raise Wrong(f"it isn't {name} of Ed25519 in PEM without a password")
+        raise BadKey(f"it isn't {name} of Ed25519 in PEM without a password")
     return key
 
 

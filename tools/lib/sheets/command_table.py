@@ -21,7 +21,7 @@ class Columns:
         self.table = order_table.table_of("", found, self.needed(found.rest()), (*needed, WHAT))
         for name in needed:
             if name not in self.places:
-                raise order_table.Wrong(f"line {found.header()[0]}: there is no column {name}")
+                raise order_table.BadOrders(f"line {found.header()[0]}: there is no column {name}")
 
     def needed(self, rows):
         """The columns of orders that the commands of the rows need; all of them if there are none."""
@@ -102,11 +102,11 @@ class Commands:
 
 def read_commands(given, periods):
     """The commands of a table by its cells, each with its line; and notes on the table. Their faults, a line each, are
-    `order_table.Wrong`."""
+    `order_table.BadOrders`."""
     wrong = order_table.Faults()
     try:
         columns = Columns(given, ())
-    except order_table.Wrong as fault:
+    except order_table.BadOrders as fault:
         for line in str(fault).split("\n"):
             wrong.add(line)
         raise wrong.wrong() from None

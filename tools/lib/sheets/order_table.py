@@ -43,7 +43,7 @@ DECIMAL = {comma: re.compile(rf"(-?)([0-9]{{1,9}})(?:[{points}]([0-9]+))?") for 
 GROUPED = re.compile(r"(?P<whole>-?[0-9]{1,3}([.,' \u00a0\u202f])[0-9]{3}(?:\2[0-9]{3})*)(?:(?!\2)[.,](?P<digits>[0-9]+))?")
 
 
-class Wrong(Exception):
+class BadOrders(Exception):
     """A fault of a cell, or of a table; or several, a line each."""
 
     def __init__(self, words, more=0):
@@ -75,7 +75,7 @@ def columns_of(line, header, needed, further):
     if lacking:
         wrong.append(f"line {line}: there is no column {', '.join(lacking)}; the columns are {', '.join([*further, *ORDER])}")
     if wrong:
-        raise Wrong("\n".join([*wrong, *(f"line {line}: {note}" for note in notes)] if lacking else wrong))
+        raise BadOrders("\n".join([*wrong, *(f"line {line}: {note}" for note in notes)] if lacking else wrong))
     return places, notes
 
 
@@ -93,7 +93,7 @@ def refuse_unlike(cell, is_name):
     """Refuses a cell of a workbook that isn't what Excel shows: a formula without its value, a percentage, or in a column of names also a
     date."""
     if isinstance(cell, (Uncomputed, Percentage)) or is_name and isinstance(cell, Unlike):
-        raise Wrong(unlike(cell))
+        raise BadOrders(unlike(cell))
 
 
 @functools.lru_cache(MOST_KEPT)
@@ -101,19 +101,19 @@ def scaled(cell, factor, least, greatest, unit, decimal_comma):
     """A decimal number times a factor, which must be whole and in a range. Further digits are refused even if they are zeros: 2.000 may be
     meant for two thousand."""
     if not cell:
-        raise Wrong(f"it is empty, or a formula that wasn't saved with its value: it should be a number of {unit}, such as 92.5")
+        raise BadOrders(f"it is empty, or a formula that wasn't saved with its value: it should be a number of {unit}, such as 92.5")
     found = DECIMAL[decimal_comma].fullmatch(cell)
     if not found:
-        raise Wrong(f"{text.quoted(cell)} should be a number of {unit}, {such_as(cell, decimal_comma)}")
+        raise BadOrders(f"{text.quoted(cell)} should be a number of {unit}, {such_as(cell, decimal_comma)}")
     sign, whole, rest = found.groups()
     digits = len(str(factor)) - 1
     if len(rest or "") > digits:
         hint = ": write thousands without a separator" if len(rest) == 3 else ""
-        raise Wrong(f"{text.quoted(cell)} has more than {digits} digit{'s' * (digits > 1)} after the decimal point{hint}")
+        raise BadOrders(f"{text.quoted(cell)} has more than {digits} digit{'s' * (digits > 1)} after the decimal point{hint}")
     value = int(f"{sign}{whole}{(rest or '').ljust(digits, '0')}")
     if not least <= value <= greatest:
         ends = [text.fixed(Fraction(end) / factor, digits) for end in (least, greatest)]
-        raise Wrong(f"{text.quoted(cell)} should be from {ends[0]} to {ends[1]} {unit}")
+        raise BadOrders(f"{text.quoted(cell)} should be from {ends[0]} to {ends[1]} {unit}")
     return int(value)
 
 
@@ -135,7 +135,7 @@ def refuse_empty(cell):
     found = cell.split(";")
     for number, part in enumerate(found if len(found) > 1 else [], 1):
         if not part.strip():
-            raise Wrong(f"part {number} of {text.quoted(cell)} is empty: write it, or remove its semicolon")
+            raise BadOrders(f"part {number} of {text.quoted(cell)} is empty: write it, or remove its semicolon")
 
 
 def read_periods(cell, periods):
@@ -144,16 +144,16 @@ def read_periods(cell, periods):
     refuse_empty(cell)
     cell = spans.dashed(cell)
     if not parts(cell):
-        raise Wrong("it should name a period, such as 8, or several, such as 8-20 or 1;3;5-7, or times, such as 07:00-20:00")
+        raise BadOrders("it should name a period, such as 8, or several, such as 8-20 or 1;3;5-7, or times, such as 07:00-20:00")
     if ":" in cell:
         numbers = read_times(cell, periods)
     else:
         numbers = read_numbers(cell, periods)
     if any(one >= other for one, other in zip(numbers, numbers[1:])):
-        raise Wrong(f"the periods {text.quoted(cell)} should increase")
+        raise BadOrders(f"the periods {text.quoted(cell)} should increase")
     if numbers[-1] > periods:
         late = next(number for number in numbers if number > periods)
-        raise Wrong(f"the day has periods 1 to {periods}, so there is no period {late} (PeriodOutOfDay)")
+        raise BadOrders(f"the day has periods 1 to {periods}, so there is no period {late} (PeriodOutOfDay)")
     return numbers
 
 
@@ -166,7 +166,7 @@ def kept_periods(cell, periods):
 def refuse_many(found, cell):
     """Refuses a cell with more parts than a day has periods, before each is read."""
     if len(found) > rules.GREATEST_PERIOD:
-        raise Wrong(f"{text.quoted(cell)} has {len(found):,} parts: a day has at most {rules.GREATEST_PERIOD} periods")
+        raise BadOrders(f"{text.quoted(cell)} has {len(found):,} parts: a day has at most {rules.GREATEST_PERIOD} periods")
 
 
 def read_numbers(cell, periods):
@@ -175,7 +175,7 @@ def read_numbers(cell, periods):
         return spans.read(cell, rules.GREATEST_PERIOD, periods=periods)
     except ValueError as fault:
         hint = ": a spreadsheet has taken it for a date, so make the cell one of text" if DATE.fullmatch(cell) else ""
-        raise Wrong(f"{text.quoted(cell)} should be {fault}{hint}") from None
+        raise BadOrders(f"{text.quoted(cell)} should be {fault}{hint}") from None
 
 
 def an_hour_from(cell):
@@ -192,11 +192,11 @@ def read_times(cell, periods):
     for part in spans_of_time:
         found = TIMES.fullmatch(part)
         if not found:
-            raise Wrong(f"{text.quoted(part)} should be two clock times, such as {an_hour_from(part)}")
+            raise BadOrders(f"{text.quoted(part)} should be two clock times, such as {an_hour_from(part)}")
         try:
             numbers += clock.periods_between(periods, *(time.zfill(5) for time in found.groups()))
         except ValueError as fault:
-            raise Wrong(f"{text.quoted(part)}: {fault}") from None
+            raise BadOrders(f"{text.quoted(part)}: {fault}") from None
     return numbers
 
 
@@ -207,7 +207,7 @@ def refuse_thousands(cell):
         found = GROUPED.fullmatch(" ".join(numbers)) if len(numbers) > 1 else None
         if found and found[2] == " ":
             either = f"write {''.join(numbers)} or {';'.join(numbers)}"
-            raise Wrong(f"{text.quoted(part.strip())} may be one number or {len(numbers)}: {either}")
+            raise BadOrders(f"{text.quoted(part.strip())} may be one number or {len(numbers)}: {either}")
 
 
 @functools.lru_cache(MOST_LISTS)
@@ -220,14 +220,14 @@ def read_volumes(cell, numbers, decimal_comma):
     if len(found) == 1:
         values *= len(numbers)
     elif len(found) != len(numbers):
-        raise Wrong(f"there are {len(found)} volumes for {len(numbers)} period{'s' * (len(numbers) > 1)}: give one, or one for each")
+        raise BadOrders(f"there are {len(found)} volumes for {len(numbers)} period{'s' * (len(numbers) > 1)}: give one, or one for each")
     return tuple(zip(numbers, values))
 
 
 def read_word(*words):
     def read(cell):
         if cell.lower() not in words:
-            raise Wrong(f"{text.quoted(cell)} should be {' or '.join(words)}")
+            raise BadOrders(f"{text.quoted(cell)} should be {' or '.join(words)}")
         return cell.lower()
 
     return read
@@ -240,7 +240,7 @@ def read_field(name):
     def read(cell):
         found, wrong = fields.read(name, cell)
         if wrong:
-            raise Wrong(f"{text.quoted(cell)} {wrong.removeprefix('it ')}")
+            raise BadOrders(f"{text.quoted(cell)} {wrong.removeprefix('it ')}")
         return found
 
     return read
@@ -279,7 +279,7 @@ class Row:
         try:
             refuse_unlike(self.given(name), name in NAMES)
             return reader(cell)
-        except Wrong as fault:
+        except BadOrders as fault:
             self.wrong.append(f"column {name}: {fault}")
             return None
 
@@ -403,16 +403,16 @@ def cells_of(data, most=MOST_ROWS, is_long=False):
     """The cells of a table of `most` rows after its first one. Those of a text that may be long aren't kept."""
     kind, read = kinds.kind_of(data), []
     if kind in (kinds.JOURNAL, kinds.DAY):
-        raise Wrong("this seems to be a journal already")
+        raise BadOrders("this seems to be a journal already")
     if kind in kinds.FILES - {kinds.EXCEL}:
-        raise Wrong(f"this is {kind}: {kinds.ADVICE[kind]}")
+        raise BadOrders(f"this is {kind}: {kinds.ADVICE[kind]}")
     try:
         rows, decimal_comma = sheets.rows_of(data, NEEDED, read, most, is_long)
         count = refuse_many_rows(rows, most)
-    except sheets.Wrong as fault:
-        raise Wrong(str(fault)) from None
+    except sheets.BadTable as fault:
+        raise BadOrders(str(fault)) from None
     if not count:
-        raise Wrong(f"the table is empty: its first line should name the columns {', '.join(ORDER)}")
+        raise BadOrders(f"the table is empty: its first line should name the columns {', '.join(ORDER)}")
     return Cells(rows, decimal_comma, read)
 
 
@@ -422,7 +422,7 @@ def refuse_many_rows(rows, most):
     for number, _ in rows:
         count += 1
         if count > most + 1:
-            raise Wrong(f"line {number}: a table has at most {most:,} rows after its first")
+            raise BadOrders(f"line {number}: a table has at most {most:,} rows after its first")
     return count
 
 
@@ -434,8 +434,8 @@ def table_of(name, found, needed=NEEDED, further=()):
     try:
         places, notes = columns_of(line, header, needed, further)
         refuse_unnamed(header, found.rest())
-    except Wrong as fault:
-        raise Wrong("\n".join([str(fault), *read])) from None
+    except BadOrders as fault:
+        raise BadOrders("\n".join([str(fault), *read])) from None
     notes = [*read, *notes]
     again = [number for number, cells in found.rest() if cells == header]
     if again:
@@ -451,7 +451,7 @@ def refuse_unnamed(header, rows):
             if at in unnamed and at not in first and cell.strip():
                 first[at] = f"line {line}, column {at}: {text.quoted(cell.strip())} is in a column without a name: write one, or remove it"
     if first:
-        raise Wrong("\n".join(first.values()))
+        raise BadOrders("\n".join(first.values()))
 
 
 def refuse_commands(header, rows):
@@ -462,7 +462,7 @@ def refuse_commands(header, rows):
         word = cells[at].strip().lower() if at < len(cells) else ""
         if word in COMMANDS_ALONE:
             words = "this is a table of commands; a table of orders has no amend, cancel or close"
-            raise Wrong(f"line {line}, column {WHAT}: {text.quoted(word)}: {words}")
+            raise BadOrders(f"line {line}, column {WHAT}: {text.quoted(word)}: {words}")
 
 
 def of_line(line, words):
@@ -484,7 +484,7 @@ class Faults:
     def wrong(self, notes=()):
         """All of them as one, with notes."""
         more = self.count - len(self.first)
-        return Wrong("\n".join([*self.first, *([f"and {more} more"] if more else []), *notes]), more)
+        return BadOrders("\n".join([*self.first, *([f"and {more} more"] if more else []), *notes]), more)
 
 
 class Orders(NamedTuple):
@@ -501,12 +501,12 @@ def read_tables(sources, periods, who=None, raises=False, held=None):
     note. `held`: an owner, whom the messages call you, and its orders in the book, as pairs of a name and a kind. If something is wrong
     with the tables, all of it, one line each."""
     if periods not in rules.DAYS:
-        raise Wrong(f"a day has {', '.join(DAYS[:-1])} or {DAYS[-1]} periods, not {periods}")
+        raise BadOrders(f"a day has {', '.join(DAYS[:-1])} or {DAYS[-1]} periods, not {periods}")
     wrong, notes, tables = Faults(), [], []
     for name, data in sources:
         try:
             tables.append(table_of(name, data if isinstance(data, Cells) else cells_of(data)))
-        except Wrong as fault:
+        except BadOrders as fault:
             for line in str(fault).split("\n"):
                 wrong.add(f"{name}: {line}" if name else line)
     entered, submits, number, others = Entered(periods, *held or ()), [], 0, 0

@@ -14,7 +14,7 @@ NUMBERS = {"hours", "value", "before", "after", "change", "share"}  # without a 
 LISTS = {"periods", "volume_mw"}  # of a table that has both
 
 
-class Wrong(Exception):
+class BadDate(Exception):
     """A text that is no date, or a date that doesn't fit the day."""
 
 
@@ -25,7 +25,7 @@ def date_of(words):
             return datetime.date.fromisoformat(words)
     except ValueError:
         pass
-    raise Wrong(f"{text.safe(words)}: it should be a day, such as 2026-11-25")
+    raise BadDate(f"{text.safe(words)}: it should be a day, such as 2026-11-25")
 
 
 def as_date(date):
@@ -35,7 +35,7 @@ def as_date(date):
     try:
         return datetime.date(date.year, date.month, date.day)
     except (AttributeError, TypeError, ValueError):
-        raise Wrong(f"{text.safe(repr(date))}: it should be a datetime.date, or a text such as 2026-11-25") from None
+        raise BadDate(f"{text.safe(repr(date))}: it should be a datetime.date, or a text such as 2026-11-25") from None
 
 
 def begins(date, periods, zone=ZONE):
@@ -45,12 +45,12 @@ def begins(date, periods, zone=ZONE):
         days = date, date + datetime.timedelta(1)
         first, behind = (datetime.datetime.combine(day, datetime.time(), zone).astimezone(utc) for day in days)
     except OverflowError:
-        raise Wrong(f"{date} is the first or the last day of the calendar: it should be another") from None
+        raise BadDate(f"{date} is the first or the last day of the calendar: it should be another") from None
     length = datetime.timedelta(hours=float(rules.DAYS[periods]))
     if first + periods * length != behind:
         hours = int((behind - first) / datetime.timedelta(hours=1))
         days = " or ".join(str(number) for number, part in rules.DAYS.items() if number * part == hours)
-        raise Wrong(f"{date} has {hours} hours, so {days} periods, but the day has {periods}")
+        raise BadDate(f"{date} has {hours} hours, so {days} periods, but the day has {periods}")
     return [(first + number * length).astimezone(zone) for number in range(periods + 1)]
 
 

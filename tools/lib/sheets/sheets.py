@@ -26,7 +26,7 @@ MARK = f"(?=[{re.escape(''.join(FORMULA))}])"
 UNESCAPED, ESCAPED = re.compile(CELL + MARK), re.compile(f"{CELL}'{MARK}")
 
 
-class Wrong(Exception):
+class BadTable(Exception):
     """A file that isn't a table, or a table that has too many rows for a sheet."""
 
 
@@ -45,8 +45,8 @@ def rows_of(data, needed=(), notes=None, most=None, is_long=False):
         return text if is_long else list(text), text.has_decimal_comma
     try:
         rows, note = reading.rows_of(data, PREFERRED, needed, most)
-    except limits.Wrong as fault:
-        raise Wrong(str(fault)) from None
+    except limits.BadWorkbook as fault:
+        raise BadTable(str(fault)) from None
     notes += [note] if note else []
     return rows, True
 
@@ -61,7 +61,7 @@ def encoding_of(data, notes):
     line = data.count(b"\n", 0, place) + 1
     notes.append(f"line {line}: the table isn't in UTF-8, and was read as Windows-1252")
     if first_other(data, "cp1252") is not None:
-        raise Wrong(f"line {line}: the table is neither in UTF-8 nor in Windows-1252: save it as CSV in UTF-8")
+        raise BadTable(f"line {line}: the table is neither in UTF-8 nor in Windows-1252: save it as CSV in UTF-8")
     return "cp1252"
 
 
@@ -91,10 +91,10 @@ class Lines:
         if self.line:
             column = len(next(csv.reader([self.line], delimiter=self.delimiter)))
             words = "a quote begins a cell that doesn't end on its line: write it on one line, or remove the quote"
-            raise Wrong(f"line {self.number}, column {column}: {words}")
+            raise BadTable(f"line {self.number}, column {column}: {words}")
         self.number += 1
         if self.number > MOST_LINES:
-            raise Wrong(f"line {self.number}: a table has at most {MOST_LINES:,} lines")
+            raise BadTable(f"line {self.number}: a table has at most {MOST_LINES:,} lines")
         self.line = self.file.readline(LONGEST_ROW + 1)
         if len(self.line) > LONGEST_ROW:
             raise csv.Error(f"a row has more than {LONGEST_ROW:,} characters")
@@ -112,11 +112,11 @@ class Count:
 
     def add(self, line, cells):
         if len(cells) > limits.LAST_COLUMN:
-            raise Wrong(f"line {line}: a row has at most {limits.LAST_COLUMN} cells")
+            raise BadTable(f"line {line}: a row has at most {limits.LAST_COLUMN} cells")
         whole = "".join(cells)
         for column, cell in enumerate(cells if len(whole) > limits.LONGEST_CELL else [], 1):
             if len(cell) > limits.LONGEST_CELL:
-                raise Wrong(f"line {line}, column {column}: it has more than {limits.LONGEST_CELL:,} characters")
+                raise BadTable(f"line {line}, column {column}: it has more than {limits.LONGEST_CELL:,} characters")
         self.cells += len(cells)
         self.size += len(whole) if whole.isascii() else sum(map(limits.size_of, cells))
         for count, most, things in (
@@ -124,7 +124,7 @@ class Count:
             (self.size, self.most_text, "bytes of text"),
         ):
             if count > most:
-                raise Wrong(f"line {line}: the table has more than {most:,} {things} up to this line: delete those that it doesn't need")
+                raise BadTable(f"line {line}: the table has more than {most:,} {things} up to this line: delete those that it doesn't need")
 
 
 class Text:
@@ -160,7 +160,7 @@ class Text:
                 if self.most is not None and found > self.most + 1:
                     return
         except csv.Error as fault:
-            raise Wrong(f"line {lines.number}: the table can't be read: {fault}") from None
+            raise BadTable(f"line {lines.number}: the table can't be read: {fault}") from None
         self.is_counted = True
 
 
@@ -211,7 +211,7 @@ def workbook(tables):
     """The bytes of a workbook with a sheet for each table, by name: numbers are numbers, and words are never formulas."""
     for name, rows in tables.items():
         if len(rows) > limits.LAST_ROW:
-            raise Wrong(f"the table {name} has {len(rows):,} rows, but a sheet of an Excel workbook has at most {limits.LAST_ROW:,}")
+            raise BadTable(f"the table {name} has {len(rows):,} rows, but a sheet of an Excel workbook has at most {limits.LAST_ROW:,}")
     openpyxl = writer()
     from openpyxl.styles import Font
     from openpyxl.utils import get_column_letter

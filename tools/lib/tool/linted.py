@@ -36,7 +36,7 @@ class Linted:
 
     def lines(self):
         """The findings for readers."""
-        return [*self.found, lint.counted(self.found)]
+        return [*self.found, lint.summary(self.found)]
 
     def record(self, status, message=None):
         return {

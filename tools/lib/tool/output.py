@@ -38,7 +38,7 @@ def workbook(tables):
     """The bytes of a workbook with a sheet for each table, by name."""
     try:
         return sheets.workbook(tables)
-    except sheets.Wrong as fault:
+    except sheets.BadTable as fault:
         raise command.Stop(f"{fault}: write it as {CSV}", command.COMMAND_LINE) from None
 
 

@@ -91,7 +91,7 @@ def read_changes(data, periods):
             return ((f"line {line}", command) for line, command in commands), notes
         orders = order_table.read_tables([("", table)], periods)
         return [(f"order {number}", submit) for number, submit in orders.submits], orders.notes
-    except (sent.Wrong, order_table.Wrong) as fault:
+    except (sent.BadSentText, order_table.BadOrders) as fault:
         raise Fault(in_few_lines(fault)) from None
 
 

@@ -214,12 +214,12 @@ def of_rejected(day, who=None, is_asked=True):
     with engine.team_of(engine.processors()) as (team, running):
         waiting = [team.submit(sentence, day.book, day.problem.blocks[place], own, running) for place in places]
         try:
-            return {place: counted(promise.result(), bar) for place, promise in zip(places, waiting)}
+            return {place: after_step(promise.result(), bar) for place, promise in zip(places, waiting)}
         finally:
             bar.end()
 
 
-def counted(words, bar):
+def after_step(words, bar):
     bar.step()
     return words
 

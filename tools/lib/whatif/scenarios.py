@@ -108,7 +108,7 @@ class Table:
         self.name, self.held = name, held
         try:
             self.columns = Columns(order_table.cells_of(data, MOST_ROWS, is_long=True), (SCENARIO,))
-        except order_table.Wrong as fault:
+        except order_table.BadOrders as fault:
             raise Fault(f"{name}: {changes.in_few_lines(fault)}") from None
         self.count = self.checked()
 
@@ -178,7 +178,7 @@ class Table:
         """The command of a line; None if it has none."""
         try:
             order_table.refuse_unlike(self.columns.given(cells, SCENARIO), True)
-        except order_table.Wrong as fault:
+        except order_table.BadOrders as fault:
             raise Fault(f"{self.name}: line {line}, column {SCENARIO}: {fault}") from None
         command, faults = self.columns.read(cells, self.held.periods)
         if faults:

@@ -17,12 +17,12 @@ CHUNK = 65_536
 LAST_ROW, LAST_COLUMN, LONGEST_CELL = 2**20, 2**14, 32_767
 
 
-class Wrong(Exception):
+class BadWorkbook(Exception):
     """A file that isn't a workbook, or a sheet that can't be read whole."""
 
 
 def broken(words):
-    return Wrong(f"line 1: the Excel workbook can't be read: {words}")
+    return BadWorkbook(f"line 1: the Excel workbook can't be read: {words}")
 
 
 def too_many(most, things):

@@ -6,7 +6,7 @@ import re
 
 from ..base import text
 from .cells import Date, Kept, Numbers, Rows, Styled, StyledString, Truth, Uncomputed, name_of, number_of, trimmed, unescaped
-from .limits import LAST_COLUMN, LAST_ROW, MOST_CELLS, MOST_ELEMENTS, MOST_TEXT, Wrong, broken, size_of, too_many
+from .limits import LAST_COLUMN, LAST_ROW, MOST_CELLS, MOST_ELEMENTS, MOST_TEXT, BadWorkbook, broken, size_of, too_many
 from .part import ANY_OTHERS, BLANK, EXTENSIONS, Texts, unsigned
 from .styles import digits_of, general
 
@@ -95,7 +95,7 @@ class Sheet(Texts):
         place = f", {'cell' if column else 'row'} {column}{self.row}" if self.row and self.cells is not None else ""
         if self.row and self.cells is None and self.within[-1] == "sheetData":
             place = f", after row {self.row}"
-        return Wrong(f"{self.place}{place}: {words}")
+        return BadWorkbook(f"{self.place}{place}: {words}")
 
     def open_sheetData(self, _):
         self.has_data = True
@@ -328,11 +328,11 @@ class FirstRow(Sheet):
             self.book.package.read(self.part, self)
         except Enough:
             self.rows = [(row, list(set(cells))) for row, cells in self.rows]
-        except Wrong:
+        except BadWorkbook:
             self.rows, self.needed = [], set()
 
     def names(self, strings):
         try:
             return {cell.strip().lower() for _, cells in self.whole(strings) for cell in cells} & set(self.sought)
-        except Wrong:
+        except BadWorkbook:
             return set()
