@@ -14,7 +14,7 @@ from support import AUCTION, tool
 
 import workbooks as made
 from lib.runs import engine
-from lib.sheets import order_table, sheets
+from lib.sheets import cell_values, order_table, sheets
 from lib.tool import command
 from lib.whatif import changes, scenarios
 from lib.journal.book import Book
@@ -663,7 +663,7 @@ class Long(unittest.TestCase):
 
     def test_periods_with_spaces_are_no_more_parts(self):
         quarters = ";".join(f"{at // 4:02}:{at % 4 * 15:02} - {(at + 1) // 4:02}:{(at + 1) % 4 * 15:02}" for at in range(96))
-        self.assertEqual(order_table.read_periods(quarters, 96), list(range(1, 97)))
+        self.assertEqual(cell_values.read_periods(quarters, 96), list(range(1, 97)))
 
 
 if __name__ == "__main__":

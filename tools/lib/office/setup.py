@@ -10,7 +10,7 @@ import zoneinfo
 
 from ..base import rules, text
 from ..seal import heads, sealing, signing
-from ..sheets import kinds, order_table, shapes, sheets
+from ..sheets import cell_values, kinds, order_table, shapes, sheets
 from ..tool import command
 from . import folder, tokens
 
@@ -98,7 +98,7 @@ def participants_of(data, notes):
     found, lines, wrong = {}, {}, order_table.Faults()
     for line, cells in rows:
         row = order_table.Row(cells, table, None)
-        who, share = row.read(WHO, order_table.read_participant), row.read(SHARE, read_share)
+        who, share = row.read(WHO, cell_values.read_participant), row.read(SHARE, read_share)
         if who and who in lines:
             row.wrong.append(f"column {WHO}: {who} is in line {lines[who]} too")
         found[who] = share

@@ -3,7 +3,7 @@ tools/table --rows commands prints them."""
 
 from ..base import text
 from ..journal import journal
-from . import order_table, sheets
+from . import cell_values, order_table, sheets
 from .order_table import WHAT
 
 # The columns that each command has. In the others its rows have no cell: it wouldn't do what they say.
@@ -71,13 +71,13 @@ def refuse_others(row, what):
 def read_command(row, what):
     """The command of a row: an order to submit, or the amend or cancel of one. Faults are added to the row's faults."""
     if what == "cancel":
-        return journal.Cancel(row.read("participant", order_table.read_participant), row.read("order", order_table.read_name))
+        return journal.Cancel(row.read("participant", cell_values.read_participant), row.read("order", cell_values.read_name))
     if what == "amend":
-        who, name = row.read("participant", order_table.read_participant), row.read("order", order_table.read_name)
-        price = row.read("price_eur_mwh", lambda cell: order_table.read_price(cell, row.decimal_comma))
-        numbers = row.read("periods", lambda cell: order_table.kept_periods(cell, row.periods))
+        who, name = row.read("participant", cell_values.read_participant), row.read("order", cell_values.read_name)
+        price = row.read("price_eur_mwh", lambda cell: cell_values.read_price(cell, row.decimal_comma))
+        numbers = row.read("periods", lambda cell: cell_values.kept_periods(cell, row.periods))
         volumes = row.read(
-            "volume_mw", lambda cell: order_table.read_volumes(cell, numbers or row.many(cell), row.decimal_comma)
+            "volume_mw", lambda cell: cell_values.read_volumes(cell, numbers or row.many(cell), row.decimal_comma)
         )
         return journal.Amend(who, name, price, volumes)
     if what in ("", "submit"):

@@ -9,7 +9,7 @@ from fractions import Fraction
 from typing import NamedTuple
 
 from ..base import rules, text
-from ..sheets import order_table, sheets
+from ..sheets import cell_values, order_table, sheets
 from . import changes
 from ..runs.cleared import NO_RESULTS, book_text
 from ..sheets.command_table import Columns
@@ -177,7 +177,7 @@ class Table:
     def command_of(self, line, cells):
         """The command of a line; None if it has none."""
         try:
-            order_table.refuse_unlike(self.columns.given(cells, SCENARIO), True)
+            cell_values.refuse_unlike(self.columns.given(cells, SCENARIO), True)
         except order_table.BadOrders as fault:
             raise Fault(f"{self.name}: line {line}, column {SCENARIO}: {fault}") from None
         command, faults = self.columns.read(cells, self.held.periods)

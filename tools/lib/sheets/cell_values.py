@@ -1,0 +1,198 @@
+"""The values of the cells of tables of orders: numbers, periods, volumes and names, as people write them in spreadsheets."""
+
+import functools
+import re
+from fractions import Fraction
+
+from ..base import clock, rules, spans, text
+from ..journal import fields
+from ..workbooks.cells import Percentage, Uncomputed, Unlike
+
+MOST_KEPT = 2**12  # cells whose values are kept, since those of a table are often alike
+MOST_LISTS = 2**8  # the same of cells with volumes, whose values take more
+TIMES = re.compile(r"([0-9]{1,2}:[0-9]{2})-([0-9]{1,2}:[0-9]{2})")
+TIME = re.compile(r"([0-9]{1,2}):([0-5][0-9])")
+DATE = re.compile(r"[0-9]{4}-[0-9]{2}-[0-9]{2}")
+
+# By whether a comma may be the decimal point.
+DECIMAL = {comma: re.compile(rf"(-?)([0-9]{{1,9}})(?:[{points}]([0-9]+))?") for comma, points in ((False, "."), (True, ".,"))}
+# A number with separators of thousands, such as 1.234,50 or 1'234.50: they are alike, and differ from the decimal point.
+GROUPED = re.compile(r"(?P<whole>-?[0-9]{1,3}([.,' \u00a0\u202f])[0-9]{3}(?:\2[0-9]{3})*)(?:(?!\2)[.,](?P<digits>[0-9]+))?")
+
+
+class BadOrders(Exception):
+    """A fault of a cell, or of a table; or several, a line each."""
+
+    def __init__(self, words, more=0):
+        """`more`: how many faults a line only counts."""
+        super().__init__(words)
+        self.more = more
+
+
+def unlike(cell):
+    """The words on a cell of a workbook that isn't what Excel shows."""
+    return f"{text.quoted(cell)} is {cell.kind}: {cell.remedy}"
+
+
+def refuse_unlike(cell, is_name):
+    """Refuses a cell of a workbook that isn't what Excel shows: a formula without its value, a percentage, or in a column of names also a
+    date."""
+    if isinstance(cell, (Uncomputed, Percentage)) or is_name and isinstance(cell, Unlike):
+        raise BadOrders(unlike(cell))
+
+
+@functools.lru_cache(MOST_KEPT)
+def scaled(cell, factor, least, greatest, unit, decimal_comma):
+    """A decimal number times a factor, which must be whole and in a range. Further digits are refused even if they are zeros: 2.000 may be
+    meant for two thousand."""
+    if not cell:
+        raise BadOrders(f"it is empty, or a formula that wasn't saved with its value: it should be a number of {unit}, such as 92.5")
+    found = DECIMAL[decimal_comma].fullmatch(cell)
+    if not found:
+        raise BadOrders(f"{text.quoted(cell)} should be a number of {unit}, {such_as(cell, decimal_comma)}")
+    sign, whole, rest = found.groups()
+    digits = len(str(factor)) - 1
+    if len(rest or "") > digits:
+        hint = ": write thousands without a separator" if len(rest) == 3 else ""
+        raise BadOrders(f"{text.quoted(cell)} has more than {digits} digit{'s' * (digits > 1)} after the decimal point{hint}")
+    value = int(f"{sign}{whole}{(rest or '').ljust(digits, '0')}")
+    if not least <= value <= greatest:
+        ends = [text.fixed(Fraction(end) / factor, digits) for end in (least, greatest)]
+        raise BadOrders(f"{text.quoted(cell)} should be from {ends[0]} to {ends[1]} {unit}")
+    return int(value)
+
+
+def such_as(cell, decimal_comma):
+    """An example of a number, or how to write the one of a cell that has separators of thousands."""
+    found = GROUPED.fullmatch(cell)
+    if not found:
+        return "such as 92.5"
+    whole, digits, mark = re.sub(r"[^0-9-]", "", found["whole"]), found["digits"], "," if decimal_comma else "."
+    return f"without separators of thousands: {whole}{mark + digits if digits else ''}"
+
+
+def parts(cell):
+    return [part for part in re.split(r"[;\s]+", cell) if part]
+
+
+def refuse_empty(cell):
+    """Refuses a list with an empty part: what should stand there may be lost, as by a formula that joins cells."""
+    found = cell.split(";")
+    for number, part in enumerate(found if len(found) > 1 else [], 1):
+        if not part.strip():
+            raise BadOrders(f"part {number} of {text.quoted(cell)} is empty: write it, or remove its semicolon")
+
+
+def read_periods(cell, periods):
+    """Periods and runs of periods of the day by increasing number, such as `8`, `8-20` or `1;3;5-7`, or clock times, such as
+    `07:00-08:00`. A dash may be of any kind, with spaces around it."""
+    refuse_empty(cell)
+    cell = spans.dashed(cell)
+    if not parts(cell):
+        raise BadOrders("it should name a period, such as 8, or several, such as 8-20 or 1;3;5-7, or times, such as 07:00-20:00")
+    if ":" in cell:
+        numbers = read_times(cell, periods)
+    else:
+        numbers = read_numbers(cell, periods)
+    if any(one >= other for one, other in zip(numbers, numbers[1:])):
+        raise BadOrders(f"the periods {text.quoted(cell)} should increase")
+    if numbers[-1] > periods:
+        late = next(number for number in numbers if number > periods)
+        raise BadOrders(f"the day has periods 1 to {periods}, so there is no period {late} (PeriodOutOfDay)")
+    return numbers
+
+
+@functools.lru_cache(MOST_KEPT)
+def kept_periods(cell, periods):
+    """The same, kept for other cells."""
+    return tuple(read_periods(cell, periods))
+
+
+def refuse_many(found, cell):
+    """Refuses a cell with more parts than a day has periods, before each is read."""
+    if len(found) > rules.GREATEST_PERIOD:
+        raise BadOrders(f"{text.quoted(cell)} has {len(found):,} parts: a day has at most {rules.GREATEST_PERIOD} periods")
+
+
+def read_numbers(cell, periods):
+    refuse_many(parts(cell), cell)
+    try:
+        return spans.read(cell, rules.GREATEST_PERIOD, periods=periods)
+    except ValueError as fault:
+        hint = ": a spreadsheet has taken it for a date, so make the cell one of text" if DATE.fullmatch(cell) else ""
+        raise BadOrders(f"{text.quoted(cell)} should be {fault}{hint}") from None
+
+
+def an_hour_from(cell):
+    """The clock times of an hour: the one that begins at a cell, if it is a time."""
+    found = TIME.fullmatch(cell)
+    hour, minute = (int(found[1]), found[2]) if found and int(found[1]) < 24 else (7, "00")
+    return f"{hour:02}:{minute}-{hour + 1:02}:{minute}"
+
+
+def read_times(cell, periods):
+    """The periods between clock times."""
+    numbers, spans_of_time = [], parts(cell)
+    refuse_many(spans_of_time, cell)
+    for part in spans_of_time:
+        found = TIMES.fullmatch(part)
+        if not found:
+            raise BadOrders(f"{text.quoted(part)} should be two clock times, such as {an_hour_from(part)}")
+        try:
+            numbers += clock.periods_between(periods, *(time.zfill(5) for time in found.groups()))
+        except ValueError as fault:
+            raise BadOrders(f"{text.quoted(part)}: {fault}") from None
+    return numbers
+
+
+def refuse_thousands(cell):
+    """Refuses a list with a part that may be one number, with spaces as separators of thousands, or several numbers."""
+    for part in cell.split(";"):
+        numbers = part.split()
+        found = GROUPED.fullmatch(" ".join(numbers)) if len(numbers) > 1 else None
+        if found and found[2] == " ":
+            either = f"write {''.join(numbers)} or {';'.join(numbers)}"
+            raise BadOrders(f"{text.quoted(part.strip())} may be one number or {len(numbers)}: {either}")
+
+
+@functools.lru_cache(MOST_LISTS)
+def read_volumes(cell, numbers, decimal_comma):
+    """One volume for all periods, or one for each, separated by `;`."""
+    refuse_empty(cell)
+    refuse_thousands(cell)
+    found = parts(cell)
+    values = [scaled(part, 10, 1, rules.GREATEST_VOLUME, "MW", decimal_comma) for part in found[: rules.GREATEST_PERIOD]]
+    if len(found) == 1:
+        values *= len(numbers)
+    elif len(found) != len(numbers):
+        raise BadOrders(f"there are {len(found)} volumes for {len(numbers)} period{'s' * (len(numbers) > 1)}: give one, or one for each")
+    return tuple(zip(numbers, values))
+
+
+def read_word(*words):
+    def read(cell):
+        if cell.lower() not in words:
+            raise BadOrders(f"{text.quoted(cell)} should be {' or '.join(words)}")
+        return cell.lower()
+
+    return read
+
+
+def read_field(name):
+    """A name, as a field of a journal; for one that breaks its rule the message says the right form."""
+
+    @functools.lru_cache(MOST_KEPT)
+    def read(cell):
+        found, wrong = fields.read(name, cell)
+        if wrong:
+            raise BadOrders(f"{text.quoted(cell)} {wrong.removeprefix('it ')}")
+        return found
+
+    return read
+
+
+read_participant, read_name = read_field("participant"), read_field("order")
+
+
+def read_price(cell, decimal_comma):
+    return scaled(cell, 100, rules.LEAST_PRICE, rules.GREATEST_PRICE, "EUR/MWh", decimal_comma)
