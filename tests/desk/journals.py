@@ -87,8 +87,8 @@ def long_names(rng, count):
     for at in range(count):
         volumes = WIDE if at // 3 % 3 == 1 else b"%d:%d" % (rules.GREATEST_PERIOD, rules.GREATEST_VOLUME)
         name = rng.choice(NAMES)
-        lines = [b"submit,%b,%b,block,sell,%d,%b,%b,GROUP-NUMBER\n" % (WHO, name, rules.GREATEST_PRICE, volumes, rng.choice([b"", *NAMES])),
-                 b"amend,%b,%b,,,%d,%b,,\n" % (WHO, name, rules.LEAST_PRICE, volumes), b"cancel,%b,%b,,,,,,\n" % (WHO, name)]
+        lines = [b"submit,%b,%b,block,sell,%d,%b,%b,GROUP-NUMBER\n" % (WHO, name, rules.HIGHEST_PRICE, volumes, rng.choice([b"", *NAMES])),
+                 b"amend,%b,%b,,,%d,%b,,\n" % (WHO, name, rules.LOWEST_PRICE, volumes), b"cancel,%b,%b,,,,,,\n" % (WHO, name)]
         yield lines[at % 3]
 
 
@@ -97,7 +97,7 @@ def wide_orders(count):
     yield b"day,%d,,,,,,,\n" % rules.GREATEST_PERIOD
     for at in range(count):
         name, parent = NAMES[at % len(NAMES)], NAMES[(at + 1) % len(NAMES)]
-        yield b"submit,%b,%b,block,sell,%d,%b,%b,GROUP-NUMBER\n" % (WHO, name, rules.GREATEST_PRICE, WIDE, parent)
+        yield b"submit,%b,%b,block,sell,%d,%b,%b,GROUP-NUMBER\n" % (WHO, name, rules.HIGHEST_PRICE, WIDE, parent)
 
 
 def drawn(rng, count):

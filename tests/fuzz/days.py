@@ -4,20 +4,20 @@ their limits, with commands that the book refuses among them. All by docs/FORMAT
 from lib.base import rules
 
 PARTICIPANTS = ["A", "B", "NORD", "STADTWKE"]
-LIMITS = [rules.LEAST_PRICE, rules.LEAST_PRICE + 1, -1, 0, 1, rules.GREATEST_PRICE - 1, rules.GREATEST_PRICE]
+LIMITS = [rules.LOWEST_PRICE, rules.LOWEST_PRICE + 1, -1, 0, 1, rules.HIGHEST_PRICE - 1, rules.HIGHEST_PRICE]
 
 
 def price_source(rng):
     """The generator of limit prices."""
     kind = rng.randrange(6)
     if kind == 0:
-        return lambda: rng.randint(rules.LEAST_PRICE, rules.GREATEST_PRICE)
+        return lambda: rng.randint(rules.LOWEST_PRICE, rules.HIGHEST_PRICE)
     if kind == 1:
         return lambda: rng.choice(LIMITS)
     if kind == 2:
         return lambda: rng.randint(-4, 4)
     if kind == 3:
-        few = [rng.randint(rules.LEAST_PRICE, rules.GREATEST_PRICE) for _ in range(rng.randint(1, 3))]
+        few = [rng.randint(rules.LOWEST_PRICE, rules.HIGHEST_PRICE) for _ in range(rng.randint(1, 3))]
         return lambda: rng.choice(few)
     middle = rng.randint(-1_000, 12_000)
     step = rng.choice([1, 50, 400])

@@ -48,7 +48,7 @@ def long_day():
     lines = [f"day,{last},,,,,,,"]
     for number in range(1, rules.MOST_DAY_COMMANDS + 1):
         who = LETTERS[number % rules.MOST_DAY_PARTICIPANTS] * 8
-        side, price = ("buy", rules.LEAST_PRICE) if number % 2 else ("sell", rules.GREATEST_PRICE)
+        side, price = ("buy", rules.LOWEST_PRICE) if number % 2 else ("sell", rules.HIGHEST_PRICE)
         lines.append(f"submit,{who},K-{number:010},block,{side},{price},{volumes},,G-{number:010}")
     return "".join(f"{line}\n" for line in lines).encode()
 

@@ -6,10 +6,10 @@ from lib.base import rules
 
 SPECIAL = [b",", b'"', b"\r", b"\n", b"\r\n", b";", b":", b"-", b"+", b"0", b" ", b"\t", b"\x00", b"\x7f", b"\x80", b"\xff"]  # fmt: skip
 NUMBER = re.compile(rb"-?[0-9]+")
-LIMITS = [rules.LEAST_PRICE, rules.GREATEST_PRICE, rules.GREATEST_VOLUME, *rules.DAYS, rules.GREATEST_PERIOD, 0]
+LIMITS = [rules.LOWEST_PRICE, rules.HIGHEST_PRICE, rules.GREATEST_VOLUME, *rules.DAYS, rules.GREATEST_PERIOD, 0]
 FIELDS = [
     b"", b"-0", b"+1", b"007", b"00", b"0", b"-", b"1", b"26", b"96", b"101",
-    *(b"%d" % cents for cents in (rules.GREATEST_PRICE, rules.GREATEST_PRICE + 1, rules.LEAST_PRICE, rules.LEAST_PRICE - 1)),
+    *(b"%d" % cents for cents in (rules.HIGHEST_PRICE, rules.HIGHEST_PRICE + 1, rules.LOWEST_PRICE, rules.LOWEST_PRICE - 1)),
     b"99999999999999999999", b"9" * 5_000, b"1:1;1:1", b"2:1;1:1", b"1:1;", b";1:1", b"1:", b":1", b"1:0", b"0:1", b"26:1", b"101:1", b"100:99999", b"1:100000", b"1:1:1",
     b"1:01", b"day", b"submit", b"amend", b"cancel", b"close", b"Close", b"hour", b"block", b"buy", b"sell", b"SELL", b"ABCDEFGH",
     b"ABCDEFGHI", b"ABCDEFGHIJKL", b"ABCDEFGHIJKLM", b"A1", b"a", b"A B", b"A-1", b'"', b'""', b'"x"y', b'a"b', b'"a,b"', b'"a\nb"',

@@ -51,11 +51,11 @@ def faulty():
 
 
 def blocks(name):
-    return b"submit,ABCDEFGH,%b,block,sell,%d,%b,,G-%b\n" % (name, rules.GREATEST_PRICE, PERIODS, name[2:])
+    return b"submit,ABCDEFGH,%b,block,sell,%d,%b,,G-%b\n" % (name, rules.HIGHEST_PRICE, PERIODS, name[2:])
 
 
 def amends(name):
-    return b"amend,ABCDEFGH,%b,,,%d,%b,,\n" % (name, rules.GREATEST_PRICE, PERIODS)
+    return b"amend,ABCDEFGH,%b,,,%d,%b,,\n" % (name, rules.HIGHEST_PRICE, PERIODS)
 
 
 def in_quotes(records):

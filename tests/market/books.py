@@ -14,7 +14,7 @@ from lib.journal import book, journal
 from lib.journal.journal import Close, Journal, Order, Submit
 
 MOST_BLOCKS = 8
-SPAN = rules.GREATEST_PRICE - rules.LEAST_PRICE
+SPAN = rules.HIGHEST_PRICE - rules.LOWEST_PRICE
 
 
 class Row(NamedTuple):
@@ -108,6 +108,6 @@ def worse_limit(rng, order):
 
 def moved(rng, order, sign):
     """A limit in that direction, often near; None if the order's own is at the end of the range."""
-    end = rules.GREATEST_PRICE if sign > 0 else rules.LEAST_PRICE
+    end = rules.HIGHEST_PRICE if sign > 0 else rules.LOWEST_PRICE
     room = abs(end - order.price)
     return order.price + sign * rng.randint(1, min(room, rng.choice([1, 300, SPAN]))) if room else None

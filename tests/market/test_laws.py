@@ -134,7 +134,7 @@ class Books(unittest.TestCase):
             self.assertLess(books.better_limit(rng, UNIT.order), 4_000)
             self.assertGreater(books.worse_limit(rng, UNIT.order), 4_000)
             self.assertGreater(books.better_limit(rng, TOWN.order), 5_000)
-            self.assertIsNone(books.better_limit(rng, UNIT.order._replace(price=rules.LEAST_PRICE)))
+            self.assertIsNone(books.better_limit(rng, UNIT.order._replace(price=rules.LOWEST_PRICE)))
 
     def test_drawn_books_have_what_the_laws_are_about(self):
         drawn = [books.draw(random.Random(f"market check {number}")) for number in range(1, 201)]

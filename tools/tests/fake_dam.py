@@ -17,7 +17,7 @@ from lib.journal import book, journal
 from lib.results import results, selection
 
 # The price of a period without orders, and its line.
-MIDDLE = (rules.LEAST_PRICE + rules.GREATEST_PRICE) // 2
+MIDDLE = (rules.LOWEST_PRICE + rules.HIGHEST_PRICE) // 2
 NOMINAL = b"period,1,%d" % MIDDLE
 
 

@@ -5,8 +5,8 @@ on prices and groups."""
 import itertools
 from collections import Counter
 
-from lib.base.rules import GREATEST_PRICE as GREATEST
-from lib.base.rules import LEAST_PRICE as LEAST
+from lib.base.rules import HIGHEST_PRICE as GREATEST
+from lib.base.rules import LOWEST_PRICE as LEAST
 from lib.base.rules import MOST_OF_GROUP
 
 

@@ -259,7 +259,7 @@ class Period(unittest.TestCase):
     def drawn(self):
         for number in range(400):
             rng = random.Random(number)
-            middle = rng.choice([rules.LEAST_PRICE + 2, 0, 5_000, rules.GREATEST_PRICE - 2])
+            middle = rng.choice([rules.LOWEST_PRICE + 2, 0, 5_000, rules.HIGHEST_PRICE - 2])
             orders = tuple(
                 (rng.choice(["buy", "sell"]), middle + rng.randint(-2, 2), rng.randint(1, 3))
                 for _ in range(rng.randint(0, 5))
@@ -270,8 +270,8 @@ class Period(unittest.TestCase):
         for orders, net in self.drawn():
             balanced = [executed for executed in executions(orders) if balance(orders, net, executed)]
             limits = {limit + step for _, limit, _ in orders for step in (-1, 0, 1)}
-            near = sorted(price for price in limits if rules.LEAST_PRICE <= price <= rules.GREATEST_PRICE)
-            prices = sorted({rules.LEAST_PRICE, *near, rules.GREATEST_PRICE})
+            near = sorted(price for price in limits if rules.LOWEST_PRICE <= price <= rules.HIGHEST_PRICE)
+            prices = sorted({rules.LOWEST_PRICE, *near, rules.HIGHEST_PRICE})
             right = [price for price in prices if any(obeys(orders, executed, price) for executed in balanced)]
             found = period.clear(orders, net)
             self.assertEqual(found is not None, bool(balanced))
@@ -292,7 +292,7 @@ class Period(unittest.TestCase):
                 self.assertEqual(found.welfare, period.welfare(orders, found.executed))
 
     def test_price_rule(self):
-        least, greatest = rules.LEAST_PRICE, rules.GREATEST_PRICE
+        least, greatest = rules.LOWEST_PRICE, rules.HIGHEST_PRICE
         self.assertEqual(rules.price_between(least, 5_000)[0], 5_000)
         self.assertEqual(rules.price_between(6_000, greatest)[0], 6_000)
         self.assertEqual(rules.price_between(least, greatest)[0], (least + greatest) // 2)

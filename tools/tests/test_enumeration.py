@@ -146,7 +146,7 @@ class Enumeration(unittest.TestCase):
 
         for number in range(300):
             rng = random.Random(number)
-            middle = rng.choice([rules.LEAST_PRICE + 2, 0, 5_000, rules.GREATEST_PRICE - 2])
+            middle = rng.choice([rules.LOWEST_PRICE + 2, 0, 5_000, rules.HIGHEST_PRICE - 2])
             orders = tuple(
                 (rng.choice(["buy", "sell"]), middle + rng.randint(-2, 2), rng.randint(1, 3)) for _ in range(rng.randint(0, 5))
             )
@@ -168,7 +168,7 @@ class Enumeration(unittest.TestCase):
         from lib.audit import enumeration
 
         volumes = rules.MOST_HOURLY + rules.MOST_BLOCKS * rules.GREATEST_PERIOD
-        price = max(rules.GREATEST_PRICE, -rules.LEAST_PRICE)
+        price = max(rules.HIGHEST_PRICE, -rules.LOWEST_PRICE)
         self.assertLess(2 * volumes * rules.GREATEST_VOLUME * price, -enumeration.NEVER)
         self.assertLess((rules.GREATEST_PERIOD + 1) * -enumeration.NEVER, 2**63)
         with mock.patch.object(enumeration, "NEVER", -(2**30)), self.assertRaises(AssertionError):

@@ -39,12 +39,12 @@ LIMITS = {
     rf"{NUMBER} hourly orders and {NUMBER} blocks": (rules.MOST_HOURLY, rules.MOST_BLOCKS),
     rf"more than {NUMBER} blocks or {NUMBER} hourly orders": (rules.MOST_BLOCKS, rules.MOST_HOURLY),
     rf"(?:up to|at most|has|have) {NUMBER} hourly orders": (rules.MOST_HOURLY,),
-    rf"whole cents(?: per MWh,)? from {NUMBER} to {NUMBER}": (rules.LEAST_PRICE, rules.GREATEST_PRICE),
-    rf"\| {NUMBER} \| below {NUMBER} \| `high`": (rules.LEAST_PRICE, rules.GREATEST_PRICE),
-    rf"\| above {NUMBER} \| {NUMBER} \| `low`": (rules.LEAST_PRICE, rules.GREATEST_PRICE),
-    rf"ask of {NUMBER} or a bid of {NUMBER} doesn't narrow": (rules.GREATEST_PRICE, rules.LEAST_PRICE),
-    rf"the midpoint of the range, {NUMBER}": ((rules.LEAST_PRICE + rules.GREATEST_PRICE) // 2,),
-    rf"fixed, from {NUMBER} to {NUMBER} EUR/MWh": (rules.LEAST_PRICE // 100, rules.GREATEST_PRICE // 100),
+    rf"whole cents(?: per MWh,)? from {NUMBER} to {NUMBER}": (rules.LOWEST_PRICE, rules.HIGHEST_PRICE),
+    rf"\| {NUMBER} \| below {NUMBER} \| `high`": (rules.LOWEST_PRICE, rules.HIGHEST_PRICE),
+    rf"\| above {NUMBER} \| {NUMBER} \| `low`": (rules.LOWEST_PRICE, rules.HIGHEST_PRICE),
+    rf"ask of {NUMBER} or a bid of {NUMBER} doesn't narrow": (rules.HIGHEST_PRICE, rules.LOWEST_PRICE),
+    rf"the midpoint of the range, {NUMBER}": ((rules.LOWEST_PRICE + rules.HIGHEST_PRICE) // 2,),
+    rf"fixed, from {NUMBER} to {NUMBER} EUR/MWh": (rules.LOWEST_PRICE // 100, rules.HIGHEST_PRICE // 100),
     rf"`HourlyFull` \| submit of an hourly order: the book holds {NUMBER} \|": (rules.MOST_HOURLY,),
     rf"`BlocksFull` \| submit of a block: the book holds {NUMBER} \|": (rules.MOST_BLOCKS,),
     rf"whole tenths of a MW, from 1 to {NUMBER}": (rules.GREATEST_VOLUME,),
@@ -125,8 +125,8 @@ class Facts(unittest.TestCase):
         texts = [path.read_text() for path in sorted((TOP / "crates" / "dam_book" / "src").glob("*.rt"))]
         found = {name: int(number) for text in texts for name, number in CONSTANT.findall(text)}
         wanted = {
-            "LOWEST_PRICE": rules.LEAST_PRICE,
-            "HIGHEST_PRICE": rules.GREATEST_PRICE,
+            "LOWEST_PRICE": rules.LOWEST_PRICE,
+            "HIGHEST_PRICE": rules.HIGHEST_PRICE,
             "GREATEST_VOLUME": rules.GREATEST_VOLUME,
             "LAST_PERIOD": rules.GREATEST_PERIOD,
             "MOST_HOURLY": rules.MOST_HOURLY,
@@ -150,10 +150,10 @@ class Facts(unittest.TestCase):
 
     def test_the_greatest_sums(self):
         """As numbers of cents per MWh times tenths of a MW, which the law `limits` of `dam_blocks` states."""
-        price = max(-rules.LEAST_PRICE, rules.GREATEST_PRICE)
+        price = max(-rules.LOWEST_PRICE, rules.HIGHEST_PRICE)
         hourly = rules.MOST_HOURLY * rules.GREATEST_VOLUME * price
         blocks = rules.MOST_BLOCKS * rules.GREATEST_PERIOD * rules.GREATEST_VOLUME * price
-        surplus = rules.GREATEST_PERIOD * rules.GREATEST_VOLUME * (rules.GREATEST_PRICE - rules.LEAST_PRICE)
+        surplus = rules.GREATEST_PERIOD * rules.GREATEST_VOLUME * (rules.HIGHEST_PRICE - rules.LOWEST_PRICE)
         law = (TOP / "crates" / "dam_blocks" / "src" / "laws.rt").read_text()
         stated = {name: int(number) for name, number in re.findall(r"ensures (\w+)_is \{ greatest_\w+ ≡ (\d+) \}", law)}
         wanted = {"hourly_value": hourly, "block_value": blocks, "surplus": surplus, "selection_welfare": hourly + blocks}

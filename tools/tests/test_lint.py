@@ -21,8 +21,8 @@ from lib.tool import command
 
 GOOD = b"day,24,,,,,,,\nsubmit,NORD,WIND-8,hour,sell,1200,8:450,,\nsubmit,GAS,UNIT-1,block,sell,6800,8:200;9:200,,\nclose,,,,,,,,\n"
 HOUR, BLOCK = GOOD.splitlines()[1:3]
-CENTS = f"whole cents per MWh from {rules.LEAST_PRICE} to {rules.GREATEST_PRICE}"
-BEYOND = rules.GREATEST_PRICE + 1
+CENTS = f"whole cents per MWh from {rules.LOWEST_PRICE} to {rules.HIGHEST_PRICE}"
+BEYOND = rules.HIGHEST_PRICE + 1
 TENTHS = f"should be whole tenths of a MW from 1 to {rules.GREATEST_VOLUME}"
 
 
@@ -396,7 +396,7 @@ class Long(unittest.TestCase):
         """The longest commands, with all fields in quotes and CR LF, take less than a journal may have."""
         name = "A" * rules.LONGEST_NAME
         volumes = ";".join(f"{period}:{rules.GREATEST_VOLUME}" for period in range(1, rules.GREATEST_PERIOD + 1))
-        fields = ["submit", "A" * rules.LONGEST_PARTICIPANT, name, "block", "sell", str(rules.GREATEST_PRICE), volumes, name, name]
+        fields = ["submit", "A" * rules.LONGEST_PARTICIPANT, name, "block", "sell", str(rules.HIGHEST_PRICE), volumes, name, name]
         record = ",".join(f'"{field}"' for field in fields).encode() + b"\r\n"
         data = b"day,100,,,,,,,\n" + record * (rules.MOST_RECORDS - 1)
         self.assertEqual(len(journal.read_journal(data).commands), rules.MOST_RECORDS - 1)

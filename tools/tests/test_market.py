@@ -12,7 +12,7 @@ from lib.results import results, selection
 PAGE = TOP / "docs" / "MARKET.md"
 MOST = 8_192  # bytes
 FUNCTION = re.compile(r"^pub fn (\w+)\(\)\n(.*?)^\{", re.M | re.S)
-MIDDLE = (rules.LEAST_PRICE + rules.GREATEST_PRICE) // 2  # the price of a period without orders
+MIDDLE = (rules.LOWEST_PRICE + rules.HIGHEST_PRICE) // 2  # the price of a period without orders
 CITED = re.compile(r"`((?:\w+::)*)(\w+)`(?: \(([^)]*)\))?")
 
 CASES = [  # the output before and after each change
@@ -124,7 +124,7 @@ class Market(unittest.TestCase):
             wanted = ["welfare,240000", "period,1,4000,120", f"hour,GEN,ONE,{executed[0]}", f"hour,COAL,TWO,{executed[1]}"]
             self.assertEqual(missing(wanted, lines), [])
         unit, city = "GEN,UNIT,block,sell,1000,1:10,,", "CITY,TOWN,hour,buy,4000,1:10,,"
-        for limit, welfare, word in (3000, 30_000, "rejected"), (rules.GREATEST_PRICE, 30_000, "rejected"), (500, 35_000, "accepted"):
+        for limit, welfare, word in (3000, 30_000, "rejected"), (rules.HIGHEST_PRICE, 30_000, "rejected"), (500, 35_000, "accepted"):
             lines = cleared(unit, f"GAS,START,block,sell,{limit},1:10,,", city)
             self.assertIn(f"welfare,{welfare}", lines)
             self.assertTrue(any(line.startswith(f"block,GAS,START,{word},") for line in lines))

@@ -62,7 +62,7 @@ class Curves(unittest.TestCase):
             [
                 ["demand", "hourly", "300.00", "0.0", "730.0"],
                 ["demand", "hourly", "110.00", "730.0", "790.0"],
-                ["supply", "blocks", text.eur_per_mwh(rules.LEAST_PRICE), "0.0", "350.0"],
+                ["supply", "blocks", text.eur_per_mwh(rules.LOWEST_PRICE), "0.0", "350.0"],
                 ["supply", "hourly", "2.00", "350.0", "410.0"],
                 ["supply", "hourly", "92.00", "410.0", "710.0"],
                 ["supply", "hourly", "165.00", "710.0", "960.0"],

@@ -154,7 +154,7 @@ class Tables(unittest.TestCase):
             (COMMANDS.replace("volume_mw,", "") + "A,amend,GEN,UNIT,,,50,1,,\n", "line 1: there is no column volume_mw; the columns are"),
             (COMMANDS + "A,cancel,GEN,NONE,,,,,,,\n", "line 2: the book refuses cancel,GEN,NONE,,,,,,: the participant has no such order"),
             (COMMANDS + "A,amend,GEN,UNIT,,,50000,1,2,,\n", "line 2, column price_eur_mwh: '50000' should be from "
-             f"{rules.LEAST_PRICE / 100:.2f} to {rules.GREATEST_PRICE / 100:.2f}"),
+             f"{rules.LOWEST_PRICE / 100:.2f} to {rules.HIGHEST_PRICE / 100:.2f}"),
         ):
             with self.subTest(said), self.assertRaises(engine.Fault) as fault:
                 self.read(table)
@@ -248,9 +248,9 @@ class Samples(unittest.TestCase):
         rows = self.sampler(price_sd=1e6, volume_sd=1e4).rows(1)
         prices = {order.price for order in rows.values()}
         volumes = {volume for order in rows.values() for _, volume in order.volumes}
-        self.assertLessEqual({rules.LEAST_PRICE, rules.GREATEST_PRICE}, prices)
+        self.assertLessEqual({rules.LOWEST_PRICE, rules.HIGHEST_PRICE}, prices)
         self.assertLessEqual({1, rules.GREATEST_VOLUME}, volumes)
-        self.assertEqual((min(prices), max(prices)), (rules.LEAST_PRICE, rules.GREATEST_PRICE))
+        self.assertEqual((min(prices), max(prices)), (rules.LOWEST_PRICE, rules.HIGHEST_PRICE))
         self.assertEqual((min(volumes), max(volumes)), (1, rules.GREATEST_VOLUME))
         self.assertEqual(self.sampler(price_sd=0, volume_sd=0).rows(7), self.held.rows)
 

@@ -250,7 +250,7 @@ class Worked(unittest.TestCase):
             ),
             (
                 [OWN[0], OWN[1].replace("200", "2.00")],
-                f"line 2, price: '2.00': it should be whole cents per MWh from {rules.LEAST_PRICE} to {rules.GREATEST_PRICE}: "
+                f"line 2, price: '2.00': it should be whole cents per MWh from {rules.LOWEST_PRICE} to {rules.HIGHEST_PRICE}: "
                 "write 200 for 2.00 EUR/MWh",
             ),
             ([OWN[0], "day,24,,,,,,,"], "line 2: the day appears twice: a journal has one, as its first line"),

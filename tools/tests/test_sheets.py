@@ -390,7 +390,7 @@ class Tolerance(unittest.TestCase):
                 self.assertTrue(all(cell.comment.text for cell in sheet[1]))
             sheet, (examples,) = book["orders"], [book["examples"]]
             checks = sheet.data_validations.dataValidation
-            limits = [text.eur_per_mwh(end) for end in (rules.LEAST_PRICE, rules.GREATEST_PRICE)]
+            limits = [text.eur_per_mwh(end) for end in (rules.LOWEST_PRICE, rules.HIGHEST_PRICE)]
             words = {"C2:C5000": ("list", '"hour,block"', None), "D2:D5000": ("list", '"buy,sell"', None)}
             wanted = {**words, "E2:E5000": ("decimal", *limits)}
             self.assertEqual({str(check.sqref): (check.type, check.formula1, check.formula2) for check in checks}, wanted)

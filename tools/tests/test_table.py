@@ -19,7 +19,7 @@ from lib.tool import command, output
 HEADER = "participant,order,kind,side,price_eur_mwh,periods,volume_mw,parent,group"
 HOUR = "NORD,WIND-8,hour,sell,12.5,8,45,,"
 BLOCK = "COAL,PEAK,block,sell,80,8-20,90,,FILL"
-PRICES = f"from {text.eur_per_mwh(rules.LEAST_PRICE)} to {text.eur_per_mwh(rules.GREATEST_PRICE)} EUR/MWh"
+PRICES = f"from {text.eur_per_mwh(rules.LOWEST_PRICE)} to {text.eur_per_mwh(rules.HIGHEST_PRICE)} EUR/MWh"
 
 
 def read(rows):
@@ -83,7 +83,7 @@ class Results(unittest.TestCase):
                 self.assertEqual(row["traded"], "no" if row["volume_mw"] == "0.0" else "yes")
         periods = read(tables.periods(day_of(FIRST, results_of(FIRST, frozenset()))))
         self.assertEqual([row["period"] for row in periods if row["traded"] == "yes"], ["8", "9"])
-        middle = text.eur_per_mwh((rules.LEAST_PRICE + rules.GREATEST_PRICE) // 2)
+        middle = text.eur_per_mwh((rules.LOWEST_PRICE + rules.HIGHEST_PRICE) // 2)
         self.assertEqual((periods[0]["price_eur_mwh"], periods[0]["volume_mw"]), (middle, "0.0"))
 
     def test_the_table_of_orders_makes_the_same_book(self):
@@ -140,8 +140,8 @@ class Orders(unittest.TestCase):
             ("12.5", "", "price_eur_mwh", "a number of EUR/MWh"),
             ("12.5", "1e2", "price_eur_mwh", "a number of EUR/MWh"),
             ("12.5", "12.505", "price_eur_mwh", "more than 2 digits"),
-            ("12.5", text.eur_per_mwh(rules.GREATEST_PRICE + 1), "price_eur_mwh", PRICES),
-            ("12.5", text.eur_per_mwh(rules.LEAST_PRICE - 1), "price_eur_mwh", PRICES),
+            ("12.5", text.eur_per_mwh(rules.HIGHEST_PRICE + 1), "price_eur_mwh", PRICES),
+            ("12.5", text.eur_per_mwh(rules.LOWEST_PRICE - 1), "price_eur_mwh", PRICES),
             (",8,", ",,", "periods", "it should name a period"),
             (",8,", ",0,", "periods", "periods and runs of them"),
             (",8,", ",101,", "periods", "from 1 to 24"),
@@ -198,7 +198,7 @@ class Orders(unittest.TestCase):
 
     def test_what_is_quoted_stands_in_the_table(self):
         header = HEADER.replace(",", ";")
-        beyond = text.eur_per_mwh(rules.GREATEST_PRICE + 1).replace(".", ",")
+        beyond = text.eur_per_mwh(rules.HIGHEST_PRICE + 1).replace(".", ",")
         for row, words in (
             ("A;H;hour;buy;68,005;1;5;;", "'68,005' has more than 2 digits after the decimal point"),
             ("A;H;hour;buy;68,00;1;5,25;;", "'5,25' has more than 1 digit after the decimal point"),

@@ -119,21 +119,21 @@ class Limits(unittest.TestCase):
     def test_no_limit_is_enough(self):
         one = search(*NEVER, key=("GEN", "B"))
         found = one.worst()
-        self.assertEqual((found.limit, found.at, found.past_limit), (None, None, rules.LEAST_PRICE))
-        self.assertIn(f"No limit of the range is enough: with the best, {rules.LEAST_PRICE / 100:.2f} EUR/MWh, it can never be accepted, because",
+        self.assertEqual((found.limit, found.at, found.past_limit), (None, None, rules.LOWEST_PRICE))
+        self.assertIn(f"No limit of the range is enough: with the best, {rules.LOWEST_PRICE / 100:.2f} EUR/MWh, it can never be accepted, because",
                       "\n".join(limits.lines(one, found)))
         self.assertIsNone(limits.record(one, found)["worst_limit_eur_mwh"])
 
     def test_every_limit_is_enough(self):
-        dearest = f"submit,CITY,TOWN,hour,buy,{rules.GREATEST_PRICE},1:30,,"
+        dearest = f"submit,CITY,TOWN,hour,buy,{rules.HIGHEST_PRICE},1:30,,"
         one = search(dearest, "submit,GEN,UNIT,block,sell,4000,1:20,,", key=("GEN", "UNIT"))
         found = one.worst()
-        self.assertEqual((found.limit, found.past, found.past_limit), (rules.GREATEST_PRICE, None, None))
-        self.assertIn(f"Every limit of the range is enough, up to the worst, {rules.GREATEST_PRICE / 100:,.2f} EUR/MWh.", limits.lines(one, found))
+        self.assertEqual((found.limit, found.past, found.past_limit), (rules.HIGHEST_PRICE, None, None))
+        self.assertIn(f"Every limit of the range is enough, up to the worst, {rules.HIGHEST_PRICE / 100:,.2f} EUR/MWh.", limits.lines(one, found))
 
     def test_the_most_clearings(self):
         """No worst limit needs more clearings than the most, and some needs as many."""
-        least, greatest = rules.LEAST_PRICE, rules.GREATEST_PRICE
+        least, greatest = rules.LOWEST_PRICE, rules.HIGHEST_PRICE
         needed = set()
         worsts = (None, least, least + 1, 0, 1, 3_999, 4_000, 4_001, 123_456, greatest - 1, greatest)
         for own, worst in itertools.product((least, 4_000), worsts):
@@ -465,7 +465,7 @@ class Tools(unittest.TestCase):
                     scenarios.read_table("a", f"scenario,{data[:-1].replace(chr(10), chr(10) + 'S,')}".encode(), held)
 
     def test_bad_words_and_bad_comparisons(self):
-        for word in ("abc", text.eur_per_mwh(rules.GREATEST_PRICE + 1), "1e3", "0.001"):
+        for word in ("abc", text.eur_per_mwh(rules.HIGHEST_PRICE + 1), "1e3", "0.001"):
             status, _, err = self.whatif("limit", self.journal, "--participant", "CITY", "--order", "TOWN", "--from", word)
             self.assertEqual((status, word in err), (2, True))
         days = AUCTION, AUCTION_RESULTS, QUARTERS, QUARTERS_RESULTS

@@ -53,8 +53,8 @@ class Curve:
     def supporting(self, net):
         """The ends of the supporting prices, if an execution balances."""
         taken = self.most - net
-        low = self.limits[bisect_left(self.ends, taken) - 1] if taken else rules.LEAST_PRICE
-        high = self.limits[bisect_right(self.ends, taken) - 1] if taken < self.ends[-1] else rules.GREATEST_PRICE
+        low = self.limits[bisect_left(self.ends, taken) - 1] if taken else rules.LOWEST_PRICE
+        high = self.limits[bisect_right(self.ends, taken) - 1] if taken < self.ends[-1] else rules.HIGHEST_PRICE
         return low, high
 
 

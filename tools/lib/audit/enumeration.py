@@ -82,7 +82,7 @@ class Period:
 
         The last tenth taken and the next one have the ends of the supporting prices. So the price changes only where the limits
         of two orders meet, and there it is a price of its own."""
-        edges = [rules.LEAST_PRICE, *self.limits, rules.GREATEST_PRICE]
+        edges = [rules.LOWEST_PRICE, *self.limits, rules.HIGHEST_PRICE]
         begins, prices = [], []
         for place, end in enumerate(self.ends):
             begins += [end, end + 1]
@@ -223,7 +223,7 @@ class Selections:
 def greatest_sum(problem):
     """No sum of the enumeration is greater, of either sign: each order at the limits of prices, with its whole volume."""
     volumes = sum(volume for row in problem.rows for _, volume in row.order.volumes)
-    return 2 * volumes * max(rules.GREATEST_PRICE, -rules.LEAST_PRICE)
+    return 2 * volumes * max(rules.HIGHEST_PRICE, -rules.LOWEST_PRICE)
 
 
 class Rows:

@@ -12,7 +12,7 @@ HOURS = (23, 24, 25)
 DAYS = {hours * parts: Fraction(1, parts) for parts in (1, 4) for hours in HOURS}
 GREATEST_PERIOD = max(DAYS)
 
-LEAST_PRICE, GREATEST_PRICE = -50_000, 400_000  # cents per MWh
+LOWEST_PRICE, HIGHEST_PRICE = -50_000, 400_000  # cents per MWh
 GREATEST_VOLUME = 99_999  # tenths of a MW, of one order in one period
 LONGEST_PARTICIPANT, LONGEST_NAME = 8, 12  # characters
 
@@ -24,8 +24,8 @@ MOST_DAY_COMMANDS, MOST_DAY_PARTICIPANTS = 9_999, 8  # of the input of `dam day`
 
 def price_between(low, high):
     """The price of a period whose supporting prices go from `low` to `high`, and which case of the rule it is."""
-    if low == LEAST_PRICE and high < GREATEST_PRICE:
+    if low == LOWEST_PRICE and high < HIGHEST_PRICE:
         return high, "the greatest, since the least is the limit"
-    if low > LEAST_PRICE and high == GREATEST_PRICE:
+    if low > LOWEST_PRICE and high == HIGHEST_PRICE:
         return low, "the least, since the greatest is the limit"
     return (low + high) // 2, "half of the sum, rounded down"

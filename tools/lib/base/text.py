@@ -91,7 +91,7 @@ def number(text, least, greatest):
 
 
 def price(text):
-    return number(text, rules.LEAST_PRICE, rules.GREATEST_PRICE)
+    return number(text, rules.LOWEST_PRICE, rules.HIGHEST_PRICE)
 
 
 def volume(text):

@@ -60,8 +60,8 @@ read_order = read_name(text.A_NAME, text.name)
 def read_price(found):
     if found.isascii() and text.price(found.encode()) is not None:
         return int(found), None
-    allowed = f"it should be whole cents per MWh from {rules.LEAST_PRICE} to {rules.GREATEST_PRICE}"
-    return suggested(found, allowed, 100, "EUR/MWh", rules.LEAST_PRICE, rules.GREATEST_PRICE)
+    allowed = f"it should be whole cents per MWh from {rules.LOWEST_PRICE} to {rules.HIGHEST_PRICE}"
+    return suggested(found, allowed, 100, "EUR/MWh", rules.LOWEST_PRICE, rules.HIGHEST_PRICE)
 
 
 def suggested(found, allowed, factor, unit, least, greatest):

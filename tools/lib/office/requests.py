@@ -102,7 +102,7 @@ def word(value, command, name):
 
 
 def number(value, command, name):
-    if type(value) is not int or abs(value) > rules.GREATEST_PRICE:
+    if type(value) is not int or abs(value) > rules.HIGHEST_PRICE:
         raise BadRequest(f"{command}: {name} should be an integer, prices in cents per MWh, volumes in tenths of a MW")
     return str(value)
 

@@ -65,7 +65,7 @@ OWN = r"/{who:[A-Z]{1,8}}"
 NUMBER = r"/{number:[1-9][0-9]{0,4}}"
 PARTS = {"/": ("office.html", "text/html"), "/office.css": ("office.css", "text/css"), "/office.js": ("office.js", "text/javascript")}
 # The numbers that the page checks an order by before it sends it, or shows.
-RULES = "LEAST_PRICE", "GREATEST_PRICE", "GREATEST_VOLUME", "LONGEST_NAME", "MOST_HOURLY", "MOST_BLOCKS"
+RULES = "LOWEST_PRICE", "HIGHEST_PRICE", "GREATEST_VOLUME", "LONGEST_NAME", "MOST_HOURLY", "MOST_BLOCKS"
 OPENAPI = Path(__file__).with_name("openapi.json")
 
 
@@ -73,7 +73,7 @@ def description(is_demo):
     """The requests of an office or of a demo, as OpenAPI. The file has both; it marks those that only a demo answers. It names the limits on
     prices, whose numbers are those of the rules."""
     words = OPENAPI.read_text(encoding="utf-8")
-    for name in ("LEAST_PRICE", "GREATEST_PRICE"):
+    for name in ("LOWEST_PRICE", "HIGHEST_PRICE"):
         words = words.replace(f'"{name}"', str(getattr(rules, name)))
     api = json.loads(words)
     api["paths"] = {path: methods for path, methods in api["paths"].items() if is_demo or not methods.get("x-demo")}

@@ -129,7 +129,7 @@ def draw_curves(axes, day, number):
     most = mw(max(demand[2], supply[2], 10))
     if net:
         draw_net(axes, net, bottom, top)
-    ends = eur(2 * rules.LEAST_PRICE), eur(2 * rules.GREATEST_PRICE)  # beyond each limit
+    ends = eur(2 * rules.LOWEST_PRICE), eur(2 * rules.HIGHEST_PRICE)  # beyond each limit
     look = {"color": COLOURS["ink"], "linestyle": "--", "label": "demand of hourly orders"}
     draw_curve(axes, demand, mw(max(-net, 0)), ends[1], ends[0], **look)
     draw_curve(axes, supply, mw(max(net, 0)), *ends, color=COLOURS["sell"], label="supply of hourly orders")

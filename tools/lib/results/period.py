@@ -52,7 +52,7 @@ def supporting(orders, net):
     A price supports a balanced execution exactly if it sells neither too little nor too much, for each volume between
     its demanded and its admitted volume can be had. As the price grows it only ever sells more and buys less, so that a price
     is supporting from where it no longer sells too little to where it doesn't sell too much yet."""
-    bounds = rules.LEAST_PRICE, rules.GREATEST_PRICE
+    bounds = rules.LOWEST_PRICE, rules.HIGHEST_PRICE
     low = first(*bounds, lambda price: not sells_too_little(orders, net, price))
     high = first(*bounds, lambda price: sells_too_much(orders, net, price)) - 1
     return (low, high) if low <= high else None

@@ -15,7 +15,7 @@ def steps(day, number, side):
     the range, and then its hourly orders by price, the best first. Each as a part, a price and a volume."""
     blocks = sum(volume for at, volume in accepted_volumes(day, side) if at == number)
     if blocks:
-        yield "blocks", rules.GREATEST_PRICE if side == "buy" else rules.LEAST_PRICE, blocks
+        yield "blocks", rules.HIGHEST_PRICE if side == "buy" else rules.LOWEST_PRICE, blocks
     merged = {}
     for of, limit, volume in day.problem.orders[number]:
         if of == side:

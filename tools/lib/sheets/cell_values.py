@@ -195,4 +195,4 @@ read_participant, read_name = read_field("participant"), read_field("order")
 
 
 def read_price(cell, decimal_comma):
-    return scaled(cell, 100, rules.LEAST_PRICE, rules.GREATEST_PRICE, "EUR/MWh", decimal_comma)
+    return scaled(cell, 100, rules.LOWEST_PRICE, rules.HIGHEST_PRICE, "EUR/MWh", decimal_comma)

@@ -16,7 +16,7 @@ WORDS = {
     "order": f"the order's name, unique for the participant: {text.A_NAME}",
     "kind": "hour (one period) or block (one or more)",
     "side": "buy or sell",
-    "price_eur_mwh": f"the limit in EUR/MWh, from {text.eur_per_mwh(rules.LEAST_PRICE)} to {text.eur_per_mwh(rules.GREATEST_PRICE)}, with at most two"
+    "price_eur_mwh": f"the limit in EUR/MWh, from {text.eur_per_mwh(rules.LOWEST_PRICE)} to {text.eur_per_mwh(rules.HIGHEST_PRICE)}, with at most two"
     " decimals",
     "periods": "numbers or clock times, such as 8, 8-20, 1;3;5-7 or 07:00-20:00; the cells are texts, so that none becomes a date",
     "volume_mw": f"in MW, from 0.1 to {text.mw(rules.GREATEST_VOLUME)}, with at most one decimal: one for all periods, or one for each,"
@@ -67,7 +67,7 @@ def add_rules(sheet):
     from openpyxl.utils import get_column_letter
     from openpyxl.worksheet.datavalidation import DataValidation
 
-    ends = text.eur_per_mwh(rules.LEAST_PRICE), text.eur_per_mwh(rules.GREATEST_PRICE)
+    ends = text.eur_per_mwh(rules.LOWEST_PRICE), text.eur_per_mwh(rules.HIGHEST_PRICE)
     checks = {name: DataValidation("list", formula1=f'"{",".join(words)}"') for name, words in CHOICES.items()}
     checks["price_eur_mwh"] = DataValidation("decimal", operator="between", formula1=ends[0], formula2=ends[1])
     for name, check in checks.items():

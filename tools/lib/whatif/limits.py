@@ -14,7 +14,7 @@ from ..runs.cleared import Cleared, book_text
 from ..runs.engine import Fault
 from ..base.progress import StepBar
 
-COUNT = rules.GREATEST_PRICE - rules.LEAST_PRICE + 1  # of limits
+COUNT = rules.HIGHEST_PRICE - rules.LOWEST_PRICE + 1  # of limits
 # A bisection over the limits on one side of a block's own, and none of them, needs at most as many clearings.
 MOST_CLEARINGS = (COUNT - 1).bit_length()
 LAW = "a better limit keeps a block: proved, see docs/MARKET.md"
@@ -27,11 +27,11 @@ HEADS = ["participant", "order", "side", "price_eur_mwh", "outcome", "worst_limi
 
 def limit_at(side, place):
     """A limit by its place in the range, from the best."""
-    return rules.GREATEST_PRICE - place if side == "buy" else rules.LEAST_PRICE + place
+    return rules.HIGHEST_PRICE - place if side == "buy" else rules.LOWEST_PRICE + place
 
 
 def place_of(side, limit):
-    return rules.GREATEST_PRICE - limit if side == "buy" else limit - rules.LEAST_PRICE
+    return rules.HIGHEST_PRICE - limit if side == "buy" else limit - rules.LOWEST_PRICE
 
 
 class Found(NamedTuple):

@@ -77,7 +77,7 @@ class Sampler:
         digest = hashlib.sha256(f"{self.seed} {number}".encode(errors="surrogateescape")).digest()
         self.random.seed(self.numpy.frombuffer(digest, dtype="<u4"))
         added, factors = (self.random.standard_normal(len(self.prices)) * sd for sd in self.sds)
-        prices = self.numpy.rint(self.prices + added).clip(rules.LEAST_PRICE, rules.GREATEST_PRICE)
+        prices = self.numpy.rint(self.prices + added).clip(rules.LOWEST_PRICE, rules.HIGHEST_PRICE)
         volumes = self.numpy.rint(self.volumes * (1 + factors)[self.owners]).clip(1, rules.GREATEST_VOLUME)
         return prices.astype(int), volumes.astype(int)
 

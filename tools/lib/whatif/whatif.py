@@ -23,8 +23,8 @@ def eur_mwh(word):
     if not re.fullmatch(r"-?[0-9]{1,6}(\.[0-9]{1,2})?", word):
         raise argparse.ArgumentTypeError(f"{text.quoted(word)} should be a price in EUR/MWh, such as 92.50")
     cents = round(float(word) * 100)
-    if not rules.LEAST_PRICE <= cents <= rules.GREATEST_PRICE:
-        ends = [text.eur_per_mwh(end) for end in (rules.LEAST_PRICE, rules.GREATEST_PRICE)]
+    if not rules.LOWEST_PRICE <= cents <= rules.HIGHEST_PRICE:
+        ends = [text.eur_per_mwh(end) for end in (rules.LOWEST_PRICE, rules.HIGHEST_PRICE)]
         raise argparse.ArgumentTypeError(f"{text.quoted(word)} should be from {ends[0]} to {ends[1]} EUR/MWh")
     return cents
 
@@ -188,8 +188,8 @@ def sampled(args, held, key):
     price = search.at(search.order.price).prices[period - 1]
     reach, step = GRID
     step = step if args.step is None else args.step
-    least = max(price - reach, rules.LEAST_PRICE) if args.least is None else args.least
-    greatest = min(price + reach, rules.GREATEST_PRICE) if args.greatest is None else args.greatest
+    least = max(price - reach, rules.LOWEST_PRICE) if args.least is None else args.least
+    greatest = min(price + reach, rules.HIGHEST_PRICE) if args.greatest is None else args.greatest
     if step <= 0 or least > greatest:
         raise command.Stop("--from should be at most --to, and --step more than 0", command.COMMAND_LINE)
     grid = sorted({*range(least, greatest + 1, step), search.order.price})
