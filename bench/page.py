@@ -67,6 +67,11 @@ def printed(*words):
         return ""
 
 
+def version_of(package):
+    """The version of one of Debian's packages."""
+    return printed("dpkg-query", "--show", "--showformat", "${Version}", package) or "of an unknown version"
+
+
 def run_of(part):
     """The day, the commit, the machine and the kit of a part's figures, and other facts about them."""
     commit = printed("git", "rev-parse", "--short", "HEAD") or "unknown"
@@ -74,7 +79,8 @@ def run_of(part):
         commit += " with changes"
     processors = re.findall(r"(?m)^model name\s*: (.*)", Path("/proc/cpuinfo").read_text()) or [os.uname().machine]
     load, limit, before = (os.environ.get(name, "") for name in ("LOAD", "PEER_LIMIT", "BEFORE_IS"))
-    notes = [f"HiGHS and CBC each had {limit} s for each book"] if limit and part in ("blocks", "thin") else []
+    peers = f"HiGHS (of SciPy {version_of('python3-scipy')}) and CBC ({version_of('coinor-cbc')})"
+    notes = [f"{peers} each had {limit} s for each book"] if limit and part in ("blocks", "thin") else []
     notes += [f"the program before is {before}"] if before else []
     machine = f"{os.cpu_count()} processors ({processors[0]})"
     return [part, str(datetime.date.today()), commit, machine, load, printed("rt", "version"), "; ".join(notes)]
