@@ -28,10 +28,11 @@ class Library(unittest.TestCase):
                 with self.subTest(quote):
                     self.assertTrue(any("\n" + quote in source for source in sources), "no source has these lines")
 
-    def test_the_header_has_the_version_of_the_changelog(self):
+    def test_the_header_and_the_citation_have_the_version_of_the_changelog(self):
         header = (TOP / "library" / "dam.h").read_text()
         newest = re.search(r"^## (\S+)", (TOP / "CHANGELOG.md").read_text(), re.MULTILINE)[1]
         self.assertIn(f'#define DAM_VERSION "{newest}"', header)
+        self.assertIn(f'\nversion: "{newest}"\n', (TOP / "CITATION.cff").read_text())
 
     def test_the_most_nodes_are_those_of_a_plan(self):
         number = r"([\d_]+)"
