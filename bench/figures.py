@@ -14,7 +14,7 @@ from typing import NamedTuple
 
 sys.path.insert(0, str(Path(__file__).resolve().parent.parent / "tools"))
 
-from lib.tool import command
+from lib.tool import modules
 
 DAM = os.environ.get("DAM", "../crates/dam_cli/out/dam_cli")
 DESK = os.environ.get("DESK", "../crates/dam_desk/out/dam_desk")
@@ -169,7 +169,7 @@ def record_times(what, ones, others, most=None, least=None):
 def enumeration(path):
     """The command that tries all selections of a book by `tools/audit`, with four threads, and fails if the results of `dam` aren't right
     and best; None if numpy is missing, or `dam` takes too long."""
-    cleared = run([DAM, "clear"], path) if command.has("numpy") or command.elsewhere("numpy") else None
+    cleared = run([DAM, "clear"], path) if modules.has("numpy") or modules.elsewhere("numpy") else None
     if cleared is None:
         return None
     results = f"{path}.txt"

@@ -10,7 +10,7 @@ import subprocess
 import sys
 from pathlib import Path
 
-from figures import DAM, DESK, PER_SECOND, command, in_turns, record_at_most, record_figure, record_ratio
+from figures import DAM, DESK, PER_SECOND, in_turns, modules, record_at_most, record_figure, record_ratio
 
 HERE = Path(__file__).resolve().parent
 sys.path.insert(0, str(HERE.parent / "tests" / "office"))
@@ -65,7 +65,7 @@ def whole_day():
 
 
 def main():
-    if not all(map(command.has, ("aiohttp", "cryptography", "jinja2"))):
+    if not all(map(modules.has, ("aiohttp", "cryptography", "jinja2"))):
         record_figure("the office: python3-aiohttp, python3-cryptography or python3-jinja2 is missing", "")
         return
     compare()

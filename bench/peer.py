@@ -21,7 +21,7 @@ sys.path.insert(0, str(Path(__file__).resolve().parent.parent / "tools"))
 
 from lib.journal import book, journal
 from lib.results import selection
-from lib.tool import command
+from lib.tool import modules
 
 PACKAGES = {"highs": "python3-scipy", "cbc": "coinor-cbc"}
 OPTIONS = ["-ratioGap", "0", "-allowableGap", "0"]
@@ -105,13 +105,13 @@ def find(solve, model, problem, limit):
 
 def missing(peer):
     """The package that is missing, if one is. The program of both is written with scipy."""
-    if not command.has("scipy"):
+    if not modules.has("scipy"):
         return PACKAGES["highs"]
     return None if peer == "highs" or shutil.which("cbc") else PACKAGES["cbc"]
 
 
 def main():
-    command.python_with("scipy")
+    modules.python_with("scipy")
     peer, path, limit = sys.argv[1:]
     if lacking := missing(peer):
         print(f"missing: {lacking}")

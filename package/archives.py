@@ -16,7 +16,7 @@ import zlib
 from typing import NamedTuple
 
 from lib.base import text
-from lib.tool import command
+from lib.tool import command, file_io
 
 from . import clone as made_of
 from .tree import PROVENANCE
@@ -130,13 +130,13 @@ def plain(tree, clone, target):
 
 def refuse_large(path, size):
     """Ends the tool if an archive unpacks to more than any package of dam."""
-    if size > command.MOST_BYTES:
-        raise command.Stop(f"{command.shown(path)} isn't a package of dam: it unpacks to more than {command.MOST_BYTES:,} bytes")
+    if size > file_io.MOST_BYTES:
+        raise command.Stop(f"{command.shown(path)} isn't a package of dam: it unpacks to more than {file_io.MOST_BYTES:,} bytes")
 
 
 def within(path, file):
     """The bytes of an open file, unless they are too many."""
-    data = command.first_bytes(file, command.MOST_BYTES + 1)
+    data = file_io.first_bytes(file, file_io.MOST_BYTES + 1)
     refuse_large(path, len(data))
     return data
 
@@ -198,7 +198,7 @@ def entries(path, data, top=None, prefix=""):
 
 def read(path):
     """The files of a package by name: of the Debian package those of /usr and of its control, of the other archive those of its folder."""
-    data = command.read_bytes(path)
+    data = file_io.read_bytes(path)
     try:
         if path.name.endswith(".deb"):
             files, told = (of_debian(path, way) for way in ("--fsys-tarfile", "--ctrl-tarfile"))
@@ -258,7 +258,7 @@ def differences(there, here):
 def compare(path, made):
     """Compares a package with one that was made here. Returns the lines to print, and whether they are the same."""
     name = text.safe(path.name, command.LONGEST_PATH)
-    if command.read_bytes(path) == made.read_bytes():
+    if file_io.read_bytes(path) == made.read_bytes():
         return [f"{name}: the same, byte for byte"], True
     found = list(differences(read(path), read(made)))
     if not found:

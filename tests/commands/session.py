@@ -10,7 +10,7 @@ from typing import NamedTuple
 
 from lib.base.place import CLONED
 from lib.base.rules import VERSION
-from lib.tool import command
+from lib.tool import command, modules
 from scenes import CLONE, INSTALLED, PAGES
 from shared.ports import free_port
 from shared.shown import blocks, spans
@@ -66,13 +66,13 @@ def inside(path, root):
 
 def missing(name, reader):
     """The programs, and modules of Python, that the commands of a page need, and that the reader lacks."""
-    return [need for need in PAGES[name].needs if not (has_module if need in command.PACKAGES else has_program)(need, reader)]
+    return [need for need in PAGES[name].needs if not (has_module if need in modules.PACKAGES else has_program)(need, reader)]
 
 
 def has_module(name, reader):
     if reader.form == CLONE:
-        return command.has(name) or command.elsewhere(name)
-    find = [*command.ISOLATED, "-c", f"import importlib.util, sys; sys.exit(importlib.util.find_spec({name!r}) is None)"]
+        return modules.has(name) or modules.elsewhere(name)
+    find = [*modules.ISOLATED, "-c", f"import importlib.util, sys; sys.exit(importlib.util.find_spec({name!r}) is None)"]
     return subprocess.run([*reader.shell, *find], env=reader.environment).returncode == 0
 
 

@@ -24,7 +24,7 @@ from shared.counts import Counts
 from lib.audit import better
 from lib.journal import book, journal
 from lib.results import check, results, selection
-from lib.tool import command
+from lib.tool import command, modules
 from lib.base.progress import Progress
 
 BENCH = Path(__file__).resolve().parents[2] / "bench"
@@ -134,10 +134,10 @@ def wrong_of(program, data, jobs):
 
 def main():
     args = arguments()
-    command.python_with("numpy")
+    modules.python_with("numpy")
     if args.families or args.books or args.thin or (args.blocks or 0) > FEW_BLOCKS:
-        command.need("numpy")
-    args.most_blocks = MOST_BLOCKS if command.has("numpy") else FEW_BLOCKS
+        modules.need("numpy")
+    args.most_blocks = MOST_BLOCKS if modules.has("numpy") else FEW_BLOCKS
     program, counts, altered = compare.Program(args.program, args.wait), Counts(), {}
     for name, data in inputs(args):
         wrong, kind = wrong_of(program, data, args.jobs)

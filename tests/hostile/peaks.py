@@ -6,7 +6,7 @@ have grown to twice its length. So a text and its longest field take at most TIM
 
 ROOM is for a book at its limits, the journal of a day and the search, which take 5 MiB with the shortest text of such a book. With that
 text, and with a text of as many short commands as a day takes, each engine holds at most MORE times what it held with a full book; with a
-few commands it holds at most LITTLE."""
+few commands it holds at most LITTLE, and with some hundred at most EACH times the text's bytes more."""
 
 from preload import Refusal  # by which `lib` is found
 from shared.printed import Printed
@@ -16,6 +16,7 @@ TIMES, ROOM = 4, 8 << 20
 HELD, MORE = {"replay": 2.5, "clear": 2.8, "day": 4.9}, 1.5  # the megabytes that were held with a full book; a copy of the book takes 2
 SHORT = 1 << 20  # a text of fewer bytes isn't a long one
 FEW, LITTLE = 1 << 10, 64 << 10  # the bytes of a text of a few commands, and the most that is held then
+SOME, EACH = 8 << 10, 40  # the bytes of a text of some hundred commands, and how many are held for each of them
 LONGEST = rules.MOST_BYTES
 ENGINES = [["replay"], ["clear", "--workers", "8", "--cut", "8"], ["day", "--workers", "8", "--cut", "8"]]
 REPLAY, CLEAR, DAY = ENGINES
@@ -82,6 +83,9 @@ def journals():
     few = b"".join([DAY_RECORD, *(b"cancel,%c,X,,,,,,\n" % code for code in b"ABCDEFGH"[: rules.MOST_DAY_PARTICIPANTS])])
     yield "a command of each participant", few, [REPLAY, DAY]
     yield "a command of each participant, closed", few + CLOSE, [REPLAY, CLEAR]
+    some = b"".join([DAY_RECORD, *orders(SOME // 40)])
+    yield "some orders", some, [REPLAY, DAY]
+    yield "some orders, closed", some + CLOSE, [REPLAY, CLEAR]
     yield "a close after empty lines", filled(DAY_RECORD, b"\n", CLOSE), [REPLAY, CLEAR]
 
 
@@ -93,6 +97,13 @@ def texts():
         yield about, text, engines, b""
 
 
+def most_held(engine, size):
+    """The most bytes that an engine may hold at once, of a text of this size."""
+    if size < SOME:
+        return LITTLE + EACH * size * (size >= FEW)
+    return HELD[engine] * MORE * 1e6 if size < SHORT else TIMES * size + ROOM
+
+
 def peaks(runs):
     """Runs each text, and compares the most bytes that the program held with the text's."""
     most = 0
@@ -101,7 +112,7 @@ def peaks(runs):
         for word, got, peak in found:
             is_right = got == Printed(1, b"", line) if line else got.status == 0 and got.stdout != b""
             runs.check(f"{word} of {about}: status {got.status}, {got.stderr[:80]!r}", is_right)
-            fits = 0 < peak <= (LITTLE if len(text) < FEW else HELD[word] * MORE * 1e6 if len(text) < SHORT else TIMES * len(text) + ROOM)
+            fits = 0 < peak <= most_held(word, len(text))
             runs.check(f"{word} of {about}: {peak:,} bytes were held, and the text has {len(text):,}", fits)
             most = max(most, peak)
         runs.program.given(text).unlink()

@@ -34,6 +34,7 @@ FULL_HOURS, FULL_COMMANDS = rules.MOST_HOURLY - 10, 2_000  # of a full book, but
 SEARCHED = full.Size(480, 14, 1_000)
 WHOLE = full.Size(rules.MOST_HOURLY, rules.MOST_BLOCKS, rules.MOST_RECORDS)
 LONG_TEXT = 2 << 20
+THIN = 240  # hourly orders of a thin market
 KINDS = ["base", "peaks", "shaped", "odd", "random", "mixed", "wide"]
 FAMILIES = ["market", "paradox", "spread", "nearties", "links", "groups", "ties"]
 
@@ -170,6 +171,15 @@ def full_books():
             yield f"replay {shape.periods}: {about}", Run(REPLAY, journal(records, True, shape.periods))
 
 
+def gaps():
+    """Yields the runs on books from which an order was cancelled. A book that has room where it stood finds each later order in a longer
+    way, so a closed one has no such room."""
+    for count in (30, 300, FULL_HOURS):
+        records = [*map(SHORT.hour, range(count)), SHORT.cancel(SHORT.named(count // 2))]
+        for run in (Run(CLEAR, journal(records)), Run(DAY, journal(records, False))):
+            yield f"{run.words[0]} of {count:,} orders less one", run
+
+
 def searches():
     """Yields the runs on a book of each length of a day in each market, without a limit that the search comes to, and some with one."""
     for number, (market, periods) in enumerate(itertools.product(full.MARKETS, rules.DAYS)):
@@ -195,6 +205,8 @@ def blocks():
         yield f"clear: {kind}, {24 * parts} periods, {bonds}", Run(CLEAR, made("make_blocks.py", kind, 50, 1, parts, 12, 400, bonds))
     for family in FAMILIES:
         yield f"clear: {family}", Run(CLEAR, made("make_family.py", family, 400, 12))
+    for count in (4, 8, *range(16, rules.MOST_BLOCKS + 1)):
+        yield f"clear: {count} blocks in a thin market", Run(CLEAR, made("make_blocks.py", "random", 20, 1, 1, count, THIN, "free"))
     for periods in (24, 96):
         drawn = full.Drawn(random.Random(f"whole {periods}"), periods, "large", WHOLE, True, "free")
         yield f"clear: a full book of large blocks, {periods} periods", Run(CLEAR, drawn.text())
@@ -240,7 +252,7 @@ def texts():
 
 
 def every():
-    return dict(itertools.chain(days(), full_books(), searches(), blocks(), texts(), long_texts()))
+    return dict(itertools.chain(days(), full_books(), gaps(), searches(), blocks(), texts(), long_texts()))
 
 
 def cost(program, run):

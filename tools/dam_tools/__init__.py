@@ -53,8 +53,8 @@ from .given import JournalSource, Source, as_faults, as_journal, bytes_of, is_te
 from .lib.journal import book, journal
 from .lib.runs import engine
 from .lib.sheets import order_table, shapes, tables
-from .lib.tool import command
-from .lib.tool.command import Day
+from .lib.tool import command, modules
+from .lib.tool.day_files import Day
 from .lib.runs.engine import Fault, TimedOut, where
 from .lib.journal.journal import Journal
 from .lib.base.rules import VERSION as __version__
@@ -257,7 +257,7 @@ def with_times(table: str, rows: list[Any], date: Date, periods: int) -> list[An
     if "period" not in rows[0]:
         raise Fault(f"a date can't be used with {table}, which has no column of periods" + (": long=True" if table in tables.LONG else ""))
     with as_faults():
-        command.need_zone(shapes.ZONE)
+        modules.need_zone(shapes.ZONE)
         return list(shapes.with_times(rows, shapes.as_date(date), periods))
 
 
@@ -274,7 +274,7 @@ def frame(day: Day | Journal, table: str = "periods", long: bool = False, date: 
     try:
         import pandas
     except ImportError:
-        package = command.PACKAGES["pandas"]
+        package = modules.PACKAGES["pandas"]
         words = f"this Python ({sys.executable}) has no pandas, which frames need: Debian has it in the package {package}"
         raise Fault(f"{words}: apt-get install {package}") from None
     rows = list(rows_of(day, table, long, date))

@@ -11,10 +11,10 @@ from .lib.audit import best as best_of
 from .lib.audit import better, verdict
 from .lib.results import selection
 from .lib.sheets import shapes
-from .lib.tool import command, linted
+from .lib.tool import command, linted, modules
 from .lib.whatif import changes, limits, whatif
 from .lib.lint import lint as lint_of
-from .lib.tool.command import Day
+from .lib.tool.day_files import Day
 from .lib.runs.engine import Fault
 from .lib.journal.journal import Journal
 
@@ -149,8 +149,8 @@ class Audited(verdict.Audit):
         """As the tool does it, but a missing package is a fault: a program isn't started again with another Python."""
         by_highs = self.options.by == better.HIGHS
         module = "scipy" if by_highs else "numpy"
-        if (by_highs or len(problem.blocks) > best_of.ENUMERABLE) and not command.has(module):
-            raise command.Stop(command.missing(module), command.FAILED)
+        if (by_highs or len(problem.blocks) > best_of.ENUMERABLE) and not modules.has(module):
+            raise command.Stop(modules.missing(module), command.FAILED)
         return super().look(problem, said)
 
 

@@ -9,7 +9,7 @@ from pathlib import Path
 
 from .lib.journal import journal
 from .lib.sheets import order_table, shapes
-from .lib.tool import command
+from .lib.tool import command, day_files, file_io
 from .lib.runs.engine import Fault
 from .lib.journal.journal import Journal
 
@@ -46,7 +46,7 @@ def bytes_of(source: Source) -> bytes:
     if source == "":
         raise Fault("a file with an empty name can't be read")
     with as_faults():
-        return command.read_bytes(Path(source))
+        return file_io.read_bytes(Path(source))
 
 
 def text_of(source: JournalSource) -> bytes:
@@ -57,7 +57,7 @@ def text_of(source: JournalSource) -> bytes:
 def one_of_many(source: JournalSource) -> bytes:
     """The bytes of a journal for which others wait, so that a device or a pipe, which may have no end, is a fault."""
     is_file = not isinstance(source, Journal) and not is_text(source) and source != ""
-    if is_file and (said := command.unread_file(source)):
+    if is_file and (said := file_io.unread_file(source)):
         raise Fault(said)
     return text_of(source)
 
@@ -67,7 +67,7 @@ def read_journal(source: Source) -> Journal:
     which the program refuses it."""
     data = bytes_of(source)
     try:
-        return command.parse_journal(name_of(source, "the text"), data)
+        return day_files.parse_journal(name_of(source, "the text"), data)
     except command.Stop as fault:
         raise Fault(str(fault), REFUSED) from None
 

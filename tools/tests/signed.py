@@ -9,7 +9,7 @@ from support import AUCTION, AUCTION_RESULTS, new_folder, tool
 
 from lib.journal import book, journal
 from lib.seal import heads
-from lib.tool import command
+from lib.tool import command, file_io
 
 try:
     from lib.receipts import receipts
@@ -32,7 +32,7 @@ def replies_of(data):
 
 def verdict_of(data, head, key, links=None):
     """The verdict on the text of a receipt, compared with a head."""
-    with mock.patch.object(command, "read_bytes", lambda path: data):
+    with mock.patch.object(file_io, "read_bytes", lambda path: data):
         return receipts.verdict(list(receipts.judged("receipts", head, key, links or receipts.Links([], key, []))))
 
 

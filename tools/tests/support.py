@@ -22,7 +22,7 @@ import compare
 import days
 from lib.journal import book, journal
 from lib.results import results, selection
-from lib.tool import command
+from lib.tool import day_files, modules
 from shared import cases as worked
 
 SECONDS = 300  # that a run may take
@@ -112,7 +112,7 @@ def written(**contents):
 def day_of(data, text):
     """A day as the tools have it, of bytes."""
     with written(journal=data, results=text) as paths:
-        return command.Day(*map(str, paths))
+        return day_files.Day(*map(str, paths))
 
 
 def results_of(data, accepted):
@@ -148,7 +148,7 @@ def unsaid(name, record, *parts):
 
 def load(name):
     """Loads the packages that a tool needs, for all runs of it."""
-    if name in ("plot", "report") and command.has("matplotlib") and command.has("jinja2"):
+    if name in ("plot", "report") and modules.has("matplotlib") and modules.has("jinja2"):
         importlib.import_module("lib.report.page")
 
 

@@ -17,7 +17,7 @@ from support import TOP, worked
 sys.path.insert(0, str(TOP / "bench"))
 import clearing
 import figures
-from lib.tool import command
+from lib.tool import modules
 
 PEER, THIN = TOP / "bench" / "peer.py", worked.named("thin")
 
@@ -71,7 +71,7 @@ class Together(unittest.TestCase):
             self.assertEqual(line[1:], ["1 of 40", f"at most {40 // part}", verdict, "slow 1.50 x"])
 
 
-@unittest.skipUnless(command.has("scipy") or command.elsewhere("scipy"), "scipy is missing (Debian's python3-scipy)")
+@unittest.skipUnless(modules.has("scipy") or modules.elsewhere("scipy"), "scipy is missing (Debian's python3-scipy)")
 class Peers(unittest.TestCase):
     def welfares(self, peer):
         for case in THIN.values():

@@ -20,7 +20,7 @@ from lib.audit import days, verdict
 from lib.base import record, text
 from lib.results import faults
 from lib.runs import engine
-from lib.tool import command
+from lib.tool import command, file_io
 
 DATA, TEXT = AUCTION.read_bytes(), printed(AUCTION)
 
@@ -106,8 +106,8 @@ class Days(unittest.TestCase):
         self.addCleanup(os.close, writing)
         os.write(writing, b"x" * 9)
         words = f"{reading} can't be read: {os.strerror(errno.EAGAIN)}$"
-        with unittest.mock.patch.object(command.stat, "S_ISREG", return_value=True), self.assertRaisesRegex(command.Stop, words):
-            command.read_bytes(f"/proc/self/fd/{reading}")
+        with unittest.mock.patch.object(file_io.stat, "S_ISREG", return_value=True), self.assertRaisesRegex(command.Stop, words):
+            file_io.read_bytes(f"/proc/self/fd/{reading}")
 
     def test_the_status_is_that_of_the_worst(self):
         self.write(a=(DATA, TEXT))

@@ -12,7 +12,7 @@ from support import TOP
 from lib.crates import crates
 from lib.results import selection
 from lib.seal import merkle
-from lib.tool import command
+from lib.tool import command, modules
 
 sys.path[:0] = [str(TOP / "docs"), str(TOP / "tests" / "desk")]
 import draw_bound
@@ -26,7 +26,7 @@ import images
 
 LIST = "# a comment\nlow:\nhigh staticlib: low kit # more\nmiddle: low\ntop: high middle low\nhigh: other\n"
 WELFARE_OF_THE_SUNNY_DAY = 245_193_556_800  # the line `welfare` of `dam clear < examples/sunny-day.csv`
-NEEDS_MATPLOTLIB = unittest.skipUnless(command.has("matplotlib"), "matplotlib is missing (Debian's python3-matplotlib)")
+NEEDS_MATPLOTLIB = unittest.skipUnless(modules.has("matplotlib"), "matplotlib is missing (Debian's python3-matplotlib)")
 
 
 class Crates(unittest.TestCase):
@@ -166,7 +166,7 @@ class Trust(unittest.TestCase):
             for word in words:
                 self.assertIn(word, drawn)
 
-    @unittest.skipUnless(command.is_debians(), "this isn't Debian's Python")
+    @unittest.skipUnless(modules.is_debians(), "this isn't Debian's Python")
     def test_they_need_matplotlib(self):
         words = [sys.executable, "-S", TOP / "docs" / "draw_trust.py", "unit-7", "--draw"]  # -S leaves out Debian's packages
         ran = subprocess.run(words, capture_output=True, text=True)

@@ -25,7 +25,7 @@ from support import AUCTION, AUCTION_RESULTS, TOOLS, TOP, heed_interrupts, journ
 
 from lib.audit import better
 from lib.base import aside, children, ending
-from lib.tool import command
+from lib.tool import command, modules
 from lib.base.progress import Progress
 from lib.runs import engine
 
@@ -156,7 +156,7 @@ class Failing(unittest.TestCase):
 
     def test_right_results_are_never_called_wrong(self):
         """The search for a better selection needs far more memory than the rest."""
-        if not command.has("numpy"):
+        if not modules.has("numpy"):
             self.skipTest("numpy is missing (Debian's python3-numpy)")
         data = journal_of(*[f"submit,A,K{number},block,sell,1,1:1,," for number in range(24)])
         text = data + b"results\n" + results_of(data, frozenset())
@@ -220,7 +220,7 @@ class Interrupted(unittest.TestCase):
 
     def test_each_tool(self):
         for name, packages in PACKAGES.items():
-            if all(map(command.has, packages)):
+            if all(map(modules.has, packages)):
                 with self.subTest(name):
                     self.assertEqual(self.interrupted(name), (130, b"", f"{name}: interrupted\n"))
 
@@ -277,7 +277,7 @@ class Interrupted(unittest.TestCase):
             self.assertEqual((ran.returncode, ran.stdout[:6], ran.stderr), (0, "usage:", ""), module)
 
     def test_each_signal_leaves_no_process_and_no_folder(self):
-        if not command.has("matplotlib"):
+        if not modules.has("matplotlib"):
             self.skipTest("matplotlib is missing (Debian's python3-matplotlib)")
         for number, said in ((signal.SIGTERM, "ended by SIGTERM"), (signal.SIGHUP, "ended by SIGHUP"), (signal.SIGINT, "interrupted")):
             self.addCleanup(signal.signal, number, signal.signal(number, signal.SIG_DFL))  # whatever this process ignores
@@ -455,7 +455,7 @@ class Written(unittest.TestCase):
     def test_each_tool(self):
         texts = [AUCTION, AUCTION_RESULTS]
         for name, packages in PACKAGES.items():
-            if all(map(command.has, packages)):
+            if all(map(modules.has, packages)):
                 words = [sys.executable, TOOLS / name, AUCTION, *texts[1:][: name != "lint"]]
                 words += ["-o", "-"] if name in ("plot", "report") else []
                 for given in (words, [sys.executable, TOOLS / name, "--help"]):

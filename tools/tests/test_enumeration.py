@@ -13,7 +13,7 @@ from lib.audit import best
 from lib.base import rules
 from lib.journal import book, journal
 from lib.results import period, selection
-from lib.tool import command
+from lib.tool import command, modules
 from lib.base.progress import Progress
 
 # Of this many days each kind that a test asks for comes up 15 times or more: with all of 20 seeds, so another draw in `days` does no harm.
@@ -104,7 +104,7 @@ class Blocks(unittest.TestCase):
         self.assertEqual([line for line in blocks.splitlines() if ",block," not in line], hours.splitlines())
 
 
-@unittest.skipUnless(command.has("numpy"), "numpy is missing (Debian's python3-numpy)")
+@unittest.skipUnless(modules.has("numpy"), "numpy is missing (Debian's python3-numpy)")
 class Enumeration(unittest.TestCase):
     def better(self, day, accepted, welfare, few=1_024, **more):
         """`few` selections are looked at for every block's loss at once, and more of them for one block's at first."""
@@ -243,7 +243,7 @@ class Enumeration(unittest.TestCase):
             enumeration.better(day, frozenset(), selection.eligible(day, frozenset()), Progress("test", 0), jobs=2)
 
 
-@unittest.skipUnless(command.has("numpy"), "numpy is missing (Debian's python3-numpy)")
+@unittest.skipUnless(modules.has("numpy"), "numpy is missing (Debian's python3-numpy)")
 class CommandLine(unittest.TestCase):
     def test_a_better_selection_is_told(self):
         data = family("market", "200", "12")
@@ -269,7 +269,7 @@ class CommandLine(unittest.TestCase):
         self.assertEqual(lines[2:], changed)
         self.assertGreater(len(changed), 3)
 
-    @unittest.skipUnless(command.is_debians(), "this isn't Debian's Python")
+    @unittest.skipUnless(modules.is_debians(), "this isn't Debian's Python")
     def test_without_numpy_fewer_blocks_are_tried(self):
         """By the same results, and the same lines about the better one."""
         data = family("market", "200", "11")
@@ -283,7 +283,7 @@ class CommandLine(unittest.TestCase):
 
     def test_every_way_of_checking_takes_no_longer_than_it_may(self):
         ways = ["--by", "enumeration"], ["--by", "highs"]
-        for count, way in itertools.product(("6", "12"), ways if command.has("scipy") else ways[:1]):
+        for count, way in itertools.product(("6", "12"), ways if modules.has("scipy") else ways[:1]):
             data = family("market", "200", count)
             accepted = best.enumerate_all(problem(data))[0].accepted if count == "6" else frozenset()
             status, out, err = audit(data, results_of(data, accepted), "--best", *way, "--seconds", "0")

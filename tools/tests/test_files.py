@@ -17,11 +17,11 @@ from support import AUCTION, AUCTION_RESULTS, TOOLS, new_folder, printed, tool
 
 from lib.base import replacing
 from lib.sheets import tables
-from lib.tool import command
+from lib.tool import command, modules
 
 PACKAGES = {"plot": ["matplotlib"], "report": ["matplotlib", "jinja2"], "table": []}
 MARK, OLD = b"\xef\xbb\xbf", b"\xd0\xcf\x11\xe0\xa1\xb1\x1a\xe1"
-TOOLS_HERE = [name for name, packages in PACKAGES.items() if all(map(command.has, packages))]
+TOOLS_HERE = [name for name, packages in PACKAGES.items() if all(map(modules.has, packages))]
 NOTE = "table: 1 of 94 commands was refused (of GAS): see --rows commands\n"
 
 
@@ -83,7 +83,7 @@ class Files(unittest.TestCase):
         self.assertEqual(self.journal.read_bytes(), before)
         self.assertEqual(sorted(path.name for path in self.folder.iterdir()), ["day.csv", "results.txt"])
 
-    @unittest.skipUnless(command.has("openpyxl"), "openpyxl is missing (Debian's python3-openpyxl)")
+    @unittest.skipUnless(modules.has("openpyxl"), "openpyxl is missing (Debian's python3-openpyxl)")
     def test_a_workbook_whose_temporary_files_cant_be_written(self):
         small = {"preexec_fn": lambda: resource.setrlimit(resource.RLIMIT_FSIZE, (1_000, 1_000))}
         for words in (["--all", self.folder / "a.xlsx", self.journal, self.results], ["--template", self.folder / "a.xlsx"]):

@@ -12,7 +12,7 @@ from support import TOP, tool
 
 from lib.base import place
 from lib.runs import engine
-from lib.tool import command
+from lib.tool import command, modules
 
 TOOLS = {"table": [], "lint": [], "plot": ["matplotlib"], "report": ["matplotlib", "jinja2"], "reading-list": [], "compare": []}
 TOOLS["receipts"] = ["cryptography"]
@@ -33,7 +33,7 @@ class Help(unittest.TestCase):
     def test_examples_work(self):
         """Each example is run in a folder with the examples and the tools, and with a program that answers by the rules."""
         for name, packages in TOOLS.items():
-            if not all(map(command.has, packages)):
+            if not all(map(modules.has, packages)):
                 continue
             with self.subTest(name), tempfile.TemporaryDirectory() as folder:
                 for part in ("tools", "examples"):

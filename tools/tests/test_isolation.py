@@ -16,7 +16,7 @@ from support import AUCTION, AUCTION_RESULTS, TOOLS, TOP, new_folder, tool
 
 from lib.base import place, surroundings
 from lib.crates import sources
-from lib.tool import command
+from lib.tool import modules
 
 PACKAGES = ("jinja2", "matplotlib", "numpy", "openpyxl", "pandas", "scipy", "tqdm")
 # What a stranger may have put into the folder in which a tool is started.
@@ -28,15 +28,15 @@ import sys
 
 sys.path.insert(0, {tools!r})
 {first}
-from lib.tool import command
+from lib.tool import modules
 
 if "AGAIN" in os.environ:
     print(any(path.endswith("dist-packages") for path in sys.path))
 else:
     os.environ["AGAIN"] = "yes"
-    command.has = lambda module: False
-    command.elsewhere = lambda *modules: True
-    command.python_with("numpy")
+    modules.has = lambda module: False
+    modules.elsewhere = lambda *modules: True
+    modules.python_with("numpy")
 """
 STRANGE = {"PYTHONSAFEPATH": "1", "PYTHONOPTIMIZE": "2", "MPLBACKEND": "nosuch", "MATPLOTLIBRC": ".", "MPLCONFIGDIR": "."}
 
@@ -110,7 +110,7 @@ class Isolation(unittest.TestCase):
         for places in (".", f"/nowhere:{self.folder}/..:."):
             self.assertEqual(self.ran(*words, PYTHONTZPATH=places)[::2], (0, b""), places)
 
-    @unittest.skipUnless(command.has("matplotlib"), "matplotlib is missing (Debian's python3-matplotlib)")
+    @unittest.skipUnless(modules.has("matplotlib"), "matplotlib is missing (Debian's python3-matplotlib)")
     def test_a_date_of_files_that_is_none(self):
         words, pictures = ("plot", AUCTION, AUCTION_RESULTS, "-o"), []
         for name, given in (("a.svg", "abc"), ("b.svg", "1")):
@@ -119,7 +119,7 @@ class Isolation(unittest.TestCase):
             pictures.append(self.folder.joinpath(name).read_bytes())
         self.assertEqual(*pictures)
 
-    @unittest.skipUnless(command.has("matplotlib"), "matplotlib is missing (Debian's python3-matplotlib)")
+    @unittest.skipUnless(modules.has("matplotlib"), "matplotlib is missing (Debian's python3-matplotlib)")
     def test_the_cache_of_pictures_is_apart_too(self):
         names = {path.name for path in self.folder.iterdir()}
         words = ("plot", AUCTION, AUCTION_RESULTS, "-o", "-")
@@ -141,7 +141,7 @@ class Isolation(unittest.TestCase):
             program.chmod(0o755)
             self.ran("unproved", "--version", options=["-I", "-S"], PATH="/nowhere", **given)
 
-    @unittest.skipUnless(command.has("matplotlib"), "matplotlib is missing (Debian's python3-matplotlib)")
+    @unittest.skipUnless(modules.has("matplotlib"), "matplotlib is missing (Debian's python3-matplotlib)")
     def test_no_settings_of_pictures_are_obeyed(self):
         settings, texts = self.folder / "matplotlibrc", (AUCTION, AUCTION_RESULTS, "-o", "-")
         status, right, err = tool("plot", *texts)
@@ -153,7 +153,7 @@ class Isolation(unittest.TestCase):
         self.assertEqual(self.ran("plot", *texts), (0, right, b""))
         self.assertEqual([path.name for path in self.folder.iterdir() if path.suffix != ".py"], ["matplotlibrc"])
 
-    @unittest.skipUnless(command.has("matplotlib"), "matplotlib is missing (Debian's python3-matplotlib)")
+    @unittest.skipUnless(modules.has("matplotlib"), "matplotlib is missing (Debian's python3-matplotlib)")
     def test_pictures_without_a_folder_for_temporary_files(self):
         from lib.pictures import drawing
 
@@ -164,12 +164,12 @@ class Isolation(unittest.TestCase):
 
     def test_debians_python_is_asked_apart(self):
         """A Python that lacks packages asks Debian's for them; neither looks into the working folder."""
-        code = "import sys\nsys.path.insert(0, {tools!r})\nfrom lib.tool import command\ncommand.is_debians = lambda: False\n"
-        code += "print(command.elsewhere('json'), command.elsewhere('json', 'nosuch'), command.elsewhere('lib'))\n"
+        code = "import sys\nsys.path.insert(0, {tools!r})\nfrom lib.tool import modules\nmodules.is_debians = lambda: False\n"
+        code += "print(modules.elsewhere('json'), modules.elsewhere('json', 'nosuch'), modules.elsewhere('lib'))\n"
         path = self.folder.parent / f"{self.folder.name}-ask"
         path.write_text(code.format(tools=str(TOOLS)))
         self.addCleanup(path.unlink)
-        if not Path(command.DEBIAN_PYTHON).exists():
+        if not Path(modules.DEBIAN_PYTHON).exists():
             self.skipTest("there is no Debian's Python")
         ran = subprocess.run([sys.executable, path], cwd=self.folder, capture_output=True, text=True)
         self.assertEqual((ran.stdout, ran.stderr), ("True False False\n", ""))
@@ -179,27 +179,27 @@ class Isolation(unittest.TestCase):
         """Without open files or memory nobody knows which packages it has, and without it there are none."""
         for number, is_known in ((errno.ENOENT, True), (errno.EMFILE, False), (errno.ENOMEM, False)):
             fault = OSError(number, os.strerror(number))
-            with mock.patch.object(command, "is_debians", return_value=False), mock.patch.object(subprocess, "run", side_effect=fault):
+            with mock.patch.object(modules, "is_debians", return_value=False), mock.patch.object(subprocess, "run", side_effect=fault):
                 if is_known:
-                    self.assertFalse(command.elsewhere("json"))
+                    self.assertFalse(modules.elsewhere("json"))
                 else:
-                    self.assertRaises(OSError, command.elsewhere, "json")
+                    self.assertRaises(OSError, modules.elsewhere, "json")
 
     def test_a_tool_starts_again_apart(self):
         """By the file of the tool, since the command of an installed one belongs to another Python."""
         main = mock.Mock(__file__=str(TOOLS / "audit"))
         with (
-            mock.patch.object(command, "has", return_value=False),
-            mock.patch.object(command, "elsewhere", return_value=True),
+            mock.patch.object(modules, "has", return_value=False),
+            mock.patch.object(modules, "elsewhere", return_value=True),
             mock.patch.object(os, "execv") as execv,
             mock.patch.dict(sys.modules, {"__main__": main}),
             mock.patch.object(sys, "argv", ["/bin/dam-audit", "--best"]),
         ):
-            command.python_with("numpy")
+            modules.python_with("numpy")
         late = ["-S"] if sys.flags.no_site else []
-        execv.assert_called_once_with(command.DEBIAN_PYTHON, [command.DEBIAN_PYTHON, "-I", *late, str(TOOLS / "audit"), "--best"])
+        execv.assert_called_once_with(modules.DEBIAN_PYTHON, [modules.DEBIAN_PYTHON, "-I", *late, str(TOOLS / "audit"), "--best"])
 
-    @unittest.skipUnless(os.path.exists(command.DEBIAN_PYTHON), "Debian's Python is missing")
+    @unittest.skipUnless(os.path.exists(modules.DEBIAN_PYTHON), "Debian's Python is missing")
     def test_a_program_that_starts_again_finds_the_packages(self):
         """A tool finds them late; a program of the tests, which starts without -S, from its beginning."""
         program = self.folder / "program"

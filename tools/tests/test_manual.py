@@ -20,17 +20,17 @@ from support import TOOLS, TOP, tool
 sys.path.append(str(TOP))
 
 from lib.crates.specs import Repository
-from lib.tool import command
+from lib.tool import modules
 from manual import navigation, pages, site
 from package import formats, tree
 from shared.site import Site
 
-if command.has("aiohttp"):
+if modules.has("aiohttp"):
     from shared import browser
 
 MISSING = site.missing()
 NEEDS_MKDOCS = unittest.skipIf(MISSING, f"{' and '.join(MISSING)} missing")
-NO_BROWSER = "python3-aiohttp is missing" if not command.has("aiohttp") else None if browser.found() else "chromium is missing"
+NO_BROWSER = "python3-aiohttp is missing" if not modules.has("aiohttp") else None if browser.found() else "chromium is missing"
 SECONDS = 60  # that the index of the search may take
 WIDTHS = {1_280: "dark", 390: "light"}
 SCHEMES = {"dark": "slate", "light": "default"}

@@ -20,7 +20,7 @@ from support import AUCTION, FIRST, QUARTERS, journal_of, new_folder, printed
 
 import dam_tools
 from dam_tools.lib.runs import engine
-from lib.tool import command
+from lib.tool import modules
 
 FAKE = Path(__file__).with_name("fake_dam.py")
 SECONDS = 30
@@ -287,7 +287,7 @@ class Many(unittest.TestCase):
             self.assertIs(engine.with_bar(results, quiet=True), results)
             with unittest.mock.patch.dict(sys.modules, {"tqdm": None}):
                 self.assertIs(engine.with_bar(results), results)
-            if command.has("tqdm"):
+            if modules.has("tqdm"):
                 self.assertIsNot(engine.with_bar(results), results)
 
     @unittest.skipUnless(engine.BUILT.exists(), "the program isn't built")

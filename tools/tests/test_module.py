@@ -20,7 +20,7 @@ from support import AUCTION, AUCTION_RESULTS, FIRST, TOP, new_folder, printed
 import dam_tools
 from dam_tools.lib.runs import engine
 from lib.sheets import shapes, sheets, tables
-from lib.tool import command
+from lib.tool import command, modules
 
 END = "is the first or the last day of the calendar: it should be another"
 FAKE = support.TOOLS / "tests" / "fake_dam.py"
@@ -244,7 +244,7 @@ class Module(unittest.TestCase):
                 "a date can't be used with figures, which has no column of periods",
             ),
         ):
-            if "date" in said and not command.has_zone(shapes.ZONE):
+            if "date" in said and not modules.has_zone(shapes.ZONE):
                 continue
             with self.assertRaises(dam_tools.Fault) as fault:
                 call()
@@ -290,14 +290,14 @@ class Module(unittest.TestCase):
             self.assertEqual(dam_tools.records(day, name), dam_tools.records(again, name))
         self.assertEqual((str(fault.exception), fault.exception.status), ("input: StillOpen", 1))
 
-    @unittest.skipUnless(command.has_zone(shapes.ZONE), "the time zones are missing (Debian's tzdata)")
+    @unittest.skipUnless(modules.has_zone(shapes.ZONE), "the time zones are missing (Debian's tzdata)")
     def test_dates(self):
         day = dam_tools.read_results(AUCTION, AUCTION_RESULTS)
         rows = dam_tools.records(day, "orders", long=True, date=datetime.date(2026, 7, 1))
         self.assertEqual(rows[0]["begins"], "2026-07-01T00:00:00+02:00")
         self.assertEqual(dam_tools.records(day, "orders", long=True, date="2026-07-01"), rows)
 
-    @unittest.skipUnless(command.has("pandas"), "pandas is missing (Debian's python3-pandas)")
+    @unittest.skipUnless(modules.has("pandas"), "pandas is missing (Debian's python3-pandas)")
     def test_frames(self):
         day = dam_tools.read_results(AUCTION, AUCTION_RESULTS)
         frame = dam_tools.frame(day, "periods", date=datetime.date(2026, 11, 25))
@@ -313,7 +313,7 @@ class Module(unittest.TestCase):
         frame = dam_tools.frame(day, "orders", long=True)
         self.assertAlmostEqual(frame["amount_eur"].sum(), 0)
 
-    @unittest.skipUnless(command.has("pandas") and command.has_zone(shapes.ZONE), "pandas or the time zones are missing")
+    @unittest.skipUnless(modules.has("pandas") and modules.has_zone(shapes.ZONE), "pandas or the time zones are missing")
     def test_the_example_of_the_pages(self):
         example = self.examples()[0]
         self.assertIn("dam_tools.clear(journal)", example)
@@ -335,16 +335,16 @@ class Module(unittest.TestCase):
         """It is run if pyarrow is there, and its query too if DuckDB is; otherwise the frames are written as CSV, which needs less."""
         self.assertEqual(len(self.examples()), 2)
         example, folder = self.examples()[1], self.program.parent
-        if not command.has("pandas"):
+        if not modules.has("pandas"):
             self.skipTest("pandas is missing (Debian's python3-pandas)")
         Path(folder, "day.csv").write_bytes(AUCTION.read_bytes())
         Path(folder, "results.txt").write_bytes(printed(AUCTION))
-        if not command.has("pyarrow"):
+        if not modules.has("pyarrow"):
             example = example.replace("to_parquet", "to_csv")
         ran = subprocess.run([sys.executable, "-B", "-c", example], cwd=folder, env={**os.environ, "PYTHONPATH": str(support.TOOLS)})
         self.assertEqual(ran.returncode, 0)
         self.assertTrue(Path(folder, "orders.parquet").stat().st_size and Path(folder, "executions.parquet").stat().st_size)
-        if command.has("pyarrow") and command.has("duckdb"):
+        if modules.has("pyarrow") and modules.has("duckdb"):
             import duckdb
 
             query = re.search(r"```sql\n(.*?)```", (TOP / "docs" / "PYTHON.md").read_text(), re.DOTALL)[1]

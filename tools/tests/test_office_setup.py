@@ -17,7 +17,7 @@ from office_support import DAY, FUTURE, NAMES, SECONDS, Disk, Office, commands, 
 from support import AUCTION, TOOLS, TOP, tool, unsaid
 
 from lib.sheets import sheets
-from lib.tool import command
+from lib.tool import command, modules
 
 try:
     from lib.seal import signing
@@ -192,7 +192,7 @@ class Setup(Office):
             setup.participants_read(path)
 
     def test_a_workbook_of_participants_is_read(self):
-        if not command.has("openpyxl"):
+        if not modules.has("openpyxl"):
             self.skipTest("python3-openpyxl is missing")
         made, path = sheets.writer().Workbook(), self.office.path.parent / "p.xlsx"
         for row in (["Participant", "commands"], ["A", 100], [], ["GAS"]):

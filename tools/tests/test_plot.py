@@ -12,7 +12,7 @@ from support import AUCTION, AUCTION_RESULTS, FIRST, QUARTERS, day_of, journal_o
 
 from lib.base import rules
 from lib.results import trades
-from lib.tool import command
+from lib.tool import command, modules
 
 PICTURES = ["day", "prices", "blocks"]
 # runs a tool as if these packages were missing
@@ -28,9 +28,9 @@ class Missing(unittest.TestCase):
 
     def test_packages_are_those_of_the_tests(self):
         listed = (support.TOP / "tests" / "debian-packages").read_text().split("\n")
-        self.assertLessEqual({*command.PACKAGES.values(), "tzdata"}, set(listed))
+        self.assertLessEqual({*modules.PACKAGES.values(), "tzdata"}, set(listed))
 
-    @unittest.skipUnless(command.is_debians(), "this isn't Debian's Python")
+    @unittest.skipUnless(modules.is_debians(), "this isn't Debian's Python")
     def test_a_missing_package_is_named(self):
         without = sys.executable, "-c", WITHOUT
         both = (
@@ -49,7 +49,7 @@ class Missing(unittest.TestCase):
         self.assertEqual(err, f"audit: it needs {self.words('numpy')}\n")
 
 
-@unittest.skipUnless(command.has("matplotlib"), "matplotlib is missing (Debian's python3-matplotlib)")
+@unittest.skipUnless(modules.has("matplotlib"), "matplotlib is missing (Debian's python3-matplotlib)")
 class Pictures(unittest.TestCase):
     def test_days_with_little_in_them(self):
         from lib.pictures import canvas, pictures
@@ -203,7 +203,7 @@ class Pictures(unittest.TestCase):
             self.assertEqual((status, "has a journal instead of results" in err), (command.NO_INPUT, True))
 
 
-@unittest.skipUnless(command.has("matplotlib"), "matplotlib is missing (Debian's python3-matplotlib)")
+@unittest.skipUnless(modules.has("matplotlib"), "matplotlib is missing (Debian's python3-matplotlib)")
 class Apart(unittest.TestCase):
     """matplotlib works in an empty folder of its own."""
 

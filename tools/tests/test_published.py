@@ -14,7 +14,7 @@ from support import AUCTION, AUCTION_RESULTS, FIRST, QUARTERS, TOP, day_of, prin
 from lib.base import clock, rules, text
 from lib.results import published, trades
 from lib.sheets import shapes, sheets, tables
-from lib.tool import command
+from lib.tool import command, modules
 
 PAGE = (TOP / "docs" / "TABLES.md").read_text()
 
@@ -148,7 +148,7 @@ class Long(unittest.TestCase):
 
 
 class Times(unittest.TestCase):
-    @unittest.skipUnless(command.has_zone(shapes.ZONE), "the time zones are missing (Debian's tzdata)")
+    @unittest.skipUnless(modules.has_zone(shapes.ZONE), "the time zones are missing (Debian's tzdata)")
     def test_the_clocks_change(self):
         # In 2026 on 29 March and 25 October.
         for date, hours in (((2026, 3, 29), 23), ((2026, 10, 25), 25), ((2026, 11, 25), 24)):
@@ -164,7 +164,7 @@ class Times(unittest.TestCase):
         autumn = [time.isoformat() for time in shapes.begins(datetime.date(2026, 10, 25), 25)[2:4]]
         self.assertEqual(autumn, ["2026-10-25T02:00:00+02:00", "2026-10-25T02:00:00+01:00"])
 
-    @unittest.skipUnless(command.has_zone(shapes.ZONE), "the time zones are missing (Debian's tzdata)")
+    @unittest.skipUnless(modules.has_zone(shapes.ZONE), "the time zones are missing (Debian's tzdata)")
     def test_command_line(self):
         texts = [AUCTION, AUCTION_RESULTS]
         rows = tool("table", *texts, "--date", "2026-11-25", "--only", "8-9;19")[1].decode().splitlines()

@@ -15,7 +15,7 @@ import support
 from support import AUCTION, AUCTION_RESULTS, FIRST, QUARTERS, SUNNY, day_of, journal_of, printed, results_of, tool
 
 from lib.results import trades
-from lib.tool import command
+from lib.tool import command, modules
 
 # Elements that have no end.
 VOID = {"meta", "br", "use", "path", "rect", "stop", "line", "circle"}
@@ -85,7 +85,7 @@ def made(data, text, curves):
 PACKAGES = "matplotlib or jinja2 is missing (Debian's python3-matplotlib, python3-jinja2)"
 
 
-@unittest.skipUnless(command.has("matplotlib") and command.has("jinja2"), PACKAGES)
+@unittest.skipUnless(modules.has("matplotlib") and modules.has("jinja2"), PACKAGES)
 class Page(unittest.TestCase):
     def page(self, data, text, curves=()):
         return made(data, text, tuple(curves))
@@ -277,7 +277,7 @@ class Page(unittest.TestCase):
         self.assertNotIn(b"Supply and demand in period", out)
         out = tool("report", "-", "-o", "-", "--curves", "none", "--title", "a\u00a0\udcff", data=day)[1]
         self.assertIn("<title>a\u00a0\\xff</title>".encode(), out)
-        words = ["--date", "2026-11-25"] if command.has_zone("Europe/Berlin") else []
+        words = ["--date", "2026-11-25"] if modules.has_zone("Europe/Berlin") else []
         out = tool("report", "-", "-o", "-", "--curves", "4, 3-4,3", *words, data=day)[1]
         self.assertEqual([out.count(b"<figcaption>Supply and demand in period %d" % number) for number in (3, 4, 5)], [1, 1, 0])
         self.assertEqual(b"Wednesday, 25 November 2026. A delivery day of 24 periods" in out, bool(words))
@@ -290,7 +290,7 @@ class Page(unittest.TestCase):
         for words in ("25", "x", "1-25", "9-8", "0", ""):
             self.assertEqual(tool("report", *texts, "--curves", words)[0], command.COMMAND_LINE)
         self.assertEqual(tool("report", *texts, "--curve", "3")[0], command.COMMAND_LINE)
-        if command.has_zone("Europe/Berlin"):
+        if modules.has_zone("Europe/Berlin"):
             for words in ("2026-03-29", "25.11.2026"):
                 self.assertEqual(tool("report", *texts, "--date", words)[0], command.COMMAND_LINE)
 

@@ -13,7 +13,7 @@ import days
 from lib.base import rules, subsequence
 from lib.journal import book, journal
 from lib.lint import sent
-from lib.tool import command
+from lib.tool import command, modules
 
 
 def audit(published, own, who="A", *words):
@@ -186,7 +186,7 @@ class Worked(unittest.TestCase):
         said = "audit: sent isn't what A sent: its table has rows that aren't orders: line 2, column side: 'bye' should be buy or sell\n"
         self.assertEqual(audit(PUBLISHED, text_of([heads, *rows])), (command.NO_INPUT, "", said))
 
-    @unittest.skipUnless(command.has("openpyxl"), "openpyxl is missing (Debian's python3-openpyxl)")
+    @unittest.skipUnless(modules.has("openpyxl"), "openpyxl is missing (Debian's python3-openpyxl)")
     def test_a_workbook(self):
         with tempfile.TemporaryDirectory() as folder:
             path = Path(folder, "orders.xlsx")

@@ -13,11 +13,11 @@ from support import AUCTION, AUCTION_RESULTS, TOP, journal_of, printed, results_
 from lib.base import clock, rules, text
 from lib.journal import journal
 from lib.sheets import order_table, sheets
-from lib.tool import command
+from lib.tool import command, modules
 
 HEADER = "participant,order,kind,side,price_eur_mwh,periods,volume_mw,parent,group"
 TEXTS = [AUCTION, AUCTION_RESULTS]
-WITH_EXCEL = unittest.skipUnless(command.has("openpyxl"), "openpyxl is missing (Debian's python3-openpyxl)")
+WITH_EXCEL = unittest.skipUnless(modules.has("openpyxl"), "openpyxl is missing (Debian's python3-openpyxl)")
 
 
 def table(*rows, header=HEADER):

@@ -14,7 +14,7 @@ from support import AUCTION, AUCTION_RESULTS, FIRST, QUARTERS, QUARTERS_RESULTS,
 from lib.base import rules, text
 from lib.journal import book, journal
 from lib.sheets import order_table, sheets, tables
-from lib.tool import command, output
+from lib.tool import command, modules, output
 
 HEADER = "participant,order,kind,side,price_eur_mwh,periods,volume_mw,parent,group"
 HOUR = "NORD,WIND-8,hour,sell,12.5,8,45,,"
@@ -337,13 +337,13 @@ class CommandLine(unittest.TestCase):
             rows = tool("table", *texts, "--only", words)[1].decode().splitlines()[1:]
             self.assertEqual([row.split(",")[0] for row in rows], ["1", "3", "5", "6", "7"])
 
-    @unittest.skipUnless(command.has_zone("Europe/Berlin"), "the time zones are missing (Debian's tzdata)")
+    @unittest.skipUnless(modules.has_zone("Europe/Berlin"), "the time zones are missing (Debian's tzdata)")
     def test_dates_at_the_ends_of_the_calendar(self):
         texts = [AUCTION, AUCTION_RESULTS]
         for date in ("9999-12-31", "0001-01-01"):
             said = f"--date {date} is the first or the last day of the calendar: it should be another\n"
             self.assertEqual(tool("table", *texts, "--date", date), (command.COMMAND_LINE, b"", f"table: {said}"))
-            if command.has("matplotlib") and command.has("jinja2"):
+            if modules.has("matplotlib") and modules.has("jinja2"):
                 self.assertEqual(tool("report", *texts, "-o", "-", "--date", date), (command.COMMAND_LINE, b"", f"report: {said}"))
 
     def test_more_rows_than_a_sheet_has(self):

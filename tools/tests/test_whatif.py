@@ -24,7 +24,7 @@ from lib.base import rules, text
 from lib.journal import book, journal
 from lib.runs import cleared, engine
 from lib.sheets import order_table, tables
-from lib.tool import command
+from lib.tool import command, modules
 from lib.whatif import changes, limits, scenarios
 from test_many import ends
 
@@ -569,7 +569,7 @@ class Tools(unittest.TestCase):
         self.assertEqual((status, len(self.rows(out))), (0, 2), err)
 
 
-@unittest.skipUnless(engine.BUILT.exists() and command.has("numpy") and command.has("matplotlib"), "the program or a package is missing")
+@unittest.skipUnless(engine.BUILT.exists() and modules.has("numpy") and modules.has("matplotlib"), "the program or a package is missing")
 class Examples(unittest.TestCase):
     """The page, and the section on many days: that the commands work, one after another, and print the quotes."""
 

@@ -2,7 +2,7 @@
 
 from ..base import aside, text
 from ..results import selection
-from ..tool import command
+from ..tool import command, modules
 from . import best
 
 ENUMERATION, HIGHS = METHODS = ["enumeration", "highs"]
@@ -24,13 +24,13 @@ def look(problem, said, method, progress, jobs):
 def enumerate_all(problem, said, progress, jobs, few=FEW_BLOCKS):
     """With numpy; without it if the blocks are few, or if it is missing and they aren't too many."""
     count = len(problem.blocks)
-    if count <= few or count <= best.ENUMERABLE and not command.has("numpy"):
+    if count <= few or count <= best.ENUMERABLE and not modules.has("numpy"):
         try:
             found, how = best.enumerate_all(problem, progress)
         finally:
             progress.end()
         return (None if found.accepted == said.accepted else found), how
-    command.need("numpy")
+    modules.need("numpy")
     from . import enumeration
 
     return enumeration.better(problem, frozenset(said.accepted), said.welfare, progress, jobs)
@@ -40,7 +40,7 @@ def ask_highs(problem, said, progress, jobs):
     """By HiGHS, which takes no program of a day without blocks."""
     if not problem.blocks:
         return enumerate_all(problem, said, progress, jobs)
-    command.need("scipy")
+    modules.need("scipy")
 
     def ask(tell):
         from . import solver

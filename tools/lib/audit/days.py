@@ -10,7 +10,7 @@ from typing import NamedTuple
 
 from ..base import ending, record, text
 from ..sheets import sheets
-from ..tool import command
+from ..tool import command, day_files, file_io, modules
 from . import verdict
 from ..runs.engine import Running
 from ..base.progress import StepBar
@@ -74,14 +74,14 @@ def parted(name):
 
 def pair_of(name, journal, published):
     if os.path.lexists(published):
-        return Pair(name, journal, published, command.unread_file(journal) or command.unread_file(published), None)
-    return Pair(name, journal, None, command.unread_file(journal), f"{command.shown(published)} is missing")
+        return Pair(name, journal, published, file_io.unread_file(journal) or file_io.unread_file(published), None)
+    return Pair(name, journal, None, file_io.unread_file(journal), f"{command.shown(published)} is missing")
 
 
 def listed_pairs(path):
     """The pairs of a manifest: a table with the columns `journal` and `results`, whose files are sought from its own folder."""
     try:
-        rows = iter(sheets.text_rows(command.read_bytes(path)))
+        rows = iter(sheets.text_rows(file_io.read_bytes(path)))
         heads = [cell.strip().lower() for cell in next(rows, (0, []))[1]]
         refuse_heads(path, heads)
         pairs = [listed_pair(path.parent, dict(zip(heads, map(str.strip, row))), extra_cells(line, row, heads)) for line, row in rows]
@@ -114,7 +114,7 @@ def listed_pair(folder, cells, extra):
     journal, published = (folder / cells.get(name, "") for name in COLUMNS)
     has_results = bool(cells.get("results"))
     missing = None if has_results else f"its row names no results, and {command.shown(journal)} has no line 'results'"
-    unread = extra or unread_row(cells) or command.unread_file(journal) or (command.unread_file(published) if has_results else None)
+    unread = extra or unread_row(cells) or file_io.unread_file(journal) or (file_io.unread_file(published) if has_results else None)
     return Pair(cells.get(NAME) or journal.stem, journal, published if has_results else None, unread, missing)
 
 
@@ -205,7 +205,7 @@ def ran(pair, options, running, seconds):
     """The status of the process of a day, its output and its lines on standard error. Until it ends, it is among the `running`; after
     this number of seconds it is ended."""
     files = [file_name(path) for path in (pair.journal, pair.results) if path is not None]
-    words = [*command.this_python(), os.fspath(TOOL), "--json", *options, "--", *files]
+    words = [*modules.this_python(), os.fspath(TOOL), "--json", *options, "--", *files]
     with running.start(words, stdin=subprocess.DEVNULL, stdout=subprocess.PIPE, stderr=subprocess.PIPE) as process, process:
         try:
             out, err = process.communicate(timeout=seconds)
@@ -220,7 +220,7 @@ def of_process(pair, status, out, err):
     try:
         made = json.loads(out)
         if made["status"] == status:
-            if pair.missing and made["message"] == command.no_results(pair.journal):
+            if pair.missing and made["message"] == day_files.no_results(pair.journal):
                 made["message"] = pair.missing
             return {"name": pair.name, **made}
     except (ValueError, KeyError, TypeError):

@@ -9,7 +9,7 @@ from ..journal import book, journal
 from ..lint import sent
 from ..results import check, results, selection, sums
 from ..sheets import kinds
-from ..tool import command
+from ..tool import command, day_files, file_io
 from . import better
 from ..results.faults import Fault, matched
 from ..base.progress import Progress
@@ -105,7 +105,7 @@ class Audit:
     def read(self, role, path):
         told = {"role": role, "file": str(path), "bytes": None, "sha256": None}
         self.inputs.append(told)
-        data = command.read_bytes(path)
+        data = file_io.read_bytes(path)
         told.update(bytes=len(data), sha256=hashlib.sha256(data).hexdigest())
         return data
 
@@ -114,22 +114,22 @@ class Audit:
         options = self.options
         if options.results is not None:
             written, published = self.read("journal", options.journal), self.read("results", options.results)
-            command.refuse_kind(options.journal, written, kinds.JOURNAL, HINTS)
-            command.refuse_kind(options.results, published, kinds.REPLIES if options.replies else kinds.RESULTS, HINTS)
+            day_files.refuse_kind(options.journal, written, kinds.JOURNAL, HINTS)
+            day_files.refuse_kind(options.results, published, kinds.REPLIES if options.replies else kinds.RESULTS, HINTS)
             return written, published
         data = self.read("day", options.journal)
         written, published = results.split_day(data) or (data, None)
         if published is not None and data[len(written) :].startswith(b"results\r") and b"\r" not in published:
             self.odd.append(Fault("the line 'results' ends with CR LF instead of LF alone", "encoding"))
-        command.refuse_kind(options.journal, written, kinds.JOURNAL, HINTS)
+        day_files.refuse_kind(options.journal, written, kinds.JOURNAL, HINTS)
         if published is None:
             if options.sent is None or options.best:
-                raise command.Stop(command.no_results(options.journal))
+                raise command.Stop(day_files.no_results(options.journal))
             self.inputs[0]["role"] = "journal"
         return written, published
 
     def read_journal(self, written):
-        read = command.parse_journal(self.options.journal, written)
+        read = day_files.parse_journal(self.options.journal, written)
         is_of_day = self.inputs[0]["role"] == "day"
         if is_of_day and journal.journal_text(read).encode() != written:
             self.odd.append(Fault("the journal of the day isn't in its written form, but has the same commands", "encoding"))

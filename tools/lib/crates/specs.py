@@ -3,7 +3,7 @@
 import itertools
 import re
 
-from ..tool import command
+from ..tool import command, file_io
 from . import crates
 
 USE = re.compile(r"^[ ]*(?:pub )?(?:ghost )?use ([\w.]+?)(?:\.\{([^}]*)\})?(?: as \w+)?;?$", re.MULTILINE)
@@ -36,14 +36,14 @@ class Repository:
 
     def __init__(self, top):
         self.top = top
-        self.crates = list(crates.listed(command.read_bytes(top / "crates.txt").decode()))
+        self.crates = list(crates.listed(file_io.read_bytes(top / "crates.txt").decode()))
         self.texts = {}
         self.modules = {}
 
     def read(self, path):
         if path not in self.texts:
             file = self.top / path
-            self.texts[path] = command.read_bytes(file).decode() if file.is_file() else None
+            self.texts[path] = file_io.read_bytes(file).decode() if file.is_file() else None
         return self.texts[path]
 
     def definitions(self, crate, module):

@@ -7,7 +7,7 @@ import tempfile
 import webbrowser
 
 from ..seal import heads
-from ..tool import command
+from ..tool import command, file_io
 from . import folder, observed, setup, tokens
 from .gate import Refused
 from .serve import Office, serve
@@ -76,7 +76,7 @@ async def run(args, programs):
         async def started(port):
             await enter_orders(served.gates[day.day])
             page = f"http://{args.host}:{port}/"
-            command.say([f"the page: {page}", f"the day {day.day} closes in {args.seconds} s; Ctrl-C ends the demo"])
+            file_io.say([f"the page: {page}", f"the day {day.day} closes in {args.seconds} s; Ctrl-C ends the demo"])
             if not args.no_browser:
                 with contextlib.suppress(webbrowser.Error):
                     await asyncio.to_thread(webbrowser.open, page)

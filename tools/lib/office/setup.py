@@ -11,7 +11,7 @@ import zoneinfo
 from ..base import rules, text
 from ..seal import heads, sealing, signing
 from ..sheets import cell_values, kinds, order_table, shapes, sheets
-from ..tool import command
+from ..tool import command, file_io, modules
 from . import folder, tokens
 
 CLOCK = re.compile(r"([01][0-9]|2[0-3]):[0-5][0-9]")
@@ -28,7 +28,7 @@ def day_of(words):
 
 
 def zone_of(words):
-    command.need_zone(shapes.ZONE)
+    modules.need_zone(shapes.ZONE)
     try:
         return zoneinfo.ZoneInfo(words)
     except (zoneinfo.ZoneInfoNotFoundError, ValueError):
@@ -74,7 +74,7 @@ def closes_late(terms):
 def participants_read(path):
     """The participants of a table, CSV or Excel, with the column participant; and how many commands each may enter, if a column commands
     says it."""
-    data, notes = command.read_bytes(path), []
+    data, notes = file_io.read_bytes(path), []
     kind = kinds.kind_of(data)
     if kind in kinds.FILES - {kinds.EXCEL}:
         raise command.Stop(f"{command.shown(path)} is {kind}: save the table as .xlsx or as CSV")

@@ -7,7 +7,7 @@ from typing import NamedTuple
 from ..base import text
 from ..lint import sent
 from ..seal import heads, merkle, signing
-from ..tool import command
+from ..tool import command, file_io
 from .contradictions import Signed, periods_differ, roots_differ, unsigned
 from .findings import CONTRADICTION, CONTRARY, ENCODING, EXTENSION, HEAD, IMPOSSIBLE, LINE, RECEIPT, RIGHT, STATUSES, UNDECIDED, UNREAD, WRONG
 from .findings import Finding, Place, verdict
@@ -38,7 +38,7 @@ class Received(NamedTuple):
 
 
 def key_read(path, read=signing.public):
-    return key_of(path, command.read_bytes(path), read)
+    return key_of(path, file_io.read_bytes(path), read)
 
 
 def key_of(path, data, read=signing.public):
@@ -51,7 +51,7 @@ def key_of(path, data, read=signing.public):
 
 def read_one(path, read, name, odd):
     """The value in a file of one line. If the file isn't in its written form, `odd` gets a finding."""
-    return value_of(path, command.read_bytes(path), read, name, odd)
+    return value_of(path, file_io.read_bytes(path), read, name, odd)
 
 
 def value_of(path, data, read, name, odd):
@@ -67,7 +67,7 @@ def value_of(path, data, read, name, odd):
 
 def head_read(path, key, odd, day=None):
     """The head in a file, which has to be signed by the key, and of a day if one is named."""
-    return head_of(path, command.read_bytes(path), key, odd, day)
+    return head_of(path, file_io.read_bytes(path), key, odd, day)
 
 
 def head_of(path, data, key, odd, day=None):
@@ -237,7 +237,7 @@ def judged(path, head, key, links, who=None):
     """The findings on the receipts of a file, one in each line. A line that is none is named, and so is a file that can't be read. If a
     participant is named, all are its own."""
     try:
-        data = command.read_bytes(path)
+        data = file_io.read_bytes(path)
     except command.Stop as fault:
         yield unread(path, fault)
         return

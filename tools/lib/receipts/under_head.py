@@ -6,7 +6,7 @@ from pathlib import Path
 from ..base import text
 from ..journal import journal
 from ..seal import heads, merkle, sealing, signing
-from ..tool import command
+from ..tool import command, file_io
 from . import receipts
 from ..results.faults import Fault
 
@@ -158,14 +158,14 @@ def files_of(folder):
     for path in paths:
         if path.suffix != ".jsonl":
             raise command.Stop(f"{command.shown(folder)} has {text.quoted(path.name)}, which isn't a file of receipts, NAME.jsonl")
-        if fault := command.unread_file(path):
+        if fault := file_io.unread_file(path):
             raise command.Stop(fault)
     if not paths:
         raise command.Stop(f"{command.shown(folder)} has no file of receipts, NAME.jsonl")
     return paths
 
 
-def of_folder(folder, key, read=command.read_bytes):
+def of_folder(folder, key, read=file_io.read_bytes):
     """The findings on the receipts of a folder, or of one file, whose bytes `read` gives: whether the operator signed each. All have to be
     receipts."""
     links, findings = receipts.Links([], key, []), []

@@ -10,7 +10,7 @@ import time
 import warnings
 
 from ..base import text
-from ..tool import command
+from ..tool import modules
 from .engine import Fault, Lost
 
 SECONDS = 10  # that a cluster may take to answer, or be without workers
@@ -118,7 +118,7 @@ class Awaited:
 @contextlib.contextmanager
 def executor(address):
     """The executor of a cluster. After a failure it isn't waited for, so the process should end at once."""
-    command.need("distributed")
+    modules.need("distributed")
     cluster = Cluster(address)
     yield cluster
     with contextlib.suppress(Exception):

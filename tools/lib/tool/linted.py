@@ -4,7 +4,7 @@ import hashlib
 
 from ..base import text
 from ..lint import lint
-from . import command
+from . import command, file_io
 from ..base.progress import StepBar
 from ..base.rules import VERSION
 
@@ -22,7 +22,7 @@ class Linted:
         self.found = []
 
     def run(self):
-        data = command.read_bytes(self.path)
+        data = file_io.read_bytes(self.path)
         self.input.update(bytes=len(data), sha256=hashlib.sha256(data).hexdigest())
         bar = StepBar("lint", len(data), "bytes", self.quiet)
         try:

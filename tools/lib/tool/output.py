@@ -1,7 +1,7 @@
 """A table as a tool writes it: comma-separated values, JSON or an Excel workbook."""
 
 from ..sheets import shapes, sheets
-from . import command
+from . import command, file_io, modules
 
 WORKBOOK, CSV = ".xlsx", ".csv"
 
@@ -16,13 +16,13 @@ def add_options(parser):
 
 def check_options(args, *inputs):
     """Ends the tool if the options can't be used together, or would write over an input, or a package is missing."""
-    command.refuse_inputs(args.out, *inputs)
+    file_io.refuse_inputs(args.out, *inputs)
     if args.json and args.decimal_comma:
         raise command.Stop("--decimal-comma can't be used with --json", command.COMMAND_LINE)
     if is_workbook(args.out):
         if args.json or args.decimal_comma:
             raise command.Stop("--json and --decimal-comma can't be used with an Excel workbook", command.COMMAND_LINE)
-        command.need("openpyxl")
+        modules.need("openpyxl")
 
 
 def is_workbook(path):
@@ -51,4 +51,4 @@ def write(tool, args, name, rows, periods):
         data = shapes.as_json(name, rows, shapes.day_of_periods(periods)).encode()
     else:
         data = sheets.written(rows, args.decimal_comma).encode()
-    command.write_bytes(tool, args.out, data)
+    file_io.write_bytes(tool, args.out, data)

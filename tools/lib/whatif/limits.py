@@ -8,7 +8,7 @@ from ..base import rules, text
 from ..journal import journal
 from ..results import decisions
 from ..runs import engine
-from ..tool import command
+from ..tool import command, day_files, output
 from . import changes
 from ..runs.cleared import Cleared, book_text
 from ..runs.engine import Fault
@@ -111,7 +111,7 @@ class Search:
 def why_never(search, found):
     """Why a block is rejected with the best limit of the range."""
     read = journal.read_journal(search.text(found.past_limit))
-    day = command.Day.of(read, search.printed[found.past_limit])
+    day = day_files.Day.of(read, search.printed[found.past_limit])
     place = day.problem.place(*search.key)
     why = decisions.decisions(day.problem, day.said.accepted, day.outcome)[place].why
     return why if why.startswith("with ") else f"it {why}"  # 'with' its family, 'it' would gain
@@ -233,7 +233,7 @@ def why_none(day, own):
     if isinstance(own, Fault):
         why, more = "the program couldn't clear the day", str(own)
     elif Cleared.of_text(day.book.rows, day.problem.periods, own).orders != Cleared.of_day(day).orders:
-        why, more = "the program has other results", f"{command.SEE_AUDIT} --best"
+        why, more = "the program has other results", f"{day_files.SEE_AUDIT} --best"
     else:
         return None
     command.tell("report", f"the limits that rejected blocks needed weren't computed: {why}: {more}")

@@ -10,7 +10,7 @@ import re
 
 from ..base import place, rules, text
 from ..runs import cleared, cluster, engine
-from ..tool import command, output
+from ..tool import command, command_line, day_files, file_io, modules, output
 from . import changes, limits, scenarios
 from ..runs.cleared import Cleared
 
@@ -56,7 +56,7 @@ def add_command(commands, call, name, epilog, words):
 def add_limit(commands, epilog):
     parser = add_command(commands, limit, "limit", epilog, "the worst limit at which a block is accepted")
     add = parser.add_argument
-    add("--participant", metavar="NAME", type=command.participant, required=True, help="the participant that entered the order")
+    add("--participant", metavar="NAME", type=command_line.participant, required=True, help="the participant that entered the order")
     add("--order", metavar="NAME", type=order_name, help="the order")
     add("--all", action="store_true", help="every block of the participant, a row each")
     add("--jobs", metavar="N", type=jobs, help="the number of clearings at the same time (default: the number of processors)")
@@ -71,7 +71,7 @@ def add_change(commands, epilog):
     words += " standard input"
     parser.add_argument("changes", metavar="CHANGES", help=words)
     words = "only this participant's orders, with its gain and net amount"
-    parser.add_argument("--participant", metavar="NAME", type=command.participant, help=words)
+    parser.add_argument("--participant", metavar="NAME", type=command_line.participant, help=words)
     add_quiet(parser)
 
 
@@ -81,7 +81,7 @@ def add_quiet(parser):
 
 def main(description, epilog):
     """Reads the command line, and does what it says."""
-    parser = command.Parser("whatif", description, epilog)
+    parser = command_line.Parser("whatif", description, epilog)
     commands = parser.add_subparsers(dest="command", metavar="COMMAND", required=True)
     for add in (add_limit, add_change, add_scenarios):
         add(commands, epilog[epilog.index("\nstatuses:") :])
@@ -111,7 +111,7 @@ def check_program(args):
 def read(args):
     """The book of the journal, which has to be closed."""
     check_program(args)
-    found = command.parse_journal(args.journal, command.read_bytes(args.journal))
+    found = day_files.parse_journal(args.journal, file_io.read_bytes(args.journal))
     try:
         return changes.before_close(found)
     except engine.Fault as fault:
@@ -150,7 +150,7 @@ def limit(args):
         return command.DONE
     else:
         data = "".join(f"{line}\n" for line in limits.lines(search, found)).rstrip("\n") + "\n"
-    command.write_bytes("whatif", args.out, data.encode())
+    file_io.write_bytes("whatif", args.out, data.encode())
     return command.DONE
 
 
@@ -220,7 +220,7 @@ def change(args):
         raise command.Stop("only one file can be standard input", command.COMMAND_LINE)
     before = read(args)
     try:
-        further, notes = changes.read_changes(command.read_bytes(args.changes), before.periods)
+        further, notes = changes.read_changes(file_io.read_bytes(args.changes), before.periods)
         for note in [] if args.quiet else notes:
             command.tell("whatif", f"{command.shown(args.changes)}: {note}")
         books = [before, changes.entered(before, further)]
@@ -252,7 +252,7 @@ def add_scenarios(commands, epilog):
     add("scenarios", metavar="SCENARIOS", nargs="?", help=words)
     words = "the table that is printed for each scenario (default: welfare; with --sample the blocks over all scenarios)"
     add("--rows", choices=scenarios.TABLES, help=words)
-    add("--participant", metavar="NAME", type=command.participant, help="only this participant's rows; with --sample, its orders stay")
+    add("--participant", metavar="NAME", type=command_line.participant, help="only this participant's rows; with --sample, its orders stay")
     add("--order", metavar="NAME", type=order_name, help="only this order of the participant")
     add("--jobs", metavar="N", type=jobs, help="the number of clearings at the same time (default: the number of processors)")
     add("--sample", metavar="N", type=sample_count, help="random scenarios instead of a table")
@@ -349,12 +349,12 @@ def run_scenarios(args):
     output.check_options(args, args.journal, args.scenarios)
     check_scenarios(args)
     if is_picture(args.out):
-        command.need("matplotlib")
+        modules.need("matplotlib")
     if args.sample:
-        command.need("numpy")
+        modules.need("numpy")
     held = read(args)
     if args.sample is None:
-        data = command.read_bytes(args.scenarios)
+        data = file_io.read_bytes(args.scenarios)
         given, notes = scenarios.read_table(command.shown(args.scenarios), data, held)
         for note in [] if args.quiet else notes:
             command.tell("whatif", f"{command.shown(args.scenarios)}: {note}")
@@ -426,6 +426,6 @@ def write_distribution(args, held, over):
         from . import scenario_picture
 
         data = scenario_picture.picture(over, args.out.lower().rpartition(".")[2])
-        command.write_bytes("whatif", args.out, data)
+        file_io.write_bytes("whatif", args.out, data)
         args.out = "-"
     output.write("whatif", args, "distribution", over.table(), held.periods)

@@ -1,0 +1,59 @@
+"""A tool's command line, and the words on it."""
+
+import argparse
+import sys
+
+from ..base import place, text
+from ..base.rules import VERSION
+from . import file_io
+
+
+def participant(word):
+    """A participant's name on the command line."""
+    if text.participant(word.encode(errors="surrogateescape")) is None:
+        raise argparse.ArgumentTypeError(f"{text.quoted(word)} should be {text.A_PARTICIPANT}")
+    return word
+
+
+def day(word):
+    """The name of a day on the command line, as in a head."""
+    from ..seal import heads
+
+    if not heads.DAY.fullmatch(word):
+        raise argparse.ArgumentTypeError(f"{text.quoted(word)} should be {heads.A_DAY}")
+    return word
+
+
+class Parser(argparse.ArgumentParser):
+    """A tool's command line, with no shortened options. Its help is written as all output is."""
+
+    def __init__(self, prog, description, epilog):
+        description = description or place.docstring(place.FOLDER / prog)
+        form, prog = argparse.RawDescriptionHelpFormatter, place.command(prog)
+        description, epilog = place.as_here(description), place.as_here(epilog)
+        super().__init__(prog=prog, description=description, epilog=epilog, formatter_class=form, allow_abbrev=False)
+        self.add_argument("--version", action="version", version=f"{prog} {VERSION}", help="print the version")
+
+    def add_day(self):
+        """The files of a day."""
+        self.add_argument("journal", metavar="JOURNAL", help="a journal, or the text of `dam day`; - for standard input")
+        words = "the results of that journal; omit them for the output of `dam day`"
+        self.add_argument("results", metavar="RESULTS", nargs="?", help=words)
+
+    def _get_value(self, action, word):
+        """The value of a word. An empty one, as of a variable of the shell that isn't set, is never taken for a word that is left out."""
+        if not word and action.nargs != argparse.PARSER:  # the words of a command are read by its own parser
+            raise argparse.ArgumentError(action, "it is empty")
+        return super()._get_value(action, word)
+
+    def error(self, message):
+        super().error(text.escaped(message))
+
+    def print_help(self, file=None):
+        file_io.write_output(self.format_help().encode())
+
+    def _print_message(self, message, file=None):
+        if file is sys.stdout:  # the version
+            file_io.write_output(message.encode())
+        else:
+            super()._print_message(message, file)

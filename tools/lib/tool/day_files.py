@@ -1,0 +1,99 @@
+"""The files of a day: a journal, and its results."""
+
+from ..base import place, text
+from ..journal import book, journal
+from ..lint import lint
+from ..results import results, selection
+from ..sheets import kinds
+from . import command, file_io
+
+SEE_AUDIT = place.as_here("see tools/audit")
+
+
+def read_texts(path, results_path):
+    """The bytes of a journal and of results: from two files, or from one with the text of a day."""
+    data = file_io.read_bytes(path)
+    if results_path is not None:
+        return data, file_io.read_bytes(results_path)
+    texts = results.split_day(data)
+    if texts is None and kinds.kind_of(data) in kinds.FILES:
+        refuse_kind(path, data, kinds.JOURNAL)
+    if texts is None:
+        raise command.Stop(no_results(path))
+    return texts
+
+
+def no_results(path):
+    """The message about a file that isn't the text of a day."""
+    return f"{command.shown(path)} has no line 'results': give the results file after the journal"
+
+
+def refuse_kind(path, data, right, hints=()):
+    """Ends the tool if a text looks like one of another kind. Hints give advice on some kinds."""
+    kind = kinds.kind_of(data)
+    if kind not in (None, right):
+        advice = kinds.ADVICE.get(kind) if right == kinds.JOURNAL or kind in kinds.PACKED else None
+        hint = hints[kind] if kind in hints else f"; {advice}" if advice else ""
+        raise command.Stop(f"{command.shown(path)} {'is' if kind in kinds.FILES else 'has'} {kind} instead of {right}{hint}")
+
+
+def parse_journal(path, data):
+    try:
+        return journal.read_journal(data)
+    except journal.Fault as fault:
+        raise command.Stop(f"{command.shown(path)} isn't a journal: {fault}{lint.in_few_words(data)}") from None
+
+
+class Day:
+    """A journal with its results, whose form is right. `text` has the bytes of the results. `wrong` lists where they break the rules, and
+    `odd` how they are encoded in another way than `dam` does it."""
+
+    def __init__(self, path, results_path):
+        journal_data, results_data = read_texts(path, results_path)
+        read = parse_journal(path, journal_data)
+        if results_path is not None:
+            refuse_kind(results_path, results_data, kinds.RESULTS)
+        self.read(read, results_data, path, results_path or path)
+
+    def __repr__(self):
+        blocks = len(self.problem.blocks)
+        hourly = text.counted(len(self.problem.rows) - blocks, "hourly order")
+        wrong = f", {text.counted(len(self.wrong), 'fault')}" if self.wrong else ""
+        welfare = f"welfare {self.problem.euros(self.said.welfare)} EUR"
+        return f"<Day: {self.problem.periods} periods, {hourly}, {text.counted(blocks, 'block')}, {welfare}{wrong}>"
+
+    @classmethod
+    def of(cls, read, results_data):
+        """The same from a journal that was read, and from the bytes of its results."""
+        day = cls.__new__(cls)
+        day.read(read, results_data, "the journal", "the text")
+        return day
+
+    def read(self, read, results_data, path, results_path):
+        from ..results import check
+
+        self.journal, self.text = read, results_data
+        self.book, self.reasons = book.run(read)
+        if not self.book.closed:
+            raise command.Stop(f"no command of {command.shown(path)} closes the book, so it has no results")
+        self.problem = selection.Problem(self.book)
+        data, self.odd = results.plain(results_data)
+        self.said, self.wrong = check.differences(self.problem, data)
+        if self.said is None:
+            raise command.Stop(f"{command.shown(results_path)} has no results of this journal: {self.wrong[0]}")
+        self.outcome = selection.outcome(self.problem, self.said.accepted)
+
+    def report_status(self, tool, quiet=False):
+        """Returns the status of a tool that has shown the results. If they break the rules, or else if their encoding differs, it says so on
+        standard error."""
+        if self.wrong and not quiet:
+            command.tell(tool, f"the results break the rules ({self.wrong[0]}): {SEE_AUDIT}")
+        elif self.odd and not quiet:
+            command.tell(tool, f"the encoding of the results differs ({self.odd[0]}): {SEE_AUDIT}")
+        return command.DIFFERS if self.wrong else command.DONE
+
+
+def need_participant(who, read):
+    """Ends the tool if a participant is asked for that has no command in a journal, such as one whose name is misspelt."""
+    if who and who not in {getattr(entry, "who", None) for entry in read.commands}:
+        raise command.Stop(f"{who} has no command in the journal")

@@ -1,0 +1,131 @@
+"""Files as tools read and write them: a fault names the file, and what is written is whole before it takes the old one's place."""
+
+import contextlib
+import errno
+import os
+import stat
+import sys
+
+from ..base import replacing
+from . import command
+
+MOST_BYTES, PART = 64 << 20, 1 << 20  # of a file that a tool reads, and of those how many at once
+NAMED_BY_OUT = ": name it by --out to replace it"
+
+
+def bytes_of(stream):
+    """The bytes of standard input or output, which Python has as None if it is closed."""
+    if stream is None:
+        raise OSError(errno.EBADF, os.strerror(errno.EBADF))
+    return stream.buffer
+
+
+def read_bytes(path):
+    """The bytes of a file; `-` is standard input. A file that has more than any text of a day may have no end, and isn't read on."""
+    try:
+        with contextlib.nullcontext(bytes_of(sys.stdin)) if path == "-" else open(path, "rb", opener=without_waiting) as file:
+            data = first_bytes(file, MOST_BYTES + 1)
+    except (OSError, ValueError) as fault:
+        raise command.Stop(cannot_be_read(path, fault)) from None
+    if len(data) > MOST_BYTES:
+        raise command.Stop(f"{command.shown(path)} has more than {MOST_BYTES:,} bytes")
+    return data
+
+
+def cannot_be_read(path, fault):
+    """The message about a file that can't be read. Python has a ValueError for a name that no file can have."""
+    why = fault.strerror if isinstance(fault, OSError) else "its name has a NUL, or a character that this locale lacks"
+    return f"{command.shown(path)} can't be read: {why}"
+
+
+def without_waiting(path, flags):
+    """Opens a file so that no read of it waits: of the files of the system, such as /proc/kmsg, some never end. A pipe may wait."""
+    return os.open(path, flags | (os.O_NONBLOCK if stat.S_ISREG(os.stat(path).st_mode) else 0))
+
+
+def unread_file(path):
+    """Why a path has no file that can be read, if it has none. A device or a pipe may have no end."""
+    try:
+        mode = os.stat(path).st_mode
+    except FileNotFoundError:
+        return f"{command.shown(path)} is a link to a file that is missing" if os.path.islink(path) else f"{command.shown(path)} is missing"
+    except (OSError, ValueError) as fault:
+        return cannot_be_read(path, fault)
+    if stat.S_ISDIR(mode):
+        return f"{command.shown(path)} can't be read: {os.strerror(errno.EISDIR)}"
+    return None if stat.S_ISREG(mode) else f"{command.shown(path)} is a device or a pipe, and should be a file"
+
+
+def first_bytes(file, most):
+    """At most this many bytes of an open file. Memory is taken as they come. A file that would wait for more is a fault."""
+    parts = []
+    while most > 0 and (part := file.read(min(most, PART))) != b"":
+        if part is None:
+            raise BlockingIOError(errno.EAGAIN, os.strerror(errno.EAGAIN))
+        parts.append(part)
+        most -= len(part)
+    return b"".join(parts)
+
+
+def write_output(data):
+    """Writes to standard output."""
+    try:
+        bytes_of(sys.stdout).write(data)
+        sys.stdout.flush()
+    except BrokenPipeError:
+        raise
+    except OSError as fault:
+        if sys.stdout is not None:
+            command.discard(sys.stdout)
+        raise command.Stop(f"standard output can't be written: {fault.strerror}") from None
+
+
+def say(lines):
+    """Prints lines on standard output."""
+    write_output("".join(f"{command.on_lines(line)}\n" for line in lines).encode())
+
+
+def write_bytes(tool, path, data):
+    """Writes a file that is whole, and at a terminal says so; or standard output if the path is `-`."""
+    if path == "-":
+        write_output(data)
+    else:
+        write_files(tool, {path: data})
+
+
+def write_files(tool, files):
+    """Writes files by their paths. None is put in its place before each is whole."""
+    with contextlib.ExitStack() as ends:
+        puts = {path: to_write(path, replacing.ready, path, data, ends) for path, data in files.items()}
+        for path, put in puts.items():
+            to_write(path, put)
+            if sys.stderr.isatty():
+                command.tell(tool, f"{command.shown(path)} was written")
+
+
+def to_write(path, call, *words):
+    """The result of a call for a file that is written."""
+    try:
+        return call(*words)
+    except OSError as fault:
+        raise command.Stop(f"{command.shown(path)} can't be written: {fault.strerror}") from None
+
+
+def is_same(path, other):
+    """Whether a file that a tool is to write is one that it reads; `-` is standard input."""
+    try:
+        return os.path.isfile(path) and os.path.samestat(os.stat(path), os.fstat(0) if other == "-" else os.stat(other))
+    except OSError:
+        return False
+
+
+def refuse_to_replace(path, advice):
+    """Ends the tool if there is a file that nobody asked to replace."""
+    if os.path.lexists(path):
+        raise command.Stop(f"{command.shown(path)} is there already{advice}", command.COMMAND_LINE)
+
+
+def refuse_inputs(path, *inputs):
+    """Ends the tool if it is to write over a file that it reads; the inputs that aren't given are None."""
+    if any(other is not None and is_same(path, other) for other in inputs):
+        raise command.Stop(f"{command.shown(path)} is one of the inputs, and would be lost: write to another file", command.COMMAND_LINE)

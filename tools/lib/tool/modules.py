@@ -1,0 +1,92 @@
+"""Python's modules that a tool needs: in this Python, or else in Debian's, with which the tool starts again."""
+
+import importlib.util
+import os
+import subprocess
+import sys
+import zoneinfo
+
+from ..base import ending
+from .command import FAILED, Stop
+
+DEBIAN_PYTHON = "/usr/bin/python3"
+ISOLATED = [DEBIAN_PYTHON, "-I"]  # from the environment and the working folder
+# Debian's packages; tests/debian-packages lists them all.
+PACKAGES = {
+    "aiohttp": "python3-aiohttp",
+    "cryptography": "python3-cryptography",
+    "distributed": "python3-distributed",
+    "jinja2": "python3-jinja2",
+    "matplotlib": "python3-matplotlib",
+    "numpy": "python3-numpy",
+    "openpyxl": "python3-openpyxl",
+    "pandas": "python3-pandas",
+    "scipy": "python3-scipy",
+    "tqdm": "python3-tqdm",
+}
+
+
+def has(module):
+    return importlib.util.find_spec(module) is not None
+
+
+def is_debians():
+    """Whether this is Debian's Python, which has Debian's packages."""
+    return os.path.realpath(sys.executable) == os.path.realpath(DEBIAN_PYTHON)
+
+
+def this_python():
+    """The words that start this Python for another tool: isolated, if it is."""
+    # without a PATH, Python doesn't know its own name
+    return [sys.executable or os.path.realpath("/proc/self/exe"), *(["-I"] if sys.flags.isolated else [])]
+
+
+def elsewhere(*modules):
+    """Whether Debian's Python is a different one and has the modules. With -c alone it would also find those of the working folder."""
+    if is_debians():
+        return False
+    find = "import importlib.util, sys; sys.exit(None in map(importlib.util.find_spec, sys.argv[1:]))"
+    try:
+        return subprocess.run([*ISOLATED, "-c", find, *modules], stderr=subprocess.DEVNULL).returncode == 0
+    except OSError as fault:
+        if ending.is_memory(fault) or ending.is_files(fault):
+            raise
+        return False
+
+
+def python_with(*modules):
+    """Starts the tool again with Debian's Python, if that has the modules and this one lacks some."""
+    if not all(map(has, modules)) and elsewhere(*modules):
+        # without -S, nothing would find Debian's packages for a program that ending.watch doesn't guard
+        late = ["-S"] if sys.flags.no_site else []
+        os.execv(DEBIAN_PYTHON, [*ISOLATED, *late, sys.modules["__main__"].__file__, *sys.argv[1:]])
+
+
+def has_zone(name):
+    """Whether the system has a time zone."""
+    try:
+        zoneinfo.ZoneInfo(name)
+    except zoneinfo.ZoneInfoNotFoundError:
+        return False
+    return True
+
+
+def need_zone(name):
+    """Ends the tool if a time zone is missing."""
+    if not has_zone(name):
+        raise Stop("it needs the world's time zones, which Debian has in the package tzdata: apt-get install tzdata", FAILED)
+
+
+def missing(*modules):
+    """The message that modules are missing."""
+    packages = [PACKAGES[module] for module in modules]
+    noun = "package" if len(packages) == 1 else "packages"
+    which = f"which Debian has in the {noun} {' and '.join(packages)}"
+    return f"it needs {' and '.join(modules)}, {which}: apt-get install {' '.join(packages)}"
+
+
+def need(*modules):
+    """Ends the tool if a module is missing."""
+    python_with(*modules)
+    if lacking := [module for module in modules if not has(module)]:
+        raise Stop(missing(*lacking), FAILED)
