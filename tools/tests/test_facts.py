@@ -86,7 +86,6 @@ ONCE = {
     r"whole cents from the least, `low`, to the greatest": ["RULES.md"],
     r"\| `HasChildren` \|": ["RULES.md"],
     r"names whose hashes collide in the map": ["DECISIONS.md"],
-    r"helgrind and drd report": ["TESTED.md"],
 }
 
 
@@ -355,7 +354,7 @@ class Facts(unittest.TestCase):
         bench = TOP / "bench"
         with mock.patch.object(sys, "path", [str(bench), *sys.path]):
             drawn = runpy.run_path(str(bench / "make_blocks.py"))
-        said = re.search(r"for (\d+) such books of 24 blocks, and with `--thin` instead (\d+) others, most of them thin", plain(TOP / "docs" / "CHECK.md"))
+        said = re.search(r"for (\d+) such books of 24 blocks; with `--thin` instead, (\d+) mostly thin ones", plain(TOP / "docs" / "CHECK.md"))
         self.assertEqual([found(number) for number in said.groups()], [len(drawn["BOOKS"]), len(drawn["MORE"])])
         self.assertGreater(sum(made.is_thin for made in drawn["MORE"]), len(drawn["MORE"]) / 2)
 

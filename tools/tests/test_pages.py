@@ -37,7 +37,7 @@ MOST_OF_ALL = 235_520
 # The most bytes of a page, without the parts that a script writes. A page that grows beyond is split, or says things twice.
 MOST_BYTES = {
     "README.md": 7_168,
-    "ARCHITECTURE.md": 6_200,
+    "ARCHITECTURE.md": 6_300,
     "ASSURANCE.md": 18_432,
     "AUDIT.md": 8_704,
     "C.md": 6_144,
