@@ -145,12 +145,12 @@ class Together:
         """The books on which a program was run."""
         return [book for book in self.books if name in book.walls]
 
-    def slower(self, part):
-        """Prints how many books take longer than by the program before, of which there may be one in `part`."""
+    def record_slower(self, one_in):
+        """Prints how many books take longer than by the program before, of which there may be one in `one_in`."""
         books = self.run_on("before")
         pairs = zip(books, self.lasted(books, "dam"), self.lasted(books, "before"))
         slower = [f"{book.name} {one / other:.2f} x" for book, one, other in pairs if one > other]
         if books:
-            most = len(books) // part
+            most = len(books) // one_in
             what = f"{self.name}: books slower than by the program before"
             record_figure(what, f"{len(slower)} of {len(books)}", f"at most {most}", len(slower) <= most, "; ".join(slower))

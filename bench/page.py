@@ -72,7 +72,7 @@ def version_of(package):
     return printed("dpkg-query", "--show", "--showformat", "${Version}", package) or "of an unknown version"
 
 
-def run_of(part):
+def facts_of_this_run(part):
     """The day, the commit, the machine and the kit of a part's figures, and other facts about them."""
     commit = printed("git", "rev-parse", "--short", "HEAD") or "unknown"
     if printed("git", "status", "--porcelain", "--", ":/", *(f":(top,exclude){name}" for name in WRITTEN)):
@@ -105,7 +105,7 @@ def take_over(parts):
     for part in parts:
         lines = (HERE / "out" / f"{part}.tsv").read_text(encoding="utf-8").splitlines()
         write(KEPT / f"{part}.csv", COLUMNS, [line.split("\t") for line in lines])
-        runs[part] = run_of(part)
+        runs[part] = facts_of_this_run(part)
     write(KEPT / "runs.csv", RUN_COLUMNS, [runs[part] for part in PARTS if part in runs])
 
 

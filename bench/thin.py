@@ -39,7 +39,7 @@ def main():
     Together("wide and mixed books", [book for book in books if not book.drawn.is_thin]).show(MOST, {})
     thin = Together("all thin books", [book for book in books if book.drawn.is_thin])
     thin.show(MOST, {"before": MOST_OF_SUM_BEFORE})
-    thin.slower(ONE_IN)
+    thin.record_slower(ONE_IN)
 
 
 main()

@@ -425,7 +425,7 @@ def trouble(rng):
     words = broken(drawn) if broken else None
     data = words if isinstance(words, bytes) else drawn.data()
     try:
-        found = [(number, trimmed(cells)) for number, cells in sheets.rows_of(data)[0]]
+        found = [(number, trimmed(cells)) for number, cells in sheets.read_rows(data)[0]]
     except sheets.BadTable as fault:
         if broken is None:
             return f"it is right, and refused: {fault}"

@@ -67,7 +67,7 @@ class Together(unittest.TestCase):
     def test_books_slower_than_before(self):
         books = [Timed(str(number), dam=[1.0], before=[2.0]) for number in range(39)] + [Timed("slow", dam=[3.0], before=[2.0])]
         for part, verdict in (20, "holds"), (41, "MISSED"):
-            (line,) = self.printed(lambda: clearing.Together("forty", books).slower(part))
+            (line,) = self.printed(lambda: clearing.Together("forty", books).record_slower(part))
             self.assertEqual(line[1:], ["1 of 40", f"at most {40 // part}", verdict, "slow 1.50 x"])
 
 

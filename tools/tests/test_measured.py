@@ -80,13 +80,14 @@ class Measured(unittest.TestCase):
             (here / "measured").mkdir()
             (here / "blocks.py").write_text('"""Hard books.\n\nMore."""\n')
             (here / "out" / "blocks.tsv").write_text("".join("\t".join(row) + "\n" for row in ROWS))
-            with unittest.mock.patch.multiple(page, HERE=here, KEPT=here / "measured"):
+            with unittest.mock.patch.multiple(page, HERE=here, KEPT=here / "measured", version_of=len):
                 with unittest.mock.patch.dict("os.environ", {"PEER_LIMIT": "5", "BEFORE_IS": "that of yesterday"}):
                     page.take_over(["blocks"])
-                    of_peers = [page.run_of(part)[-1] for part in ("blocks", "thin")]
+                    of_peers = [page.facts_of_this_run(part)[-1] for part in ("blocks", "thin")]
                 text = page.page()
-        self.assertEqual(of_peers, ["HiGHS and CBC each had 5 s for each book; the program before is that of yesterday"] * 2)
-        self.assertIn("Notes: (1) HiGHS and CBC each had 5 s for each book; (2) the program before is that of yesterday.", " ".join(text.split()))
+        peers = "HiGHS (of SciPy 13) and CBC (11) each had 5 s for each book"  # the lengths of the packages' names
+        self.assertEqual(of_peers, [f"{peers}; the program before is that of yesterday"] * 2)
+        self.assertIn(f"Notes: (1) {peers}; (2) the program before is that of yesterday.", " ".join(text.split()))
         self.assertRegex(text, r"\| blocks \| \[5\]\(../bench/measured/blocks.csv\) \| 2 of 3 \| .* \| \(1\) \(2\) \|\n")
         self.assertIn("Hard books.\n", text)
         self.assertIn("| `dam clear` by the default plan, spread 50, seed 1 | 24 periods | 96 periods |\n|---|---|---|\n| links | 2 ms | 8 ms |\n", text)

@@ -350,8 +350,8 @@ class Setup(Office):
             with mock.patch.object(folder.replacing, "write", side_effect=fault), self.assertRaises(OSError) as caught:
                 self.make()
             self.assertRegex(caught.exception.filename, "operator.pem")
-            self.assertEqual(command.end_of(caught.exception)[0], command.NO_INPUT)
-            self.assertIn(f"{caught.exception.filename} can't be used: No space", command.end_of(caught.exception)[1])
+            self.assertEqual(command.status_and_message(caught.exception)[0], command.NO_INPUT)
+            self.assertIn(f"{caught.exception.filename} can't be used: No space", command.status_and_message(caught.exception)[1])
         with mock.patch.object(os, "fsync", side_effect=full), self.assertRaises(OSError) as caught:
             folder.sync(self.office.path)
         self.assertEqual(caught.exception.filename, str(self.office.path))

@@ -294,7 +294,7 @@ class Tool(unittest.TestCase):
         self.assertEqual([row["scenario"] for row in json.loads(tool("whatif", *words, "--json")[1])["rows"]], names)
         path = Path(self.folder, "a.xlsx")
         self.assertEqual(tool("whatif", *words, "-o", path), (0, b"", ""))
-        self.assertEqual([cells[0] for _, cells in sheets.rows_of(path.read_bytes())[0]], ["scenario", *names])
+        self.assertEqual([cells[0] for _, cells in sheets.read_rows(path.read_bytes())[0]], ["scenario", *names])
 
     def test_characters_that_no_name_has(self):
         """No line of a text, or no cell of a workbook, could hold them."""

@@ -205,7 +205,7 @@ class Audit(Audited):
         Path("sealed/receipts/A.jsonl").unlink()
         Path("sealed/receipts/A.jsonl").write_bytes(b"x\n" * heads.MOST_ENTRIES)
         with mock.patch.object(heads, "parsed", wraps=heads.parsed) as parsed, self.assertRaisesRegex(command.Stop, r"A\.jsonl line 1: "):
-            under_head.of_folder("sealed/receipts", receipts.key_read("key.pem.pub"))
+            under_head.findings_of_folder("sealed/receipts", receipts.key_read("key.pem.pub"))
         self.assertEqual(parsed.call_count, 1)
 
     def test_many_commands_that_the_journal_lacks(self):

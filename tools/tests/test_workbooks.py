@@ -127,7 +127,7 @@ class Faults(Read):
         ):
             tracemalloc.start()
             try:
-                found = sheets.rows_of(data, most=most)[0]
+                found = sheets.read_rows(data, most=most)[0]
             except sheets.BadTable as fault:
                 found = str(fault)
             most_memory = tracemalloc.get_traced_memory()[1]
@@ -159,7 +159,7 @@ class Faults(Read):
 
     def test_a_text_has_no_more_lines_than_a_sheet(self):
         with self.assertRaisesRegex(sheets.BadTable, "^line 1048577: a table has at most 1,048,576 lines$"):
-            sheets.rows_of(b"\n" * (2**20 + 1))
+            sheets.read_rows(b"\n" * (2**20 + 1))
 
     def test_a_cell_of_a_text_that_does_not_end_on_its_line(self):
         """Two quotes in a column that isn't used could hide the rows between them."""
@@ -192,7 +192,7 @@ class Faults(Read):
 
     def test_a_workbook_is_read_without_a_package(self):
         with mock.patch.dict("sys.modules", {"openpyxl": None}):
-            self.assertEqual(list(sheets.rows_of(book(row(2, ("B2", "x"))))[0])[1:], [(2, ["", "x"])])
+            self.assertEqual(list(sheets.read_rows(book(row(2, ("B2", "x"))))[0])[1:], [(2, ["", "x"])])
 
     def test_names_of_elements_are_limited(self):
         cant, tail = "line 1: the Excel workbook can't be read: ", b"</row>"
@@ -407,7 +407,7 @@ class Unlike(unittest.TestCase):
                 if refused:
                     said = "^sheet 'orders', cell E2: its formula was saved without its value: open the workbook in Excel, and save it$"
                     with self.assertRaisesRegex(sheets.BadTable, said):
-                        sheets.rows_of(data)
+                        sheets.read_rows(data)
                 else:
                     self.assertEqual(len(order_table.read_tables([("", data)], 24).submits), 2)
 
@@ -521,7 +521,7 @@ class Unlike(unittest.TestCase):
             data = made.of_sheet(made.OPEN, order(2, "K1"), made.CLOSE, **{"xl/styles.xml": styles.encode()})
             if fault:
                 with self.assertRaisesRegex(sheets.BadTable, f"^line 1: the Excel workbook can't be read: {fault}$"):
-                    sheets.rows_of(data)
+                    sheets.read_rows(data)
             else:
                 self.assertEqual(len(order_table.read_tables([("", data)], 24).submits), 1)
         for style in ("x", "-1", "1.0", ""):
@@ -544,11 +544,11 @@ class Unlike(unittest.TestCase):
                     self.assertEqual(len(order_table.read_tables([("", data)], 24).submits), 1)
                 else:
                     with self.assertRaisesRegex(sheets.BadTable, said):
-                        sheets.rows_of(data)
+                        sheets.read_rows(data)
         extension = '</sheetData><extLst><ext><x:dxf xmlns:x="urn:x"><numFmt formatCode="0%"/></x:dxf></ext></extLst>'
         data = made.of_sheet(made.OPEN, order(2, "K1"), made.CLOSE.replace(b"</sheetData>", extension.encode()))
         with self.assertRaisesRegex(sheets.BadTable, "an element 'numFmt' stands in 'extLst'"):
-            sheets.rows_of(data)
+            sheets.read_rows(data)
 
     def test_a_sheet_of_macros(self):
         """It has cells, which aren't read: it is no table of orders, and it counts among the sheets."""
@@ -565,10 +565,10 @@ class Unlike(unittest.TestCase):
                 data = made.of_sheet(made.OPEN, made.CLOSE, **{name: part.encode() for name, part in parts.items()})
                 if said:
                     with self.assertRaisesRegex(sheets.BadTable, said):
-                        sheets.rows_of(data)
+                        sheets.read_rows(data)
                 else:
                     notes = []
-                    sheets.rows_of(data, notes=notes)
+                    sheets.read_rows(data, notes=notes)
                     self.assertEqual(notes, ["of 2 sheets, 'a' was read"])
 
     def test_names_of_sheets(self):

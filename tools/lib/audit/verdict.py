@@ -226,7 +226,7 @@ class Audit:
         if salts.day != head.day:
             raise command.Stop(f"{command.shown(options.salts)} has the salts of {salts.day}, and the head is of {head.day}")
         read_receipts = functools.partial(self.read, "receipts")
-        found = under_head.of_folder(options.receipts, key, read_receipts) if options.receipts is not None else []
+        found = under_head.findings_of_folder(options.receipts, key, read_receipts) if options.receipts is not None else []
         signed = under_head.UnderHead(key, head, salts, read, reasons, found)
         signed.odd += odd
         return signed
@@ -284,7 +284,7 @@ class Audit:
 
 def reply_faults(periods, reasons, data):
     """The lines of a replies text that differ from the book's replies."""
-    (wanted, _), (found, more) = (results.first_lines(part) for part in (book.replies_of(periods, reasons).encode(), data))
+    (wanted, _), (found, more) = (results.lines_looked_at(part) for part in (book.replies_of(periods, reasons).encode(), data))
     numbers = [[line.split(b",")[0] for line in part] for part in (wanted, found)]
     wrong, last = more if data else [Fault("the replies are empty", "form")], 0
     for at, place in matched(*numbers):

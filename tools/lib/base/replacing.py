@@ -16,14 +16,14 @@ MOST_LINKS = 40  # that Linux follows
 
 def write(path, data):
     """Writes a file. A device, a pipe, and a file that can't be replaced are written in place."""
-    with contextlib.ExitStack() as ends:
-        ready(path, data, ends)()
+    with contextlib.ExitStack() as cleanups:
+        prepare(path, data, cleanups)()
 
 
-def ready(path, data, ends):
-    """The call that puts a file in its place. Unless it's to be written in place, it's written before, next to that, and `ends` removes it
+def prepare(path, data, cleanups):
+    """The call that puts a file in its place. Unless it's to be written in place, it's written before, next to that, and `cleanups` removes it
     if it isn't put."""
-    target = end_of(str(Path(path)))
+    target = link_target(str(Path(path)))
     old = stat_of(target) if target is not None else None
     # `Path` leaves out a slash or dot at the end, which only a folder has
     if os.path.basename(path) in ("", ".") or old is not None and stat.S_ISDIR(old.st_mode):
@@ -34,7 +34,7 @@ def ready(path, data, ends):
         os.close(os.open(target, os.O_WRONLY))  # a file that can't be written isn't replaced
     in_place = functools.partial(write_in_place, target, data)
     try:
-        rename = replace(target, old, data, ends)
+        rename = replace(target, old, data, cleanups)
     except OSError as fault:
         return or_else(in_place, old, fault)
 
@@ -69,7 +69,7 @@ def write_in_place(target, data):
         file.truncate()
 
 
-def end_of(path):
+def link_target(path):
     """The file to which symbolic links lead from a path; None for an open file, as /dev/stdout names it."""
     for _ in range(MOST_LINKS):
         folder, name = os.path.split(path)
@@ -89,11 +89,11 @@ def stat_of(path):
         return None
 
 
-def replace(target, old, data, ends):
-    """Writes a new file next to the target. The call that gives it the target's name; `ends` removes it if that isn't called."""
+def replace(target, old, data, cleanups):
+    """Writes a new file next to the target. The call that gives it the target's name; `cleanups` removes it if that isn't called."""
     made = os.path.join(os.path.dirname(target), f".dam-{secrets.token_hex(8)}")
     number = os.open(made, os.O_WRONLY | os.O_CREAT | os.O_EXCL | os.O_CLOEXEC, 0o666)
-    ends.callback(remove, made)
+    cleanups.callback(remove, made)
     with open(number, "wb") as file:
         if old is not None:
             take_rights(number, target, old)

@@ -96,7 +96,7 @@ def read_records(data, periods):
 def read_table(data, periods, who):
     """The orders of a participant in a table, as the sent commands; notes on the table; and how many others it has."""
     try:
-        table = order_table.cells_of(data)
+        table = order_table.read_cells(data)
         if command_table.is_command_table(table):
             raise BadSentText(f"it is a table of commands, with the column {command_table.WHAT}: give records of a journal, or a table of orders")
         orders = order_table.read_tables([("", table)], periods, who)

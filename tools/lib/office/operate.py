@@ -56,7 +56,7 @@ def shown_of(name, files, desk, is_served):
     try:
         return state_of(files, desk, is_served)
     except (OSError, command.Stop) as fault:
-        return {"day": name, "fault": command.end_of(fault)[1]}
+        return {"day": name, "fault": command.status_and_message(fault)[1]}
 
 
 def status(office, desk):

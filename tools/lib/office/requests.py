@@ -123,7 +123,7 @@ def table_records(data, who, periods, orders=()):
     if kind in kinds.FILES - {kinds.EXCEL, kinds.LOCKED}:  # a participant may have no tool that converts it
         raise BadRequest(f"this is {kind}: save the table as .xlsx or as CSV")
     try:
-        cells = order_table.cells_of(data)
+        cells = order_table.read_cells(data)
         if command_table.is_command_table(cells):
             placed, notes = command_table.read_commands(cells, periods)
         else:

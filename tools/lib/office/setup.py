@@ -92,7 +92,7 @@ def participants_read(path):
 
 def participants_of(data, notes):
     """The same of a table's bytes. A cell that would be lost is a fault. Notes say how the table was read."""
-    (line, header), *rows = list(sheets.rows_of(data, [WHO], notes, folder.MOST_COMMANDS)[0]) or [(1, [])]
+    (line, header), *rows = list(sheets.read_rows(data, [WHO], notes, folder.MOST_COMMANDS)[0]) or [(1, [])]
     table = order_table.Table("", rows, columns_of(line, header), len(header), False, [], notes)
     order_table.refuse_unnamed(header, rows)
     found, lines, wrong = {}, {}, order_table.Faults()

@@ -165,7 +165,7 @@ def files_of(folder):
     return paths
 
 
-def of_folder(folder, key, read=file_io.read_bytes):
+def findings_of_folder(folder, key, read=file_io.read_bytes):
     """The findings on the receipts of a folder, or of one file, whose bytes `read` gives: whether the operator signed each. All have to be
     receipts."""
     links, findings = receipts.Links([], key, []), []

@@ -143,7 +143,7 @@ def read_results(problem, data):
     wrong, lines, values = [], {}, []
     if not data.endswith(b"\n"):
         wrong.append(Fault("the last line of the results has no line end", "form"))
-    found, more = first_lines(data)
+    found, more = lines_looked_at(data)
     wrong += more
     expected = list(expected_lines(problem))
     last = 0  # the last line that was found
@@ -176,7 +176,7 @@ def read_results(problem, data):
     return gather(problem, values, lines), wrong
 
 
-def first_lines(data):
+def lines_looked_at(data):
     """The lines of a text that are looked at, and a fault if there are more."""
     found = data.removesuffix(b"\n").split(b"\n", MOST_LINES)
     if len(found) <= MOST_LINES:

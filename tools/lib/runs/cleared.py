@@ -40,7 +40,7 @@ class Cleared:
                 place += 1
         return cls(day.book.rows, day.problem.periods, day.said.welfare, day.said.prices, day.said.volumes, orders)
 
-    def traded(self, key):
+    def executed_volumes(self, key):
         """The executed volumes of an order, as pairs of a period and tenths of a MW; none of an order that isn't in the book."""
         order = self.rows.get(key)
         if order is None or not self.orders[key]:
@@ -49,17 +49,17 @@ class Cleared:
 
     def executed(self, key):
         """The sum of these volumes."""
-        return sum(volume for _, volume in self.traded(key))
+        return sum(volume for _, volume in self.executed_volumes(key))
 
     def amount(self, key):
         """The payment to the participant for an order, below 0 if it pays, in cents per MWh times tenths of a MW."""
-        paid = sum(volume * self.prices[period - 1] for period, volume in self.traded(key))
+        paid = sum(volume * self.prices[period - 1] for period, volume in self.executed_volumes(key))
         return -paid if paid and self.rows[key].side == "buy" else paid
 
     def surplus(self, key):
         """The gain of an order compared with trading at its limit: for a block at the prices, whether it is accepted or not."""
         order = self.rows[key]
-        volumes = order.volumes if order.kind == "block" else self.traded(key)
+        volumes = order.volumes if order.kind == "block" else self.executed_volumes(key)
         sign = 1 if order.side == "sell" else -1
         return sign * sum(volume * (self.prices[period - 1] - order.price) for period, volume in volumes)
 

@@ -209,7 +209,7 @@ class Cells(NamedTuple):
         return itertools.islice(self.rows, 1, None)
 
 
-def cells_of(data, most=MOST_ROWS, is_long=False):
+def read_cells(data, most=MOST_ROWS, is_long=False):
     """The cells of a table of `most` rows after its first one. Those of a text that may be long aren't kept."""
     kind, read = kinds.kind_of(data), []
     if kind in (kinds.JOURNAL, kinds.DAY):
@@ -217,7 +217,7 @@ def cells_of(data, most=MOST_ROWS, is_long=False):
     if kind in kinds.FILES - {kinds.EXCEL}:
         raise BadOrders(f"this is {kind}: {kinds.ADVICE[kind]}")
     try:
-        rows, decimal_comma = sheets.rows_of(data, NEEDED, read, most, is_long)
+        rows, decimal_comma = sheets.read_rows(data, NEEDED, read, most, is_long)
         count = refuse_many_rows(rows, most)
     except sheets.BadTable as fault:
         raise BadOrders(str(fault)) from None
@@ -315,7 +315,7 @@ def read_tables(sources, periods, who=None, raises=False, held=None):
     wrong, notes, tables = Faults(), [], []
     for name, data in sources:
         try:
-            tables.append(table_of(name, data if isinstance(data, Cells) else cells_of(data)))
+            tables.append(table_of(name, data if isinstance(data, Cells) else read_cells(data)))
         except BadOrders as fault:
             for line in str(fault).split("\n"):
                 wrong.add(f"{name}: {line}" if name else line)

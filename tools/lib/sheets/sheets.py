@@ -34,7 +34,7 @@ def is_workbook(data):
     return data.startswith(XLSX)
 
 
-def rows_of(data, needed=(), notes=None, most=None, is_long=False):
+def read_rows(data, needed=(), notes=None, most=None, is_long=False):
     """The rows of a table, each with the number of its first line; and whether a comma may be the decimal point. A text is separated by
     commas, semicolons or tabs, whichever its header has most of. Of a workbook it is the sheet `orders`, or else the first that has the
     needed columns. It isn't read further if it has more than `most` rows after its first one. Notes say which sheet was read, and that a
@@ -44,7 +44,7 @@ def rows_of(data, needed=(), notes=None, most=None, is_long=False):
         text = Text(data, notes, most, MANY if is_long or most is None else 1)
         return text if is_long else list(text), text.has_decimal_comma
     try:
-        rows, note = reading.rows_of(data, PREFERRED, needed, most)
+        rows, note = reading.read_rows(data, PREFERRED, needed, most)
     except limits.BadWorkbook as fault:
         raise BadTable(str(fault)) from None
     notes += [note] if note else []

@@ -32,14 +32,14 @@ def run(name, main):
         discard(sys.stdout)
         sys.exit(NO_INPUT)
     except (Stop, KeyboardInterrupt, OSError) as fault:
-        status, said = end_of(fault)
+        status, said = status_and_message(fault)
         if status == FAILED and not isinstance(fault, Stop):
             raise
         tell(name, said)
         sys.exit(status)
 
 
-def end_of(fault):
+def status_and_message(fault):
     """The status with which a fault ends a tool, and the message."""
     if isinstance(fault, Stop):
         return fault.status, str(fault)

@@ -95,8 +95,8 @@ def write_bytes(tool, path, data):
 
 def write_files(tool, files):
     """Writes files by their paths. None is put in its place before each is whole."""
-    with contextlib.ExitStack() as ends:
-        puts = {path: to_write(path, replacing.ready, path, data, ends) for path, data in files.items()}
+    with contextlib.ExitStack() as cleanups:
+        puts = {path: to_write(path, replacing.prepare, path, data, cleanups) for path, data in files.items()}
         for path, put in puts.items():
             to_write(path, put)
             if sys.stderr.isatty():

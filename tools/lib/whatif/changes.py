@@ -85,7 +85,7 @@ def read_changes(data, periods):
     try:
         if sent.WORDS.match(data.removeprefix(text.MARK)):
             return [(f"record {entry.record}", entry.command) for entry in sent.read_records(data, periods)], []
-        table = order_table.cells_of(data)
+        table = order_table.read_cells(data)
         if command_table.is_command_table(table):
             commands, notes = command_table.read_commands(table, periods)
             return ((f"line {line}", command) for line, command in commands), notes

@@ -107,7 +107,7 @@ class Table:
     def __init__(self, name, data, held):
         self.name, self.held = name, held
         try:
-            self.columns = Columns(order_table.cells_of(data, MOST_ROWS, is_long=True), (SCENARIO,))
+            self.columns = Columns(order_table.read_cells(data, MOST_ROWS, is_long=True), (SCENARIO,))
         except order_table.BadOrders as fault:
             raise Fault(f"{name}: {changes.in_few_lines(fault)}") from None
         self.count = self.checked()

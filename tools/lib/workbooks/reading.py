@@ -19,7 +19,7 @@ WITHOUT_CELLS, OF_MACROS = ("chartsheet", "dialogsheet"), ("xlMacrosheet", "xlIn
 KINDS = {WORKBOOK, SHEET, *WITHOUT_CELLS, *OF_MACROS, STRINGS, STYLES}
 
 
-def rows_of(data, preferred, needed=(), most=None):
+def read_rows(data, preferred, needed=(), most=None):
     """The rows of a workbook's sheet that aren't empty, with their numbers: of the preferred sheet, or else of the first with the needed names
     in its first row, or else of the first. If there are `most`, more rows after the first are a fault. Also a note on the sheet, if there
     are several."""
