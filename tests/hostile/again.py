@@ -5,7 +5,7 @@ from pathlib import Path
 from typing import NamedTuple
 
 import judge
-from lib.runs.engine import MOST_NODES
+from lib.runs.by_library import MOST_NODES
 from preload import EVERY, Program, Refusal
 from shared.printed import Printed
 

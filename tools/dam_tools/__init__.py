@@ -51,11 +51,12 @@ from .checks import (
 )
 from .given import JournalSource, Source, as_faults, as_journal, bytes_of, is_text, one_of_many, read_journal
 from .lib.journal import book, journal
-from .lib.runs import engine
+from .lib.runs import by_library, by_program, engine, which
 from .lib.sheets import order_table, shapes, tables
 from .lib.tool import command, modules
 from .lib.tool.day_files import Day
-from .lib.runs.engine import Fault, TimedOut, where
+from .lib.runs.errors import Fault, TimedOut
+from .lib.runs.which import where
 from .lib.journal.journal import Journal
 from .lib.base.rules import VERSION as __version__
 
@@ -133,16 +134,16 @@ def clear(
     options are those of `dam clear`; none but a limit on nodes changes the answer. The environment variable DAM names the program to run,
     and DAM_LIBRARY the library, which comes first."""
     read = as_journal(source)
-    path = engine.library() if (program, workers, cut, nodes, timeout) == (None,) * 5 else None
+    path = which.library() if (program, workers, cut, nodes, timeout) == (None,) * 5 else None
     if path:
-        return read_results(read, engine.cleared_by_library(path, journal.journal_text(read).encode()))
+        return read_results(read, by_library.cleared_by_library(path, journal.journal_text(read).encode()))
     options = [f"--{name}={value}" for name, value in (("workers", workers), ("cut", cut), ("nodes", nodes)) if value is not None]
-    return read_results(read, printed(read, [engine.program_of(program), "clear", *options], timeout))
+    return read_results(read, printed(read, [by_program.program_of(program), "clear", *options], timeout))
 
 
 def printed(read: Journal, words: list[Any], timeout: float | None) -> bytes:
     """The output of a run of the program for a journal."""
-    return engine.output_of(words, journal.journal_text(read).encode(), timeout)
+    return by_program.output_of(words, journal.journal_text(read).encode(), timeout)
 
 
 class LateDay(Day):
@@ -187,11 +188,11 @@ def clear_many(
     `quiet`."""
     if isinstance(journals, (str, bytes, os.PathLike, Journal)):
         raise TypeError("journals should be several, such as a list of files: clear takes one")
-    if nodes is not None and not 1 <= nodes <= engine.MOST_NODES:
-        raise ValueError(f"nodes should be from 1 to {engine.MOST_NODES}")
+    if nodes is not None and not 1 <= nodes <= by_library.MOST_NODES:
+        raise ValueError(f"nodes should be from 1 to {by_library.MOST_NODES}")
     if executor is None and (timeout is not None or where() is None):
-        program = engine.program_of(program)
-    call = functools.partial(engine.answer, nodes=nodes or engine.MOST_NODES, timeout=timeout)
+        program = by_program.program_of(program)
+    call = functools.partial(engine.answer, nodes=nodes or by_library.MOST_NODES, timeout=timeout)
     return days_of(journals, quiet, lambda texts: engine.answers(texts, jobs, executor, program, call))
 
 
@@ -229,7 +230,7 @@ class Reply(NamedTuple):
 def replay(source: JournalSource, program: Program | None = None, timeout: float | None = None) -> list[Reply]:
     """The book's reply to each command of a journal, by a run of the program."""
     read = as_journal(source)
-    lines = printed(read, [engine.program_of(program), "replay"], timeout).decode(errors="replace").splitlines()
+    lines = printed(read, [by_program.program_of(program), "replay"], timeout).decode(errors="replace").splitlines()
     found = [line.split(",") for line in lines[1:]]
     replies = [Reply(int(fields[0]), fields[2] if len(fields) == 3 else None) for fields in found if fields[0].isdecimal()]
     if [reply.command for reply in replies] != list(range(1, len(read.commands) + 1)):

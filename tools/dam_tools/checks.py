@@ -15,7 +15,7 @@ from .lib.tool import command, linted, modules
 from .lib.whatif import changes, limits, whatif
 from .lib.lint import lint as lint_of
 from .lib.tool.day_files import Day
-from .lib.runs.engine import Fault
+from .lib.runs.errors import Fault
 from .lib.journal.journal import Journal
 
 

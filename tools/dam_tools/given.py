@@ -10,7 +10,7 @@ from pathlib import Path
 from .lib.journal import journal
 from .lib.sheets import order_table, shapes
 from .lib.tool import command, day_files, file_io
-from .lib.runs.engine import Fault
+from .lib.runs.errors import Fault
 from .lib.journal.journal import Journal
 
 REFUSED = 1  # the program's status for a text that it doesn't take

@@ -19,7 +19,7 @@ from support import AUCTION, QUARTERS, TOOLS, new_folder, printed, results_of, t
 from lib.audit import days, verdict
 from lib.base import record, text
 from lib.results import faults
-from lib.runs import engine
+from lib.runs import by_program
 from lib.tool import command, file_io
 
 DATA, TEXT = AUCTION.read_bytes(), printed(AUCTION)
@@ -214,7 +214,7 @@ class Days(unittest.TestCase):
     def test_a_process_that_cannot_be_started(self):
         pair, full = days.Pair("a", Path("a.csv"), Path("a.txt")), OSError(errno.EMFILE, os.strerror(errno.EMFILE))
         with unittest.mock.patch.object(days.subprocess, "Popen", side_effect=full):
-            made = days.audited(pair, [], engine.Running())
+            made = days.audited(pair, [], by_program.Running())
         said = "its process can't be started: Too many open files"
         self.assertEqual((made["status"], made["verdict"], made["message"]), (command.FAILED, verdict.FAILED, said))
 
@@ -244,7 +244,7 @@ class Days(unittest.TestCase):
                 unittest.mock.patch.object(subprocess.Popen, "communicate", side_effect=fault, autospec=True) as call,
                 self.assertRaises(fault),
             ):
-                days.ran(days.Pair("a", Path("a.csv"), None), [], engine.Running(), 1)
+                days.ran(days.Pair("a", Path("a.csv"), None), [], by_program.Running(), 1)
             process = call.call_args_list[0].args[0]
             self.addCleanup(process.kill)
             self.assertEqual(process.returncode, -signal.SIGKILL)

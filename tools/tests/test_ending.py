@@ -27,7 +27,7 @@ from lib.audit import better
 from lib.base import aside, children, ending
 from lib.tool import command, modules
 from lib.base.progress import Progress
-from lib.runs import engine
+from lib.runs import by_program, errors
 
 RUN = "from lib.base import ending; ending.watch('audit'); from lib.tool import command; command.run('audit', lambda: CALL)"
 IGNORING = "import os, signal, sys; signal.signal(signal.SIGCHLD, signal.SIG_IGN); os.execv(sys.argv[1], sys.argv[1:])"
@@ -315,7 +315,7 @@ class Interrupted(unittest.TestCase):
 
     def test_a_program_that_is_just_starting_ends_too(self):
         """Its thread may be between the start and the note of it, and none begins another one."""
-        running, begun = engine.Running(), threading.Event()
+        running, begun = by_program.Running(), threading.Event()
 
         class Slow(subprocess.Popen):
             def __init__(self, *words, **more):
@@ -337,7 +337,7 @@ class Interrupted(unittest.TestCase):
             running.end()
         thread.join(SECONDS)
         self.assertEqual([process.returncode for process in found], [-signal.SIGKILL])
-        with self.assertRaisesRegex(engine.Fault, "^/bin/sleep isn't run any more$"), running.start(["/bin/sleep", "600"]):
+        with self.assertRaisesRegex(errors.Fault, "^/bin/sleep isn't run any more$"), running.start(["/bin/sleep", "600"]):
             pass
 
     def test_copies_of_a_tool_end_without_a_word(self):
@@ -491,10 +491,10 @@ class Children(unittest.TestCase):
     def test_runs_of_the_program(self):
         """A process that isn't a tool's can't see it, and so doesn't begin a run."""
         self.addCleanup(signal.signal, signal.SIGCHLD, signal.signal(signal.SIGCHLD, signal.SIG_IGN))
-        with self.assertRaisesRegex(engine.Fault, "^/bin/false can't be run: this process ignores SIGCHLD"):
-            engine.run_program(["/bin/false"], b"")
+        with self.assertRaisesRegex(errors.Fault, "^/bin/false can't be run: this process ignores SIGCHLD"):
+            by_program.run_program(["/bin/false"], b"")
         children.heed()
-        self.assertEqual(engine.run_program(["/bin/false"], b"")[0], 1)
+        self.assertEqual(by_program.run_program(["/bin/false"], b"")[0], 1)
 
 
 class Start(unittest.TestCase):

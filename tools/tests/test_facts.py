@@ -12,7 +12,7 @@ from support import TOP, loaded, worked
 
 from lib.base import rules
 from lib.journal import book
-from lib.runs import engine
+from lib.runs import by_library
 from lib.crates import crates
 from lib.crates.specs import Repository
 
@@ -21,7 +21,7 @@ PAGES += sorted((TOP / "crates").glob("*/*.md"))
 FORMATS = (TOP / "docs" / "FORMATS.md").read_text()
 CHECKLISTS = TOP / "crates" / "CHECKLISTS.md"
 # The limit on nodes as a number, and a comment's line that has it or the limit on blocks.
-OF_NODES = re.compile(rf"\b{f'{engine.MOST_NODES:,}'.replace(',', '[_,]?')}\b")
+OF_NODES = re.compile(rf"\b{f'{by_library.MOST_NODES:,}'.replace(',', '[_,]?')}\b")
 BLOCKS = rf"\b{rules.MOST_BLOCKS}\b"
 OF_BLOCKS = re.compile(rf"\s*//.*(?:{OF_NODES.pattern}|{BLOCKS}.{{0,60}}\bblocks?\b|\bblocks?\b.{{0,60}}{BLOCKS})")
 # The files that may have the limit on nodes.
@@ -56,7 +56,7 @@ LIMITS = {
         {rules.MOST_DAY_COMMANDS, rules.MOST_RECORDS - 1},
         {rules.MOST_DAY_PARTICIPANTS, None},
     ),
-    rf"1 to {NUMBER} \| {NUMBER} \| stop": (engine.MOST_NODES, engine.MOST_NODES),
+    rf"1 to {NUMBER} \| {NUMBER} \| stop": (by_library.MOST_NODES, by_library.MOST_NODES),
     r"hours \((\d+), (\d+) or (\d+)\) or all quarter-hours \((\d+), (\d+) or (\d+)\)": tuple(rules.DAYS),
     r"(\d+), (\d+) or (\d+) hours, and of (\d+), (\d+) or (\d+) quarter-hours": tuple(rules.DAYS),
     rf"On a day of hours,? {NUMBER} (?:of these )?units": (1_000,),
@@ -287,7 +287,7 @@ class Facts(unittest.TestCase):
 
     def test_no_comment_states_the_limit_on_blocks(self):
         """Or on nodes, which follows from it: a comment names the constant."""
-        for line in (f"/// Some of {rules.MOST_BLOCKS} blocks.", f"// a block of {rules.MOST_BLOCKS}", f"/// up to {engine.MOST_NODES:,}"):
+        for line in (f"/// Some of {rules.MOST_BLOCKS} blocks.", f"// a block of {rules.MOST_BLOCKS}", f"/// up to {by_library.MOST_NODES:,}"):
             self.assertRegex(line, OF_BLOCKS)
         sources = {path: path.read_text().splitlines() for path in (TOP / "crates").glob("*/src/**/*.rt")}
         self.assertGreater(len(sources), 100)

@@ -11,12 +11,12 @@ from pathlib import Path
 from support import TOP, tool
 
 from lib.base import place
-from lib.runs import engine
+from lib.runs import which
 from lib.tool import command, modules
 
 TOOLS = {"table": [], "lint": [], "plot": ["matplotlib"], "report": ["matplotlib", "jinja2"], "reading-list": [], "compare": []}
 TOOLS["receipts"] = ["cryptography"]
-if engine.BUILT.exists():
+if which.BUILT.exists():
     TOOLS["whatif"] = []
 COMMANDS = {"receipts": ["receipts", "seal"], "whatif": ["whatif", "limit"]}  # whose help has the options
 FAKE = Path(__file__).with_name("fake_dam.py")
@@ -40,7 +40,7 @@ class Help(unittest.TestCase):
                     Path(folder, part).symlink_to(TOP / part)
                 program = Path(folder, "dam")
                 stand_in = f'PYTHONPATH="{FAKE.parent}" exec "{sys.executable}" "{FAKE}"'
-                program.write_text(f'#!/bin/sh\n{shlex.quote(str(engine.BUILT)) if engine.BUILT.exists() else stand_in} "$@"\n')
+                program.write_text(f'#!/bin/sh\n{shlex.quote(str(which.BUILT)) if which.BUILT.exists() else stand_in} "$@"\n')
                 program.chmod(0o755)
                 lines = self.examples(name)
                 self.assertTrue(any(line.startswith(f"tools/{name} ") for line in lines))

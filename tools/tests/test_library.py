@@ -39,7 +39,7 @@ class Library(unittest.TestCase):
         sources = {
             "crates/dam_plan/src/plan.rt": rf"^pub const MOST_NODES: Nodes = {number};$",
             "library/dam.h": rf"^#define DAM_MOST_NODES UINT\d+_C\({number}\)$",
-            "tools/lib/runs/engine.py": rf"^MOST_NODES, MOST_ANSWER = {number}, ",
+            "tools/lib/runs/by_library.py": rf"^MOST_NODES, MOST_ANSWER = {number}, ",
         }
         found = {path: re.findall(line, (TOP / path).read_text(), re.MULTILINE) for path, line in sources.items()}
         plan = int(found["crates/dam_plan/src/plan.rt"][0])

@@ -19,7 +19,7 @@ import support
 from support import AUCTION, FIRST, QUARTERS, journal_of, new_folder, printed
 
 import dam_tools
-from dam_tools.lib.runs import engine
+from dam_tools.lib.runs import by_library, by_program, engine, which
 from lib.tool import modules
 
 FAKE = Path(__file__).with_name("fake_dam.py")
@@ -39,7 +39,7 @@ struct answer dam_clear_seeded(const uint8_t *secret, size_t secret_length, cons
     memcpy(buffer, found.status ? "input: NotDay\\n" : (const char *)text, found.length < room ? found.length : room);
     return found;
 }
-""".replace("MOST_NODES", str(engine.MOST_NODES))
+""".replace("MOST_NODES", str(by_library.MOST_NODES))
 
 
 def ends(process):
@@ -175,15 +175,15 @@ class Many(unittest.TestCase):
         for one in ("day.csv", Path("day.csv"), b"day,24,,,,,,,\n", dam_tools.read_journal(AUCTION)):
             with self.assertRaisesRegex(TypeError, "^journals should be several"):
                 dam_tools.clear_many(one)
-        for nodes in (0, engine.MOST_NODES + 1):
-            with self.assertRaisesRegex(ValueError, f"^nodes should be from 1 to {engine.MOST_NODES}$"):
+        for nodes in (0, by_library.MOST_NODES + 1):
+            with self.assertRaisesRegex(ValueError, f"^nodes should be from 1 to {by_library.MOST_NODES}$"):
                 dam_tools.clear_many([AUCTION], nodes=nodes)
         with self.assertRaisesRegex(dam_tools.Fault, "^a file with an empty name can't be read$"):
             dam_tools.clear("")
 
     def test_neither_library_nor_program(self):
-        with unittest.mock.patch.multiple(engine, where=lambda: None, built=lambda: None):
-            with unittest.mock.patch.object(dam_tools, "where", engine.where), unittest.mock.patch.dict(os.environ, {"DAM": ""}):
+        with unittest.mock.patch.multiple(which, where=lambda: None, built=lambda: None):
+            with unittest.mock.patch.object(dam_tools, "where", which.where), unittest.mock.patch.dict(os.environ, {"DAM": ""}):
                 with self.assertRaisesRegex(dam_tools.Fault, "^no program was found: "):
                     dam_tools.clear_many([AUCTION, AUCTION])
 
@@ -196,7 +196,7 @@ class Many(unittest.TestCase):
 
     def test_a_program_that_says_that_it_is_not_proved(self):
         launcher = self.script("launcher", f'echo "dam: this run is not proved" >&2; exec {self.program} "$@"')
-        with unittest.mock.patch.object(engine, "RELAYED", set()), contextlib.redirect_stderr(io.StringIO()) as said:
+        with unittest.mock.patch.object(by_program, "RELAYED", set()), contextlib.redirect_stderr(io.StringIO()) as said:
             for _ in range(2):
                 self.assertEqual(dam_tools.clear(AUCTION, launcher).text, dam_tools.clear(AUCTION, self.program).text)
         self.assertEqual(said.getvalue(), "dam: this run is not proved\n")
@@ -219,7 +219,7 @@ class Many(unittest.TestCase):
             self.assertEqual(list(found), list(map(printed, given)))
             library = self.library(ECHO.replace("    return found;", "    usleep(1000);\n    return found;"))
             texts = [str(number).encode() * 1_000 for number in range(100, 200)]
-            self.assertEqual(list(threads.map(lambda text: engine.cleared_by_library(library, text), texts)), texts)
+            self.assertEqual(list(threads.map(lambda text: by_library.cleared_by_library(library, text), texts)), texts)
 
     def test_a_fault_has_each_status_of_the_page(self):
         formats, python = ((support.TOP / "docs" / name).read_text() for name in ("FORMATS.md", "PYTHON.md"))
@@ -290,15 +290,15 @@ class Many(unittest.TestCase):
             if modules.has("tqdm"):
                 self.assertIsNot(engine.with_bar(results), results)
 
-    @unittest.skipUnless(engine.BUILT.exists(), "the program isn't built")
+    @unittest.skipUnless(which.BUILT.exists(), "the program isn't built")
     def test_the_built_program(self):
         cases = support.cleared_cases()
         texts = [data for _, data, _ in cases]
-        found = list(dam_tools.clear_many(texts, program=engine.BUILT))
+        found = list(dam_tools.clear_many(texts, program=which.BUILT))
         for (name, _, wanted), day in zip(cases, found, strict=True):
             with self.subTest(name):
                 self.assertEqual(day.text, wanted)
-        (fault,) = dam_tools.clear_many([journal_of("x")], program=engine.BUILT)
+        (fault,) = dam_tools.clear_many([journal_of("x")], program=which.BUILT)
         self.assertEqual((str(fault), fault.status), ("input: FieldCount in record 2", 1))
 
 

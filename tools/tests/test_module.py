@@ -18,7 +18,7 @@ import support
 from support import AUCTION, AUCTION_RESULTS, FIRST, TOP, new_folder, printed
 
 import dam_tools
-from dam_tools.lib.runs import engine
+from dam_tools.lib.runs import which
 from lib.sheets import shapes, sheets, tables
 from lib.tool import command, modules
 
@@ -177,7 +177,7 @@ class Module(unittest.TestCase):
                 call()
         with self.assertRaisesRegex(ValueError, "^there is no method x: the methods are enumeration and highs$"):
             dam_tools.audit(AUCTION, AUCTION_RESULTS, by="x")
-        with unittest.mock.patch("os.execv", side_effect=AssertionError), unittest.mock.patch.object(dam_tools.command, "has", lambda _: False):
+        with unittest.mock.patch("os.execv", side_effect=AssertionError), unittest.mock.patch.object(dam_tools.modules, "has", lambda _: False):
             with self.assertRaisesRegex(dam_tools.Fault, "^it needs scipy, which Debian has in the package python3-scipy"):
                 dam_tools.audit(AUCTION, AUCTION_RESULTS, best=True, by="highs")
 
@@ -271,14 +271,14 @@ class Module(unittest.TestCase):
                 path.parent.mkdir(parents=True, exist_ok=True)
                 path.write_bytes(b"")
                 os.utime(path, (1_000, 1_000))
-            with unittest.mock.patch.object(engine, "LIBRARY", library):
-                self.assertTrue(engine.has_library())
+            with unittest.mock.patch.object(which, "LIBRARY", library):
+                self.assertTrue(which.has_library())
                 os.utime(source, (2_000, 2_000))
-                self.assertFalse(engine.has_library())
+                self.assertFalse(which.has_library())
                 library.unlink()
-                self.assertFalse(engine.has_library())
+                self.assertFalse(which.has_library())
 
-    @unittest.skipUnless(engine.has_library(), "the library for C isn't built (library/build)")
+    @unittest.skipUnless(which.has_library(), "the library for C isn't built (library/build)")
     def test_the_library_for_c(self):
         with unittest.mock.patch.dict(os.environ), unittest.mock.patch.object(subprocess, "Popen", side_effect=AssertionError):
             os.environ.pop("DAM", None)

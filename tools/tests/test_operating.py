@@ -13,7 +13,7 @@ from pathlib import Path
 from support import AUCTION, AUCTION_RESULTS, TOOLS, TOP, heed_interrupts, new_folder, printed
 
 from lib.journal import book, journal
-from lib.runs import engine
+from lib.runs import which
 
 FOLDER = TOP / "examples" / "operating"
 SCRIPT = FOLDER / "day.sh"
@@ -36,7 +36,7 @@ class Day(unittest.TestCase):
             path.mkdir()
         for tool in ("audit", "lint"):
             self.script(f"dam-{tool}", f'exec "{sys.executable}" -B "{TOOLS / tool}" "$@"')
-        program = f'"{engine.BUILT}"' if engine.BUILT.exists() else f'"{sys.executable}" -B "{FAKE}"'
+        program = f'"{which.BUILT}"' if which.BUILT.exists() else f'"{sys.executable}" -B "{FAKE}"'
         self.script("dam", f'PYTHONPATH="{FAKE.parent}" exec {program} "$@"')
         Path(self.day, "day.csv").write_bytes(AUCTION.read_bytes())
 

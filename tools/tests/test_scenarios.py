@@ -19,7 +19,7 @@ from support import AUCTION, TOOLS, journal_of, new_folder, results_of, tool
 
 from lib.base import rules, text
 from lib.journal import book, journal
-from lib.runs import cleared, cluster, engine
+from lib.runs import cleared, cluster, errors, which
 from lib.sheets import sheets
 from lib.tool import command, modules
 from lib.whatif import changes, scenarios
@@ -53,7 +53,7 @@ class Tables(unittest.TestCase):
     def test_a_header_below_empty_lines(self):
         for blank in ("", "\n\n", ",,\n\n"):
             line = 1 + blank.count("\n")
-            with self.assertRaisesRegex(engine.Fault, f"^a.csv: line {line}: there is no column scenario$"):
+            with self.assertRaisesRegex(errors.Fault, f"^a.csv: line {line}: there is no column scenario$"):
                 self.read(f"{blank}what,participant,order\ncancel,GEN,UNIT\n")
 
     def test_cancels_need_no_other_columns(self):
@@ -84,7 +84,7 @@ class Tables(unittest.TestCase):
             ("amend,CITY,TOWN,,,1,2-3,9,,", "WrongShape"),
             ("submit,GEN,UNIT,block,sell,1,1,1,,", "NameTaken"),
         ):
-            with self.assertRaisesRegex(engine.Fault, rf"^a.csv: line 8: .*\({reason}\)"):
+            with self.assertRaisesRegex(errors.Fault, rf"^a.csv: line 8: .*\({reason}\)"):
                 self.read(f"{table}B,{wrong}\n")
         full = journal.read_journal(journal_of(*(f"submit,A,O-{number},block,sell,1,1:1,," for number in range(rules.MOST_BLOCKS))))
         held, more = changes.before_close(full), "submit,A,X,block,sell,1,1,1,,"
@@ -92,7 +92,7 @@ class Tables(unittest.TestCase):
         with unittest.mock.patch.object(book.Book, "copy", autospec=True, side_effect=book.Book.copy) as copy:
             self.assertEqual(len(scenarios.read_table("a.csv", (COMMANDS + lines).encode(), held)[0]), rules.MOST_BLOCKS)
         self.assertEqual(copy.call_count, 1)
-        with self.assertRaisesRegex(engine.Fault, r"\(BlocksFull\)"):
+        with self.assertRaisesRegex(errors.Fault, r"\(BlocksFull\)"):
             scenarios.read_table("a.csv", f"{COMMANDS}{lines}last,{more}\n".encode(), held)
 
     def test_the_texts_are_those_of_the_books(self):
@@ -118,7 +118,7 @@ class Tables(unittest.TestCase):
         for ending in ("\n", "\r\n"):
             table = HEADS + "".join(f"S{number}{ending}" for number in range(scenarios.MOST_ROWS))
             self.assertEqual(len(scenarios.read_table("a.csv", table.encode(), HELD)[0]), 50_000)
-            with self.assertRaisesRegex(engine.Fault, "^a.csv: line 50003: a table has at most 50,000 rows after its first$"):
+            with self.assertRaisesRegex(errors.Fault, "^a.csv: line 50003: a table has at most 50,000 rows after its first$"):
                 scenarios.read_table("a.csv", f"{table}\nmore{ending * 9}x".encode(), HELD)
 
     def test_a_table_of_any_shape_takes_little_memory(self):
@@ -156,7 +156,7 @@ class Tables(unittest.TestCase):
             (COMMANDS + "A,amend,GEN,UNIT,,,50000,1,2,,\n", "line 2, column price_eur_mwh: '50000' should be from "
              f"{rules.LOWEST_PRICE / 100:.2f} to {rules.HIGHEST_PRICE / 100:.2f}"),
         ):
-            with self.subTest(said), self.assertRaises(engine.Fault) as fault:
+            with self.subTest(said), self.assertRaises(errors.Fault) as fault:
                 self.read(table)
             self.assertTrue(str(fault.exception).startswith(f"a.csv: {said}"), fault.exception)
             self.assertLessEqual(len(str(fault.exception).splitlines()), changes.MOST_LINES + 1)
@@ -201,9 +201,9 @@ class Distribution(unittest.TestCase):
     def test_an_output_that_is_none(self):
         over = scenarios.Distribution(HELD, [("GEN", "UNIT")])
         for printed in (b"accepted,x\n", b"accepted,\xff\n", b"rejected,\n", b"accepted\n", b"accepted,1"):
-            with self.assertRaisesRegex(engine.Fault, cleared.NO_RESULTS):
+            with self.assertRaisesRegex(errors.Fault, cleared.NO_RESULTS):
                 over.add(b"day,24\nblock,GEN,UNIT," + printed)
-        with self.assertRaisesRegex(engine.Fault, cleared.NO_RESULTS):
+        with self.assertRaisesRegex(errors.Fault, cleared.NO_RESULTS):
             over.add(b"day,24\n")
         self.assertEqual((over.surpluses, over.rejected), ({("GEN", "UNIT"): []}, {("GEN", "UNIT"): 0}))
 
@@ -262,9 +262,9 @@ class Tool(unittest.TestCase):
         self.journal.write_bytes(journal_of(*SMALL))
         self.table.write_text(COMMANDS + "as is,,,,,,,,,,\nmill,submit,WIND,MILL,hour,sell,10,1,2,,\nhigh,amend,GEN,UNIT,,,60,1,2,,\n")
 
-    @unittest.skipUnless(engine.BUILT.exists(), "the program isn't built")
+    @unittest.skipUnless(which.BUILT.exists(), "the program isn't built")
     def test_a_table(self):
-        words = self.journal, self.table, "--program", engine.BUILT
+        words = self.journal, self.table, "--program", which.BUILT
         status, out, err = tool("whatif", "scenarios", *words)
         self.assertEqual((status, err), (0, ""))
         self.assertEqual([(row["scenario"], row["welfare_eur"], row["change_eur"]) for row in rows(out)],
@@ -318,9 +318,9 @@ class Tool(unittest.TestCase):
         self.assertEqual(found, (3, b"", f"{note}whatif: the day as it was: /bin/true printed no results of this journal\n"))
         self.assertNotIn("note", tool("whatif", "scenarios", "--quiet", "--program", "/bin/true", self.journal, self.table)[2])
 
-    @unittest.skipUnless(engine.BUILT.exists() and modules.has("numpy"), "the program isn't built, or numpy is missing")
+    @unittest.skipUnless(which.BUILT.exists() and modules.has("numpy"), "the program isn't built, or numpy is missing")
     def test_a_sample(self):
-        words = "--sample", 30, "--participant", "OLD", AUCTION, "--program", engine.BUILT
+        words = "--sample", 30, "--participant", "OLD", AUCTION, "--program", which.BUILT
         status, out, err = tool("whatif", "scenarios", *words)
         (row,) = rows(out)
         self.assertEqual((status, row["order"], row["scenarios"]), (0, "UNIT-7", "30"))
@@ -413,7 +413,7 @@ class Tool(unittest.TestCase):
                     unittest.mock.patch.dict("sys.modules", distributed=dask),
                     unittest.mock.patch.object(cluster, "SECONDS", seconds or 1e-9),
                     unittest.mock.patch.object(cluster.socket, "create_connection"),
-                    self.assertRaisesRegex(engine.Fault, f"the cluster {address} can't be reached: {said}$"),
+                    self.assertRaisesRegex(errors.Fault, f"the cluster {address} can't be reached: {said}$"),
                 ):
                     cluster.Cluster(address)
 
@@ -427,7 +427,7 @@ class Hanging(unittest.TestCase):
         for clock in (100, 105, 109.9):
             self.assertEqual(self.look(made, clock, {"tcp://a:1": 1, "tcp://b:2": clock}), 2)
         for clock in (110, 114):
-            with self.assertRaisesRegex(engine.Lost, "^the worker tcp://a:1 of the cluster C doesn't answer any more$"):
+            with self.assertRaisesRegex(errors.Lost, "^the worker tcp://a:1 of the cluster C doesn't answer any more$"):
                 self.look(made, clock, {"tcp://a:1": 1, "tcp://b:2": clock})
         made.listen()
         self.assertEqual(self.look(made, 115, {"tcp://a:1": 1, "tcp://b:2": 115}), 2)
@@ -440,14 +440,14 @@ class Hanging(unittest.TestCase):
         self.assertEqual(self.look(made, 100, {"tcp://a:1": 1, "tcp://b:2": 1}), 2)
         self.assertEqual(self.look(made, 101, {"tcp://a:1": 1, "tcp://b:2": 2}), 2)
         self.assertEqual(self.look(made, 110, {"tcp://a:1": 1, "tcp://b:2": 2}), 2)
-        with self.assertRaisesRegex(engine.Lost, "^the workers of the cluster C don't answer any more$"):
+        with self.assertRaisesRegex(errors.Lost, "^the workers of the cluster C don't answer any more$"):
             self.look(made, 111, {"tcp://a:1": 1, "tcp://b:2": 2})
 
     def test_an_answer_that_is_not_a_scheduler_s(self):
         made = self.cluster()
         for answer in (None, [], {}, {"workers": None}, {"workers": [1]}, {"workers": {"a": None}}, {"workers": {"a": {"status": "running"}}}):
             made.client.sync.return_value = answer
-            with self.assertRaisesRegex(engine.Lost, "^the cluster C doesn't answer any more$"):
+            with self.assertRaisesRegex(errors.Lost, "^the cluster C doesn't answer any more$"):
                 made.workers()
 
     def test_no_worker(self):
@@ -455,7 +455,7 @@ class Hanging(unittest.TestCase):
         self.assertEqual([self.look(made, clock, {}) for clock in (100, 109)], [0, 0])
         self.assertEqual(self.look(made, 109.5, {"tcp://a:1": 1}), 1)
         self.assertEqual([self.look(made, clock, {}) for clock in (110, 119)], [0, 0])
-        with self.assertRaisesRegex(engine.Lost, "^the cluster C has no workers$"):
+        with self.assertRaisesRegex(errors.Lost, "^the cluster C has no workers$"):
             self.look(made, 119.5, {})
 
     def cluster(self):

@@ -22,7 +22,7 @@ from support import AUCTION, AUCTION_RESULTS, FIRST, QUARTERS, QUARTERS_RESULTS,
 import compare
 from lib.base import rules, text
 from lib.journal import book, journal
-from lib.runs import cleared, engine
+from lib.runs import by_program, cleared, engine, errors, which
 from lib.sheets import order_table, tables
 from lib.tool import command, modules
 from lib.whatif import changes, limits, scenarios
@@ -155,8 +155,8 @@ class Limits(unittest.TestCase):
 
     def test_a_fault_of_a_clearing_ends_the_search(self):
         held, _ = book.run(journal.read_journal(journal_of(*SMALL)))
-        with self.assertRaisesRegex(engine.Fault, "^memory$"):
-            limits.Search(held, ("GEN", "UNIT"), lambda text: engine.Fault("memory", 4)).worst()
+        with self.assertRaisesRegex(errors.Fault, "^memory$"):
+            limits.Search(held, ("GEN", "UNIT"), lambda text: errors.Fault("memory", 4)).worst()
 
 
 class Page(unittest.TestCase):
@@ -259,7 +259,7 @@ class Tools(unittest.TestCase):
     def setUp(self):
         self.folder = new_folder(self)
         stand_in = self.script("dam", f'PYTHONPATH="{FAKE.parent}" exec "{sys.executable}" "{FAKE}" "$@"')
-        self.program = engine.BUILT if engine.BUILT.exists() else stand_in  # the built program is far quicker
+        self.program = which.BUILT if which.BUILT.exists() else stand_in  # the built program is far quicker
         self.journal = self.file("day.csv", journal_of(*SMALL))
 
     def script(self, name, line):
@@ -459,9 +459,9 @@ class Tools(unittest.TestCase):
                 heads, cells = [",".join(part) for part in (full, (cell if each in {*has, name} else "" for each, cell in full.items()))]
                 data = f"what,{heads}\n{what.split()[1]},{cells}\n"
                 said = f"line 2, column {name}: '{full[name]}' should be left out: {what.lower()} has no {name}$"
-                with self.assertRaisesRegex(engine.Fault, f"^{said}"):
+                with self.assertRaisesRegex(errors.Fault, f"^{said}"):
                     changes.read_changes(data.encode(), 24)
-                with self.assertRaisesRegex(engine.Fault, f"^a: {said}"):
+                with self.assertRaisesRegex(errors.Fault, f"^a: {said}"):
                     scenarios.read_table("a", f"scenario,{data[:-1].replace(chr(10), chr(10) + 'S,')}".encode(), held)
 
     def test_bad_words_and_bad_comparisons(self):
@@ -530,14 +530,14 @@ class Tools(unittest.TestCase):
         late = f"mkdir {self.folder}/first 2> {os.devnull} || sleep 1"
         hang = self.script("hang", f"{late}; echo $$ >> {self.folder}/pids; exec sleep 600")
         table, limit = self.file("s.csv", b"scenario,what,participant,order\nA,cancel,GEN,UNIT\n"), ["limit", "--participant", "GEN"]
-        self.assertEqual(engine.RUN_SECONDS, 3_600)
+        self.assertEqual(by_program.RUN_SECONDS, 3_600)
         for words, begin in (
             (["scenarios", "--jobs", "2", self.journal, table], "the day as it was: "),
             ([*limit, "--all", self.journal], ""),
             ([*limit, "--order", "UNIT", self.journal], ""),
         ):
             Path(self.folder, "pids").unlink(missing_ok=True)
-            with unittest.mock.patch.object(engine, "RUN_SECONDS", 3):
+            with unittest.mock.patch.object(by_program, "RUN_SECONDS", 3):
                 found = support.tool("whatif", *words, "--program", hang)
             said = f"whatif: {begin}{hang} took longer than 3 seconds\n"
             self.assertEqual(found, (command.FAILED, b"", said), words)
@@ -569,13 +569,13 @@ class Tools(unittest.TestCase):
         self.assertEqual((status, len(self.rows(out))), (0, 2), err)
 
 
-@unittest.skipUnless(engine.BUILT.exists() and modules.has("numpy") and modules.has("matplotlib"), "the program or a package is missing")
+@unittest.skipUnless(which.BUILT.exists() and modules.has("numpy") and modules.has("matplotlib"), "the program or a package is missing")
 class Examples(unittest.TestCase):
     """The page, and the section on many days: that the commands work, one after another, and print the quotes."""
 
     def setUp(self):
         self.folder = new_folder(self)
-        for name, target in (("tools", support.TOOLS), ("examples", support.TOP / "examples"), ("dam", engine.BUILT)):
+        for name, target in (("tools", support.TOOLS), ("examples", support.TOP / "examples"), ("dam", which.BUILT)):
             Path(self.folder, name).symlink_to(target)
         docs = support.TOP / "docs"
         page = (docs / "WHATIF.md").read_text() + (docs / "PYTHON.md").read_text().partition("\n## Many days")[2]

@@ -13,7 +13,7 @@ from unittest import mock
 from support import AUCTION, tool
 
 import workbooks as made
-from lib.runs import engine
+from lib.runs import errors
 from lib.sheets import cell_values, order_table, sheets
 from lib.tool import command
 from lib.whatif import changes, scenarios
@@ -187,7 +187,7 @@ class Faults(Read):
             status, _, err = tool("audit", AUCTION, "--sent", path, "--participant", "GAS")
             self.assertEqual((status, said in err), (command.NO_INPUT, True), err)
         for read in (lambda: changes.read_changes(data, 24), lambda: scenarios.read_table("a table", data, Book(24))):
-            with self.assertRaisesRegex(engine.Fault, said):
+            with self.assertRaisesRegex(errors.Fault, said):
                 read()
 
     def test_a_workbook_is_read_without_a_package(self):
@@ -592,7 +592,7 @@ class Unlike(unittest.TestCase):
             ("<c><f>A1</f></c>", "'=A1' is a formula that was saved without its value"),
         ):
             data = made.of_sheet(made.OPEN.replace(b">group<", b">scenario<"), b"<row r='2'>" + b"<c/>" * 8 + cell.encode() + b"</row>", made.CLOSE)
-            with self.assertRaisesRegex(engine.Fault, f"^a table: line 2, column scenario: {said}"):
+            with self.assertRaisesRegex(errors.Fault, f"^a table: line 2, column scenario: {said}"):
                 scenarios.read_table("a table", data, Book(24))
 
     def test_dates_of_both_systems(self):
@@ -630,7 +630,7 @@ class Long(unittest.TestCase):
         data = f"{heads}\n".encode() + b"x\n" * 1_000
         began = time.process_time()
         for read in (changes.read_changes, lambda data, _: scenarios.read_table("a table", data, Book(24))):
-            with self.assertRaises(engine.Fault):
+            with self.assertRaises(errors.Fault):
                 read(data, 24)
         self.assertLess(time.process_time() - began, 5)
 

@@ -12,7 +12,7 @@ from ..base import ending, record, text
 from ..sheets import sheets
 from ..tool import command, day_files, file_io, modules
 from . import verdict
-from ..runs.engine import Running
+from ..runs.by_program import Running
 from ..base.progress import StepBar
 
 MORE_SECONDS = 600  # that the audit of a day may take besides its search, before it is taken for one that hangs

@@ -17,7 +17,7 @@ from typing import NamedTuple
 
 from aiohttp import web
 
-from ..runs import engine
+from ..runs import by_program, which
 from ..tool import command
 from . import folder, guards, observed, tokens
 from .desk import how_ended
@@ -32,7 +32,7 @@ TLS_BYTES = 1 << 15  # that a connection reads at once; asyncio reserves eight t
 KEEP_SECONDS = 10  # that a connection stays open without a request
 EMPTY_DAY = b"day,24,,,,,,,\nclose,,,,,,,,\n"
 TRIAL_SECONDS = 600  # that it may take to clear: a clone may compile its program first
-DESK_BUILT = engine.TOP / "crates" / "dam_desk" / "out" / "dam_desk"
+DESK_BUILT = which.TOP / "crates" / "dam_desk" / "out" / "dam_desk"
 
 
 class Programs(NamedTuple):
@@ -42,7 +42,7 @@ class Programs(NamedTuple):
 
 def compiled(crate):
     """The program of a crate that is compiled without proofs, which only a clone can do; None elsewhere."""
-    tool = engine.TOP / "tools" / "unproved"
+    tool = which.TOP / "tools" / "unproved"
     if not os.access(tool, os.X_OK):
         return None
     ran = subprocess.run([tool, "--compile", crate], stdin=subprocess.DEVNULL, stdout=subprocess.PIPE, text=True)
@@ -64,7 +64,7 @@ def runnable(path, name, option):
 def dam_program(named=None, may_compile=False):
     """The program dam: the one that is named, or else the package's, the clone's or the system's; or, if it may be compiled, the clone's
     without proofs."""
-    found = engine.built()
+    found = which.built()
     path = named or os.environ.get("DAM") or (found.path if found else None) or (compiled("dam_cli") if may_compile else None)
     return runnable(path, "dam", "--dam")
 
@@ -72,7 +72,7 @@ def dam_program(named=None, may_compile=False):
 def desk_program(named=None, may_compile=False):
     """The program dam-desk, found the same way."""
     here = DESK_BUILT if os.access(DESK_BUILT, os.X_OK) else None
-    path = named or os.environ.get("DAM_DESK") or engine.packaged("bin", "dam-desk") or here or shutil.which("dam-desk")
+    path = named or os.environ.get("DAM_DESK") or which.packaged("bin", "dam-desk") or here or shutil.which("dam-desk")
     return runnable(path or (compiled("dam_desk") if may_compile else None), "dam-desk", "--desk")
 
 
@@ -85,7 +85,7 @@ def try_dam(path):
     except subprocess.TimeoutExpired:
         fault = f"it took more than {TRIAL_SECONDS} s"
     else:
-        if not ran.returncode and engine.RESULTS.match(ran.stdout):
+        if not ran.returncode and by_program.RESULTS.match(ran.stdout):
             return
         fault = f"it {how_ended(ran.returncode)}" if ran.returncode else "it printed no results"
     raise command.Stop(f"the program dam didn't clear an empty day: {command.shown(path)}: {fault}", command.FAILED)

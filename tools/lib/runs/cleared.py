@@ -4,7 +4,7 @@ made of the output of a run of the program, or of results that were checked."""
 from ..base import rules
 from ..journal import journal
 from ..results import trades
-from .engine import Fault
+from .errors import Fault
 
 NO_RESULTS = "the program printed no results of this journal"
 

@@ -11,7 +11,7 @@ import warnings
 
 from ..base import text
 from ..tool import modules
-from .engine import Fault, Lost
+from .errors import Fault, Lost
 
 SECONDS = 10  # that a cluster may take to answer, or be without workers
 PAUSE = 1  # seconds from one look at a cluster to the next

@@ -11,7 +11,7 @@ from ..runs import engine
 from ..tool import command, day_files, output
 from . import changes
 from ..runs.cleared import Cleared, book_text
-from ..runs.engine import Fault
+from ..runs.errors import Fault
 from ..base.progress import StepBar
 
 COUNT = rules.HIGHEST_PRICE - rules.LOWEST_PRICE + 1  # of limits

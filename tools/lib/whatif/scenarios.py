@@ -13,7 +13,7 @@ from ..sheets import cell_values, order_table, sheets
 from . import changes
 from ..runs.cleared import NO_RESULTS, book_text
 from ..sheets.command_table import Columns
-from ..runs.engine import Fault
+from ..runs.errors import Fault
 
 SCENARIO = "scenario"
 CONTROL = re.compile("[\0-\x1f\x7f-\x9f\ufffe\uffff]")  # in no name: a line of a text, or a cell of a workbook, couldn't hold it

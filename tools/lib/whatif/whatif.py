@@ -9,7 +9,7 @@ import json
 import re
 
 from ..base import place, rules, text
-from ..runs import cleared, cluster, engine
+from ..runs import by_program, cleared, cluster, engine, errors, which
 from ..tool import command, command_line, day_files, file_io, modules, output
 from . import changes, limits, scenarios
 from ..runs.cleared import Cleared
@@ -88,21 +88,21 @@ def main(description, epilog):
     args = parser.parse_args()
     try:
         return args.call(args)
-    except engine.Fault as fault:
+    except errors.Fault as fault:
         raise command.Stop(str(fault), status_of(fault)) from None
 
 
 def status_of(fault):
-    is_failure = isinstance(fault, (engine.Unstarted, engine.TimedOut)) or fault.is_failure()
+    is_failure = isinstance(fault, (errors.Unstarted, errors.TimedOut)) or fault.is_failure()
     return command.FAILED if is_failure else command.NO_INPUT
 
 
 def check_program(args):
     """Ends the tool if there is neither the library nor a program."""
-    if args.program or not engine.library():
+    if args.program or not which.library():
         try:
-            args.program = engine.program_of(args.program)
-        except engine.Fault:
+            args.program = by_program.program_of(args.program)
+        except errors.Fault:
             made = "the package dam has it" if place.IS_INSTALLED else "./dam prove builds it, and --program ./dam takes one that isn't proved"
             words = f"no program was found: {made}; or name it by --program or the environment variable DAM"
             raise command.Stop(words, command.FAILED) from None
@@ -114,7 +114,7 @@ def read(args):
     found = day_files.parse_journal(args.journal, file_io.read_bytes(args.journal))
     try:
         return changes.before_close(found)
-    except engine.Fault as fault:
+    except errors.Fault as fault:
         raise command.Stop(f"{command.shown(args.journal)}: {fault}") from None
 
 
@@ -224,7 +224,7 @@ def change(args):
         for note in [] if args.quiet else notes:
             command.tell("whatif", f"{command.shown(args.changes)}: {note}")
         books = [before, changes.entered(before, further)]
-    except engine.Fault as fault:
+    except errors.Fault as fault:
         raise command.Stop(f"{command.shown(args.changes)}: {fault}") from None
     rows = list(compared(books, args.participant, args.program))
     if len(rows) == 1 and not args.quiet:
@@ -236,10 +236,10 @@ def change(args):
 def compared(books, who, program):
     """The differences between the results of two books, as a table: of one participant, or of all."""
     if who is not None and not any(who == owner for one in books for owner, _ in one.rows):
-        raise engine.Fault(f"{who or text.quoted(who)} has no order in the book, before or after the changes")
+        raise errors.Fault(f"{who or text.quoted(who)} has no order in the book, before or after the changes")
     printed = list(engine.answers([cleared.book_text(one.rows, one.periods) for one in books], program=program))
     for found in printed:
-        if isinstance(found, engine.Fault):
+        if isinstance(found, errors.Fault):
             raise found
     days = [Cleared.of_text(one.rows, one.periods, found) for one, found in zip(books, printed)]
     return changes.table(*days, who)
@@ -408,7 +408,7 @@ def asked_of(args):
 
 def printed_of(name, printed):
     """The printed text; ends the tool if it is a fault."""
-    if isinstance(printed, engine.Fault):
+    if isinstance(printed, errors.Fault):
         raise command.Stop(f"{text.safe(name)}: {printed}", status_of(printed))
     return printed
 

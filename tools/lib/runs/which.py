@@ -1,0 +1,92 @@
+"""Which engine takes a journal: the library for C or the program, and where it is."""
+
+import ctypes
+import functools
+import os
+import shutil
+from pathlib import Path
+from typing import NamedTuple
+
+from ..base import place
+
+TOP = Path(__file__).resolve().parents[3]
+# Where the program is built, in the tree that this module is part of.
+BUILT = TOP / "crates" / "dam_cli" / "out" / "dam_cli"
+# And the path of the library for C, if library/build has made it; an installed one has the same name.
+LIBRARY = TOP / "library" / "out" / "libdam.so.1"
+# Where the Debian package, or the archive that runs in place, has both, if this module is part of it: all is below one folder, such as
+# /usr, and this module in lib/python3/dist-packages/dam_tools/.
+PREFIX = Path(*place.FOLDER.parts[:-4]) if place.FOLDER.parts[-4:-1] == ("lib", "python3", "dist-packages") else None
+# Where `pip install .` puts a library that was built.
+WHEELS = place.FOLDER / LIBRARY.name
+
+
+def has_library():
+    """Whether the library for C was built, and no source has changed since."""
+    if not LIBRARY.exists():
+        return False
+    sources = [LIBRARY.parents[1] / "heap.c", *(LIBRARY.parents[2] / "crates").glob("*/src/**/*.rt")]
+    return all(source.stat().st_mtime <= LIBRARY.stat().st_mtime for source in sources)
+
+
+@functools.cache
+def is_built():
+    """The same, as it was when it was first asked: to look at all sources takes as long as to clear a small day."""
+    return has_library()
+
+
+class Where(NamedTuple):
+    """The engine for a journal: the library or the program; of the package, the wheel or the clone that this module is part of, of the
+    system, or named by the environment; and its path, or a name that the system finds."""
+
+    what: str
+    of: str
+    path: str
+
+
+def packaged(*parts):
+    """The path of a file of the package that this module is part of; None if there is none."""
+    path = PREFIX and PREFIX.joinpath(*parts)
+    return path if path and path.exists() else None
+
+
+def where():
+    """The engine of a journal if neither an option nor a program is named; None if there is neither library nor program. The library and
+    the program that belong to this module come before those that the system finds."""
+    for what, name in ("library", "DAM_LIBRARY"), ("program", "DAM"):
+        if path := os.environ.get(name):
+            return Where(what, "environment", path)
+    for of, path in (
+        ("package", packaged("lib", "x86_64-linux-gnu", LIBRARY.name)),
+        ("wheel", WHEELS if WHEELS.exists() else None),
+        ("clone", LIBRARY if is_built() else None),
+    ):
+        if path:
+            return Where("library", of, os.fspath(path))
+    if not os.access(BUILT, os.X_OK) and is_installed(LIBRARY.name):
+        return Where("library", "system", LIBRARY.name)
+    return built()
+
+
+def built():
+    """The program that belongs to this module, or that the system finds; None if there is none."""
+    cloned = BUILT if os.access(BUILT, os.X_OK) else None
+    for of, path in ("package", packaged("bin", "dam")), ("clone", cloned), ("system", shutil.which("dam")):
+        if path:
+            return Where("program", of, os.fspath(path))
+    return None
+
+
+def library():
+    """The path of the library for C, or its name if the system has it; None if there is none, or if a program is to be run instead."""
+    found = where()
+    return found.path if found and found.what == "library" else None
+
+
+@functools.cache
+def is_installed(name):
+    """Whether the system finds a library of this name, and it is this one."""
+    try:
+        return hasattr(ctypes.CDLL(name), "dam_clear_seeded")
+    except OSError:
+        return False
