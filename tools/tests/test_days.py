@@ -169,11 +169,11 @@ class Days(unittest.TestCase):
         """A name with a comma that isn't quoted is two cells, and the files are others."""
         self.write(a=(DATA, TEXT))
         right = "right,a.csv,a.txt,\n"
-        (self.folder / "list").write_text(f"day,journal,results\nmore,a,b.csv,a.txt\n{right},,,note\n")
+        (self.folder / "list").write_text(f"day,journal,results\nmore,a,b.csv,a.txt\nright,a.csv,a.txt\n,,,note\n{right}")
         status, out, _ = self.audit(place=self.folder / "list")
-        more, other, last = out.splitlines()[1:4]
+        more, other, last, empty = out.splitlines()[1:5]
         self.assertEqual((status, other.split()[1]), (command.NO_INPUT, verdict.RIGHT))
-        for line, number in ((more, 2), (last, 4)):
+        for line, number in ((more, 2), (last, 4), (empty, 5)):
             self.assertTrue(line.endswith(f"  line {number} of the table has 4 cells, but the header has 3"), line)
         (self.folder / "list").write_text(f"day,journal,results, ,note\nb,a.csv,a.txt,x\n{right}")
         other, last = self.audit(place=self.folder / "list")[1].splitlines()[1:3]
@@ -183,6 +183,38 @@ class Days(unittest.TestCase):
             (self.folder / "list").write_text(f"day,journal,results,{name.upper()}\n{right}")
             said = f"audit: {self.folder / 'list'} isn't a table of days: its first line names the column {name} twice\n"
             self.assertEqual(self.audit(place=self.folder / "list"), (command.NO_INPUT, "", said))
+
+    def test_names_of_a_manifest_with_spaces_around_them(self):
+        """They are left out, unless a file has them."""
+        self.write(a=(DATA, TEXT))
+        rows = 'a , a.csv,a.txt\nb," a.csv"," a.txt"\n'
+        (self.folder / "list").write_text(f"day,journal,results\n{rows}")
+        self.assertEqual([line.split()[:2] for line in self.audit(place=self.folder / "list")[1].splitlines()[1:3]], [["a", "right"], ["b", "right"]])
+        (self.folder / " a.csv").write_bytes(QUARTERS.read_bytes())
+        self.assertEqual([line.split()[:2] for line in self.audit(place=self.folder / "list")[1].splitlines()[1:3]], [["a", "wrong"], ["b", "wrong"]])
+
+    def test_a_manifest_of_many_days(self):
+        (self.folder / "list").write_text("journal,results\n" + "x,y\n" * (days.MOST_DAYS + 1))
+        said = f"audit: {self.folder / 'list'} has more than 20,000 days\n"
+        self.assertEqual(self.audit(place=self.folder / "list"), (command.NO_INPUT, "", said))
+
+    def test_a_folder_named_like_the_end_of_options(self):
+        (self.folder / "--").mkdir()
+        (self.folder / "--" / "a.csv").write_bytes(DATA)
+        (self.folder / "--" / "a.txt").write_bytes(TEXT)
+        ran = subprocess.run([sys.executable, TOOLS / "audit", "--days=--"], cwd=self.folder, capture_output=True, text=True)
+        self.assertEqual((ran.returncode, ran.stdout.splitlines()[1].split()[:2]), (0, ["a", "right"]), ran.stderr)
+
+    def test_a_python_that_the_environment_names(self):
+        """It could say anything of a day."""
+        self.write(a=(DATA, TEXT.replace(b"\nwelfare,", b"\nwelfare,9", 1)))
+        named = self.folder / "python"
+        named.write_text("#!/bin/sh\nexec touch ran\n")
+        named.chmod(0o755)
+        for name in ("./python", str(named), "/bin/false"):
+            ran = subprocess.run([TOOLS / "audit", "--days", "."], cwd=self.folder, capture_output=True, text=True, env={"PATH": "/usr/bin:/bin", "PYTHONEXECUTABLE": name})
+            self.assertEqual((ran.returncode, ran.stdout.splitlines()[1].split()[:2]), (command.DIFFERS, ["a", "wrong"]), ran.stderr)
+        self.assertFalse((self.folder / "ran").exists())
 
     def test_rows_of_a_manifest_that_name_no_files(self):
         self.write(a=(DATA, TEXT))

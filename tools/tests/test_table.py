@@ -2,7 +2,10 @@
 
 import csv
 import io
+import os
 import re
+import subprocess
+import sys
 import tempfile
 import unittest
 from fractions import Fraction
@@ -345,6 +348,43 @@ class CommandLine(unittest.TestCase):
             self.assertEqual(tool("table", *texts, "--date", date), (command.COMMAND_LINE, b"", f"table: {said}"))
             if modules.has("matplotlib") and modules.has("jinja2"):
                 self.assertEqual(tool("report", *texts, "-o", "-", "--date", date), (command.COMMAND_LINE, b"", f"report: {said}"))
+
+    def test_more_cells_than_the_header_has(self):
+        """A number with a comma is two cells, also if the row's last one is empty."""
+        heads = "participant,order,kind,side,price_eur_mwh,periods,volume_mw"
+        for header, row, cells in (
+            (f"{heads},group", "NORD,A,block,buy,12,8-20,100,5,", 9),
+            (f"{heads},comment", "NORD,A,hour,buy,12,5,8,100,", 9),
+            (heads, "NORD,A,hour,buy,12,8,100, ,", 9),
+            (f"{heads},,", "NORD,A,hour,buy,12,8,100,,,", 10),
+        ):
+            for end in ("", "NORD,B,hour,buy,12,8,100\n"):
+                status, out, err = tool("table", "--journal", "-", data=f"{header}\n{row}\n{end}".encode())
+                width = header.rstrip(",").count(",") + 1
+                said = f"table: standard input: line 2: it has {cells} cells, but the header has {width}\n"
+                self.assertEqual((status, out, err), (command.NO_INPUT, b"", said), row)
+        for header, row in ((heads, "NORD,A,hour,buy,12,8,100"), (f"{heads},,", "NORD,A,hour,buy,12,8,100,"), (heads, ",,,,,,,,,,,")):
+            status, out, err = tool("table", "--journal", "-", data=f"{header}\n{row}\n".encode())
+            self.assertEqual((status, b"NORD" in out), (0, "NORD" in row), err)
+
+    def test_the_value_of_an_option_like_the_end_of_options(self):
+        texts = [AUCTION, AUCTION_RESULTS]
+        for option in ("--participant", "--only", "--rows", "--date", "--periods"):
+            status, out, err = tool("table", *texts, f"{option}=--")
+            self.assertEqual((status in (command.COMMAND_LINE, command.NO_INPUT), out, "--" in err), (True, b"", True), (option, err))
+        with tempfile.TemporaryDirectory() as folder:
+            words = [support.TOOLS / "table", *texts, "--out=--"]
+            self.assertEqual(subprocess.run([sys.executable, *words], cwd=folder, capture_output=True).returncode, 0)
+            self.assertEqual(Path(folder, "--").read_bytes(), tool("table", *texts)[1])
+
+    def test_a_zone_file_that_is_none(self):
+        with tempfile.TemporaryDirectory() as folder:
+            Path(folder, "Europe").mkdir()
+            Path(folder, "Europe", "Berlin").write_text("x")
+            words = [sys.executable, support.TOOLS / "table", AUCTION, AUCTION_RESULTS, "--date", "2026-11-25"]
+            ran = subprocess.run(words, capture_output=True, text=True, env={**os.environ, "PYTHONTZPATH": folder})
+            said = "table: it needs the world's time zones, which Debian has in the package tzdata: apt-get install tzdata\n"
+            self.assertEqual((ran.returncode, ran.stdout, ran.stderr), (command.FAILED, "", said))
 
     def test_more_rows_than_a_sheet_has(self):
         most, said = sheets.MOST_LINES, "the table prices has 1,048,577 rows, but a sheet of an Excel workbook has at most 1,048,576"

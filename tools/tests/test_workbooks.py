@@ -118,7 +118,7 @@ class Faults(Read):
             (b"a\n" * 200_000, 1, [(1, ["a"]), (2, ["a"]), (3, ["a"])]),
             ("a\n".encode("utf-16") + "\n".encode("utf-16-le") * 200_000, 1, [(1, ["a"])]),
             (b"a\n" + b"," * 4_000_000, 1, "line 2: the table can't be read: a row has more than 1,048,576 characters"),
-            (b"a\n" + (b"b," * 16_000 + b"\n") * 20, None, [(1, ["a"]), *((2 + at, ["b"] * 16_000) for at in range(20))]),
+            (b"a\n" + (b"b," * 16_000 + b"\n") * 20, None, [(1, ["a"]), *((2 + at, ["b"] * 16_000 + [""]) for at in range(20))]),
             (b"a\n" + (b"b," * 16_000 + b"\n") * 20, 99, f"line 20: the table has more than 300,000 cells {UP}"),
             (b"a\n" + (b"," * 20_000 + b"\n") * 16, 99, [(1, ["a"])]),
             (b"a\n" + (b"b" * 30_000 + b"\n") * 199, 199, f"line 141: the table has more than 4,194,304 bytes of text {UP}"),
@@ -459,6 +459,25 @@ class Unlike(unittest.TestCase):
         _, fault = self.read({"xl/styles.xml": styles.encode()}, E='<c s=" +0&#9;"><v>0.5</v></c>')
         self.assertEqual(fault, f"line 2, column price_eur_mwh: {self.PERCENTAGE.format('0.5')}")
 
+    def test_numbers_that_excel_shows_in_another_way(self):
+        """A format may show a thousandth, add digits, or show nothing, also of some numbers alone."""
+        for code, changed in (
+            ("0.0,", "5"), ('#,##0.0,&quot; MW&quot;', "5"), ("0,.0", "5"), ("0\\.00", "5"), ("&quot;9&quot;0", "5"), ("&quot;50&quot;", "5"),
+            ("90", "5"), (";;;", "5"), ("0&quot;-20&quot;", "5"), ("0&quot;;60&quot;", "5"), ("0[$1]", "5"), ("0\\,0", "5"),
+            ("0;&quot;7&quot;", "-5"), ("0;-0;", "0"), ("[&gt;9]0;&quot;7&quot;", "5"), ("0;0;0,;@", "0"),
+            ("#,##0.00", None), ("0.00;[Red]-0.00", None), ("0;-0;;@", None), ("0.0&quot; EUR/MWh&quot;", None), ("[$€-407] 0.00", None),
+            ("_-* #,##0.00\\ &quot;kr.&quot;_-;-* #,##0.00\\ &quot;kr.&quot;_-;_-* &quot;-&quot;??_-;_-@_-", None), ("0.00E+00", None), ("# ?/?", None),
+            ("General&quot; MW&quot;", None), ("0;&quot;7&quot;", None), ("0;-0;", None), ("???0", None),
+        ):  # fmt: skip
+            styles = f'<numFmts><numFmt numFmtId="164" formatCode="{code}"/></numFmts><cellXfs><xf/><xf numFmtId="164"/></cellXfs>'
+            styles = {"xl/styles.xml": f'<styleSheet xmlns="{made.MAIN[0]}">{styles}</styleSheet>'.encode()}
+            with self.subTest(code, changed=changed):
+                found, said = self.read(styles, E=f'<c s="1"><v>{changed or 5}</v></c>')
+                way = f"'{changed}' is a number that Excel shows in another way: give its cell the format General"
+                self.assertEqual((said, found is None), (f"line 2, column price_eur_mwh: {way}", True) if changed else (None, False))
+        found, said = self.read(B="<c><v>-0.0</v></c>")
+        self.assertEqual((found.name, said), ("0", None))
+
     def test_names_of_many_digits(self):
         """Excel shows 123456789012 as 1.23457E+11, unless its format is 0."""
         formats = "".join(f'<xf numFmtId="{number}"/>' for number in (0, 49, 164, 1, 165))
@@ -503,8 +522,11 @@ class Unlike(unittest.TestCase):
                     self.assertEqual(said, None if style < shown else fault, (code, kind))
                     self.assertTrue(style >= shown or "K7" in (found.name, found.order.group))
         hidden = f'<c s="{shown}" t="str"><v>'
-        found, _ = self.read(parts, C=f"{hidden}block</v></c>", J=f"{hidden}x</v></c>")
-        self.assertEqual(found.order.kind, "block")
+        found, _ = self.read(parts, J=f"{hidden}x</v></c>")
+        self.assertEqual(found.name, "K")
+        for letter, words in (("C", "block"), ("D", "buy"), ("E", "1"), ("F", "8"), ("G", "5")):
+            _, said = self.read(parts, **{letter: f"{hidden}{words}</v></c>"})
+            self.assertEqual(said, f"line 2, column {self.COLUMNS[letter]}: '{words}' is a text with a format: make the cell one of text")
         _, said = self.read(parts, B=f'<c s=" {shown} " t="str"><v>K7</v></c>')
         self.assertIn("'K7' is a text with a format", said)
         _, said = self.read(parts, B=f'<c s="{len(codes) - 1}"><v>7</v></c>')
@@ -549,6 +571,25 @@ class Unlike(unittest.TestCase):
         data = made.of_sheet(made.OPEN, order(2, "K1"), made.CLOSE.replace(b"</sheetData>", extension.encode()))
         with self.assertRaisesRegex(sheets.BadTable, "an element 'numFmt' stands in 'extLst'"):
             sheets.read_rows(data)
+
+    def test_hidden_sheets(self):
+        """One that is shown comes first; if a hidden one is read, the note says so."""
+        listed = '<workbook xmlns="{}" xmlns:r="{}"><sheets><sheet name="{}" r:id="r1"{}/><sheet name="{}" r:id="r2"{}/></sheets></workbook>'
+        relation = f'<Relationship Id="r{{0}}" Type="{made.OFFICE[0]}/worksheet" Target="worksheets/sheet{{0}}.xml"/>'
+        parts = {
+            "xl/_rels/workbook.xml.rels": f'<Relationships xmlns="{made.RELATIONS}">{relation.format(1)}{relation.format(2)}</Relationships>'.encode(),
+            "xl/worksheets/sheet2.xml": made.OPEN + order(2, "K2") + made.CLOSE,
+        }
+        hidden, very = ' state="hidden"', ' state="veryHidden"'
+        for names, wanted, note in (
+            (("a", "", "b", ""), "K1", "of 2 sheets, 'a' was read; 'b' has the columns of orders too"),
+            (("a", hidden, "b", ""), "K2", "of 2 sheets, 'b' was read; 'a' has the columns of orders too"),
+            (("orders", very, "b", ""), "K1", "of 2 sheets, 'orders' was read, a hidden one"),
+            (("a", hidden, "b", very), "K1", "of 2 sheets, 'a' was read, a hidden one; 'b' has the columns of orders too"),
+        ):
+            workbook = {"xl/workbook.xml": listed.format(made.MAIN[0], made.OFFICE[0], *names).encode()}
+            orders = order_table.read_tables([("", made.of_sheet(made.OPEN, order(2, "K1"), made.CLOSE, **parts, **workbook))], 24)
+            self.assertEqual(([submit.name for _, submit in orders.submits], orders.notes), ([wanted], [note]))
 
     def test_a_sheet_of_macros(self):
         """It has cells, which aren't read: it is no table of orders, and it counts among the sheets."""

@@ -20,6 +20,7 @@ MOST_SECONDS = 2_000_000  # that it may take at all: the system waits for no mor
 AWAKE = 1  # seconds after which the main thread looks for a signal that another thread got, as after SIGSTOP
 TOOL = Path(__file__).resolve().parents[2] / "audit"
 JOURNAL, RESULTS = ".csv", ".txt"
+MOST_DAYS = 20_000  # of a manifest
 NAME, COLUMNS = "day", ["journal", "results"]  # the columns of a manifest: the day's name, and those that it needs
 MOST_SHOWN = command.LONGEST_PATH + 200  # characters of the first fault, which may begin with a file's name
 PART = 1 << 16  # bytes of a record that are packed or printed at once
@@ -84,12 +85,20 @@ def listed_pairs(path):
         rows = iter(sheets.text_rows(file_io.read_bytes(path)))
         heads = [cell.strip().lower() for cell in next(rows, (0, []))[1]]
         refuse_heads(path, heads)
-        pairs = [listed_pair(path.parent, dict(zip(heads, map(str.strip, row))), extra_cells(line, row, heads)) for line, row in rows]
+        pairs = [listed_pair(path.parent, dict(zip(heads, row)), extra_cells(line, row, heads)) for line, row in within(path, rows)]
     except sheets.BadTable as fault:
         raise command.Stop(f"{command.shown(path)} isn't a table of days: {fault}") from None
     if not pairs:
         raise command.Stop(f"{command.shown(path)} has no days: it has no row below its header")
     return pairs
+
+
+def within(path, rows):
+    """The rows of a manifest, which may not have too many days."""
+    for count, row in enumerate(rows):
+        if count == MOST_DAYS:
+            raise command.Stop(f"{command.shown(path)} has more than {MOST_DAYS:,} days")
+        yield row
 
 
 def refuse_heads(path, heads):
@@ -111,11 +120,17 @@ def extra_cells(line, row, heads):
 
 def listed_pair(folder, cells, extra):
     """The pair of a row of a manifest."""
+    cells = {name: named_in(folder, cell) for name, cell in cells.items()}
     journal, published = (folder / cells.get(name, "") for name in COLUMNS)
     has_results = bool(cells.get("results"))
     missing = None if has_results else f"its row names no results, and {command.shown(journal)} has no line 'results'"
     unread = extra or unread_row(cells) or file_io.unread_file(journal) or (file_io.unread_file(published) if has_results else None)
     return Pair(cells.get(NAME) or journal.stem, journal, published if has_results else None, unread, missing)
+
+
+def named_in(folder, cell):
+    """A cell without the spaces around it, unless a file has them in its name."""
+    return cell if "\0" not in cell and os.path.lexists(folder / cell) else cell.strip()
 
 
 def unread_row(cells):

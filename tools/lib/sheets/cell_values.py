@@ -6,7 +6,7 @@ from fractions import Fraction
 
 from ..base import clock, rules, spans, text
 from ..journal import fields
-from ..workbooks.cells import Percentage, Uncomputed, Unlike
+from ..workbooks.cells import Changed, Percentage, Styled, Uncomputed, Unlike
 
 MOST_KEPT = 2**12  # cells whose values are kept, since those of a table are often alike
 MOST_LISTS = 2**8  # the same of cells with volumes, whose values take more
@@ -35,9 +35,9 @@ def unlike(cell):
 
 
 def refuse_unlike(cell, is_name):
-    """Refuses a cell of a workbook that isn't what Excel shows: a formula without its value, a percentage, or in a column of names also a
-    date."""
-    if isinstance(cell, (Uncomputed, Percentage)) or is_name and isinstance(cell, Unlike):
+    """Refuses a cell of a workbook that isn't what Excel shows: a formula without its value, another number or text, or in a column of
+    names also a date."""
+    if isinstance(cell, (Uncomputed, Percentage, Changed, Styled)) or is_name and isinstance(cell, Unlike):
         raise BadOrders(unlike(cell))
 
 

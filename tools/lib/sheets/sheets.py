@@ -149,9 +149,13 @@ class Text:
 
     def __iter__(self):
         lines, found, count = Lines(self.file(), self.delimiter), 0, Count(self.times)
+        width = None  # of the header, with its empty cells
         try:
-            for cells in csv.reader(lines, delimiter=self.delimiter, strict=True):
-                if cells := trimmed(cells):
+            for whole in csv.reader(lines, delimiter=self.delimiter, strict=True):
+                if cells := trimmed(whole):
+                    width = len(whole) if width is None else width
+                    # more cells than the header, even empty ones: a number with a comma may be two of them
+                    cells = whole if len(whole) > width else cells
                     if not self.is_counted:
                         count.add(lines.number, cells)
                     found += 1

@@ -46,6 +46,14 @@ class Parser(argparse.ArgumentParser):
             raise argparse.ArgumentError(action, "it is empty")
         return super()._get_value(action, word)
 
+    def _get_values(self, action, words):
+        """The value of the words of an option or an argument. argparse takes `--` for no word also if it is the value of an option."""
+        if action.option_strings and action.nargs is None and words == ["--"]:
+            value = self._get_value(action, words[0])
+            self._check_value(action, value)
+            return value
+        return super()._get_values(action, words)
+
     def error(self, message):
         super().error(text.escaped(message))
 

@@ -37,8 +37,7 @@ def is_debians():
 
 def this_python():
     """The words that start this Python for another tool: isolated, if it is."""
-    # without a PATH, Python doesn't know its own name
-    return [sys.executable or os.path.realpath("/proc/self/exe"), *(["-I"] if sys.flags.isolated else [])]
+    return [sys.executable, *(["-I"] if sys.flags.isolated else [])]
 
 
 def elsewhere(*modules):
@@ -66,7 +65,7 @@ def has_zone(name):
     """Whether the system has a time zone."""
     try:
         zoneinfo.ZoneInfo(name)
-    except zoneinfo.ZoneInfoNotFoundError:
+    except (zoneinfo.ZoneInfoNotFoundError, ValueError, OSError):  # it is missing, or its file is another one
         return False
     return True
 

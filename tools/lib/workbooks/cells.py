@@ -33,6 +33,13 @@ class Percentage(Unlike):
     kind, remedy = "a number that Excel shows as a percentage", "give its cell the format General"
 
 
+class Changed(Unlike):
+    """A number of which Excel shows a thousandth, or with other digits next to it, or nothing."""
+
+    __slots__ = ()
+    kind, remedy = "a number that Excel shows in another way", "give its cell the format General"
+
+
 class Styled(Unlike):
     __slots__ = ()
     kind = "a text with a format"
@@ -99,7 +106,7 @@ class Kept:
 
 
 # The kinds of cells: before each cell of a packed row stands a half of a character, which no text has, and says its kind.
-CELLS = str, int, StyledString, Uncomputed, Date, Formatted, Percentage, Styled, Shortened, Truth
+CELLS = str, int, StyledString, Uncomputed, Date, Formatted, Percentage, Changed, Styled, Shortened, Truth
 HALVES = {kind: chr(0xD800 + at) for at, kind in enumerate(CELLS)}
 PACKED = re.compile("([\ud800-\udfff])([^\ud800-\udfff]*)")
 

@@ -78,7 +78,7 @@ class Book(Part):
 
     def __init__(self, package):
         super().__init__()
-        self.package, self.from_1904, self.is_computed, self.sheets = package, False, True, []
+        self.package, self.from_1904, self.is_computed, self.sheets, self.hidden = package, False, True, [], set()
         if not package.has("_rels/.rels"):
             raise broken("it isn't an Excel workbook (.xlsx), but another archive")
         part = self.relations_of("").only(WORKBOOK)
@@ -110,6 +110,8 @@ class Book(Part):
         if max(len(name), len(identifier)) > LONGEST_NAME:
             raise broken(f"the name of a sheet has more than {LONGEST_NAME:,} characters")
         self.sheets.append((name, identifier))
+        if attributes.get("state", "visible") != "visible":
+            self.hidden.add(name)
 
     def tables(self):
         """The sheets with cells: the part of each, by its name; None of a sheet of macros, whose cells aren't read. Excel takes names that
@@ -138,10 +140,10 @@ class Book(Part):
             raise broken(f"the sheet {text.quoted(named[0])} is one of macros: copy its table to another sheet")
         tables = {name: part for name, part in sheets.items() if part is not None}
         found = named or self.having(tables, needed)
-        name = [*found, *tables][0]
-        others = [text.quoted(other) for other in found[1:]]
+        name = sorted([*found, *tables], key=lambda name: (name not in found, name in self.hidden))[0]
+        others = [text.quoted(other) for other in found if other != name]
         more = f"; {', '.join(others)} {'has' if len(others) == 1 else 'have'} the columns of orders too" if others else ""
-        return name, sheets[name], f"of {len(sheets)} sheets, {text.quoted(name)} was read{more}"
+        return name, sheets[name], f"of {len(sheets)} sheets, {text.quoted(name)} was read{', a hidden one' * (name in self.hidden)}{more}"
 
     def having(self, sheets, needed):
         """The sheets with the needed names in their first rows."""

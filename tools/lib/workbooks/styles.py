@@ -4,13 +4,13 @@ import decimal
 import re
 
 from ..base import text
-from .cells import Date, Formatted, Percentage, Shortened
-from .limits import LONGEST_NAME, MOST_FORMATS, MOST_OWN_FORMATS, broken, too_many
+from .cells import Changed, Date, Formatted, Percentage, Shortened
+from .limits import LONGEST_FORMAT, MOST_FORMATS, MOST_OWN_FORMATS, broken, too_many
 from .part import ANY_OTHERS, BLANK, Part, unsigned
 
 # The numbers of Excel's own formats of dates and times, and what in another format isn't one: texts, and a condition or colour.
-DATE_FORMATS = {*range(14, 23), *range(27, 37), *range(45, 48), *range(50, 59)}
-PERCENT_FORMATS = 9, 10  # the numbers of Excel's own
+DATE_FORMATS = {*range(14, 23), *range(27, 37), *range(45, 48), *range(50, 59), *range(71, 82)}
+PERCENT_FORMATS = 9, 10, 67, 68  # the numbers of Excel's own
 MOST_DIGITS = 11  # that Excel shows of a number in the format General
 PIECE = re.compile(r'"[^"]*"|\\.|_.|\*.|\[[^\]\[]*\]|.')  # of a format
 UNSEEN = re.compile(r"_.|\* | |\[(?:\$(?:-.*)?|[^$].*)?\]", re.DOTALL)  # a piece that adds no character
@@ -29,18 +29,24 @@ PLAIN_FORMATS, PLAIN_CODES = {0: general, 1: str, 49: general}, {"general": gene
 
 def digits_of(number):
     """The text of a number that may not be whole. Excel shows 1e-05 as 0.00001, and so as no name."""
-    words = f"{number:.15g}"
+    words = f"{number + 0.0:.15g}"  # of -0.0, too, Excel shows 0
     return f"{decimal.Decimal(words):f}" if "e-" in words else words
 
 
-def shows_texts(code):
-    """Whether a format shows a text as it is. Its fourth section is of texts, or else its last one, if that has an @."""
+def sections_of(code):
+    """The sections of a format, each the list of its pieces that add characters."""
     sections = [[]]
     for piece in PIECE.findall(code):
         if piece == ";":
             sections.append([])
         elif not UNSEEN.fullmatch(piece):
             sections[-1].append(piece)
+    return sections
+
+
+def shows_texts(code):
+    """Whether a format shows a text as it is. Its fourth section is of texts, or else its last one, if that has an @."""
+    sections = sections_of(code)
     of_texts = sections[3] if len(sections) > 3 else sections[-1]
     words = "".join(of_texts).lower()
     if of_texts == ["@"] or words == "general":
@@ -53,11 +59,42 @@ def is_percentage(code):
     return any(piece == "%" or piece.startswith("[$") and "%" in piece for piece in PIECE.findall(code))
 
 
+def added(piece):
+    """The characters that a piece of a format adds to a number."""
+    if piece.startswith("[$"):
+        return piece[2:-1].partition("-")[0]
+    return piece[1:].removesuffix('"') if piece[0] in '"\\' else ""
+
+
+def is_changed(pieces):
+    """Whether a section of a format shows another number: if it adds digits, or a point or a comma of its own, or shows a thousandth, or no
+    digit at all."""
+    if any(re.search("[0-9]", words) or re.search("[.,]", words) and not re.search(r"[^\W\d_]", words) for words in map(added, pieces)):
+        return True
+    own = "".join(piece for piece in pieces if len(piece) == 1)
+    return bool(re.search(r"[1-9]|[0#?],+(?![0#?,])", own)) or not re.search("[0#?]", own) and "general" not in own.lower()
+
+
+def of_sections(code):
+    """How a format shows a number if one of its sections changes some."""
+    changed = [is_changed(section) for section in sections_of(code)[:3]]
+    if re.search(r"\[[<>=]", code):
+        changed = [any(changed)]
+
+    def shown(words):
+        number = decimal.Decimal(words)
+        place = 1 if number < 0 and len(changed) > 1 else 2 if not number and len(changed) > 2 else 0
+        return (Changed if changed[place] else Formatted)(words)
+
+    return shown if any(changed) else Formatted
+
+
 def shown_by(code):
     """How a format shows a number."""
+    if code.strip().lower() in PLAIN_CODES:
+        return PLAIN_CODES[code.strip().lower()]
     is_date = re.search("[dmyhs]", NO_DATE.sub("", code).split(";")[0], re.IGNORECASE)
-    other = Date if is_date else Percentage if is_percentage(code) else Formatted
-    return PLAIN_CODES.get(code.strip().lower(), other)
+    return Date if is_date else Percentage if is_percentage(code) else of_sections(code)
 
 
 def number_in(attributes):
@@ -99,8 +136,8 @@ class Styles(Part):
 
     def open_numFmt(self, attributes):
         code = attributes.get("formatCode", "")
-        if len(code) > LONGEST_NAME:
-            raise broken(f"a format has more than {LONGEST_NAME:,} characters")
+        if len(code) > LONGEST_FORMAT:
+            raise broken(f"a format has more than {LONGEST_FORMAT} characters")
         self.own += 1
         if self.own > MOST_OWN_FORMATS:
             raise too_many(MOST_OWN_FORMATS, "number formats")
