@@ -30,7 +30,7 @@ class Library(unittest.TestCase):
 
     def test_the_header_and_the_citation_have_the_version_of_the_changelog(self):
         header = (TOP / "library" / "dam.h").read_text()
-        newest = re.search(r"^## (\S+)", (TOP / "CHANGELOG.md").read_text(), re.MULTILINE)[1]
+        newest = re.search(r"^## (\d\S+)", (TOP / "CHANGELOG.md").read_text(), re.MULTILINE)[1]
         self.assertIn(f'#define DAM_VERSION "{newest}"', header)
         self.assertIn(f'\nversion: "{newest}"\n', (TOP / "CITATION.cff").read_text())
 
