@@ -60,7 +60,7 @@ class Progress(Line):
         if self.told:
             self.show(f"{self.tool}: {words}, {took:.0f} s")
 
-    def left(self):
+    def seconds_left(self):
         """How many seconds are left."""
         return self.begun + self.seconds - time.monotonic()
 

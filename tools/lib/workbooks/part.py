@@ -163,7 +163,7 @@ class Part:
     def wrong(self, words):
         return broken(words)
 
-    def take(self):
+    def keep_text(self):
         """From now on keeps the text of an element."""
         self.parser.CharacterDataHandler = self.add
 
@@ -173,11 +173,11 @@ class Part:
             raise self.wrong(f"it has more than {LONGEST_CELL:,} characters")
         self.taken.append(words)
 
-    def skip(self):
+    def ignore_text(self):
         """From now on leaves out the text of an element."""
         self.parser.CharacterDataHandler = None
 
-    def leave(self):
+    def allow_no_text(self):
         """From now on there should be no text."""
         self.parser.CharacterDataHandler = self.refuse_text
 
@@ -222,9 +222,9 @@ class Texts(Part):
         around = self.within[-2]
         self.is_whole = self.is_whole or around not in ("r", "rPh")
         if self.is_taken and around != "rPh":
-            self.take()
+            self.keep_text()
         else:
-            self.skip()
+            self.ignore_text()
 
     def open_r(self, _):
         if self.is_whole:
@@ -234,7 +234,7 @@ class Texts(Part):
         self.is_pronounced = True
 
     def close_t(self):
-        self.leave()
+        self.allow_no_text()
 
     def whole_text(self):
         words = self.content()

@@ -140,7 +140,7 @@ class Sheet(Texts):
 
     def open_v(self, _):
         self.refuse_value(self.kind == "inlineStr")
-        self.take()
+        self.keep_text()
 
     def open_is(self, _):
         self.refuse_value(self.kind != "inlineStr")
@@ -153,17 +153,17 @@ class Sheet(Texts):
             raise self.wrong(f"its value isn't of its type, {text.quoted(self.kind)}")
 
     def open_f(self, _):
-        self.take()
+        self.keep_text()
 
     def close_v(self):
-        self.leave()
+        self.allow_no_text()
         self.value = self.content()
 
     def close_is(self):
         self.value = self.whole_text()
 
     def close_f(self):
-        self.leave()
+        self.allow_no_text()
         self.formula = self.content()
         self.first_formula = self.first_formula or (self.row, self.column)
 
