@@ -256,7 +256,7 @@ def offered(looked):
 
 def asked(model, progress, looked):
     """The next selection that HiGHS offers, or None. Fails if no time is left."""
-    left = progress.left()
+    left = progress.seconds_left()
     try:
         if left > 0:
             return model.next(left)
