@@ -6,9 +6,11 @@ have grown to twice its length. So a text and its longest field take at most TIM
 
 ROOM is for a book at its limits, the journal of a day and the search, which take 5 MiB with the shortest text of such a book. With that
 text, and with a text of as many short commands as a day takes, each engine holds at most MORE times what it held with a full book; with a
-few commands it holds at most LITTLE, and with some hundred at most EACH times the text's bytes more."""
+few commands it holds at most LITTLE, and with some hundred at most EACH times the text's bytes more. `read_journal`, which `dam_refusals`
+calls twice, holds at most as much each time."""
 
-from preload import Refusal  # by which `lib` is found
+from again import REFUSALS
+from preload import Program, Refusal  # by which `lib` is found
 from shared.printed import Printed
 from lib.base import rules
 
@@ -116,4 +118,15 @@ def peaks(runs):
             runs.check(f"{word} of {about}: {peak:,} bytes were held, and the text has {len(text):,}", fits)
             most = max(most, peak)
         runs.program.given(text).unlink()
+    journals_read(runs)
     print(f"the longest texts: at most {most / 1e6:.1f} MB were held at once", flush=True)
+
+
+def journals_read(runs):
+    """The same of the journals that `read_journal` returns, of short texts: `dam_refusals` holds two of each."""
+    reader = Program(REFUSALS, runs.program.room)
+    for about, text, _ in journals() if REFUSALS.exists() else ():
+        if len(text) < SOME:
+            got, peak = reader.run(["read"], text, Refusal("peak"))
+            is_right = got.stdout.endswith(b" commands, 0 calls refused\n") and 0 < peak <= 2 * most_held("read", len(text))
+            runs.check(f"read_journal of {about}: {got.stdout[:80]!r}, {peak:,} bytes were held, and the text has {len(text):,}", is_right)
