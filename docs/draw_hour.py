@@ -13,7 +13,7 @@ sys.path.insert(0, str(TOP / "tools"))
 from lib.base import text
 from lib.journal import book, journal
 from lib.results import selection
-from lib.tool import command
+from lib.tool import command, modules
 
 JOURNAL, HOUR = TOP / "examples/guide/1-hour.csv", 8
 
@@ -76,7 +76,7 @@ def draw_demand(axes, canvas, row, price):
 
 
 def main():
-    command.need("matplotlib")
+    modules.need("matplotlib")
     from lib.pictures import canvas
 
     sys.stdout.buffer.write(canvas.picture(figure(), "svg"))

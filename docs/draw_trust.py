@@ -17,7 +17,7 @@ from lib.audit import best
 from lib.base import rules, text
 from lib.journal import book, journal
 from lib.results import selection
-from lib.tool import command
+from lib.tool import command, modules
 
 BLOCK = "COAL", "UNIT-7"
 LEFT = 0.6  # where the bars of the selections begin, so that one selection is seen
@@ -186,7 +186,7 @@ def main():
     if not words[1:]:
         print(*say(problem()), sep="\n")
         return
-    command.need("matplotlib")
+    modules.need("matplotlib")
     from lib.pictures import canvas
 
     sys.stdout.buffer.write(canvas.picture(draw(problem()), "svg"))

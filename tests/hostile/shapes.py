@@ -174,7 +174,7 @@ def full_books():
 def gaps():
     """Yields the runs on books from which an order was cancelled. A book that has room where it stood finds each later order in a longer
     way, so a closed one has no such room."""
-    for count in (30, 300, FULL_HOURS):
+    for count in (30, 300, 2_900, FULL_HOURS):
         records = [*map(SHORT.hour, range(count)), SHORT.cancel(SHORT.named(count // 2))]
         for run in (Run(CLEAR, journal(records)), Run(DAY, journal(records, False))):
             yield f"{run.words[0]} of {count:,} orders less one", run
