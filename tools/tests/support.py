@@ -42,8 +42,10 @@ def loaded(name):
 
 
 def heed_interrupts(case):
-    """Lets a test's processes be interrupted: a shell's command in the background ignores the signal, and so would all that it starts."""
-    case.addCleanup(signal.signal, signal.SIGINT, signal.signal(signal.SIGINT, signal.default_int_handler))
+    """Lets a test's processes be interrupted: a shell's command in the background ignores the signal, and one of nohup that of a terminal
+    that closes, and so would all that it starts."""
+    for number, handler in ((signal.SIGINT, signal.default_int_handler), (signal.SIGHUP, signal.SIG_DFL)):
+        case.addCleanup(signal.signal, number, signal.signal(number, handler))
 
 
 def new_folder(case):
