@@ -83,7 +83,7 @@ class Closing(Office):
         """A stopped day doesn't show the results, which may have been changed."""
         again = self.gate()
         await again.run()
-        request, served = SimpleNamespace(path=f"/days/{DAY}/results"), SimpleNamespace(gate=lambda request: again)
+        request, served = SimpleNamespace(path=f"/days/{DAY}/results"), SimpleNamespace(gate_of=lambda request: again)
         served.unstopped = functools.partial(web.Web.unstopped, served)
         for answer in (web.Web.prices, web.Web.published):
             with self.assertRaises(gate.Refused) as caught:

@@ -95,7 +95,7 @@ class Gate:
 
     def submit(self, who, first, commands, is_authorized=lambda: True):
         """The future numbers of the entries of commands. It is called once the whole request is here, and its time counts."""
-        if (held := self.held(who, first, commands)) is not None:
+        if (held := self.answered_if_entered(who, first, commands)) is not None:
             return held
         if self.fault:
             raise Refused("Unavailable", STOPPED_WORDS)
@@ -106,14 +106,14 @@ class Gate:
         share, count = self.ledger.share(who), self.ledger.count(who)
         if first + len(commands) - 1 > share:
             raise Refused("ShareUsed", f"you may enter {share} commands on this day, and have entered {count}", next=count + 1)
-        return self.wait(Waiting(who, first, commands, asyncio.get_running_loop().create_future(), is_authorized))
+        return self.enqueue(Waiting(who, first, commands, asyncio.get_running_loop().create_future(), is_authorized))
 
-    def wait(self, waiting):
+    def enqueue(self, waiting):
         self.waiting.append(waiting)
         self.wake.set()
         return waiting.done
 
-    def held(self, who, first, commands):
+    def answered_if_entered(self, who, first, commands):
         """The finished future of commands that are all in the journal already; None if some aren't."""
         if first + len(commands) - 1 > self.ledger.count(who):
             return None
@@ -135,7 +135,7 @@ class Gate:
 
     # --- the writer
 
-    def batch(self):
+    def take_batch(self):
         """Takes the next batch from those that wait: pairs of a command and its request. A request whose numbers the batch has already
         waits until the batch is entered, and the close until all others are."""
         found, later, taken = [], [], {}
@@ -242,7 +242,7 @@ class Gate:
                 await self.open_desk()
                 while not self.ledger.is_closed:
                     await self.wait_for_commands()
-                    self.entering = self.batch()
+                    self.entering = self.take_batch()
                     if self.entering:
                         await self.commit(self.entering)
                         pause, ends = FIRST_PAUSE, 0
@@ -342,7 +342,7 @@ class Gate:
         if not self.is_closing:
             self.is_closing = True
             self.log_event("closing", entries=self.ledger.size)
-            self.wait(Waiting(None, 0, [Close()], asyncio.get_running_loop().create_future()))
+            self.enqueue(Waiting(None, 0, [Close()], asyncio.get_running_loop().create_future()))
 
 
 def token_fault(one):

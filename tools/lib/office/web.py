@@ -203,7 +203,7 @@ class Web:
             request.protocol.is_deaf = True  # else the rest of many requests at once would be read too
             raise Refused("TooFast", "too many requests", seconds=seconds)
 
-    def gate(self, request):
+    def gate_of(self, request):
         gate = self.office.gates.get(request.match_info["day"])
         if gate is None:
             raise Refused("NotFound", "there is no such day")
@@ -235,7 +235,7 @@ class Web:
         who = self.participant(request)
         if seconds := (buckets or self.reads).take(who, count):
             raise Refused("TooFast", "too many requests", seconds=seconds)
-        gate = self.gate(request)
+        gate = self.gate_of(request)
         if gate.fault:
             raise Refused("Unavailable", STOPPED_WORDS)
         self.need_known(gate)
@@ -391,14 +391,14 @@ class Web:
         return web.json_response({"days": [self.shown(gate) for gate in self.office.gates.values()], "demo": bool(self.demo)})
 
     async def day(self, request):
-        gate = self.gate(request)
+        gate = self.gate_of(request)
         periods = gate.terms.periods
         return web.json_response({**self.shown(gate), "begins": [clock.begins(periods, number) for number in range(1, periods + 1)]})
 
     def unstopped(self, request):
         """The day of a request. A stopped day shows nothing: its journal may differ from the one that earlier heads sign, or a file may
         have changed."""
-        gate = self.gate(request)
+        gate = self.gate_of(request)
         if gate.fault:
             raise Refused("Unavailable", STOPPED_WORDS)
         return gate
@@ -463,7 +463,7 @@ class Web:
         return web.json_response({"participants": self.demo})
 
     async def demo_close(self, request):
-        gate = self.gate(request)
+        gate = self.gate_of(request)
         self.participant_of_demo(request)
         gate.close()
         return web.json_response(self.shown(gate))

@@ -27,7 +27,7 @@ FEW_CURVES = 8  # that are drawn in one process
 NUMBER = "n"  # the class of cells that stand to the right
 
 
-class Head(NamedTuple):
+class Heading(NamedTuple):
     words: str
     kind: str = ""
 
@@ -57,7 +57,7 @@ class Section(NamedTuple):
 def heads(*words):
     """The heads of a table; those that end with a unit or begin with `#` stand over numbers."""
     units = (", MW", ", MWh", ", EUR", "EUR/MWh")
-    return [Head(word.lstrip("#"), NUMBER if word[0] == "#" or word.endswith(units) else "") for word in words]
+    return [Heading(word.lstrip("#"), NUMBER if word[0] == "#" or word.endswith(units) else "") for word in words]
 
 
 def with_hover(drawn, hover):
@@ -163,7 +163,7 @@ def block_table(day, found, needed):
         rows.append([name_cell(block.who, block.name), mark, why, euros(day, surplus), *row])
     columns = heads("surplus, EUR", "side", "limit, EUR/MWh", "periods", "offered, MWh", "linked by")
     caption = "Each block, the reason, and its surplus at the prices; for a rejected block, with the best family that it belongs to"
-    return Table(caption, [Head("block"), Head("decision", "decision"), Head("reason", "why"), *columns], rows)
+    return Table(caption, [Heading("block"), Heading("decision", "decision"), Heading("reason", "why"), *columns], rows)
 
 
 def order_row(day, row, made, found):
@@ -198,7 +198,7 @@ def participants(day, found):
     for who in totals:
         count = f"{len(rows[who])} order{'s' * (len(rows[who]) > 1)}"
         summary = Markup('<b>{}</b> <span class="soft">{}</span>').format(who, count)
-        yield Table(f"The orders of {who}", [*columns, Head("volume times price, EUR", NUMBER)], rows[who], summary=summary)
+        yield Table(f"The orders of {who}", [*columns, Heading("volume times price, EUR", NUMBER)], rows[who], summary=summary)
 
 
 def refusals(day):
@@ -207,7 +207,7 @@ def refusals(day):
         for number, (command, reason) in enumerate(zip(day.journal.commands, day.reasons), 1)
         if reason
     ]
-    columns = [Head("command", NUMBER), Head("reason"), Head("in words", "why"), Head("as given", "given")]
+    columns = [Heading("command", NUMBER), Heading("reason"), Heading("in words", "why"), Heading("as given", "given")]
     return [Table("The commands that the order book refused; they have no part in the results", columns, rows)] if rows else []
 
 
@@ -320,9 +320,9 @@ def statement_table(day, who, needed):
         row += [cells[name] for name in ("executed_mwh", "command", "what", "kind", "side", "price_eur_mwh", "periods")]
         rows.append([*row, cells["volume_mw"].replace(";", "; ")])
     columns = heads("is paid, EUR", "executed, MWh", "#command", "what", "kind", "side", "limit, EUR/MWh", "periods")
-    columns.append(Head("volume, MW", f"{NUMBER} list"))
+    columns.append(Heading("volume, MW", f"{NUMBER} list"))
     caption = f"Each command of {who}: the result of its order, or the reply, and the reason; an amount below 0 is paid by {who}"
-    return Table(caption, [Head("order"), Head("outcome", "outcome"), Head("reason", "why"), *columns], rows)
+    return Table(caption, [Heading("order"), Heading("outcome", "outcome"), Heading("reason", "why"), *columns], rows)
 
 
 def own_periods(day, who):

@@ -24,7 +24,7 @@ def read_rows(data, preferred, needed=(), most=None):
     in its first row, or else of the first. If there are `most`, more rows after the first are a fault. Also a note on the sheet, if there
     are several."""
     package = Package(data)
-    book = Book(package)
+    book = Workbook(package)
     name, part, note = book.chosen(preferred, needed)
     sheet = Sheet(name, part, book, most)
     package.read(sheet.part, sheet)
@@ -67,7 +67,7 @@ class Relations(Part):
         return found[0] if found else None
 
 
-class Book(Part):
+class Workbook(Part):
     """The sheets of a workbook, and the parts that they share."""
 
     ROOT = "workbook"

@@ -252,7 +252,7 @@ class Sheet(Texts):
             raise self.wrong(f"{serial:.15g} is no date, which its format shows") from None
 
     def open_sheetCalcPr(self, attributes):
-        """As `Book.open_calcPr`, but after the cells."""
+        """As `Workbook.open_calcPr`, but after the cells."""
         if self.first_formula and is_due(attributes):
             (self.row, self.column), self.cells = self.first_formula, []
             raise self.wrong("its formula was saved without its value: open the workbook in Excel, and save it")
