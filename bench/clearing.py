@@ -48,7 +48,7 @@ def answer_of(asked):
     return (None, f"gave up after {PEER_LIMIT:g} s") if text == "gave up" else (int(text), "")
 
 
-class Book:
+class MeasuredBook:
     """A book with blocks, and its figures. `walls` has the seconds of the runs of each program."""
 
     def __init__(self, part, drawn):

@@ -62,17 +62,17 @@ def opening(folder, medium):
     record_times(f"opening 10,000 records {medium} compared with dam replay", *next_to_replay(lambda _: run([DESK, file])), 2)
 
 
-def keeping(folder):
+def record_kept(folder):
     for size, least in TARGETS.items():
         batches = batches_of(size)
         count = sum(batch.count(b"\n") for batch in batches)
-        programs = {"desk": lambda _: count / kept(folder, batches), "rows": lambda _: count / rows(folder, size)}
+        programs = {"desk": lambda _: count / seconds_of_desk(folder, batches), "sqlite": lambda _: count / seconds_of_sqlite(folder, size)}
         rates = in_turns(programs, DISK_TURNS, seconds=60)
         what = f"records that a desk keeps compared with sqlite3, batches of {size:,}"
-        record_ratio(what, rates["desk"], rates["rows"], least=least, shown=PER_SECOND)
+        record_ratio(what, rates["desk"], rates["sqlite"], least=least, shown=PER_SECOND)
 
 
-def kept(folder, batches):
+def seconds_of_desk(folder, batches):
     """The seconds of a desk that gets these batches."""
     in_packets = max(map(len, batches)) <= device.PACKET
     ours, theirs = os.pipe2(os.O_CLOEXEC | (os.O_DIRECT if in_packets else 0))
@@ -105,7 +105,7 @@ def answers(desk, batches):
     return b"".join(parts)
 
 
-def rows(folder, size):
+def seconds_of_sqlite(folder, size):
     """The seconds in which sqlite3 keeps the journal."""
     records = Path(JOURNAL).read_text().splitlines()
     with contextlib.closing(sqlite3.connect(new_in(folder), isolation_level=None)) as database:
@@ -137,7 +137,7 @@ def main():
         memory(folder)
     with tempfile.TemporaryDirectory(dir="out", prefix="desk-") as folder:
         opening(folder, "on disk")
-        keeping(folder)
+        record_kept(folder)
 
 
 main()

@@ -23,7 +23,7 @@ import math
 import random
 import sys
 
-from make_family import BLOCKS, HOURS, MOST_HOURLY, Book, Day, number_of
+from make_family import BLOCKS, HOURS, MOST_HOURLY, DrawnBook, Day, number_of
 from make_journal import CLOSE, PARTICIPANTS, Order
 
 HOURLY, MOST_THIN = 3_800, 1_500  # the usual number of hourly orders, and the greatest of a thin market
@@ -125,11 +125,11 @@ FREE = "free"
 BONDS = {FREE: lambda blocks, rng: None, "links": links, "groups": groups, "both": links_and_groups}
 
 
-def book(kind, spread, seed, parts, hourly=HOURLY, bonds=FREE):
+def drawn_book(kind, spread, seed, parts, hourly=HOURLY, bonds=FREE):
     told = f", {bonds}" if bonds != FREE else ""
     told += f", {hourly:,} orders" if hourly != HOURLY else ""
     words, without = ([kind, *map(str, (spread, seed, parts, blocks, hourly)), bonds] for blocks in (BLOCKS, 0))
-    return Book(
+    return DrawnBook(
         name=f"{kind} {HOURS * parts}{told}, spread {spread:,}, seed {seed}",
         kind=kind,
         script="./make_blocks.py",
@@ -143,7 +143,7 @@ def book(kind, spread, seed, parts, hourly=HOURLY, bonds=FREE):
 SPREADS, SEEDS = (5, 50, 300, 1_000), (1, 2, 3)
 USUAL = 50  # the spread for which there is a book of each seed; for the others there is one
 BOOKS = [
-    book(kind, spread, seed, parts)
+    drawn_book(kind, spread, seed, parts)
     for kind in USUAL_KINDS
     for parts in (1, 4)
     for spread in SPREADS
@@ -152,22 +152,22 @@ BOOKS = [
 # Thin markets: the spreads take turns, so that each kind has each of them on each length of a day.
 THIN_HOURLY, THIN_SPREADS = (200, 500, 1_500), (0, 20, 50)
 THIN = [
-    book(kind, THIN_SPREADS[(kinds + lengths + turn) % len(THIN_SPREADS)], 1, parts, orders)
+    drawn_book(kind, THIN_SPREADS[(kinds + lengths + turn) % len(THIN_SPREADS)], 1, parts, orders)
     for kinds, kind in enumerate(USUAL_KINDS)
     for lengths, parts in enumerate((1, 4))
     for turn, orders in enumerate(THIN_HOURLY)
 ]
 # One of equal limits, so that a search looks for a sum of volumes, and one that took more than 30 s while bounds came from tables.
-THIN += [book("odd", 0, 2, 4, 500), book("base", 20, 6, 4, 1_500)]
+THIN += [drawn_book("odd", 0, 2, 4, 500), drawn_book("base", 20, 6, 4, 1_500)]
 # The thin markets that took a search longest, of 2,575 that were drawn at random: by number of orders, spread and seed.
 ODD = {1_000: [(0, 249)], 800: [(0, 285)], 300: [(0, 242)]}
 RANDOM = {500: [(200, 686), (5, 30), (5, 284), (50, 347), (0, 109), (5, 752)], 800: [(300, 1)]}
-HARDEST = [book(kind, *drawn, 4, orders) for kind, found in (("odd", ODD), ("random", RANDOM)) for orders, each in found.items() for drawn in each]
-BOUND = [book("base", 20, 1, parts, orders, bonds) for bonds in list(BONDS)[1:] for parts, orders in ((1, 200), (4, 500))]
+HARDEST = [drawn_book(kind, *drawn, 4, orders) for kind, found in (("odd", ODD), ("random", RANDOM)) for orders, each in found.items() for drawn in each]
+BOUND = [drawn_book("base", 20, 1, parts, orders, bonds) for bonds in list(BONDS)[1:] for parts, orders in ((1, 200), (4, 500))]
 # Deep markets with blocks of other kinds: mixed ones, and wide ones with two orders of each side in a period, or with many.
-DEEP = [book("mixed", spread, 1, parts) for parts in (1, 4) for spread in (20, 50)]
+DEEP = [drawn_book("mixed", spread, 1, parts) for parts in (1, 4) for spread in (20, 50)]
 FEW = {1: 96, 4: 384}
-DEEP += [book(WIDE, spread, 1, parts, orders) for parts, few in FEW.items() for spread, orders in ((0, few), (50, few), (0, HOURLY))]
+DEEP += [drawn_book(WIDE, spread, 1, parts, orders) for parts, few in FEW.items() for spread, orders in ((0, few), (50, few), (0, HOURLY))]
 MORE = THIN + HARDEST + BOUND + DEEP
 
 

@@ -117,7 +117,7 @@ def ties(day, count, _volume):
 FAMILIES = {made.__name__: made for made in (market, paradox, spread, nearties, links, groups, ties)}
 
 
-class Book(NamedTuple):
+class DrawnBook(NamedTuple):
     """A book with the most blocks: its name, the script and the arguments that print it, and those that print it without blocks."""
 
     name: str
@@ -129,15 +129,15 @@ class Book(NamedTuple):
     note: str = ""  # a fact about the book that explains a long search
 
 
-def book(family, hourly, parts):
+def drawn_book(family, hourly, parts):
     name = f"{family} {hourly:,}, {HOURS * parts} periods"
     words = ([family, str(hourly), str(blocks), str(parts)] for blocks in (BLOCKS, 0))
-    return Book(name, family, "./make_family.py", *words, is_thin=hourly <= MOST_THIN)
+    return DrawnBook(name, family, "./make_family.py", *words, is_thin=hourly <= MOST_THIN)
 
 
 HOURLY = (500, 4_000)
-BOOKS = [book(family, hourly, parts) for family in FAMILIES for hourly in HOURLY for parts in (1, 4)]
-THIN = [book(family, MOST_THIN, parts) for family in ("links", "groups") for parts in (1, 4)]
+BOOKS = [drawn_book(family, hourly, parts) for family in FAMILIES for hourly in HOURLY for parts in (1, 4)]
+THIN = [drawn_book(family, MOST_THIN, parts) for family in ("links", "groups") for parts in (1, 4)]
 
 
 def number_of(name, word, allowed, of=""):

@@ -15,7 +15,7 @@ search looks for a subset of the volumes with the best sum, and hardly any bound
 
 import make_blocks
 import make_family
-from clearing import MOST_OF_BEFORE, Book, Together, kinds_of
+from clearing import MOST_OF_BEFORE, MeasuredBook, Together, kinds_of
 from figures import enumeration
 
 MOST = 3.0  # seconds
@@ -25,7 +25,7 @@ BOOKS = make_blocks.THIN + make_blocks.HARDEST + make_blocks.BOUND + make_family
 
 
 def measured(drawn):
-    book = Book("thin", drawn)
+    book = MeasuredBook("thin", drawn)
     book.clear({"enumeration": enumeration(book.path)})
     book.show(MOST, {"before": MOST_OF_BEFORE, "enumeration": MOST_OF_ENUMERATION[drawn.is_thin]})
     if not drawn.is_thin:

@@ -22,7 +22,7 @@ from lib.tool import modules
 PEER, THIN = TOP / "bench" / "peer.py", worked.named("thin")
 
 
-class Timed(clearing.Book):
+class Timed(clearing.MeasuredBook):
     """A book whose runs took these seconds."""
 
     def __init__(self, name, **walls):
