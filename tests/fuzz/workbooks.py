@@ -551,8 +551,10 @@ LARGE = {
         b"<row>%s</row>" % b"".join(b"<c t='str'><v>%d.%d</v></c>" % (row, at) for at in range(30)) for row in range(9_990)), CLOSE)),
     "wide characters": ("", lambda: of_sheet(
         OPEN, (b"<row><c t='str'><v>" + b"\xf0\x9f\x98\x80" * 400 + b"</v></c></row>" for _ in range(10_000)), CLOSE)),
-    "formats": (None, lambda: of_sheet(OPEN, order(1), CLOSE, **{"xl/styles.xml": formats(5_000, b"[" * 255)})),
-    "formats, and many cells": ("", lambda: of_sheet(OPEN, numbers(lambda at: b"0"), CLOSE, **{"xl/styles.xml": formats(5_000, b"0" * 255)})),
+    "formats": (None, lambda: of_sheet(OPEN, order(1), CLOSE, **{"xl/styles.xml": formats(5_000, b"[" * 20)})),
+    "much text of formats": ("characters in its number formats", lambda: of_sheet(
+        OPEN, order(1), CLOSE, **{"xl/styles.xml": formats(5_000, b"[" * 255)})),
+    "formats, and many cells": ("", lambda: of_sheet(OPEN, numbers(lambda at: b"0"), CLOSE, **{"xl/styles.xml": formats(5_000, b"0" * 20)})),
     "long formats": ("a format has more than", lambda: of_sheet(OPEN, CLOSE, **{"xl/styles.xml": formats(1_500, b"[" * 60_000)})),
     "many formats": ("number formats", lambda: of_sheet(OPEN, CLOSE, **{"xl/styles.xml": formats(10**6, b"[")})),
     "unused strings": (None, lambda: of_sheet(OPEN, b"<row><c t='s'><v>5</v></c></row>", CLOSE, **{SHARED: strings(700_000, 3)})),

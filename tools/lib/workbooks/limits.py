@@ -10,6 +10,7 @@ MOST_NAMES, MOST_NAMED = 10_000, 2**20  # of elements, attributes and namespaces
 MOST_NAMESPACES = 100_000  # declared in a part
 MOST_HEADS = 100_000  # shared strings in the first rows of all sheets
 MOST_SHEETS, MOST_OWN_FORMATS, MOST_FORMATS = 1_000, 5_000, 100_000
+MOST_OF_FORMATS = 100_000  # characters of its own formats
 LONGEST_MARKUP, LONGEST_NAME = 65_536, 1_000  # bytes of a tag or comment; characters of a name
 DEEPEST = 32  # elements in one another
 CHUNK = 65_536

@@ -16,7 +16,7 @@ EXTENSIONS, LEFT_OUT = "extLst", {"extLst", "rPr", "phoneticPr"}  # elements tha
 ANY_OTHERS = "*"
 
 
-UNSIGNED = re.compile(r"\+?([0-9]{1,10})")
+UNSIGNED = re.compile(r"\+?0*([0-9]{1,10})")
 
 
 @functools.lru_cache(64)

@@ -5,7 +5,7 @@ import re
 
 from ..base import text
 from .cells import Changed, Date, Formatted, Percentage, Shortened
-from .limits import LONGEST_FORMAT, MOST_FORMATS, MOST_OWN_FORMATS, broken, too_many
+from .limits import LONGEST_FORMAT, MOST_FORMATS, MOST_OF_FORMATS, MOST_OWN_FORMATS, broken, too_many
 from .part import ANY_OTHERS, BLANK, Part, unsigned
 
 # The numbers of Excel's own formats of dates and times, and what in another format isn't one: texts, and a condition or colour.
@@ -130,7 +130,7 @@ class Styles(Part):
         super().__init__()
         self.codes = {}  # of the workbook's own formats, by their numbers
         self.shown = {**PLAIN_FORMATS, **dict.fromkeys(DATE_FORMATS, Date), **dict.fromkeys(PERCENT_FORMATS, Percentage)}
-        self.formats, self.filled, self.own = [], set(), 0
+        self.formats, self.filled, self.own, self.characters = [], set(), 0, 0
         self.styled = set()  # the numbers of formats that show texts in another way
         self.conditions, self.conditional = 0, set()  # how many formats of conditions there are, and those that change what is shown
 
@@ -141,6 +141,9 @@ class Styles(Part):
         self.own += 1
         if self.own > MOST_OWN_FORMATS:
             raise too_many(MOST_OWN_FORMATS, "number formats")
+        self.characters += len(code)
+        if self.characters > MOST_OF_FORMATS:
+            raise too_many(MOST_OF_FORMATS, "characters in its number formats")
         shown, is_plain = shown_by(code), shows_texts(code)
         if self.within[-2] == "dxf":
             if shown not in (str, general) or not is_plain:
