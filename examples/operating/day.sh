@@ -1,7 +1,7 @@
 #!/bin/sh
 # day.sh FOLDER: clears day.csv, of day.desk if it is there; if its status is 0, results.txt may be published
-[ "$1" ] && CDPATH= cd -- "$1/" && command exec 9> lock || exit 10
-flock -n 9 || { echo "$1: another run has the lock" >&2; exit 75; }
+[ "$1" ] && CDPATH= cd -- "$1/" && [ ! -p lock ] && command exec 9>> lock || exit 10
+flock -n 9 || { [ $? = 1 ] || exit 10; echo "$1: another run has the lock" >&2; exit 75; }
 rm -rf new.* results.txt replies.txt && new=$(mktemp -d new.XXXXXX) || exit 10
 if [ -e day.desk ] || [ -L day.desk ]; then
     dam-desk --journal day.desk > "$new/day.csv" || { echo "desk: $?"; exit 10; }

@@ -199,6 +199,22 @@ class Day(unittest.TestCase):
         Path(self.day, "lock").mkdir()
         self.assertEqual((self.run_once()[0], self.names()), (10, ["day.csv"]))
 
+    def test_a_lock_of_another_kind(self):
+        """A pipe would wait for a reader, and the file behind a link would be emptied."""
+        lock, other = Path(self.day, "lock"), self.bin.parent / "other"
+        os.mkfifo(lock)
+        self.assertEqual((self.run_once()[0], self.names()), (10, ["day.csv"]))
+        lock.unlink()
+        other.write_text("kept")
+        lock.symlink_to(other)
+        self.assertEqual((self.run_once()[0], other.read_text()), (0, "kept"))
+
+    def test_without_flock(self):
+        """That isn't a lock which another run has."""
+        for status, wanted in ((127, 10), (1, 75)):
+            self.script("flock", f"exit {status}")
+            self.assertEqual((self.run_once()[0], self.names()), (wanted, ["day.csv"]))
+
     def test_the_units(self):
         service, timer = ((FOLDER / f"dam-day.{kind}").read_text() for kind in ("service", "timer"))
         command = re.search(r"^ExecStart=/bin/sh -c '(.*)'$", service, re.MULTILINE)[1].replace("%%", "%")

@@ -16,6 +16,7 @@ FIELDS = {  # of a command in JSON, by its kind: those that it must have, and th
     "cancel": ({"order"}, set()),
 }
 MOST_LINTED, MOST_LINES = 1 << 12, 20  # bytes and lines of a body of which all faults are named
+WITH_DAY = re.compile(rb'[\r\n]*"?day"?,')  # at the beginning of a body
 RECORD = re.compile("record ([0-9]+)")
 CODE = re.compile(rf" \((?:{'|'.join(book.REASONS)})\)$", re.MULTILINE)  # of the book, behind its words in a table's fault
 DAY = b"day,%d,,,,,,,\n" % rules.GREATEST_PERIOD  # before records; the desk's book knows the day's periods
@@ -52,6 +53,8 @@ def named(place, first):
 
 def in_words(body, fault):
     """The faults of a body in words. Of a long one, the first as it is named, counted from the first of its records."""
+    if WITH_DAY.match(body):
+        return " its first record is a day, which the office adds: send the commands alone"
     if len(body) <= MOST_LINTED and len(body.splitlines()) <= MOST_LINES:
         return lint.in_few_words(body, rules.GREATEST_PERIOD)
     return " " + RECORD.sub(lambda found: f"record {int(found[1]) - 1}", str(fault).removeprefix("input: "))

@@ -41,12 +41,13 @@ def close_of(words, date, zone):
         if CLOCK.fullmatch(words):
             words = f"{date - DAY_BEFORE}T{words}"
         local = datetime.datetime.strptime(words, "%Y-%m-%dT%H:%M")
-    except (ValueError, OverflowError):
+        found = local.replace(tzinfo=zone).astimezone(datetime.timezone.utc)
+        again = found.astimezone(zone).replace(tzinfo=None)
+    except (ValueError, OverflowError):  # also of a time at an end of the calendar
         raise command.Stop(
             f"--close {text.quoted(words)} should be a time such as 12:00, or 2026-11-28T12:00", command.COMMAND_LINE
         ) from None
-    found = local.replace(tzinfo=zone).astimezone(datetime.timezone.utc)
-    if found.astimezone(zone).replace(tzinfo=None) != local:
+    if again != local:
         raise command.Stop(f"--close {words}: there is no such time in {zone.key}, whose clocks change", command.COMMAND_LINE)
     return found
 

@@ -14,6 +14,7 @@ PERCENT_FORMATS = 9, 10, 67, 68  # the numbers of Excel's own
 MOST_DIGITS = 11  # that Excel shows of a number in the format General
 PIECE = re.compile(r'"[^"]*"|\\.|_.|\*.|\[[^\]\[]*\]|.')  # of a format
 UNSEEN = re.compile(r"_.|\* | |\[(?:\$(?:-.*)?|[^$].*)?\]", re.DOTALL)  # a piece that adds no character
+SEPARATORS = " '\u00a0\u202f"  # of thousands, besides the comma
 NO_DATE = re.compile(r'"[^"]*"|\\.|_.|\*.|\[(?!(?:h+|m+|s+)\])[^\]\[]*\]', re.IGNORECASE)
 
 
@@ -66,18 +67,24 @@ def added(piece):
     return piece[1:].removesuffix('"') if piece[0] in '"\\' else ""
 
 
-def is_changed(pieces):
-    """Whether a section of a format shows another number: if it adds digits, or a point or a comma of its own, or shows a thousandth, or no
-    digit at all."""
-    if any(re.search("[0-9]", words) or re.search("[.,]", words) and not re.search(r"[^\W\d_]", words) for words in map(added, pieces)):
+def is_changed(pieces, is_positive):
+    """Whether a section of a format shows another number: if it adds digits, a point or a comma, the sign of a negative number to a positive
+    one, or anything between digits, or shows a thousandth, or no digit at all."""
+    words = list(map(added, pieces))
+    marks = "".join(each for each in words if not any(map(str.isalpha, each)))
+    # in place of the added characters that aren't separators of thousands, one that no format has
+    own = "".join(piece if len(piece) == 1 else "\0" if each.strip(SEPARATORS) else "" for piece, each in zip(pieces, words))
+    own = re.sub("[Ee][+-]", "E", own)
+    if any(map(str.isnumeric, "".join(words))) or re.search("[.,]", marks) or is_positive and re.search("[-()\u2212]", marks + own):
         return True
-    own = "".join(piece for piece in pieces if len(piece) == 1)
-    return bool(re.search(r"[1-9]|[0#?],+(?![0#?,])", own)) or not re.search("[0#?]", own) and "general" not in own.lower()
+    if re.search(rf"[0#?][^0#?.,/E{SEPARATORS}]+[0#?]|[1-9]|[0#?],+(?![0#?,])", own):
+        return True
+    return not re.search("[0#?]", own) and "general" not in own.lower()
 
 
 def of_sections(code):
     """How a format shows a number if one of its sections changes some."""
-    changed = [is_changed(section) for section in sections_of(code)[:3]]
+    changed = [is_changed(section, at == 0) for at, section in enumerate(sections_of(code)[:3])]
     if re.search(r"\[[<>=]", code):
         changed = [any(changed)]
 
