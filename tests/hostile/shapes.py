@@ -35,6 +35,7 @@ SEARCHED = full.Size(480, 14, 1_000)
 WHOLE = full.Size(rules.MOST_HOURLY, rules.MOST_BLOCKS, rules.MOST_RECORDS)
 LONG_TEXT = 2 << 20
 THIN = 240  # hourly orders of a thin market
+MOST_WORKERS = 8  # of a plan
 KINDS = ["base", "peaks", "shaped", "odd", "random", "mixed", "wide"]
 FAMILIES = ["market", "paradox", "spread", "nearties", "links", "groups", "ties"]
 
@@ -171,6 +172,21 @@ def full_books():
             yield f"replay {shape.periods}: {about}", Run(REPLAY, journal(records, True, shape.periods))
 
 
+def participants():
+    """Yields the runs on a book in which each order has a participant of its own."""
+    names = map("".join, itertools.product("ABCDEFGHIJKLMNOP", repeat=3))
+    hours = [SHORT._replace(who=name).hour(number) for number, name in enumerate(itertools.islice(names, rules.MOST_HOURLY))]
+    for run in (Run(REPLAY, journal(hours)), Run(CLEAR, journal(hours))):
+        yield f"{run.words[0]} of {rules.MOST_HOURLY:,} participants", run
+
+
+def by_workers():
+    """Yields the clearings of a book by each number of workers."""
+    drawn = full.Drawn(random.Random("by workers"), 24, "deep", SEARCHED, True, "free")
+    for workers in range(2, MOST_WORKERS + 1):
+        yield f"clear by {workers} workers", Run(["clear", "--workers", str(workers)], drawn.text())
+
+
 def gaps():
     """Yields the runs on books from which an order was cancelled. A book that has room where it stood finds each later order in a longer
     way, so a closed one has no such room."""
@@ -207,7 +223,7 @@ def blocks():
         yield f"clear: {family}", Run(CLEAR, made("make_family.py", family, 400, 12))
     for count in (4, 8, *range(16, rules.MOST_BLOCKS + 1)):
         yield f"clear: {count} blocks in a thin market", Run(CLEAR, made("make_blocks.py", "random", 20, 1, 1, count, THIN, "free"))
-    for periods in (24, 96):
+    for periods in rules.DAYS:
         drawn = full.Drawn(random.Random(f"whole {periods}"), periods, "large", WHOLE, True, "free")
         yield f"clear: a full book of large blocks, {periods} periods", Run(CLEAR, drawn.text())
     yield "clear of a crowded period up to a node", Run([*CLEAR, "--nodes", "1"], journal(crowded()), (UNFINISHED,))
@@ -252,7 +268,7 @@ def texts():
 
 
 def every():
-    return dict(itertools.chain(days(), full_books(), gaps(), searches(), blocks(), texts(), long_texts()))
+    return dict(itertools.chain(days(), full_books(), participants(), gaps(), by_workers(), searches(), blocks(), texts(), long_texts()))
 
 
 def cost(program, run):

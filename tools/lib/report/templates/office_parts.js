@@ -179,7 +179,7 @@ function numberRule(digits, least, greatest, unit) {
   return Object.assign(rule, { ends });
 }
 
-const limitRule = numberRule(2, RULES.least_price, RULES.greatest_price, "EUR/MWh");
+const limitRule = numberRule(2, RULES.lowest_price, RULES.highest_price, "EUR/MWh");
 const volumeRule = numberRule(1, 1, RULES.greatest_volume, "MW");
 
 function nameRule(words) {
