@@ -5,6 +5,7 @@ import errno
 import io
 import json
 import random
+import re
 import tempfile
 import tracemalloc
 import unittest
@@ -12,6 +13,7 @@ from pathlib import Path
 from unittest import mock
 
 from office_support import DAY, LATEST, LENGTHS, NAMES, SECONDS, Disk, Office, aiohttp, commands, opener, random_record
+from support import TOOLS
 
 from lib.base import rules
 from lib.journal import book, journal
@@ -24,6 +26,9 @@ try:
     from lib.office.desk import Desk, Ended
 except ImportError:  # without python3-aiohttp and the like, whose tests are skipped
     pass
+
+
+TEMPLATES = TOOLS / "lib" / "report" / "templates"
 
 
 class Crashes(Office):
@@ -317,6 +322,14 @@ class Opening(unittest.IsolatedAsyncioTestCase):
                 opening.cancel()
         self.assertEqual(ended, {opening})
         self.assertIsInstance(opening.exception(), asyncio.TimeoutError)
+
+
+@unittest.skipUnless(aiohttp, "aiohttp is missing (Debian's python3-aiohttp)")
+class Page(unittest.TestCase):
+    def test_it_asks_for_no_other_numbers_than_it_gets(self):
+        asked = {name for path in TEMPLATES.glob("office*.js") for name in re.findall(r"\bRULES\.(\w+)", path.read_text())}
+        self.assertGreater(len(asked), 3)
+        self.assertLessEqual(asked, {name.lower() for name in web.RULES})
 
 
 if __name__ == "__main__":
