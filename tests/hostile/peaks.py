@@ -9,6 +9,8 @@ text, and with a text of as many short commands as a day takes, each engine hold
 few commands it holds at most LITTLE, and with some hundred at most EACH times the text's bytes more. `read_journal`, which `dam_refusals`
 calls twice, holds at most as much each time."""
 
+import itertools
+
 from again import REFUSALS
 from preload import Program, Refusal  # by which `lib` is found
 from shared.printed import Printed
@@ -82,6 +84,9 @@ def journals():
     yield "a full book", short, [REPLAY, DAY]
     yield "a full book, closed", short + CLOSE, [REPLAY, CLEAR]
     yield "short commands", DAY_RECORD + b"cancel,A,X,,,,,,\n" * rules.MOST_DAY_COMMANDS, [REPLAY, DAY]
+    whose = itertools.cycle(b",%c," % code for code in b"ABCDEFGH"[: rules.MOST_DAY_PARTICIPANTS])
+    shared = b"".join([DAY_RECORD, *(record.replace(b",A,", who, 1) for record, who in zip(orders(rules.MOST_DAY_COMMANDS), whose))])
+    yield "commands of all participants by turns", shared, [REPLAY, DAY]
     few = b"".join([DAY_RECORD, *(b"cancel,%c,X,,,,,,\n" % code for code in b"ABCDEFGH"[: rules.MOST_DAY_PARTICIPANTS])])
     yield "a command of each participant", few, [REPLAY, DAY]
     yield "a command of each participant, closed", few + CLOSE, [REPLAY, CLEAR]
