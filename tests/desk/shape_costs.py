@@ -1,5 +1,5 @@
 """What a desk costs for journals of each shape, as `tests/hostile/shapes.py` has it for `dam`: with a new file, with that file opened
-again, and for the journal of the file."""
+again, for the journal of the file, and for the second half of the journal in a file that has the first."""
 
 import itertools
 import shutil
@@ -45,6 +45,17 @@ def of_journal(program, desk, about, data):
         if printed.status:
             raise ValueError(f"{about}, {name}: status {printed.status}, {printed.stderr[:80]!r}")
         yield f"{name} {about}", found, peak
+    yield f"rest {about}", *of_rest(program, desk, data)
+
+
+def of_rest(program, desk, data):
+    """What the second half of a journal costs, whose first half a file has: the instructions, and the bytes that are held."""
+    lines = data.splitlines(keepends=True)
+    first, rest = (b"".join(part) for part in (lines[: len(lines) // 2], lines[len(lines) // 2 :]))
+    files = [desk.folder() / "day.desk" for _ in range(2)]
+    for file in files:
+        program.run([file], first, Refusal("peak"))
+    return costs.instructions(program, [files[0]], rest, SEED), program.run([files[1]], rest, Refusal("peak"))[1]
 
 
 def costs_of(desk):
