@@ -182,9 +182,9 @@ def participants():
 
 def by_workers():
     """Yields the clearings of a book by each number of workers."""
-    drawn = full.Drawn(random.Random("by workers"), 24, "deep", SEARCHED, True, "free")
+    data = made("make_blocks.py", "random", 20, 1, 1, 20, THIN, "free")
     for workers in range(2, MOST_WORKERS + 1):
-        yield f"clear by {workers} workers", Run(["clear", "--workers", str(workers)], drawn.text())
+        yield f"clear by {workers} workers", Run(["clear", "--workers", str(workers)], data)
 
 
 def gaps():
