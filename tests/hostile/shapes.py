@@ -188,8 +188,8 @@ def by_workers():
 
 
 def gaps():
-    """Yields the runs on books from which an order was cancelled. A book that has room where it stood finds each later order in a longer
-    way, so a closed one has no such room."""
+    """Yields the runs on books from which an order was cancelled. Until its close, a book keeps a gap in the place of the order, and takes
+    longer to find each later one."""
     for count in (30, 300, 2_900, FULL_HOURS):
         records = [*map(SHORT.hour, range(count)), SHORT.cancel(SHORT.named(count // 2))]
         for run in (Run(CLEAR, journal(records)), Run(DAY, journal(records, False))):

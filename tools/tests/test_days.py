@@ -335,7 +335,7 @@ class Days(unittest.TestCase):
         return ran.returncode, ran.stdout.splitlines()[1].rpartition("  ")[2]
 
     def test_without_a_path(self):
-        """Python doesn't know then where it is."""
+        """Python doesn't know its own path then."""
         self.write(a=(DATA, TEXT))
         for path in ({}, {"PATH": ""}, {"PATH": "/nowhere"}):
             words = ["python3", "-I", "-S", TOOLS / "audit", "--days", self.folder]
