@@ -68,7 +68,7 @@ impl Classes<'_> {
     }
 
     /// Writes a bound by the prices at the middle of the net volumes of the selections that accept `taken` and any of the places left.
-    pub fn write_price_bound(&self, taken: u32, left: &[usize], bound: &mut Bound) {
+    pub fn write_pricing(&self, taken: u32, left: &[usize], bound: &mut Bound) {
         let mut weights: [i32; BLOCKS] = std::array::from_fn(|place| 2 * (taken >> place & 1) as i32);
         for place in left {
             weights[*place] = 1;

@@ -38,7 +38,7 @@ fn best_turn(classes: &Classes, bound: &Bound, best: Best, base: u32, from: usiz
 fn first_selection(classes: &Classes) -> Best {
     let mut bound = Bound::empty();
     let places: Vec<usize> = (0..classes.problem.blocks.len()).collect();
-    classes.write_price_bound(0, &places, &mut bound);
+    classes.write_pricing(0, &places, &mut bound);
     let welfare = classes.welfare(0, &bound, i64::MIN / 2).expect("nothing accepted balances");
     let mut best = Best { accepted: 0, welfare };
     loop {
@@ -138,7 +138,7 @@ impl Walk<'_> {
     #[inline(never)]
     fn explore_repriced(&mut self, node: Node, bound: &Bound) {
         let mut own = Bound::empty();
-        self.classes.write_price_bound(node.taken, node.left, &mut own);
+        self.classes.write_pricing(node.taken, node.left, &mut own);
         let most = own.most(node.taken, node.left);
         if most >= node.bound {
             self.branch(node, bound);
@@ -182,7 +182,7 @@ impl Walk<'_> {
         let taken = (0..depth).filter(|place| number >> (depth - 1 - place) & 1 == 0).fold(0, |taken, place| taken | 1 << place);
         if self.classes.problem.admits_all(taken) {
             let mut bound = Bound::empty();
-            self.classes.write_price_bound(taken, order, &mut bound);
+            self.classes.write_pricing(taken, order, &mut bound);
             let rejected = ((1 << depth) - 1) & !taken;
             self.visit(Node { taken, rejected, left: order, bound: bound.most(taken, order) }, &bound);
         }

@@ -134,11 +134,11 @@ same_welfare bs xs ys t (ss ∷ hours) n v =
     (same_welfare bs xs ys (suc t) hours n v)
 
 -- the decisions and the selection that accepts nothing else
-pub padded_welfare : SumLaws → (bs : List Block) (prefix taken : List Bool) (depth : ℕ) (hours : List (List Step)) → length prefix ≡ depth
-    → taken ≡ padded prefix
-    → welfare_from bs taken 1 (relaxed_hours (drop depth bs) 1 hours) ≡ welfare_from bs prefix 1
+pub padded_welfare : SumLaws → (bs : List Block) (prefix accepted : List Bool) (depth : ℕ) (hours : List (List Step)) → length prefix ≡ depth
+    → accepted ≡ padded prefix
+    → welfare_from bs accepted 1 (relaxed_hours (drop depth bs) 1 hours) ≡ welfare_from bs prefix 1
     (relaxed_hours (drop (length prefix) bs) 1 hours)
-padded_welfare sums bs prefix taken depth hours long is =
+padded_welfare sums bs prefix accepted depth hours long is =
     ap₂ (λ (xs : List Bool) (n : ℕ). welfare_from bs xs 1 (relaxed_hours (drop n bs) 1 hours)) is (sym long)
     ∙ same_welfare bs (padded prefix) prefix 1 (relaxed_hours (drop (length prefix) bs) 1 hours)
     (λ u. sums.padded (net_volume_of_block u) bs prefix) (λ u. sums.padded (value_in u) bs prefix)

@@ -1,4 +1,4 @@
--- A bound by prices, line by line.
+-- A pricing, line by line.
 use Rattle.std.proofs.Common.{◌≡◌, ◌≢◌, ℕ, zero, suc, ◌+◌, ◌*◌, ◌<◌, ◌≤◌, Bool, ℤ, pos, ◌+ℤ◌, ◌*ℤ◌, Option, Some, List, []}
 use Rattle.std.proofs.Common.{◌∷◌, length, map, take, get_or, slice_set, ap, ap₂, ◌∙◌, sym, subst, refl, inl, inr, arith}
 use Rattle.std.specs.List.{slice_get}
@@ -20,10 +20,10 @@ use Rattle.dam_blocks.specs.Magnitude.{IsWithin}
 use Rattle.dam_blocks.specs.Selection.{net_volume_of_block}
 use Rattle.dam_bound.specs.Classes.{first_of}
 use Rattle.dam_bound.specs.ClassCurves.{day_value, IsClassIn, AreClasses, AreClassCurves}
-use Rattle.dam_bound.specs.Prices.{line_in, IsClassLine, IsByLines, IsPriceBound}
+use Rattle.dam_bound.specs.Prices.{line_in, IsClassLine, IsByLines, IsPricing}
 use Rattle.dam_bound.specs.Sums.{class_places, over_places, at_places}
 use Rattle.dam_bound.specs.declared.class_curves.Class.{Class}
-use Rattle.dam_bound.specs.declared.price_bound.PriceBound.{PriceBound}
+use Rattle.dam_bound.specs.declared.pricing.Pricing.{Pricing}
 use Rattle.dam_bound.specs.inside.Numbers.{AreNumbersWithin, AreRaised}
 use Rattle.dam_bound.proofs.AtPlaces.{at_same, all_within, raised_is, order_at, net_small, value_small}
 use Rattle.dam_bound.proofs.ClassPlaces.{over_same, over_within, over_next, take_get, is_place, listed, few_places, rising, few_taken, no_class, one_more}
@@ -174,9 +174,9 @@ gains_within problem j base gains lines few blocks so_far =
     (let found = take_get (class_places problem) j i c there in
     one_gain (line_in lines c) (net_volume_of_block (c + 1) b.order) problem c (so_far.lines_are i c found.1 found.0)
     (net_small (c + 1) b.order order))) in
-    let taken = few_taken (class_places problem) j in
+    let accepted = few_taken (class_places problem) j in
     added_within (last_period * greatest_value) (length places * (last_period * greatest_value)) ((j + 1) * (last_period * greatest_value))
-    (day_value problem b.order) _ value sum (omega (arith, taken))))
+    (day_value problem b.order) _ value sum (omega (arith, accepted))))
 
 pub base_within : (problem : ProblemState) (j : ℕ) (base : ℤ) (gains : List ℤ) (lines : List Line)
     → IsLinedSoFar problem j base gains lines → IsWithin (j * (last_period * greatest_segment_surplus)) base
@@ -186,32 +186,32 @@ base_within problem j base gains lines so_far =
     (let found = take_get (class_places problem) j i c there in
     let small = (so_far.lines_are i c found.1 found.0).small in
     record { at_least = small.surplus_at_least; at_most = small.surplus_at_most })) in
-    let taken = few_taken (class_places problem) j in let is = so_far.base_is in
+    let accepted = few_taken (class_places problem) j in let is = so_far.base_is in
     let a = sum.at_least in let b = sum.at_most in
-    record { at_least = omega (arith, ints, a, is, taken); at_most = omega (arith, ints, b, is, taken) }
+    record { at_least = omega (arith, ints, a, is, accepted); at_most = omega (arith, ints, b, is, accepted) }
 
 -- ---- all lines
-pub all_lines : (problem : ProblemState) (curves : CurvesState) (classes : List Class) (j : ℕ) (bound : PriceBound)
+pub all_lines : (problem : ProblemState) (curves : CurvesState) (classes : List Class) (j : ℕ) (pricing : Pricing)
     → length problem.hours ≤ last_period → length problem.blocks ≤ most_blocks → AreBlocks (length problem.hours) problem.blocks
     → AreClasses problem curves classes → length classes ≤ j → j ≤ length classes
-    → IsLinedSoFar problem j bound.base bound.gains bound.lines → IsPriceBound problem bound
-all_lines problem curves classes j bound few few_blocks blocks are past within so_far =
+    → IsLinedSoFar problem j pricing.base pricing.gains pricing.lines → IsPricing problem pricing
+all_lines problem curves classes j pricing few few_blocks blocks are past within so_far =
     let places = class_places problem in
     let many = as_many problem curves classes are in
     let whole : take j places ≡ places = take_all j places (omega (arith, many, past)) in
-    let lined : IsByLines problem bound = record {
+    let lined : IsByLines problem pricing = record {
       few = few_blocks;
       long = so_far.long;
       lines_are = λ c inside first.
           (let found = listed problem.blocks 0 (length problem.hours) c first (omega arith) (omega (arith, inside)) in
           let index = slice_get_within places found.0 c found.1 in
           so_far.lines_are found.0 c (omega (arith, index, many, past)) found.1);
-      base_is = so_far.base_is ∙ ap (over_places (λ c. (line_in bound.lines c).surplus)) whole;
-      gains_are = so_far.gains_are ∙ ap (λ (ps : List ℕ). at_places most_blocks (gain_over problem bound.lines ps) problem.blocks) whole;
+      base_is = so_far.base_is ∙ ap (over_places (λ c. (line_in pricing.lines c).surplus)) whole;
+      gains_are = so_far.gains_are ∙ ap (λ (ps : List ℕ). at_places most_blocks (gain_over problem pricing.lines ps) problem.blocks) whole;
     } in
     let most = few_places problem.blocks 0 (length problem.hours) in
-    let gains = gains_within problem j bound.base bound.gains bound.lines few blocks so_far in
-    let base = base_within problem j bound.base bound.gains bound.lines so_far in
+    let gains = gains_within problem j pricing.base pricing.gains pricing.lines few blocks so_far in
+    let base = base_within problem j pricing.base pricing.gains pricing.lines so_far in
     let low = base.at_least in let high = base.at_most in record {
       by_lines = lined;
       many = gains.long;
@@ -219,7 +219,7 @@ all_lines problem curves classes j bound few few_blocks blocks are past within s
           (let one = gains.each place d l in let a = one.at_least in let b = one.at_most in
           record { at_least = omega (arith, ints, a, many, most, few, within); at_most = omega (arith, ints, b, many, most, few, within) });
       small_base = record { at_least = omega (arith, ints, low, many, most, few, within); at_most = omega (arith, ints, high, many, most, few, within) };
-      above = λ selection w e. bounds_welfare problem bound selection w lined e;
+      above = λ selection w e. bounds_welfare problem pricing selection w lined e;
     }
 
 -- ---- the class that is read

@@ -16,7 +16,7 @@ use Rattle.dam_blocks.proofs.Sums.{over_accepted-plus, over_accepted-times, over
 use Rattle.dam_bound.specs.ClassCurves.{class_orders, least_net_in, most_net_in, day_value}
 use Rattle.dam_bound.specs.Prices.{over_gains, line_in, IsClassLine, priced_gain, IsByLines}
 use Rattle.dam_bound.specs.Sums.{class_places, over_places, at_places}
-use Rattle.dam_bound.specs.declared.price_bound.PriceBound.{PriceBound}
+use Rattle.dam_bound.specs.declared.pricing.Pricing.{Pricing}
 use Rattle.dam_bound.proofs.ByClass.{joint_of, whole_of, has_whole}
 use Rattle.dam_bound.proofs.ClassPlaces.{over_most, over_plus, is_place}
 use Rattle.dam_bound.proofs.Worth.{worth}
@@ -25,23 +25,23 @@ use Rattle.dam_bound.proofs.Worth.{worth}
 least_of : (x : ℤ) → (int_min x (pos 0) ≤ℤ x) × (int_min x (pos 0) ≤ℤ pos 0)
 least_of x = let is = int_min_is x (pos 0) in (omega (arith, ints, is), omega (arith, ints, is))
 
-most_of : (x : ℤ) → (x ≤ℤ int_max x (pos 0)) × (pos 0 ≤ℤ int_max x (pos 0))
-most_of x = let is = int_max_is x (pos 0) in (omega (arith, ints, is), omega (arith, ints, is))
+bound_of : (x : ℤ) → (x ≤ℤ int_max x (pos 0)) × (pos 0 ≤ℤ int_max x (pos 0))
+bound_of x = let is = int_max_is x (pos 0) in (omega (arith, ints, is), omega (arith, ints, is))
 
 nothing_in : (t : ℕ) (bs : List Block) → (least_net_in t bs ≤ℤ pos 0) × (pos 0 ≤ℤ most_net_in t bs)
 nothing_in t [] = (omega (arith, ints), omega (arith, ints))
 nothing_in t (b ∷ bs) =
-    let low = (least_of (net_volume_of_block t b.order)).1 in let high = (most_of (net_volume_of_block t b.order)).1 in
+    let low = (least_of (net_volume_of_block t b.order)).1 in let high = (bound_of (net_volume_of_block t b.order)).1 in
     let rest = nothing_in t bs in let a = rest.0 in let c = rest.1 in (omega (arith, ints, low, a), omega (arith, ints, high, c))
 
 pub net_inside : (t : ℕ) (bs : List Block) (sel : List Bool) → (least_net_in t bs ≤ℤ net_volume bs sel t) × (net_volume bs sel t ≤ℤ most_net_in t bs)
 net_inside t [] sel = (omega (arith, ints), omega (arith, ints))
 net_inside t (b ∷ bs) [] = nothing_in t (b ∷ bs)
 net_inside t (b ∷ bs) (true ∷ sel) =
-    let low = (least_of (net_volume_of_block t b.order)).0 in let high = (most_of (net_volume_of_block t b.order)).0 in
+    let low = (least_of (net_volume_of_block t b.order)).0 in let high = (bound_of (net_volume_of_block t b.order)).0 in
     let rest = net_inside t bs sel in let a = rest.0 in let c = rest.1 in (omega (arith, ints, low, a), omega (arith, ints, high, c))
 net_inside t (b ∷ bs) (false ∷ sel) =
-    let low = (least_of (net_volume_of_block t b.order)).1 in let high = (most_of (net_volume_of_block t b.order)).1 in
+    let low = (least_of (net_volume_of_block t b.order)).1 in let high = (bound_of (net_volume_of_block t b.order)).1 in
     let rest = net_inside t bs sel in let a = rest.0 in let c = rest.1 in (omega (arith, ints, low, a), omega (arith, ints, high, c))
 
 -- ---- the gains of a selection
@@ -73,16 +73,16 @@ abbrev pub lined : ProblemState → List Line → List Bool → ℕ → ℤ
 lined problem lines sel c = line_value (line_in lines c) (net_volume problem.blocks sel (c + 1))
 
 -- the bound of a selection is the lines of all classes and the value of the blocks
-pub bound_is : (problem : ProblemState) (bound : PriceBound) (sel : List Bool) → IsByLines problem bound
-    → bound.base +ℤ over_gains bound.gains sel
-    ≡ over_places (lined problem bound.lines sel) (class_places problem) +ℤ over_accepted (day_value problem) problem.blocks sel
-bound_is problem bound sel is =
+pub bound_is : (problem : ProblemState) (pricing : Pricing) (sel : List Bool) → IsByLines problem pricing
+    → pricing.base +ℤ over_gains pricing.gains sel
+    ≡ over_places (lined problem pricing.lines sel) (class_places problem) +ℤ over_accepted (day_value problem) problem.blocks sel
+bound_is problem pricing sel is =
     let places = class_places problem in let bs = problem.blocks in
-    let price : ℕ → ℤ = λ c. (line_in bound.lines c).price in
-    let gains = ap (λ (xs : List ℤ). over_gains xs sel) is.gains_are ∙ gains_are most_blocks (priced_gain problem bound.lines) bs sel is.few in
+    let price : ℕ → ℤ = λ c. (line_in pricing.lines c).price in
+    let gains = ap (λ (xs : List ℤ). over_gains xs sel) is.gains_are ∙ gains_are most_blocks (priced_gain problem pricing.lines) bs sel is.few in
     let parts = over_accepted-plus (day_value problem) (λ o. over_places (λ c. price c *ℤ net_volume_of_block (c + 1) o) places) bs sel in
     let priced = priced_parts price places bs sel in
-    let lines = over_plus (λ c. (line_in bound.lines c).surplus) (λ c. price c *ℤ net_volume bs sel (c + 1)) places in
+    let lines = over_plus (λ c. (line_in pricing.lines c).surplus) (λ c. price c *ℤ net_volume bs sel (c + 1)) places in
     let base = is.base_is in
     omega (arith, ints, gains, parts, priced, lines, base)
 
@@ -95,15 +95,15 @@ under_line problem lines sel c w is e =
     is.above (net_volume problem.blocks sel (c + 1)) w inside.0 inside.1
     (ap (λ (n : ℕ). joint_welfare (class_orders problem c) (net_volume problem.blocks sel n)) (sym number) ∙ e)
 
-pub bounds_welfare : (problem : ProblemState) (bound : PriceBound) (sel : List Bool) (w : ℤ) → IsByLines problem bound
-    → selection_welfare problem sel ≡ Some w → w ≤ℤ (bound.base +ℤ over_gains bound.gains sel)
-bounds_welfare problem bound sel w is e =
+pub bounds_welfare : (problem : ProblemState) (pricing : Pricing) (sel : List Bool) (w : ℤ) → IsByLines problem pricing
+    → selection_welfare problem sel ≡ Some w → w ≤ℤ (pricing.base +ℤ over_gains pricing.gains sel)
+bounds_welfare problem pricing sel w is e =
     let has = has_whole problem sel w e in
     let same : w ≡ whole_of problem sel = some_is (sym e ∙ has.whole) in
-    let most = over_most (λ c. worth (joint_of problem sel c)) (lined problem bound.lines sel) (class_places problem)
+    let most = over_most (λ c. worth (joint_of problem sel c)) (lined problem pricing.lines sel) (class_places problem)
     (λ j c at. (let place = is_place problem.blocks 0 (length problem.hours) j c at in let below = place.below in
-    under_line problem bound.lines sel c _ (is.lines_are c (omega (arith, below)) place.first) (has.each c))) in
-    let sum = bound_is problem bound sel is in
+    under_line problem pricing.lines sel c _ (is.lines_are c (omega (arith, below)) place.first) (has.each c))) in
+    let sum = bound_is problem pricing sel is in
     omega (arith, ints, same, most, sum)
   where
     some_is : {x y : ℤ} → Some x ≡ Some y → x ≡ y

@@ -21,7 +21,7 @@ use Rattle.dam_blocks.specs.Eligible.{selection_welfare}
 use Rattle.dam_bound.specs.ClassCurves.{class_orders, day_value, least_net_in, most_net_in}
 use Rattle.dam_bound.specs.Prices.{over_gains, line_in, IsByLines}
 use Rattle.dam_bound.specs.Sums.{class_places, over_places, at_places}
-use Rattle.dam_bound.specs.declared.price_bound.PriceBound.{PriceBound}
+use Rattle.dam_bound.specs.declared.pricing.Pricing.{Pricing}
 use Rattle.dam_bound.specs.inside.Numbers.{AreCounts, weighted, greatest_line_value}
 use Rattle.dam_bound.proofs.AtPlaces.{value_small, net_small}
 use Rattle.dam_bound.proofs.ByClass.{joint_of, whole_of, has_whole, from_classes}
@@ -88,11 +88,11 @@ pub record IsLowered (problem : ProblemState) (lines : List Line) (sel : List Bo
   pub each : (i c : ℕ) → i < j → slice_get (class_places problem) i ≡ Some c → IsReached problem sel c
   pub total_is : total ≡ lowered problem lines sel j
 
-pub lowered_first : (problem : ProblemState) (bound : PriceBound) (sel : List Bool) (total : ℤ) → IsByLines problem bound
-    → total ≡ bound.base +ℤ over_gains bound.gains sel → IsLowered problem bound.lines sel 0 total
-lowered_first problem bound sel total is e = record {
+pub lowered_first : (problem : ProblemState) (pricing : Pricing) (sel : List Bool) (total : ℤ) → IsByLines problem pricing
+    → total ≡ pricing.base +ℤ over_gains pricing.gains sel → IsLowered problem pricing.lines sel 0 total
+lowered_first problem pricing sel total is e = record {
   each = λ i c l at. absurd (omega (arith, l));
-  total_is = (let same = bound_is problem bound sel is in omega (arith, ints, same, e));
+  total_is = (let same = bound_is problem pricing sel is in omega (arith, ints, same, e));
 }
 
 pub lowered_more : (problem : ProblemState) (lines : List Line) (sel : List Bool) (j c : ℕ) (total after u : ℤ)
@@ -102,7 +102,7 @@ lowered_more problem lines sel j c total after u at joint small e so_far =
     let number : suc j ≡ j + 1 = omega arith in
     let places = class_places problem in
     let own : worth (joint_of problem sel c) ≡ u = ap worth joint in
-    let taken = over_next (λ d. worth (joint_of problem sel d)) places j c at in
+    let accepted = over_next (λ d. worth (joint_of problem sel d)) places j c at in
     let count = ap (λ (n : ℕ). over_places (λ d. worth (joint_of problem sel d)) (take n places)) number in
     let left = over_from (lined problem lines sel) places j c at in
     let is = so_far.total_is in
@@ -116,7 +116,7 @@ lowered_more problem lines sel j c total after u at joint small e so_far =
             }))
         | inr apart ↦ so_far.each i d (omega (arith, l, apart)) there
       ];
-      total_is = omega (arith, ints, own, taken, count, left, is, e);
+      total_is = omega (arith, ints, own, accepted, count, left, is, e);
     }
   where
     one_place : {x y : ℕ} → Some x ≡ Some y → x ≡ y
@@ -138,15 +138,15 @@ some_is : {x y : ℤ} → Some x ≡ Some y → x ≡ y
 some_is e = cc
 
 -- it is no greater than the lowered bound
-pub most_lowered : (problem : ProblemState) (bound : PriceBound) (sel : List Bool) (j : ℕ) (total w : ℤ) → IsByLines problem bound
-    → IsLowered problem bound.lines sel j total → selection_welfare problem sel ≡ Some w → w ≤ℤ total
-most_lowered problem bound sel j total w is so_far e =
+pub most_lowered : (problem : ProblemState) (pricing : Pricing) (sel : List Bool) (j : ℕ) (total w : ℤ) → IsByLines problem pricing
+    → IsLowered problem pricing.lines sel j total → selection_welfare problem sel ≡ Some w → w ≤ℤ total
+most_lowered problem pricing sel j total w is so_far e =
     let has = has_whole problem sel w e in let places = class_places problem in
     let same : w ≡ whole_of problem sel = some_is (sym e ∙ has.whole) in
     let parts = split (λ c. worth (joint_of problem sel c)) places j in
-    let most = over_most (λ c. worth (joint_of problem sel c)) (lined problem bound.lines sel) (drop j places) (λ i c at.
+    let most = over_most (λ c. worth (joint_of problem sel c)) (lined problem pricing.lines sel) (drop j places) (λ i c at.
     (let place = is_place problem.blocks 0 (length problem.hours) (j + i) c (drop_get places j i c at) in let below = place.below in
-    under_line problem bound.lines sel c _ (is.lines_are c (omega (arith, below)) place.first) (has.each c))) in
+    under_line problem pricing.lines sel c _ (is.lines_are c (omega (arith, below)) place.first) (has.each c))) in
     let total_is = so_far.total_is in
     omega (arith, ints, same, parts, most, total_is)
 
@@ -155,10 +155,10 @@ pub all_lowered : (problem : ProblemState) (lines : List Line) (sel : List Bool)
     → IsLowered problem lines sel j total → selection_welfare problem sel ≡ Some total
 all_lowered problem lines sel j total past so_far =
     let places = class_places problem in
-    let taken = ap (over_places (λ c. worth (joint_of problem sel c))) (take_all j places past) in
+    let accepted = ap (over_places (λ c. worth (joint_of problem sel c))) (take_all j places past) in
     let left = ap (over_places (lined problem lines sel)) (drop_all j places past) in
     let is = so_far.total_is in
-    let same : whole_of problem sel ≡ total = omega (arith, ints, taken, left, is) in
+    let same : whole_of problem sel ≡ total = omega (arith, ints, accepted, left, is) in
     from_classes problem sel (λ i c at.
     (let index = slice_get_within places i c at in (worth (joint_of problem sel c), (so_far.each i c (omega (arith, index, past)) at).some)))
     ∙ ap Some same
@@ -192,40 +192,40 @@ few_left (p ∷ places) (suc j) = let rest = few_left places j in omega (arith, 
 abbrev pub greatest_lowered : ℕ
 greatest_lowered = last_period * greatest_line_value + most_blocks * (last_period * greatest_value)
 
-pub lowered_within : (problem : ProblemState) (bound : PriceBound) (sel : List Bool) (j : ℕ) (total : ℤ)
+pub lowered_within : (problem : ProblemState) (pricing : Pricing) (sel : List Bool) (j : ℕ) (total : ℤ)
     → length problem.hours ≤ last_period → AreBlocks (length problem.hours) problem.blocks → length problem.blocks ≤ most_blocks
-    → j ≤ length (class_places problem) → IsByLines problem bound → IsLowered problem bound.lines sel j total → IsWithin greatest_lowered total
-lowered_within problem bound sel j total few blocks few_blocks end is so_far =
+    → j ≤ length (class_places problem) → IsByLines problem pricing → IsLowered problem pricing.lines sel j total → IsWithin greatest_lowered total
+lowered_within problem pricing sel j total few blocks few_blocks end is so_far =
     let places = class_places problem in
     let worths = over_within (λ c. worth (joint_of problem sel c)) (take j places) greatest_joint_welfare (λ i c at.
     (let found = take_get places j i c at in (so_far.each i c found.1 found.0).small)) in
-    let lines = over_within (lined problem bound.lines sel) (drop j places) greatest_line_value (λ i c at.
+    let lines = over_within (lined problem pricing.lines sel) (drop j places) greatest_line_value (λ i c at.
     (let place = is_place problem.blocks 0 (length problem.hours) (j + i) c (drop_get places j i c at) in let below = place.below in
     let net = net_bounded (length problem.hours) (c + 1) problem.blocks sel blocks few_blocks in
     let l = net.at_least in let h = net.at_most in
-    line_within (line_in bound.lines c) (net_volume problem.blocks sel (c + 1)) (is.lines_are c (omega (arith, below)) place.first).small
+    line_within (line_in pricing.lines c) (net_volume problem.blocks sel (c + 1)) (is.lines_are c (omega (arith, below)) place.first).small
     (record { at_least = omega (arith, ints, l); at_most = omega (arith, ints, h) }))) in
     let values = accepted_within (day_value problem) (last_period * greatest_value) (length problem.hours)
     (λ o order. value_small (length problem.hours) o few order) problem.blocks sel blocks in
-    let taken = few_taken places j in let left = few_left places j in let all = few_places problem.blocks 0 (length problem.hours) in
+    let accepted = few_taken places j in let left = few_left places j in let all = few_places problem.blocks 0 (length problem.hours) in
     let total_is = so_far.total_is in
     let a = worths.at_least in let b = worths.at_most in let c = lines.at_least in let d = lines.at_most in
     let e = values.at_least in let h = values.at_most in
     record {
-      at_least = omega (arith, ints, total_is, a, c, e, taken, left, all, few, few_blocks, end);
-      at_most = omega (arith, ints, total_is, b, d, h, taken, left, all, few, few_blocks, end);
+      at_least = omega (arith, ints, total_is, a, c, e, accepted, left, all, few, few_blocks, end);
+      at_most = omega (arith, ints, total_is, b, d, h, accepted, left, all, few, few_blocks, end);
     }
 
 -- a total that is lowered, as the code has it
-pub one_lowered : (problem : ProblemState) (bound : PriceBound) (sel : List Bool) (j c : ℕ) (total line u : ℤ)
+pub one_lowered : (problem : ProblemState) (pricing : Pricing) (sel : List Bool) (j c : ℕ) (total line u : ℤ)
     → length problem.hours ≤ last_period → AreBlocks (length problem.hours) problem.blocks → length problem.blocks ≤ most_blocks
-    → slice_get (class_places problem) j ≡ Some c → IsByLines problem bound → joint_of problem sel c ≡ Some u
-    → IsWithin greatest_joint_welfare u → line ≡ lined problem bound.lines sel c → IsWithin greatest_line_value line
-    → IsLowered problem bound.lines sel j total
+    → slice_get (class_places problem) j ≡ Some c → IsByLines problem pricing → joint_of problem sel c ≡ Some u
+    → IsWithin greatest_joint_welfare u → line ≡ lined problem pricing.lines sel c → IsWithin greatest_line_value line
+    → IsLowered problem pricing.lines sel j total
     → SFits w64 (total -ℤ to_z w64 (of_z w64 (to_z w64 (of_z w64 line) -ℤ to_z w64 (of_z w64 u))))
-    × IsLowered problem bound.lines sel (j + 1)
+    × IsLowered problem pricing.lines sel (j + 1)
     (to_z w64 (of_z w64 (total -ℤ to_z w64 (of_z w64 (to_z w64 (of_z w64 line) -ℤ to_z w64 (of_z w64 u))))))
-one_lowered problem bound sel j c total line u few blocks few_blocks at is joint small line_is line_small so_far =
+one_lowered problem pricing sel j c total line u few blocks few_blocks at is joint small line_is line_small so_far =
     let a = small.at_least in let b = small.at_most in let d = line_small.at_least in let e = line_small.at_most in
     let one = to_z-of_z w64 line (omega (arith, ints, d, e)) in
     let two = to_z-of_z w64 u (omega (arith, ints, a, b)) in
@@ -233,13 +233,13 @@ one_lowered problem bound sel j c total line u few blocks few_blocks at is joint
     let fall = ap (λ (z : ℤ). to_z w64 (of_z w64 z)) inner ∙ to_z-of_z w64 (line -ℤ u) (omega (arith, ints, a, b, d, e)) in
     let all = ap (λ (z : ℤ). total -ℤ z) fall in
     let index = slice_get_within (class_places problem) j c at in
-    let after : total -ℤ (line -ℤ u) ≡ total -ℤ (lined problem bound.lines sel c -ℤ u) = ap (λ (z : ℤ). total -ℤ (z -ℤ u)) line_is in
-    let more = lowered_more problem bound.lines sel j c total (total -ℤ (line -ℤ u)) u at joint small after so_far in
-    let within = lowered_within problem bound sel (j + 1) (total -ℤ (line -ℤ u)) few blocks few_blocks (omega (arith, index)) is more in
+    let after : total -ℤ (line -ℤ u) ≡ total -ℤ (lined problem pricing.lines sel c -ℤ u) = ap (λ (z : ℤ). total -ℤ (z -ℤ u)) line_is in
+    let more = lowered_more problem pricing.lines sel j c total (total -ℤ (line -ℤ u)) u at joint small after so_far in
+    let within = lowered_within problem pricing sel (j + 1) (total -ℤ (line -ℤ u)) few blocks few_blocks (omega (arith, index)) is more in
     let l = within.at_least in let h = within.at_most in
     let fits : SFits w64 (total -ℤ (line -ℤ u)) = omega (arith, ints, l, h) in (
       subst (SFits w64) (sym all) fits,
-      subst (IsLowered problem bound.lines sel (j + 1))
+      subst (IsLowered problem pricing.lines sel (j + 1))
           (sym (ap (λ (z : ℤ). to_z w64 (of_z w64 z)) all ∙ to_z-of_z w64 (total -ℤ (line -ℤ u)) fits)) more,
     )
 

@@ -50,17 +50,17 @@ stands [] i l = absurd (omega (arith, l))
 stands (b ∷ bs) zero l = (b, refl)
 stands (b ∷ bs) (suc i) l = stands bs i (omega (arith, l))
 
-pub member_more : (prices : List ℤ) (blocks : List Block) (members : List Bool) (place : ℕ) (taken : Bool) (total own after : ℤ)
-    → place < length blocks → accepts members place ≡ taken → own ≡ if_accepted taken (surplus_at blocks prices place)
+pub member_more : (prices : List ℤ) (blocks : List Block) (members : List Bool) (place : ℕ) (accepted : Bool) (total own after : ℤ)
+    → place < length blocks → accepts members place ≡ accepted → own ≡ if_accepted accepted (surplus_at blocks prices place)
     → after ≡ total +ℤ own
     → total +ℤ over_accepted (surplus_of prices) (drop place blocks) (drop place members) ≡ over_accepted (surplus_of prices) blocks members
     → after +ℤ over_accepted (surplus_of prices) (drop (place + 1) blocks) (drop (place + 1) members) ≡ over_accepted (surplus_of prices)
     blocks members
-member_more prices blocks members place taken total own after inside is e f so_far =
+member_more prices blocks members place accepted total own after inside is e f so_far =
     let found = stands blocks place inside in let b = found.0 in let at = found.1 in
     let step = from_place (surplus_of prices) place blocks b members at in
     let here = ap (λ (c : Bool). if_accepted c (surplus_of prices b.order)) is in
-    let there = ap (λ (o : Option Block). if_accepted taken (unwrap_or (option_map (λ (c : Block). surplus_of prices c.order) o) (pos 0)))
+    let there = ap (λ (o : Option Block). if_accepted accepted (unwrap_or (option_map (λ (c : Block). surplus_of prices c.order) o) (pos 0)))
     at in
     let next = ap (λ (n : ℕ). over_accepted (surplus_of prices) (drop n blocks) (drop n members)) (next_place place) in
     omega (arith, ints, step, here, there, next, e, f, so_far)

@@ -34,54 +34,54 @@ among_rest place other left e =
 
 -- ---- what a selection accepts with one place more
 
-pub accepts_here : (taken : List Bool) (place : ℕ) → place < length taken → accepts (slice_set taken place true) place ≡ true
-accepts_here taken place inside = get_or-set_same taken place true false inside
+pub accepts_here : (accepted : List Bool) (place : ℕ) → place < length accepted → accepts (slice_set accepted place true) place ≡ true
+accepts_here accepted place inside = get_or-set_same accepted place true false inside
 
-pub accepts_there : (taken : List Bool) (place other : ℕ) → other ≢ place → accepts (slice_set taken place true) other ≡ accepts taken other
-accepts_there taken place other ne = get_or-set_other taken place other true false ne
+pub accepts_there : (accepted : List Bool) (place other : ℕ) → other ≢ place → accepts (slice_set accepted place true) other ≡ accepts accepted other
+accepts_there accepted place other ne = get_or-set_other accepted place other true false ne
 
 -- the places that are left are free after a decision on another
-pub still_free : (taken : List Bool) (place : ℕ) (left : List ℕ) → is_among place left ≡ false → AreFree taken left
-    → AreFree (slice_set taken place true) left
-still_free taken place [] e free = tt
-still_free taken place (other ∷ left) e free =
+pub still_free : (accepted : List Bool) (place : ℕ) (left : List ℕ) → is_among place left ≡ false → AreFree accepted left
+    → AreFree (slice_set accepted place true) left
+still_free accepted place [] e free = tt
+still_free accepted place (other ∷ left) e free =
     let apart = among_rest place other left e in
-    (free.0, accepts_there taken place other (λ f. apart.0 (sym f)) ∙ free.1, free.2, still_free taken place left apart.1 free.3)
+    (free.0, accepts_there accepted place other (λ f. apart.0 (sym f)) ∙ free.1, free.2, still_free accepted place left apart.1 free.3)
 
 -- ---- an open selection that accepts the first place, and one that rejects it
 
-pub open_accepted : (taken : List Bool) (place : ℕ) (left : List ℕ) (selection : List Bool) → length taken ≡ most_blocks → place < most_blocks
-    → IsOpen taken (place ∷ left) selection → accepts selection place ≡ true → IsOpen (slice_set taken place true) left selection
-open_accepted taken place left selection long few is e = record {
+pub open_accepted : (accepted : List Bool) (place : ℕ) (left : List ℕ) (selection : List Bool) → length accepted ≡ most_blocks → place < most_blocks
+    → IsOpen accepted (place ∷ left) selection → accepts selection place ≡ true → IsOpen (slice_set accepted place true) left selection
+open_accepted accepted place left selection long few is e = record {
   as_long = is.as_long;
   agrees = λ other apart. elim (cases_eq other place) [
-    | inl same ↦ subst (λ (k : ℕ). accepts selection k ≡ accepts (slice_set taken place true) k) (sym same)
-        (e ∙ sym (accepts_here taken place (subst (λ (n : ℕ). place < n) (sym long) few)))
-    | inr ne ↦ is.agrees other (not_among other place left ne apart) ∙ sym (accepts_there taken place other ne)
+    | inl same ↦ subst (λ (k : ℕ). accepts selection k ≡ accepts (slice_set accepted place true) k) (sym same)
+        (e ∙ sym (accepts_here accepted place (subst (λ (n : ℕ). place < n) (sym long) few)))
+    | inr ne ↦ is.agrees other (not_among other place left ne apart) ∙ sym (accepts_there accepted place other ne)
   ];
 }
 
-pub open_rejected : (taken : List Bool) (place : ℕ) (left : List ℕ) (selection : List Bool) → accepts taken place ≡ false
-    → IsOpen taken (place ∷ left) selection → accepts selection place ≡ false → IsOpen taken left selection
-open_rejected taken place left selection free is e = record {
+pub open_rejected : (accepted : List Bool) (place : ℕ) (left : List ℕ) (selection : List Bool) → accepts accepted place ≡ false
+    → IsOpen accepted (place ∷ left) selection → accepts selection place ≡ false → IsOpen accepted left selection
+open_rejected accepted place left selection free is e = record {
   as_long = is.as_long;
   agrees = λ other apart. elim (cases_eq other place) [
-    | inl same ↦ subst (λ (k : ℕ). accepts selection k ≡ accepts taken k) (sym same) (e ∙ sym free)
+    | inl same ↦ subst (λ (k : ℕ). accepts selection k ≡ accepts accepted k) (sym same) (e ∙ sym free)
     | inr ne ↦ is.agrees other (not_among other place left ne apart)
   ];
 }
 
 -- the same the other way round
-pub accepted_open : (taken : List Bool) (place : ℕ) (left : List ℕ) (selection : List Bool) → IsOpen (slice_set taken place true) left selection
-    → IsOpen taken (place ∷ left) selection
-accepted_open taken place left selection is = record {
+pub accepted_open : (accepted : List Bool) (place : ℕ) (left : List ℕ) (selection : List Bool) → IsOpen (slice_set accepted place true) left selection
+    → IsOpen accepted (place ∷ left) selection
+accepted_open accepted place left selection is = record {
   as_long = is.as_long;
-  agrees = λ other apart. (let rest = among_rest other place left apart in is.agrees other rest.1 ∙ accepts_there taken place other rest.0);
+  agrees = λ other apart. (let rest = among_rest other place left apart in is.agrees other rest.1 ∙ accepts_there accepted place other rest.0);
 }
 
-pub rejected_open : (taken : List Bool) (place : ℕ) (left : List ℕ) (selection : List Bool) → IsOpen taken left selection
-    → IsOpen taken (place ∷ left) selection
-rejected_open taken place left selection is = record {
+pub rejected_open : (accepted : List Bool) (place : ℕ) (left : List ℕ) (selection : List Bool) → IsOpen accepted left selection
+    → IsOpen accepted (place ∷ left) selection
+rejected_open accepted place left selection is = record {
   as_long = is.as_long;
   agrees = λ other apart. (let rest = among_rest other place left apart in is.agrees other rest.1);
 }
@@ -102,33 +102,33 @@ same_gains (g ∷ gains) (true ∷ xs) (false ∷ ys) long same = (let e : true 
 same_gains (g ∷ gains) (false ∷ xs) (true ∷ ys) long same = (let e : false ≡ true = same 0 in absurd (cc))
 
 -- with one place more
-pub more_gains : (gains : List ℤ) (taken : List Bool) (place : ℕ) → place < length gains → place < length taken
-    → accepts taken place ≡ false
-    → over_gains gains (slice_set taken place true) ≡ over_gains gains taken +ℤ slice_index_or gains place (pos 0)
-more_gains [] taken place inside inside' free = absurd (omega (arith, inside))
+pub more_gains : (gains : List ℤ) (accepted : List Bool) (place : ℕ) → place < length gains → place < length accepted
+    → accepts accepted place ≡ false
+    → over_gains gains (slice_set accepted place true) ≡ over_gains gains accepted +ℤ slice_index_or gains place (pos 0)
+more_gains [] accepted place inside inside' free = absurd (omega (arith, inside))
 more_gains (g ∷ gains) [] place inside inside' free = absurd (omega (arith, inside'))
-more_gains (g ∷ gains) (true ∷ taken) zero inside inside' free = absurd (cc)
-more_gains (g ∷ gains) (false ∷ taken) zero inside inside' free = omega (arith, ints)
-more_gains (g ∷ gains) (true ∷ taken) (suc place) inside inside' free =
-    let rest = more_gains gains taken place (omega (arith, inside)) (omega (arith, inside')) free in omega (arith, ints, rest)
-more_gains (g ∷ gains) (false ∷ taken) (suc place) inside inside' free =
-    more_gains gains taken place (omega (arith, inside)) (omega (arith, inside')) free
+more_gains (g ∷ gains) (true ∷ accepted) zero inside inside' free = absurd (cc)
+more_gains (g ∷ gains) (false ∷ accepted) zero inside inside' free = omega (arith, ints)
+more_gains (g ∷ gains) (true ∷ accepted) (suc place) inside inside' free =
+    let rest = more_gains gains accepted place (omega (arith, inside)) (omega (arith, inside')) free in omega (arith, ints, rest)
+more_gains (g ∷ gains) (false ∷ accepted) (suc place) inside inside' free =
+    more_gains gains accepted place (omega (arith, inside)) (omega (arith, inside')) free
 
--- an open selection adds up no more than what is taken, and the gains above 0 of the places that are left
-pub open_gains : (gains : List ℤ) (left : List ℕ) (taken selection : List Bool) → length gains ≡ most_blocks → length taken ≡ most_blocks
-    → AreFree taken left → IsOpen taken left selection
-    → over_gains gains selection ≤ℤ (over_gains gains taken +ℤ over_open gains left)
-open_gains gains [] taken selection many long free is =
-    let same = same_gains gains selection taken (is.as_long ∙ sym long) (λ place. is.agrees place refl) in
+-- an open selection adds up no more than the accepted places, and the gains above 0 of the places that are left
+pub open_gains : (gains : List ℤ) (left : List ℕ) (accepted selection : List Bool) → length gains ≡ most_blocks → length accepted ≡ most_blocks
+    → AreFree accepted left → IsOpen accepted left selection
+    → over_gains gains selection ≤ℤ (over_gains gains accepted +ℤ over_open gains left)
+open_gains gains [] accepted selection many long free is =
+    let same = same_gains gains selection accepted (is.as_long ∙ sym long) (λ place. is.agrees place refl) in
     omega (arith, ints, same)
-open_gains gains (place ∷ left) taken selection many long free is =
-    elim (accepts selection place) as (λ b. accepts selection place ≡ b → over_gains gains selection ≤ℤ (over_gains gains taken +ℤ over_open gains (place ∷ left))) [
+open_gains gains (place ∷ left) accepted selection many long free is =
+    elim (accepts selection place) as (λ b. accepts selection place ≡ b → over_gains gains selection ≤ℤ (over_gains gains accepted +ℤ over_open gains (place ∷ left))) [
       | true ↦ λ e.
-          (let rest = open_gains gains left (slice_set taken place true) selection many (length-set taken place true ∙ long)
-          (still_free taken place left free.2 free.3) (open_accepted taken place left selection long free.0 is e) in
-          let more = more_gains gains taken place (subst (λ (n : ℕ). place < n) (sym many) free.0) (subst (λ (n : ℕ). place < n) (sym long) free.0) free.1 in
+          (let rest = open_gains gains left (slice_set accepted place true) selection many (length-set accepted place true ∙ long)
+          (still_free accepted place left free.2 free.3) (open_accepted accepted place left selection long free.0 is e) in
+          let more = more_gains gains accepted place (subst (λ (n : ℕ). place < n) (sym many) free.0) (subst (λ (n : ℕ). place < n) (sym long) free.0) free.1 in
           omega (arith, ints, clamps, rest, more))
       | false ↦ λ e.
-          (let rest = open_gains gains left taken selection many long free.3 (open_rejected taken place left selection free.1 is e) in
+          (let rest = open_gains gains left accepted selection many long free.3 (open_rejected accepted place left selection free.1 is e) in
           omega (arith, ints, clamps, rest))
     ] refl

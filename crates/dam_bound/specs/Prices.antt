@@ -1,4 +1,4 @@
--- The bound by prices.
+-- Prices, and the bound that they give.
 use Rattle.std.specs.Prelude.{◌≡◌, ℕ, ◌+◌, ◌*◌, ◌<◌, ◌≤◌, ℤ, pos, ◌+ℤ◌, ◌*ℤ◌, ◌≤ℤ◌, Bool, true, false, Some, List, [], ◌∷◌, length, slice_index_or}
 use Rattle.std.specs.Int.{int_max}
 use Rattle.dam_book.specs.Terms.{BlockTerms}
@@ -14,7 +14,7 @@ use Rattle.dam_blocks.specs.Eligible.{selection_welfare}
 use Rattle.dam_bound.specs.Classes.{first_of}
 use Rattle.dam_bound.specs.ClassCurves.{class_orders, least_net_in, most_net_in, day_value}
 use Rattle.dam_bound.specs.Sums.{class_places, over_places, at_places}
-use Rattle.dam_bound.specs.declared.price_bound.PriceBound.{PriceBound}
+use Rattle.dam_bound.specs.declared.pricing.Pricing.{Pricing}
 
 -- the gains of the accepted places, added up
 abbrev pub over_gains : List ℤ → List Bool → ℤ
@@ -27,9 +27,9 @@ abbrev pub over_open : List ℤ → List ℕ → ℤ
 over_open gains [] = pos 0
 over_open gains (place ∷ places) = int_max (slice_index_or gains place (pos 0)) (pos 0) +ℤ over_open gains places
 
--- the greatest bound of the selections that accept those taken, any of the open places, and no others
-abbrev pub most_of : PriceBound → List Bool → List ℕ → ℤ
-most_of bound taken left = (bound.base +ℤ over_gains bound.gains taken) +ℤ over_open bound.gains left
+-- the greatest bound of the selections that accept the accepted places, any of the open places, and no others
+abbrev pub bound_of : Pricing → List Bool → List ℕ → ℤ
+bound_of pricing accepted left = (pricing.base +ℤ over_gains pricing.gains accepted) +ℤ over_open pricing.gains left
 
 -- the line of the class that begins at the place
 abbrev pub line_in : List Line → ℕ → Line
@@ -46,12 +46,12 @@ priced_gain problem lines o =
     day_value problem o +ℤ over_places (λ c. (line_in lines c).price *ℤ net_volume_of_block (c + 1) o) (class_places problem)
 
 -- the bound is by lines over the classes: the base is their surpluses, and the gains are by their prices
-pub record IsByLines (problem : ProblemState) (bound : PriceBound) : Type 0 where
+pub record IsByLines (problem : ProblemState) (pricing : Pricing) : Type 0 where
   pub few : length problem.blocks ≤ most_blocks
-  pub long : length bound.lines ≡ last_period
-  pub lines_are : (c : ℕ) → c < length problem.hours → first_of problem.blocks c ≡ c → IsClassLine problem c (line_in bound.lines c)
-  pub base_is : bound.base ≡ over_places (λ c. (line_in bound.lines c).surplus) (class_places problem)
-  pub gains_are : bound.gains ≡ at_places most_blocks (priced_gain problem bound.lines) problem.blocks
+  pub long : length pricing.lines ≡ last_period
+  pub lines_are : (c : ℕ) → c < length problem.hours → first_of problem.blocks c ≡ c → IsClassLine problem c (line_in pricing.lines c)
+  pub base_is : pricing.base ≡ over_places (λ c. (line_in pricing.lines c).surplus) (class_places problem)
+  pub gains_are : pricing.gains ≡ at_places most_blocks (priced_gain problem pricing.lines) problem.blocks
 
 -- the size of a block's gain
 abbrev pub greatest_priced_gain : ℕ
@@ -62,10 +62,10 @@ abbrev pub greatest_base : ℕ
 greatest_base = last_period * (last_period * greatest_segment_surplus)
 
 -- the gains and the base bound the welfare of each selection
-pub record IsPriceBound (problem : ProblemState) (bound : PriceBound) : Type 0 where
-  pub by_lines : IsByLines problem bound
-  pub many : length bound.gains ≡ most_blocks
-  pub small_gains : (place : ℕ) (d : ℤ) → place < most_blocks → IsWithin greatest_priced_gain (slice_index_or bound.gains place d)
-  pub small_base : IsWithin greatest_base bound.base
+pub record IsPricing (problem : ProblemState) (pricing : Pricing) : Type 0 where
+  pub by_lines : IsByLines problem pricing
+  pub many : length pricing.gains ≡ most_blocks
+  pub small_gains : (place : ℕ) (d : ℤ) → place < most_blocks → IsWithin greatest_priced_gain (slice_index_or pricing.gains place d)
+  pub small_base : IsWithin greatest_base pricing.base
   pub above : (selection : List Bool) (w : ℤ) → selection_welfare problem selection ≡ Some w
-      → w ≤ℤ (bound.base +ℤ over_gains bound.gains selection)
+      → w ≤ℤ (pricing.base +ℤ over_gains pricing.gains selection)

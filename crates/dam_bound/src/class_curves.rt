@@ -5,7 +5,7 @@ ghost use Rattle.dam_book.specs.Limits.{most_blocks};
 ghost use Rattle.dam_blocks.specs.Eligible.{ArePrices, HasNoLoss, selection_welfare, surplus_at, family_surplus};
 ghost use Rattle.dam_blocks.specs.Magnitude.{IsWithin};
 ghost use Rattle.dam_bound.specs.ClassPrices.{AreClassPrices};
-ghost use Rattle.dam_bound.specs.Prices.{IsPriceBound, greatest_priced_gain};
+ghost use Rattle.dam_bound.specs.Prices.{IsPricing, greatest_priced_gain};
 ghost use Rattle.dam_bound.specs.Relaxed.{without_rows};
 ghost use Rattle.dam_bound.specs.inside.Counted.{counted_if};
 
@@ -13,7 +13,7 @@ use crate::class_making::{add_class_curves, values_of};
 use crate::class_prices::ClassPrices;
 use crate::families::descendants_of_each;
 use crate::numbers::{acceptance_weights, add_priced, doubled_weights, line_value, weighted};
-use crate::price_bound::PriceBound;
+use crate::pricing::Pricing;
 use dam_blocks::{Problem, Selection};
 use dam_book::MOST_BLOCKS;
 use dam_curve::{Curve, Curves};
@@ -80,22 +80,22 @@ impl<'a, A: Allocator, B: Allocator + Copy> ClassCurves<'a, A, B> {
 }
 
 impl<A: Allocator, B: Allocator> ClassCurves<'_, A, B> {
-    /// Writes a bound by prices. Its prices are those at which the taken blocks, and half of the volume of those that are
-    /// left open, would clear, so that the bound of the selections that accept the taken blocks and some of the open ones is
+    /// Writes a pricing. Its prices are those at which the accepted blocks, and half of the volume of those that are
+    /// left open, would clear, so that the bound of the selections that accept the accepted blocks and some of the open ones is
     /// little above their welfares. But it bounds every selection. No clause says how tight it is. Takes no memory.
-    pub fn write_price_bound(&self, taken: Selection, left: &[u8], bound: &mut PriceBound)
+    pub fn write_pricing(&self, accepted: Selection, left: &[u8], pricing: &mut Pricing)
         requires { All (λ place. place < most_blocks) left.now }
-        ensures { IsPriceBound self.now bound.new }
+        ensures { IsPricing self.now pricing.new }
     {
-        let weights = doubled_weights(taken, left);
-        bound.base = 0;
-        bound.gains = self.values;
+        let weights = doubled_weights(accepted, left);
+        pricing.base = 0;
+        pricing.gains = self.values;
         for class in &self.classes {
             let middle = weighted(&weights, &class.nets).div_euclid(2);
             let line = self.curves.line_near(class.curve, i64::from(middle));
-            bound.base += line.surplus;
-            bound.lines[class.at as usize] = line;
-            add_priced(&mut bound.gains, &class.nets, line.price);
+            pricing.base += line.surplus;
+            pricing.lines[class.at as usize] = line;
+            add_priced(&mut pricing.gains, &class.nets, line.price);
         }
     }
 
@@ -106,11 +106,11 @@ impl<A: Allocator, B: Allocator> ClassCurves<'_, A, B> {
     pub fn clear_selection(
         &self,
         selection: Selection,
-        bound: &PriceBound,
+        pricing: &Pricing,
         least: i64,
         prices: &mut ClassPrices,
     ) -> Option<i64>
-        requires { IsPriceBound self.now bound.now }
+        requires { IsPricing self.now pricing.now }
         ensures some { IfSome result (λ w. (selection_welfare self.now selection ≡ Some w)
             × (least ≤ℤ w)) }
         ensures none { result ≡ None → (w : ℤ)
@@ -119,13 +119,13 @@ impl<A: Allocator, B: Allocator> ClassCurves<'_, A, B> {
         ensures prices { IfSome result (λ w. AreClassPrices self.now selection prices.new.prices) }
     {
         let counts = acceptance_weights(selection);
-        let mut total = bound.most(selection, &[]);
+        let mut total = pricing.bound(selection, &[]);
         for class in &self.classes {
             let net = i64::from(weighted(&counts, &class.nets));
             let Some(point) = self.curves.point(class.curve, net) else {
                 return None;
             };
-            total -= line_value(bound.lines[class.at as usize], net) - point.welfare;
+            total -= line_value(pricing.lines[class.at as usize], net) - point.welfare;
             if total < least {
                 return None;
             }

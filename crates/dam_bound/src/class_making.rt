@@ -35,7 +35,7 @@ fn net_volumes_in(blocks: &[Block], at: usize) -> [i32; MOST_BLOCKS]
 }
 
 /// The value of a block in the first `count` periods.
-fn value_over(order: &BlockOrder, count: usize) -> i64
+fn value_in_first(order: &BlockOrder, count: usize) -> i64
     requires { count ≤ last_period }
     ensures value { result ≡ over_periods (λ t. value_in t order.now) 1 count }
 {
@@ -55,7 +55,7 @@ pub(crate) fn values_of(blocks: &[Block], count: usize) -> [i64; MOST_BLOCKS]
 {
     let mut values = [0; MOST_BLOCKS];
     for (place, block) in blocks.iter().enumerate() {
-        values[place] = value_over(&block.order, count);
+        values[place] = value_in_first(&block.order, count);
     }
     values
 }

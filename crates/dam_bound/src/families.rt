@@ -6,7 +6,7 @@ use dam_blocks::{Block, Selection, descends};
 use std::alloc::{AllocError, Allocator};
 
 /// The blocks that descend from the one at a place; nothing if none does.
-fn descendants_of(blocks: &[Block], place: usize) -> Option<Selection>
+fn family_of(blocks: &[Block], place: usize) -> Option<Selection>
     requires { length blocks.now ≤ most_blocks }
     ensures { IsFamily blocks.now place result }
 {
@@ -31,7 +31,7 @@ pub(crate) fn descendants_of_each<A: Allocator>(
 {
     let mut families = Vec::with_capacity(alloc, blocks.len())?;
     for place in 0..blocks.len() {
-        families.push(descendants_of(blocks, place))?;
+        families.push(family_of(blocks, place))?;
     }
     Ok(families)
 }

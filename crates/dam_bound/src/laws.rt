@@ -11,9 +11,9 @@ ghost use Rattle.dam_blocks.specs.Eligible.{selection_welfare, ArePrices};
 ghost use Rattle.dam_blocks.specs.Magnitude.{IsWithin, greatest_selection_welfare};
 ghost use Rattle.dam_bound.specs.Prefix.{IsCompletion};
 ghost use Rattle.dam_bound.specs.Open.{IsOpen, AreFree};
-ghost use Rattle.dam_bound.specs.Prices.{IsByLines, IsPriceBound, most_of, over_gains};
+ghost use Rattle.dam_bound.specs.Prices.{IsByLines, IsPricing, bound_of, over_gains};
 ghost use Rattle.dam_bound.specs.Relaxed.{relaxed_welfare};
-ghost use Rattle.dam_bound.specs.declared.price_bound.PriceBound.{PriceBound};
+ghost use Rattle.dam_bound.specs.declared.pricing.Pricing.{Pricing};
 
 /// The bound law: no completion of a prefix, admissible or not, has a welfare above the relaxed
 /// welfare of the prefix; and if there is no relaxed welfare, no completion balances every
@@ -63,9 +63,9 @@ pub fn relaxed_welfare_is_small()
 /// At the prices of lines over the classes, the surplus of all hourly orders and of the blocks of a selection is no
 /// less than the welfare of the selection.
 pub fn lines_bound_welfare()
-    ensures { (problem : ProblemState) (bound : PriceBound) (selection : List Bool) (w : ℤ)
-        → IsByLines problem bound → selection_welfare problem selection ≡ Some w
-        → w ≤ℤ (bound.base +ℤ over_gains bound.gains selection) }
+    ensures { (problem : ProblemState) (pricing : Pricing) (selection : List Bool) (w : ℤ)
+        → IsByLines problem pricing → selection_welfare problem selection ≡ Some w
+        → w ≤ℤ (pricing.base +ℤ over_gains pricing.gains selection) }
 {}
 
 /// A selection with which every period balances has a price in each of them.
@@ -79,11 +79,11 @@ pub fn balanced_selections_have_prices()
     dam_hour::laws::best_execution_exists();
 }
 
-/// An open selection has no more welfare than the bound by prices, with each open place at its gain if that is above 0.
-pub fn most_bounds_open_selections()
-    ensures { (problem : ProblemState) (bound : PriceBound) (taken selection : List Bool)
+/// An open selection has no more welfare than the bound of a pricing, with each open place at its gain if that is above 0.
+pub fn pricing_bounds_open_selections()
+    ensures { (problem : ProblemState) (pricing : Pricing) (accepted selection : List Bool)
         (left : List ℕ) (w : ℤ)
-        → IsPriceBound problem bound → length taken ≡ most_blocks → AreFree taken left
-        → IsOpen taken left selection → selection_welfare problem selection ≡ Some w
-        → w ≤ℤ most_of bound taken left }
+        → IsPricing problem pricing → length accepted ≡ most_blocks → AreFree accepted left
+        → IsOpen accepted left selection → selection_welfare problem selection ≡ Some w
+        → w ≤ℤ bound_of pricing accepted left }
 {}

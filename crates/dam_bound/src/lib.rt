@@ -3,12 +3,12 @@
 //!
 //! ```
 //! let curves = ClassCurves::of(alloc, &problem)?;
-//! let mut bound = PriceBound::placeholder();
-//! curves.write_price_bound(Selection::none(), &[0, 1, 2], &mut bound); // prices for selections of three blocks
-//! let most = bound.most(Selection::none().with(0), &[1, 2]); // of those that accept block 0
+//! let mut pricing = Pricing::placeholder();
+//! curves.write_pricing(Selection::none(), &[0, 1, 2], &mut pricing); // prices for selections of three blocks
+//! let bound = pricing.bound(Selection::none().with(0), &[1, 2]); // of those that accept block 0
 //! let selection = Selection::none().with(0).with(2);
 //! let mut prices = ClassPrices::placeholder();
-//! if let Some(welfare) = curves.clear_selection(selection, &bound, 0, &mut prices) { // None if it is under 0, or doesn't balance
+//! if let Some(welfare) = curves.clear_selection(selection, &pricing, 0, &mut prices) { // None if it is under 0, or doesn't balance
 //!     let loses = curves.has_loss(selection, &prices);
 //! }
 //! let rivals = curves.are_rivals(0, 1); // if true, no eligible selection accepts both
@@ -20,10 +20,10 @@
 //! ```
 //!
 //! At any prices, the welfare of a selection is at most the surplus of all hourly orders and the gains of its blocks at
-//! these prices. That is a [`PriceBound`]; it bounds every selection. Two periods are in one class if every block has the
+//! these prices. That is a [`Pricing`]; it bounds every selection. Two periods are in one class if every block has the
 //! same volume in both, so that any selection gives both the same net volume. [`ClassCurves`] has for each class the
 //! joint welfare of its hourly orders over the net volume, as segments (`dam_curve`). The line through a segment is nowhere
-//! below the curve, and the lines of all classes make a bound by prices.
+//! below the curve, and the lines of all classes make a pricing.
 //!
 //! The relaxed welfare of a prefix ([`Relaxed::bound`]) lets each block after it be executed in part, in each period
 //! apart from the others. It is found by clearing each period, and bounds the completions of the prefix.
@@ -47,12 +47,12 @@ mod levels;
 mod net_limit_making;
 mod net_limits;
 mod numbers;
-mod price_bound;
+mod pricing;
 mod relaxed;
 mod rivals;
 
 pub use class_curves::ClassCurves;
 pub use class_prices::ClassPrices;
 pub use net_limits::{MOST_LIMITS, NetLimit, NetLimits, Slack};
-pub use price_bound::PriceBound;
+pub use pricing::Pricing;
 pub use relaxed::Relaxed;

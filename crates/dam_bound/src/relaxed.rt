@@ -98,36 +98,36 @@ impl<A: Allocator + Copy> Relaxed<A> {
 fn period_bound<A: Allocator>(
     levels: &Levels<A>,
     blocks: &[Block],
-    taken: Selection,
+    accepted: Selection,
     depth: usize,
     period: Period,
 ) -> Option<i64>
     requires levels { AreLevels period (last_steps levels.now) blocks.now levels.now }
     requires depth { depth ≤ length blocks.now }
     requires blocks { length blocks.now ≤ most_blocks }
-    ensures value { result ≡ period_welfare blocks.now taken period
+    ensures value { result ≡ period_welfare blocks.now accepted period
         (last_steps levels.now ++ as_steps period (drop depth blocks.now)) }
     ensures size { IfSome result (IsWithin greatest_period_bound) }
 {
     let hour = levels.hour(depth);
-    let cleared = hour.clear(net_volume(blocks, taken, period))?;
-    Some(cleared.welfare + accepted_value(blocks, taken, period))
+    let cleared = hour.clear(net_volume(blocks, accepted, period))?;
+    Some(cleared.welfare + accepted_value(blocks, accepted, period))
 }
 
 impl<A: Allocator> Relaxed<A> {
     /// A bound on the welfare of the selections that agree with a prefix: the first `depth`
-    /// blocks are decided, and those in `taken` are accepted; in cents per MWh times tenths of a
+    /// blocks are decided, those in `accepted` accepted and the others rejected; in cents per MWh times tenths of a
     /// MW.
     ///
     /// It is the welfare of the prefix if each undecided block may be executed in part, in each
     /// of its periods apart from the others: the sum over the periods of the greatest welfare with
     /// the undecided blocks as orders, and the accepted buy blocks' limit times volume less the
     /// accepted sell blocks'. It may be below 0. `None` exactly if some period so relaxed has no
-    /// execution that balances. The result is unspecified if `taken` has a block past the decided
+    /// execution that balances. The result is unspecified if `accepted` has a block past the decided
     /// ones. Takes no memory.
-    pub fn bound(&self, taken: Selection, depth: usize) -> Option<i64>
+    pub fn bound(&self, accepted: Selection, depth: usize) -> Option<i64>
         requires { depth ≤ length self.now.blocks }
-        ensures { (prefix : List Bool) → length prefix ≡ depth → taken ≡ padded prefix
+        ensures { (prefix : List Bool) → length prefix ≡ depth → accepted ≡ padded prefix
             → result ≡ relaxed_welfare self.now prefix }
     {
         prove!(depth <= self.blocks.len());
@@ -135,7 +135,7 @@ impl<A: Allocator> Relaxed<A> {
         let mut total = 0;
         for (place, levels) in self.periods.iter().enumerate() {
             let period = Period::at(place);
-            let welfare = period_bound(levels, &self.blocks, taken, depth, period)?;
+            let welfare = period_bound(levels, &self.blocks, accepted, depth, period)?;
             total += welfare;
         }
         Some(total)

@@ -27,7 +27,7 @@ after_count before part printed written one other small =
 
 pub store_says : (count : ℕ) (fault : StoreFault) → SaysCount count (of_store fault)
 store_says count store.Memory = tt
-store_says count store.NotAJournal = tt
+store_says count store.NotAStore = tt
 store_says count store.TooLong = tt
 store_says count store.Full = tt
 store_says count store.Broken = tt
@@ -446,7 +446,7 @@ writing_no_read old new text Memory is = absurd is
 
 pub store_no_read : (fault : StoreFault) → is_read (of_store fault) ≡ false
 store_no_read store.Memory = refl
-store_no_read store.NotAJournal = refl
+store_no_read store.NotAStore = refl
 store_no_read store.TooLong = refl
 store_no_read store.Full = refl
 store_no_read store.Broken = refl

@@ -31,7 +31,7 @@ end_append : (is_clean : Bool) (before after : ℕ) (fault : StoreFault) → IsA
     → IsEndFault is_clean before after (of_store fault)
 end_append is_clean before after store.Memory is =
     absurd (both_ways false refl (unless_full is_clean before after store.Memory (λ same. cc) is).0)
-end_append is_clean before after store.NotAJournal is = unless_full is_clean before after store.NotAJournal (λ same. cc) is
+end_append is_clean before after store.NotAStore is = unless_full is_clean before after store.NotAStore (λ same. cc) is
 end_append is_clean before after store.TooLong is = unless_full is_clean before after store.TooLong (λ same. cc) is
 end_append is_clean before after store.Full (inl failed) = absurd (both_ways false refl failed.0)
 end_append is_clean before after store.Full (inr full) = full.1

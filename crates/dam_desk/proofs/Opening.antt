@@ -56,7 +56,7 @@ kind file why other (inr (inr memory)) = absurd (other memory)
 
 pub store_cause : (file : List ℕ) (why : StoreFault) → IsKind file why → IsOpenFault file (of_store why)
 store_cause file store.Memory is = inr tt
-store_cause file store.NotAJournal is = kind file store.NotAJournal (λ same. cc) is
+store_cause file store.NotAStore is = kind file store.NotAStore (λ same. cc) is
 store_cause file store.TooLong is = kind file store.TooLong (λ same. cc) is
 store_cause file store.Full is = kind file store.Full (λ same. cc) is
 store_cause file store.Broken is = kind file store.Broken (λ same. cc) is
@@ -77,7 +77,7 @@ text_cause file lines stands (Write written) is = absurd is
 -- a write that failed is a call that failed
 pub write_failure : (why : StoreFault) → store_failed_write why ≡ true → is_failure why ≡ true
 write_failure store.Memory failed = failed
-write_failure store.NotAJournal failed = failed
+write_failure store.NotAStore failed = failed
 write_failure store.TooLong failed = failed
 write_failure store.Full failed = failed
 write_failure store.Broken failed = failed
@@ -88,7 +88,7 @@ write_failure (store.Sync error) failed = refl
 -- so is a read
 read_failure : (why : StoreFault) → is_failed_read why ≡ true → is_failure why ≡ true
 read_failure store.Memory failed = failed
-read_failure store.NotAJournal failed = failed
+read_failure store.NotAStore failed = failed
 read_failure store.TooLong failed = failed
 read_failure store.Full failed = failed
 read_failure store.Broken failed = failed
@@ -99,7 +99,7 @@ read_failure (store.Sync error) failed = refl
 -- a sync counts as a write
 sync_failure : (why : StoreFault) → is_failed_sync why ≡ true → store_failed_write why ≡ true
 sync_failure store.Memory failed = failed
-sync_failure store.NotAJournal failed = failed
+sync_failure store.NotAStore failed = failed
 sync_failure store.TooLong failed = failed
 sync_failure store.Full failed = failed
 sync_failure store.Broken failed = failed
@@ -109,7 +109,7 @@ sync_failure (store.Sync error) failed = refl
 
 pub write_of : (why : StoreFault) → store_failed_write why ≡ true → is_failed_write (of_store why) ≡ true
 write_of store.Memory failed = failed
-write_of store.NotAJournal failed = failed
+write_of store.NotAStore failed = failed
 write_of store.TooLong failed = failed
 write_of store.Full failed = failed
 write_of store.Broken failed = failed
@@ -119,7 +119,7 @@ write_of (store.Sync error) failed = refl
 
 pub call_of : (why : StoreFault) → is_failed_call (of_store why) ≡ is_failure why
 call_of store.Memory = refl
-call_of store.NotAJournal = refl
+call_of store.NotAStore = refl
 call_of store.TooLong = refl
 call_of store.Full = refl
 call_of store.Broken = refl
@@ -129,7 +129,7 @@ call_of (store.Sync error) = refl
 
 pub sync_of : (why : StoreFault) → desk_failed_sync (of_store why) ≡ is_failed_sync why
 sync_of store.Memory = refl
-sync_of store.NotAJournal = refl
+sync_of store.NotAStore = refl
 sync_of store.TooLong = refl
 sync_of store.Full = refl
 sync_of store.Broken = refl
@@ -152,7 +152,7 @@ IsNoStream why = (is_read why ≡ false) × (is_write why ≡ false)
 
 store_no_stream : (why : StoreFault) → IsNoStream (of_store why)
 store_no_stream store.Memory = (refl, refl)
-store_no_stream store.NotAJournal = (refl, refl)
+store_no_stream store.NotAStore = (refl, refl)
 store_no_stream store.TooLong = (refl, refl)
 store_no_stream store.Full = (refl, refl)
 store_no_stream store.Broken = (refl, refl)

@@ -72,7 +72,7 @@ IsOpenFault file fault = (is_failed_call fault ≡ true) ⊎ IsFileFault file fa
 
 -- 1 if the file is at fault, 4 if the machine is
 abbrev pub store_status : StoreFault → ℕ
-store_status store.NotAJournal = 1
+store_status store.NotAStore = 1
 store_status store.TooLong = 1
 store_status store.Full = 1
 store_status fault = 4

@@ -128,7 +128,7 @@ pub(crate) fn status(fault: &DeskFault) -> u8
         DeskFault::File(FileFault::NotAFile | FileFault::Database)
         | DeskFault::NotAJournal(_)
         | DeskFault::Respelled
-        | DeskFault::Store(StoreFault::NotAJournal | StoreFault::TooLong | StoreFault::Full) => 1,
+        | DeskFault::Store(StoreFault::NotAStore | StoreFault::TooLong | StoreFault::Full) => 1,
         _ => 4,
     }
 }

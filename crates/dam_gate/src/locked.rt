@@ -41,12 +41,12 @@ where
     history: History<J>,
     writer: WriteHandle<Shown<J>, NextShown<J>, R>,
     // the content of the slot that is shown
-    shown: CellNote<Version<J>>,
+    shown_note: CellNote<Version<J>>,
     // the slot that a failed call left at the writer
-    next: Option<Slot<J>>,
+    staged_slot: Option<Slot<J>>,
     // how many passes were given, and may be given
-    passes: u8,
-    most: u8,
+    issued: u8,
+    most_passes: u8,
     // as many as the entries, and the parts of the passes that weren't given
     answered: LedgerTotal<Answered<J>>,
     rest: LedgerPart<Answered<J>>,
@@ -64,15 +64,15 @@ where
 
     ghost Value = { LockedState };
 
-    ghost view = { λ l. record { journal = l.keeper.journal; passes = l.passes } };
+    ghost view = { λ l. record { journal = l.keeper.journal; passes = l.issued } };
 
     ghost invariant = { λ l. (l.history ≡ l.keeper.journal.entries)
         × (l.keeper.journal.book.periods ≡ J.opening.periods)
-        × IsNoteOf (slot_name (published l.writer).slot) l.keeper.journal l.shown
-        × IsAtMostNext l.next (pending l.writer)
+        × IsNoteOf (slot_name (published l.writer).slot) l.keeper.journal l.shown_note
+        × IsAtMostNext l.staged_slot (pending l.writer)
         × (l.answered.total ≡ length l.keeper.journal.entries)
-        × (l.most ≡ J.opening.passes)
-        × (l.rest.parts + l.passes ≡ J.opening.passes)
+        × (l.most_passes ≡ J.opening.passes)
+        × (l.rest.parts + l.issued ≡ J.opening.passes)
         × (l.rest.amount ≡ 0) };
 }
 
@@ -114,14 +114,14 @@ fn writer_from<J: GateName, R: Wait + Drop>(
 fn stage_next_slot<J: GateName, R: Wait + Drop>(
     alloc: Global,
     writer: &mut WriteHandle<Shown<J>, NextShown<J>, R>,
-    next: &mut Option<Slot<J>>,
+    staged: &mut Option<Slot<J>>,
 ) -> Result<Slot<J>, AllocError>
-    requires waiting { IsAtMostNext next.old (pending writer.old) }
+    requires waiting { IsAtMostNext staged.old (pending writer.old) }
     ensures published { published writer.new ≡ published writer.old }
-    ensures waiting { IsAtMostNext next.new (pending writer.new) }
+    ensures waiting { IsAtMostNext staged.new (pending writer.new) }
     ensures ok { IfOk result (λ slot. IsNext (slot_name slot) (pending writer.new)) }
 {
-    if let Some(slot) = &*next {
+    if let Some(slot) = &*staged {
         return Arc::try_clone(slot);
     }
     let slot = Arc::new(alloc, OnceBox::new(alloc))?;
@@ -132,7 +132,7 @@ fn stage_next_slot<J: GateName, R: Wait + Drop>(
     if writer.append(change).is_err() {
         return Err(AllocError);
     }
-    *next = Some(kept);
+    *staged = Some(kept);
     Ok(slot)
 }
 
@@ -202,14 +202,14 @@ impl<J: GateName, R: Wait + Drop> Locked<J, R> {
             locked ≡ record { journal = empty_journal opening.periods; passes = 0 }) }
     {
         let keeper = Keeper::for_day(alloc, periods, seed)?;
-        let most = opening.passes();
+        let most_passes = opening.passes();
         let NamedOpening {
             count,
             start,
             answered,
             rest,
         } = opening.into_named::<J>();
-        let (slot, shown) = filled_slot(alloc, version_of(alloc, &keeper, &start)?)?;
+        let (slot, shown_note) = filled_slot(alloc, version_of(alloc, &keeper, &start)?)?;
         let writer = writer_from(rt, alloc, &slot)?;
         Ok(Locked {
             alloc,
@@ -218,10 +218,10 @@ impl<J: GateName, R: Wait + Drop> Locked<J, R> {
             start: start.copy(),
             history: start,
             writer,
-            shown,
-            next: None,
-            passes: 0,
-            most,
+            shown_note,
+            staged_slot: None,
+            issued: 0,
+            most_passes,
             answered,
             rest,
         })
@@ -292,7 +292,7 @@ impl<J: GateName, R: Wait + Drop> Locked<J, R> {
         ensures err { OnErr result (self.new ≡ self.old) }
         ensures fault { IfErr result (IsPassFault J.opening.passes self.old.passes) }
     {
-        if self.passes >= self.most {
+        if self.issued >= self.most_passes {
             return Err(PassFault::PassesUsed);
         }
         let Ok(reader) = self.writer.handle() else {
@@ -300,7 +300,7 @@ impl<J: GateName, R: Wait + Drop> Locked<J, R> {
         };
         let receipts = Vec::with_capacity(self.alloc, FIRST_RECEIPTS)?;
         let part = self.rest.split_off(1, 0);
-        self.passes += 1;
+        self.issued += 1;
         Ok(Pass::new(holder, receipts, self.start.copy(), reader, part))
     }
 
@@ -338,8 +338,8 @@ impl<J: GateName, R: Wait + Drop> Locked<J, R> {
         let _held = self.keeper.len(); // for the proof: the invariant of a journal
         let prepared = self.keeper.prepare_packed(command)?;
         let version = version_of(self.alloc, &self.keeper, &self.history)?;
-        let slot = stage_next_slot(self.alloc, &mut self.writer, &mut self.next)?;
-        let (after, shown) = extend_history_and_fill(
+        let slot = stage_next_slot(self.alloc, &mut self.writer, &mut self.staged_slot)?;
+        let (after, shown_note) = extend_history_and_fill(
             &self.count,
             &self.history,
             seen,
@@ -352,8 +352,8 @@ impl<J: GateName, R: Wait + Drop> Locked<J, R> {
             return Err(GateFault::NoVersion);
         }
         release_earlier_version(&mut self.writer);
-        self.next = None;
-        self.shown = shown;
+        self.staged_slot = None;
+        self.shown_note = shown_note;
         let entry = prepared.entry();
         let answer = (entry.number(), entry.reply());
         self.keeper.append_prepared(prepared);

@@ -53,7 +53,8 @@ impl<J: GateName> Note<J> {
 pub struct Pass<J: GateName> {
     holder: Option<Participant>,
     receipts: Vec<PackedEntry>,
-    history: History<J>,
+    // the gate's history as far as it has seen it
+    seen: History<J>,
     learnt: History<J>,
     note: Option<Note<J>>,
     reader: ReadHandle<Shown<J>>,
@@ -70,15 +71,15 @@ impl<J: GateName> Model for Pass<J> {
     ghost Value = { Knowledge };
 
     ghost view = { λ p. record {
-      account = record { holder = p.holder; seen = length p.history; receipts = p.receipts.items };
-      history = p.history;
+      account = record { holder = p.holder; seen = length p.seen; receipts = p.receipts.items };
+      history = p.seen;
       learnt = p.learnt;
       note = p.note;
     } };
 
     ghost invariant = { λ p. IsKnowledge (record {
-      account = record { holder = p.holder; seen = length p.history; receipts = p.receipts.items };
-      history = p.history;
+      account = record { holder = p.holder; seen = length p.seen; receipts = p.receipts.items };
+      history = p.seen;
       learnt = p.learnt;
       note = p.note;
     }) };
@@ -114,7 +115,7 @@ impl<J: GateName> Pass<J> {
             holder,
             receipts,
             learnt: start.copy(),
-            history: start,
+            seen: start,
             note: None,
             reader,
             part,
@@ -133,7 +134,7 @@ impl<J: GateName> Pass<J> {
         ensures value { result ≡ self.now.account.seen }
         ensures valid { IsKnowledge self.now }
     {
-        self.history.len()
+        self.seen.len()
     }
 
     /// The entries that its calls were answered with, by increasing number.
@@ -166,7 +167,7 @@ impl<J: GateName> Pass<J> {
         let guard = self.reader.enter()?;
         let version = guard.slot.get()?;
         let shown = version.history();
-        if !shown.starts_with(&self.history) || !shown.starts_with(&self.learnt) {
+        if !shown.starts_with(&self.seen) || !shown.starts_with(&self.learnt) {
             return None;
         }
         let look = Look {
@@ -174,7 +175,7 @@ impl<J: GateName> Pass<J> {
             closed: version.book().is_closed(),
             order: version.book().find(who, name).map(|order| order.copy()),
         };
-        self.history = shown.copy();
+        self.seen = shown.copy();
         Some(look)
     }
 
@@ -201,7 +202,7 @@ impl<J: GateName> Pass<J> {
             ⊎ (IsPrefix other.now.history self.now.history) }
     {
         // for the proof: both are prefixes of the gate's one history
-        let _longer = self.history.longer(&other.history);
+        let _longer = self.seen.longer(&other.seen);
     }
 
     /// Makes room for this number of further receipts.
@@ -239,7 +240,7 @@ impl<J: GateName> Pass<J> {
         self.receipts.reserve(1)?;
         let packed = command.clone()?;
         let (answer, after) = locked.journal_and_publish(
-            &self.history,
+            &self.seen,
             &self.learnt,
             &mut self.part,
             command,
@@ -249,7 +250,7 @@ impl<J: GateName> Pass<J> {
         self.note = Some(Note {
             history: after.copy(),
         });
-        self.history = after;
+        self.seen = after;
         Ok(answer)
     }
 
@@ -270,13 +271,13 @@ impl<J: GateName> Pass<J> {
         let Pass {
             holder,
             receipts,
-            history,
+            seen,
             learnt: _learnt,
             note: _note,
             reader: _reader,
             part,
         } = self;
-        (Account::new(holder, history.len(), receipts), part)
+        (Account::new(holder, seen.len(), receipts), part)
     }
 
     /// From now on, its calls' histories begin with all that the other pass has seen.
@@ -285,7 +286,7 @@ impl<J: GateName> Pass<J> {
         ensures kept { IsPrefix self.old.learnt self.new.learnt }
         ensures learnt { IsPrefix other.now.history self.new.learnt }
     {
-        self.learnt = self.learnt.longer(&other.history);
+        self.learnt = self.learnt.longer(&other.seen);
     }
 }
 

@@ -48,15 +48,15 @@ same_place place = grind (arith, nat_tests)
 pub among_first : (place : ℕ) (places : List ℕ) → is_among place (place ∷ places) ≡ true
 among_first place places = ap (λ (b : Bool). b || is_among place places) (same_place place)
 
-free_from : (taken : List Bool) (order : List ℕ) → AreDistinct order
-    → ((place : ℕ) → is_among place order ≡ true → (place < most_blocks) × (accepts taken place ≡ false)) → AreFree taken order
-free_from taken [] distinct h = tt
-free_from taken (place ∷ order) distinct h =
+free_from : (accepted : List Bool) (order : List ℕ) → AreDistinct order
+    → ((place : ℕ) → is_among place order ≡ true → (place < most_blocks) × (accepts accepted place ≡ false)) → AreFree accepted order
+free_from accepted [] distinct h = tt
+free_from accepted (place ∷ order) distinct h =
     let here = h place (among_first place order) in (
       here.0,
       here.1,
       distinct.0,
-      free_from taken order distinct.1
+      free_from accepted order distinct.1
           (λ other e. h other (or_right (other == place) (is_among other order) e)),
     )
 
@@ -81,10 +81,10 @@ first_node prefix rejected count order deep few is apart = record {
   apart = λ place e. (let own = apart place e in (own.1, not_among_before (length prefix) count order place is own.0));
 }
 
-pub piece_node : (depth piece count : ℕ) (taken rejected : List Bool) (order : List ℕ) → taken ≡ padded (choice depth piece) → depth ≤ count
+pub piece_node : (depth piece count : ℕ) (accepted rejected : List Bool) (order : List ℕ) → accepted ≡ padded (choice depth piece) → depth ≤ count
     → count ≤ most_blocks → IsDecisionOrder depth count order
-    → ((place : ℕ) → accepts rejected place ≡ true → (place < depth) × (accepts taken place ≡ false)) → IsNode taken rejected order
-piece_node depth piece count taken rejected order is deep few ordered apart =
+    → ((place : ℕ) → accepts rejected place ≡ true → (place < depth) × (accepts accepted place ≡ false)) → IsNode accepted rejected order
+piece_node depth piece count accepted rejected order is deep few ordered apart =
     let long = length-choice depth piece in
     subst (λ (xs : List Bool). IsNode xs rejected order) (sym is)
     (first_node (choice depth piece) rejected count order (omega (arith, long, deep)) few
@@ -155,10 +155,10 @@ sound_from problem prefix order best read few is finds covers = record {
   others = λ done sel w whole e. covers sel w (completion_open problem prefix sel order is e.admissible whole) e;
 }
 
-pub piece_sound : (problem : ProblemState) (depth piece : ℕ) (taken : List Bool) (order : List ℕ) (best : Option Solution) (read : ℕ)
-    → taken ≡ padded (choice depth piece) → depth ≤ most_blocks → IsDecisionOrder depth (length problem.blocks) order
-    → FindsOpen problem taken order None best → CoversOpen problem taken order best read → IsSound problem (choice depth piece) best read true
-piece_sound problem depth piece taken order best read is few ordered finds covers =
+pub piece_sound : (problem : ProblemState) (depth piece : ℕ) (accepted : List Bool) (order : List ℕ) (best : Option Solution) (read : ℕ)
+    → accepted ≡ padded (choice depth piece) → depth ≤ most_blocks → IsDecisionOrder depth (length problem.blocks) order
+    → FindsOpen problem accepted order None best → CoversOpen problem accepted order best read → IsSound problem (choice depth piece) best read true
+piece_sound problem depth piece accepted order best read is few ordered finds covers =
     let long = length-choice depth piece in
     sound_from problem (choice depth piece) order best read (omega (arith, long, few))
     (subst (λ (n : ℕ). IsDecisionOrder n (length problem.blocks) order) (sym long) ordered)

@@ -16,13 +16,13 @@ length-choice (suc n) k =
     ]
 
 -- the first places of a padded list are the list, and pad it again
-pub prefix_is : (prefix taken : List Bool) (n : ℕ) → taken ≡ padded prefix → length prefix ≡ n → take n taken ≡ prefix
-prefix_is prefix taken n is long =
+pub prefix_is : (prefix accepted : List Bool) (n : ℕ) → accepted ≡ padded prefix → length prefix ≡ n → take n accepted ≡ prefix
+prefix_is prefix accepted n is long =
     ap (λ (xs : List Bool). take n xs) is ∙ ap (λ (m : ℕ). take m (padded prefix)) (sym long)
     ∙ take-append_seam prefix (replicate (most_blocks - length prefix) false)
 
-pub prefix_kept : (prefix taken : List Bool) (n : ℕ) → taken ≡ padded prefix → length prefix ≡ n → taken ≡ padded (take n taken)
-prefix_kept prefix taken n is long = is ∙ ap padded (sym (prefix_is prefix taken n is long))
+pub prefix_kept : (prefix accepted : List Bool) (n : ℕ) → accepted ≡ padded prefix → length prefix ≡ n → accepted ≡ padded (take n accepted)
+prefix_kept prefix accepted n is long = is ∙ ap padded (sym (prefix_is prefix accepted n is long))
 
 pub length_more : (prefix : List Bool) (b : Bool) → length (prefix ++ b ∷ []) ≡ suc (length prefix)
 length_more prefix b = omega (arith, length-append prefix (b ∷ []))
@@ -41,42 +41,42 @@ undecided : (prefix : List Bool) (b : Bool) → length prefix < most_blocks
     → most_blocks - length prefix ≡ suc (most_blocks - length (prefix ++ b ∷ []))
 undecided prefix b h = omega (arith, length_more prefix b)
 
-pub padded-accepted : (prefix taken : List Bool) → taken ≡ padded prefix → length prefix < most_blocks
-    → set taken (length prefix) true ≡ padded (prefix ++ true ∷ [])
-padded-accepted prefix taken is h =
+pub padded-accepted : (prefix accepted : List Bool) → accepted ≡ padded prefix → length prefix < most_blocks
+    → set accepted (length prefix) true ≡ padded (prefix ++ true ∷ [])
+padded-accepted prefix accepted is h =
     ap (λ (xs : List Bool). set xs (length prefix) true) is
     ∙ ap (λ (n : ℕ). set (prefix ++ replicate n false) (length prefix) true) (undecided prefix true h)
     ∙ accept_next prefix (most_blocks - length (prefix ++ true ∷ []))
 
-pub padded-rejected : (prefix taken : List Bool) → taken ≡ padded prefix → length prefix < most_blocks
-    → taken ≡ padded (prefix ++ false ∷ [])
-padded-rejected prefix taken is h =
+pub padded-rejected : (prefix accepted : List Bool) → accepted ≡ padded prefix → length prefix < most_blocks
+    → accepted ≡ padded (prefix ++ false ∷ [])
+padded-rejected prefix accepted is h =
     is ∙ ap (λ (n : ℕ). prefix ++ replicate n false) (undecided prefix false h)
     ∙ reject_next prefix (most_blocks - length (prefix ++ false ∷ []))
 
 -- the prefix is as long as it is deep
-pub length-prefix : (taken : List Bool) (n : ℕ) → taken ≡ padded (take n taken) → n ≤ most_blocks → length (take n taken) ≡ n
-length-prefix taken n is few =
+pub length-prefix : (accepted : List Bool) (n : ℕ) → accepted ≡ padded (take n accepted) → n ≤ most_blocks → length (take n accepted) ≡ n
+length-prefix accepted n is few =
     let long = ap (λ (xs : List Bool). length xs) is in
-    let parts = length-append (take n taken) (replicate (most_blocks - length (take n taken)) false) in
-    let rest = length-replicate (most_blocks - length (take n taken)) false in
-    length-take-le n taken (omega (arith, long, parts, rest))
+    let parts = length-append (take n accepted) (replicate (most_blocks - length (take n accepted)) false) in
+    let rest = length-replicate (most_blocks - length (take n accepted)) false in
+    length-take-le n accepted (omega (arith, long, parts, rest))
 
 -- the length of a prefix, and its decisions padded with rejections
-pub prefix_of : (taken prefix : List Bool) (n : ℕ) → take n taken ≡ prefix → taken ≡ padded (take n taken) → n ≤ most_blocks
-    → (length prefix ≡ n) × (taken ≡ padded prefix)
-prefix_of taken prefix n view is few = (ap (λ (xs : List Bool). length xs) (sym view) ∙ length-prefix taken n is few, is ∙ ap padded view)
+pub prefix_of : (accepted prefix : List Bool) (n : ℕ) → take n accepted ≡ prefix → accepted ≡ padded (take n accepted) → n ≤ most_blocks
+    → (length prefix ≡ n) × (accepted ≡ padded prefix)
+prefix_of accepted prefix n view is few = (ap (λ (xs : List Bool). length xs) (sym view) ∙ length-prefix accepted n is few, is ∙ ap padded view)
 
 -- the selection of the prefix with the next decision
-pub taken_next : (prefix taken next : List Bool) (n : ℕ) (accept : Bool) → take n taken ≡ prefix → taken ≡ padded (take n taken)
+pub taken_next : (prefix accepted next : List Bool) (n : ℕ) (accept : Bool) → take n accepted ≡ prefix → accepted ≡ padded (take n accepted)
     → n ≤ most_blocks → length prefix < most_blocks
-    → (accept ≡ true → next ≡ set taken n true) → (accept ≡ false → next ≡ taken) → next ≡ padded (prefix ++ accept ∷ [])
-taken_next prefix taken next n true view is few h accepted rejected =
-    let own = prefix_of taken prefix n view is few in
-    accepted refl ∙ ap (λ (m : ℕ). set taken m true) (sym own.0) ∙ padded-accepted prefix taken own.1 h
-taken_next prefix taken next n false view is few h accepted rejected = rejected refl ∙ padded-rejected prefix taken (is ∙ ap padded view) h
+    → (accept ≡ true → next ≡ set accepted n true) → (accept ≡ false → next ≡ accepted) → next ≡ padded (prefix ++ accept ∷ [])
+taken_next prefix accepted next n true view is few h if_accepted if_rejected =
+    let own = prefix_of accepted prefix n view is few in
+    if_accepted refl ∙ ap (λ (m : ℕ). set accepted m true) (sym own.0) ∙ padded-accepted prefix accepted own.1 h
+taken_next prefix accepted next n false view is few h if_accepted if_rejected = if_rejected refl ∙ padded-rejected prefix accepted (is ∙ ap padded view) h
 
-pub length_next : (prefix taken : List Bool) (n : ℕ) (accept : Bool) → take n taken ≡ prefix → taken ≡ padded (take n taken)
+pub length_next : (prefix accepted : List Bool) (n : ℕ) (accept : Bool) → take n accepted ≡ prefix → accepted ≡ padded (take n accepted)
     → n ≤ most_blocks → length (prefix ++ accept ∷ []) ≡ n + 1
-length_next prefix taken n accept view is few =
-    let long = (prefix_of taken prefix n view is few).0 in omega (arith, length_more prefix accept, long)
+length_next prefix accepted n accept view is few =
+    let long = (prefix_of accepted prefix n view is few).0 in omega (arith, length_more prefix accept, long)

@@ -8,7 +8,7 @@ use Rattle.dam_blocks.specs.Problem.{ProblemState}
 use Rattle.dam_blocks.specs.Result.{accepts_first, RanksAbove, RanksAtOrBelow}
 use Rattle.dam_bound.specs.Prefix.{IsCompletion}
 use Rattle.dam_search.specs.Piece.{IsFind, IsMatched, Rises, welfare_found}
-use Rattle.dam_search.specs.inside.Walk.{Finds, Covers}
+use Rattle.dam_search.specs.inside.PrefixWalk.{Finds, Covers}
 use Rattle.dam_search.specs.inside.Collect.{IsLong}
 
 turned : (xs ys : List Bool) → accepts_first xs ys ≡ true → accepts_first ys xs ≡ false

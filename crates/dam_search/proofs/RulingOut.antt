@@ -192,17 +192,17 @@ lacks_one problem conflicts place j places rejected selection w are at among off
     not_true (accepts selection place) (λ on.
     (let here = are.needs place places at selection w eligible on j among in let there = none j off in cc))
 
-pub beside_one : (problem : ProblemState) (conflicts : Conflicts) (place j : ℕ) (places taken selection : List Bool) (w : ℤ)
-    → AreConflicts problem conflicts → slice_get conflicts.excludes place ≡ Some places → accepts places j ≡ true → accepts taken j ≡ true
-    → IsEligible problem selection w → AcceptsAll taken selection → accepts selection place ≡ false
-beside_one problem conflicts place j places taken selection w are at among on_too eligible all =
+pub beside_one : (problem : ProblemState) (conflicts : Conflicts) (place j : ℕ) (places accepted selection : List Bool) (w : ℤ)
+    → AreConflicts problem conflicts → slice_get conflicts.excludes place ≡ Some places → accepts places j ≡ true → accepts accepted j ≡ true
+    → IsEligible problem selection w → AcceptsAll accepted selection → accepts selection place ≡ false
+beside_one problem conflicts place j places accepted selection w are at among on_too eligible all =
     not_true (accepts selection place) (λ on.
     (let here = are.excludes place places at selection w eligible on j among in let there = all j on_too in cc))
 
-pub needed_by_one : (problem : ProblemState) (conflicts : Conflicts) (place j : ℕ) (places taken selection : List Bool) (w : ℤ)
-    → AreConflicts problem conflicts → slice_get conflicts.needed_by place ≡ Some places → accepts places j ≡ true → accepts taken j ≡ true
-    → IsEligible problem selection w → AcceptsAll taken selection → accepts selection place ≡ true
-needed_by_one problem conflicts place j places taken selection w are at among on_too eligible all =
+pub needed_by_one : (problem : ProblemState) (conflicts : Conflicts) (place j : ℕ) (places accepted selection : List Bool) (w : ℤ)
+    → AreConflicts problem conflicts → slice_get conflicts.needed_by place ≡ Some places → accepts places j ≡ true → accepts accepted j ≡ true
+    → IsEligible problem selection w → AcceptsAll accepted selection → accepts selection place ≡ true
+needed_by_one problem conflicts place j places accepted selection w are at among on_too eligible all =
     are.needed_by place places at selection w eligible j among (all j on_too)
 
 -- ---- limits

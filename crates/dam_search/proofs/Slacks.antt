@@ -56,11 +56,11 @@ decided_at at = grind (arith, nat_tests)
 pub others_open : (at p : ℕ) → p ≢ at → not (nat_lt p (at + 1)) ≡ not (nat_lt p at)
 others_open at p apart = grind (arith, nat_tests, apart)
 
-pub agrees_less : (at : ℕ) (taken sel : List Bool) → AgreesUnder (at + 1) taken sel → AgreesUnder at taken sel
-agrees_less at taken sel agrees place l = agrees place (omega (arith, l))
+pub agrees_less : (at : ℕ) (accepted sel : List Bool) → AgreesUnder (at + 1) accepted sel → AgreesUnder at accepted sel
+agrees_less at accepted sel agrees place l = agrees place (omega (arith, l))
 
-pub agrees_here : (at : ℕ) (taken sel : List Bool) → AgreesUnder (at + 1) taken sel → accepts sel at ≡ accepts taken at
-agrees_here at taken sel agrees = agrees at (omega arith)
+pub agrees_here : (at : ℕ) (accepted sel : List Bool) → AgreesUnder (at + 1) accepted sel → accepts sel at ≡ accepts accepted at
+agrees_here at accepted sel agrees = agrees at (omega arith)
 
 -- ---- the slack of a node
 differ : (m n : ℕ) → m ≢ n → (m == n) ≡ false
@@ -78,61 +78,61 @@ Lowers limits slack place accept next = (sel : List Bool) (before after : ℕ �
     → before place ≡ true → after place ≡ false → ((p : ℕ) → p ≢ place → after p ≡ before p) → accepts sel place ≡ accept
     → HasSlack limits sel after next.slacks
 
-slack_next : (problem : ProblemState) (limits : List NetLimit) (accept : Bool) (taken rejected : List Bool) (place : ℕ) (left : List ℕ) (slack next : Slack)
-    → IsNode taken rejected (place ∷ left) → AreSlacks next.slacks → Lowers limits slack place accept next
-    → IsSlack problem limits taken (place ∷ left) slack → IsSlack problem limits (with_place_if accept taken place) left next
-slack_next problem limits accept taken rejected place left slack next node are lowers is = record {
+slack_next : (problem : ProblemState) (limits : List NetLimit) (accept : Bool) (accepted rejected : List Bool) (place : ℕ) (left : List ℕ) (slack next : Slack)
+    → IsNode accepted rejected (place ∷ left) → AreSlacks next.slacks → Lowers limits slack place accept next
+    → IsSlack problem limits accepted (place ∷ left) slack → IsSlack problem limits (with_place_if accept accepted place) left next
+slack_next problem limits accept accepted rejected place left slack next node are lowers is = record {
   slacks = are;
   has = λ sel w opened e.
       lowers sel (λ p. is_among p (place ∷ left)) (λ p. is_among p left)
-      (is.has sel w (open_any accept taken place left sel opened) e) (among_first place left) node.free.2
-      (λ p apart. others_among place p left apart) (open_here accept taken rejected place left sel node opened);
+      (is.has sel w (open_any accept accepted place left sel opened) e) (among_first place left) node.free.2
+      (λ p apart. others_among place p left apart) (open_here accept accepted rejected place left sel node opened);
 }
 
-pub slack_after_is : (problem : ProblemState) (limits : List NetLimit) (accept : Bool) (taken rejected taken' : List Bool) (place : ℕ) (left left' : List ℕ)
-    (slack next : Slack) → taken' ≡ with_place_if accept taken place → left' ≡ left
-    → IsNode taken rejected (place ∷ left) → AreSlacks next.slacks → Lowers limits slack place accept next
-    → IsSlack problem limits taken (place ∷ left) slack → IsSlack problem limits taken' left' next
-slack_after_is problem limits accept taken rejected taken' place left left' slack next e f node are lowers is =
+pub slack_after_is : (problem : ProblemState) (limits : List NetLimit) (accept : Bool) (accepted rejected accepted' : List Bool) (place : ℕ) (left left' : List ℕ)
+    (slack next : Slack) → accepted' ≡ with_place_if accept accepted place → left' ≡ left
+    → IsNode accepted rejected (place ∷ left) → AreSlacks next.slacks → Lowers limits slack place accept next
+    → IsSlack problem limits accepted (place ∷ left) slack → IsSlack problem limits accepted' left' next
+slack_after_is problem limits accept accepted rejected accepted' place left left' slack next e f node are lowers is =
     subst (λ (xs : List Bool). IsSlack problem limits xs left' next) (sym e)
-    (subst (λ (xs : List ℕ). IsSlack problem limits (with_place_if accept taken place) xs next) (sym f)
-    (slack_next problem limits accept taken rejected place left slack next node are lowers is))
+    (subst (λ (xs : List ℕ). IsSlack problem limits (with_place_if accept accepted place) xs next) (sym f)
+    (slack_next problem limits accept accepted rejected place left slack next node are lowers is))
 
 -- no eligible selection has a decision that takes too much
-pub no_slack : (problem : ProblemState) (limits : List NetLimit) (accept : Bool) (taken rejected : List Bool) (place : ℕ) (left : List ℕ) (slack : Slack)
-    (sel : List Bool) (w : ℤ) → IsNode taken rejected (place ∷ left) → IsSlack problem limits taken (place ∷ left) slack
+pub no_slack : (problem : ProblemState) (limits : List NetLimit) (accept : Bool) (accepted rejected : List Bool) (place : ℕ) (left : List ℕ) (slack : Slack)
+    (sel : List Bool) (w : ℤ) → IsNode accepted rejected (place ∷ left) → IsSlack problem limits accepted (place ∷ left) slack
     → ((selection : List Bool) (free : ℕ → Bool) → HasSlack limits selection free slack.slacks → free place ≡ true
     → accepts selection place ≡ accept → ⊥)
-    → IsOpen (with_place_if accept taken place) left sel → IsEligible problem sel w → ⊥
-no_slack problem limits accept taken rejected place left slack sel w node is none opened e =
-    none sel (λ p. is_among p (place ∷ left)) (is.has sel w (open_any accept taken place left sel opened) e) (among_first place left)
-    (open_here accept taken rejected place left sel node opened)
+    → IsOpen (with_place_if accept accepted place) left sel → IsEligible problem sel w → ⊥
+no_slack problem limits accept accepted rejected place left slack sel w node is none opened e =
+    none sel (λ p. is_among p (place ∷ left)) (is.has sel w (open_any accept accepted place left sel opened) e) (among_first place left)
+    (open_here accept accepted rejected place left sel node opened)
 
 -- ---- the slack of a piece
-agrees_open : (depth count : ℕ) (taken sel : List Bool) (order : List ℕ) → IsDecisionOrder depth count order → IsOpen taken order sel
-    → AgreesUnder depth taken sel
-agrees_open depth count taken sel order is opened place l = opened.agrees place (not_among_before depth count order place is l)
+agrees_open : (depth count : ℕ) (accepted sel : List Bool) (order : List ℕ) → IsDecisionOrder depth count order → IsOpen accepted order sel
+    → AgreesUnder depth accepted sel
+agrees_open depth count accepted sel order is opened place l = opened.agrees place (not_among_before depth count order place is l)
 
 past_depth : (depth p : ℕ) → depth ≤ p → not (nat_lt p depth) ≡ true
 past_depth depth p l = grind (arith, nat_tests, l)
 
-pub piece_slack : (problem : ProblemState) (limits : List NetLimit) (depth count : ℕ) (taken : List Bool) (order : List ℕ) (slack : Slack)
+pub piece_slack : (problem : ProblemState) (limits : List NetLimit) (depth count : ℕ) (accepted : List Bool) (order : List ℕ) (slack : Slack)
     → IsDecisionOrder depth count order → AreLimits problem limits → AreSlacks slack.slacks
-    → ((problem : ProblemState) (sel : List Bool) (w : ℤ) → AreLimits problem limits → IsEligible problem sel w → AgreesUnder depth taken sel
+    → ((problem : ProblemState) (sel : List Bool) (w : ℤ) → AreLimits problem limits → IsEligible problem sel w → AgreesUnder depth accepted sel
     → HasSlack limits sel (λ p. not (nat_lt p depth)) slack.slacks)
-    → IsSlack problem limits taken order slack
-piece_slack problem limits depth count taken order slack is are slacks has = record {
+    → IsSlack problem limits accepted order slack
+piece_slack problem limits depth count accepted order slack is are slacks has = record {
   slacks = slacks;
   has = λ sel w opened e.
       less_open limits sel (λ p. not (nat_lt p depth)) (λ p. is_among p order) slack.slacks
       (λ p on. past_depth depth p (is.within p on).0)
-      (has problem sel w are e (agrees_open depth count taken sel order is opened));
+      (has problem sel w are e (agrees_open depth count accepted sel order is opened));
 }
 
-pub nothing_sound : (problem : ProblemState) (limits : List NetLimit) (depth piece : ℕ) (taken : List Bool) (order : List ℕ)
-    → taken ≡ padded (choice depth piece) → depth ≤ most_blocks → IsDecisionOrder depth (length problem.blocks) order → AreLimits problem limits
-    → ((problem : ProblemState) (sel : List Bool) (w : ℤ) → AreLimits problem limits → IsEligible problem sel w → AgreesUnder depth taken sel → ⊥)
+pub nothing_sound : (problem : ProblemState) (limits : List NetLimit) (depth piece : ℕ) (accepted : List Bool) (order : List ℕ)
+    → accepted ≡ padded (choice depth piece) → depth ≤ most_blocks → IsDecisionOrder depth (length problem.blocks) order → AreLimits problem limits
+    → ((problem : ProblemState) (sel : List Bool) (w : ℤ) → AreLimits problem limits → IsEligible problem sel w → AgreesUnder depth accepted sel → ⊥)
     → IsSound problem (choice depth piece) None 0 true
-nothing_sound problem limits depth piece taken order is few ordered are none =
-    piece_sound problem depth piece taken order None 0 is few ordered (finds_none problem taken order None)
-    (λ sel w opened e. absurd (none problem sel w are e (agrees_open depth (length problem.blocks) taken sel order ordered opened)))
+nothing_sound problem limits depth piece accepted order is few ordered are none =
+    piece_sound problem depth piece accepted order None 0 is few ordered (finds_none problem accepted order None)
+    (λ sel w opened e. absurd (none problem sel w are e (agrees_open depth (length problem.blocks) accepted sel order ordered opened)))

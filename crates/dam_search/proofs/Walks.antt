@@ -10,7 +10,7 @@ use Rattle.dam_book.specs.Limits.{most_blocks}
 use Rattle.dam_blocks.specs.Selection.{padded, IsAdmissible}
 use Rattle.dam_bound.specs.Relaxed.{relaxed_welfare, reaches, live_count}
 use Rattle.dam_search.specs.Piece.{node_count, needed_nodes, AdmitsOnly, HasNeeded, IsSpent}
-use Rattle.dam_search.specs.inside.Walk.{Spends, ReadsIncumbent}
+use Rattle.dam_search.specs.inside.PrefixWalk.{Spends, ReadsIncumbent}
 use Rattle.dam_search.proofs.LastBlock.{still_rejected}
 use Rattle.dam_search.proofs.Prefixes.{length_more}
 

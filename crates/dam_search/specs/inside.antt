@@ -1,5 +1,5 @@
 -- Only contracts inside this crate cite these.
-pub mod Walk
+pub mod PrefixWalk
 pub mod Conflicts
 pub mod PriceWalk
 pub mod Order

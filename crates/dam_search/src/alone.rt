@@ -13,8 +13,8 @@ use crate::fault::SearchFault;
 use crate::first::first_selection;
 use crate::incumbent::{Incumbent, Private};
 use crate::order::decision_order;
+use crate::prefix_walk::ByPrefixes;
 use crate::priced_problem::PricedProblem;
-use crate::space::SearchSpace;
 use dam_blocks::{Problem, Solution};
 use dam_bound::{ClassCurves, Relaxed};
 use dam_plan::Nodes;
@@ -61,8 +61,8 @@ fn search_alone_priced<P: PricedProblem>(
     let first_welfare = first_selection(problem, priced).welfare;
     if limit_can_bind(problem, 0, nodes) {
         let relaxed = &Relaxed::build(alloc, problem)?;
-        let space = &SearchSpace { problem, relaxed };
-        return search_alone_with_explorer(problem, space, first_welfare, nodes);
+        let by_prefixes = &ByPrefixes { problem, relaxed };
+        return search_alone_with_explorer(problem, by_prefixes, first_welfare, nodes);
     }
     let conflicts = &Conflicts::of(problem, priced);
     let order = &decision_order(alloc, problem, 0)?;

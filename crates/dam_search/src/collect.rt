@@ -11,9 +11,9 @@ ghost use Rattle.dam_search.specs.Words.{most_pieces};
 
 use crate::answer::PieceAnswer;
 use crate::fault::SearchFault;
+use crate::invariant::use_invariant;
 use crate::laws;
-use crate::piece::ranks_above_found;
-use crate::space::use_invariant;
+use crate::walk_state::ranks_above_found;
 use dam_blocks::{Problem, Solution};
 use dam_plan::{MOST_CUT, Nodes};
 use std::alloc::Allocator;

@@ -54,31 +54,31 @@ impl Conflicts {
         conflicts
     }
 
-    /// Whether the block at the place can't be accepted with those taken and without those rejected. It may be impossible
+    /// Whether the block at the place can't be accepted with the accepted blocks and without the rejected ones. It may be impossible
     /// even if this is `false`.
     pub(crate) fn forbids_accepting(
         &self,
         place: usize,
-        taken: Selection,
+        accepted: Selection,
         rejected: Selection,
     ) -> bool
         requires { place < most_blocks }
         ensures { result ≡ true → (problem : ProblemState) (selection : List Bool) (w : ℤ)
             → AreConflicts problem self.now → IsEligible problem selection w
-            → AcceptsAll taken selection → AcceptsNone rejected selection
+            → AcceptsAll accepted selection → AcceptsNone rejected selection
             → accepts selection place ≡ false }
     {
-        self.needs[place].meets(rejected) || self.excludes[place].meets(taken)
+        self.needs[place].meets(rejected) || self.excludes[place].meets(accepted)
     }
 
-    /// Whether links forbid rejecting the block at the place if those taken are accepted.
-    pub(crate) fn forbids_rejecting(&self, place: usize, taken: Selection) -> bool
+    /// Whether links forbid rejecting the block at the place if the accepted ones are.
+    pub(crate) fn forbids_rejecting(&self, place: usize, accepted: Selection) -> bool
         requires { place < most_blocks }
         ensures { result ≡ true → (problem : ProblemState) (selection : List Bool) (w : ℤ)
             → AreConflicts problem self.now → IsEligible problem selection w
-            → AcceptsAll taken selection → accepts selection place ≡ true }
+            → AcceptsAll accepted selection → accepts selection place ≡ true }
     {
-        self.needed_by[place].meets(taken)
+        self.needed_by[place].meets(accepted)
     }
 }
 

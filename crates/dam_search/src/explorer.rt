@@ -13,10 +13,9 @@ ghost use Rattle.dam_search.specs.inside.PriceWalk.{AreDistinct-prop, IsDecision
 use crate::answer::PieceAnswer;
 use crate::conflicts::Conflicts;
 use crate::incumbent::Incumbent;
-use crate::piece::search_piece;
+use crate::prefix_walk::{ByPrefixes, explore_by_prefixes};
 use crate::price_walk::explore_by_prices;
 use crate::priced_problem::PricedProblem;
-use crate::space::SearchSpace;
 use dam_blocks::Problem;
 use dam_plan::Nodes;
 use std::alloc::Allocator;
@@ -51,10 +50,10 @@ pub trait Explorer {
 }
 
 /// Explores by the relaxed welfare of each prefix, and counts nodes as the limit does.
-impl<A: Allocator, B: Allocator> Explorer for SearchSpace<'_, A, B> {
+impl<A: Allocator, B: Allocator> Explorer for ByPrefixes<'_, A, B> {
     ghost use Rattle.std.specs.Prelude.{true};
 
-    ghost problem = { λ space. space.problem.now };
+    ghost problem = { λ by. by.problem.now };
 
     ghost suits = { λ _ _ _. true };
 
@@ -65,7 +64,7 @@ impl<A: Allocator, B: Allocator> Explorer for SearchSpace<'_, A, B> {
         nodes: Nodes,
         incumbent: &mut I,
     ) -> PieceAnswer {
-        search_piece(self.problem, self.relaxed, piece, depth, nodes, incumbent)
+        explore_by_prefixes(self.problem, self.relaxed, piece, depth, nodes, incumbent)
     }
 }
 

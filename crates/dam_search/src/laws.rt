@@ -35,8 +35,8 @@ pub fn limits()
 /// welfare that they found, or the welfare of another eligible selection, such as one that was offered to
 /// the workers before they started.
 pub fn collecting()
-    ensures result { (problem : ProblemState) (depth : ℕ) (answers : List PieceAnswer) (b : Solution)
-        → AreConclusive problem depth answers
+    ensures result { (problem : ProblemState) (depth : ℕ) (answers : List PieceAnswer)
+        (b : Solution) → AreConclusive problem depth answers
         → IsHighest answers b → IsResult problem b.selection (pos b.welfare) }
     ensures found { (problem : ProblemState) (depth : ℕ) (answers : List PieceAnswer)
         → AreConclusive problem depth answers → ¬ (All (λ a. a.best ≡ None) answers) }

@@ -8,17 +8,17 @@ use dam_blocks::Selection;
 
 /// A node of a walk by prices: decisions on some blocks, and the places of the others.
 ///
-/// Its open selections are those that accept what is taken, any of the blocks that are left, and nothing else.
+/// Its open selections are those that accept the accepted blocks, any of the blocks that are left, and nothing else.
 #[derive(Drop)]
 pub(crate) struct Node<'a> {
     /// The blocks that are accepted.
-    pub(crate) taken: Selection,
+    pub(crate) accepted: Selection,
     /// The blocks that are rejected.
     pub(crate) rejected: Selection,
     /// The places that are left, in the order of the decisions on them.
     pub(crate) left: &'a [u8],
     /// At least the welfare of each open selection.
-    pub(crate) most: i64,
+    pub(crate) bound: i64,
 }
 
 /// The selection, which accepts the block at `place` too if `decided`.
@@ -50,9 +50,9 @@ impl Node<'_> {
     /// The open selection that accepts every block that is left. None ranks above it in the order of ties.
     pub(crate) fn highest_selection(&self) -> Selection
         requires { All (λ place. place < most_blocks) self.now.left.now }
-        ensures { result ≡ with_all self.now.taken self.now.left.now }
+        ensures { result ≡ with_all self.now.accepted self.now.left.now }
     {
-        let mut top = self.taken;
+        let mut top = self.accepted;
         for place in self.left {
             top = top.with(usize::from(*place));
         }
@@ -68,18 +68,18 @@ impl Node<'_> {
         gain: i64,
     ) -> Node<'b>
         requires place { place < most_blocks }
-        requires bound { pos 0 ≤ℤ self.now.most }
+        requires bound { pos 0 ≤ℤ self.now.bound }
         requires gain { IsWithin greatest_priced_gain gain }
-        ensures taken { result.taken ≡ with_place_if accept self.now.taken place }
+        ensures accepted { result.accepted ≡ with_place_if accept self.now.accepted place }
         ensures rejected { result.rejected ≡ with_place_if (not accept) self.now.rejected place }
         ensures left { result.left.now ≡ left.now }
-        ensures bound { result.most ≡ bound_after accept self.now.most gain }
+        ensures bound { result.bound ≡ bound_after accept self.now.bound gain }
     {
         Node {
-            taken: with_place_if(accept, self.taken, place),
+            accepted: with_place_if(accept, self.accepted, place),
             rejected: with_place_if(!accept, self.rejected, place),
             left,
-            most: bound_after(accept, self.most, gain),
+            bound: bound_after(accept, self.bound, gain),
         }
     }
 }

@@ -4,7 +4,7 @@ ghost use Rattle.dam_book.specs.Limits.{most_blocks};
 ghost use Rattle.dam_blocks.specs.Selection.{choice, padded, IsAdmissible};
 ghost use Rattle.dam_bound.specs.Prefix.{IsCompletion};
 
-use crate::space::use_invariant;
+use crate::invariant::use_invariant;
 use dam_blocks::{Problem, Selection, admissible};
 use std::alloc::Allocator;
 use std::marker::Model;
@@ -14,7 +14,7 @@ use std::marker::Model;
 /// A contract sees the list of the decisions.
 #[derive(Drop)]
 pub(crate) struct Prefix {
-    taken: Selection,
+    accepted: Selection,
     depth: usize,
 }
 
@@ -25,9 +25,9 @@ impl Model for Prefix {
 
     ghost Value = { List Bool };
 
-    ghost view = { λ f. take f.depth f.taken };
+    ghost view = { λ f. take f.depth f.accepted };
 
-    ghost invariant = { λ f. (f.taken ≡ padded (take f.depth f.taken)) × (f.depth ≤ most_blocks) };
+    ghost invariant = { λ f. (f.accepted ≡ padded (take f.depth f.accepted)) × (f.depth ≤ most_blocks) };
 }
 
 impl Prefix {
@@ -38,7 +38,7 @@ impl Prefix {
         ensures { result ≡ choice depth piece }
     {
         Prefix {
-            taken: Selection::choice(depth, piece),
+            accepted: Selection::choice(depth, piece),
             depth,
         }
     }
@@ -55,7 +55,7 @@ impl Prefix {
     pub(crate) fn selection(&self) -> Selection
         ensures { result ≡ padded self.now }
     {
-        self.taken
+        self.accepted
     }
 
     /// The prefix with a decision on the next block too.
@@ -63,13 +63,13 @@ impl Prefix {
         requires { length self.now < most_blocks }
         ensures { result ≡ self.now ++ accept ∷ [] }
     {
-        let taken = if accept {
-            self.taken.with(self.depth)
+        let accepted = if accept {
+            self.accepted.with(self.depth)
         } else {
-            self.taken
+            self.accepted
         };
         Prefix {
-            taken,
+            accepted,
             depth: self.depth + 1,
         }
     }
@@ -83,6 +83,6 @@ impl Prefix {
     {
         dam_blocks::laws::fronts_are_admissible();
         use_invariant(problem);
-        admissible(problem, self.taken)
+        admissible(problem, self.accepted)
     }
 }

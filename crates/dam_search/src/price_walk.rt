@@ -14,13 +14,13 @@ ghost use Rattle.dam_search.specs.inside.PriceWalk.{IsNode, IsBounded, IsReady, 
 use crate::answer::PieceAnswer;
 use crate::conflicts::Conflicts;
 use crate::incumbent::Incumbent;
+use crate::invariant::use_invariant;
 use crate::node::Node;
-use crate::piece::{WalkState, bound_equals, bound_reaches, ranks_above_found};
 use crate::priced_problem::PricedProblem;
-use crate::root::{slack_of_piece, write_bound_of_piece};
-use crate::space::use_invariant;
+use crate::root::{slack_of_piece, write_pricing_of_piece};
+use crate::walk_state::{WalkState, bound_equals, bound_reaches, ranks_above_found};
 use dam_blocks::{Problem, Selection, Solution, admissible, ranks_above};
-use dam_bound::{ClassPrices, PriceBound, Slack};
+use dam_bound::{ClassPrices, Pricing, Slack};
 use std::alloc::Allocator;
 
 /// The least number of places left for which a node gets prices of its own.
@@ -61,20 +61,20 @@ fn better_than_found(selection: Selection, welfare: i64, found: &WalkState) -> O
 /// Whether a node is passed over, since no open selection can change the find: its bound is less than the value read,
 /// or it is the welfare of the selection found, and no open selection ranks above that one in the order of ties.
 fn is_passed(node: &Node, found: &WalkState) -> bool
-    requires { IsNode node.now.taken node.now.rejected node.now.left.now }
+    requires { IsNode node.now.accepted node.now.rejected node.now.left.now }
     ensures passed { result ≡ true → (selection : List Bool) (w : ℤ)
-        → IsOpen node.now.taken node.now.left.now selection → w ≤ℤ node.now.most
+        → IsOpen node.now.accepted node.now.left.now selection → w ≤ℤ node.now.bound
         → (w <ℤ pos found.now.read) ⊎ IsMatched w selection found.now.best }
     ensures reached { result ≡ false
-        → (pos found.now.read ≤ℤ node.now.most) × (found.now.read < 2 ^ 63) }
+        → (pos found.now.read ≤ℤ node.now.bound) × (found.now.read < 2 ^ 63) }
 {
-    if !bound_reaches(node.most, found.read) {
+    if !bound_reaches(node.bound, found.read) {
         return true;
     }
     let Some(best) = found.best else {
         return false;
     };
-    if !bound_equals(node.most, best.welfare) {
+    if !bound_equals(node.bound, best.welfare) {
         return false;
     }
     let top = Solution {
@@ -89,18 +89,18 @@ impl<A: Allocator, P: PricedProblem> PriceWalk<'_, A, P> {
     /// far.
     fn try_selection<I: Incumbent>(
         &self,
-        taken: Selection,
-        bound: &PriceBound,
+        accepted: Selection,
+        pricing: &Pricing,
         incumbent: &mut I,
         found: &mut WalkState,
     )
-        requires long { length taken ≡ most_blocks }
+        requires long { length accepted ≡ most_blocks }
         requires fits { found.old.read < 2 ^ 63 }
-        requires bounded { (most : ℤ)
-            × IsBounded (P.problem self.now.priced.now) bound.now taken [] most }
+        requires bounded { (bound : ℤ)
+            × IsBounded (P.problem self.now.priced.now) pricing.now accepted [] bound }
         requires ready { IsReady
             (I.greatest_read incumbent.old) (I.greatest_offer incumbent.old) found.old }
-        ensures walked { IsWalkedOpen self.now.problem.now taken []
+        ensures walked { IsWalkedOpen self.now.problem.now accepted []
             (I.greatest_offer incumbent.old)
             (I.greatest_read incumbent.new) (I.greatest_offer incumbent.new)
             found.old found.new }
@@ -112,17 +112,17 @@ impl<A: Allocator, P: PricedProblem> PriceWalk<'_, A, P> {
         let mut prices = ClassPrices::placeholder();
         let Some(welfare) = self
             .priced
-            .clear_selection(taken, bound, found.read as i64, &mut prices)
+            .clear_selection(accepted, pricing, found.read as i64, &mut prices)
         else {
             return;
         };
-        let Some(best) = better_than_found(taken, welfare, found) else {
+        let Some(best) = better_than_found(accepted, welfare, found) else {
             return;
         };
-        if !admissible(self.problem, taken) {
+        if !admissible(self.problem, accepted) {
             return;
         }
-        if self.priced.has_loss(taken, &prices) {
+        if self.priced.has_loss(accepted, &prices) {
             return;
         }
         let offer = best.welfare;
@@ -135,14 +135,14 @@ impl<A: Allocator, P: PricedProblem> PriceWalk<'_, A, P> {
         requires { place < most_blocks }
         ensures { result ≡ true → (selection : List Bool) (w : ℤ)
             → IsEligible self.now.problem.now selection w
-            → AcceptsAll node.now.taken selection → AcceptsNone node.now.rejected selection
+            → AcceptsAll node.now.accepted selection → AcceptsNone node.now.rejected selection
             → accepts selection place ≡ not accept }
     {
         if accept {
             self.conflicts
-                .forbids_accepting(place, node.taken, node.rejected)
+                .forbids_accepting(place, node.accepted, node.rejected)
         } else {
-            self.conflicts.forbids_rejecting(place, node.taken)
+            self.conflicts.forbids_rejecting(place, node.accepted)
         }
     }
 
@@ -152,35 +152,35 @@ impl<A: Allocator, P: PricedProblem> PriceWalk<'_, A, P> {
     fn visit<I: Incumbent>(
         &self,
         node: &Node,
-        bound: &PriceBound,
+        pricing: &Pricing,
         slack: &Slack,
         incumbent: &mut I,
         found: &mut WalkState,
     )
-        requires node { IsNode node.now.taken node.now.rejected node.now.left.now }
-        requires bounded { IsBounded (P.problem self.now.priced.now) bound.now
-            node.now.taken node.now.left.now node.now.most }
+        requires node { IsNode node.now.accepted node.now.rejected node.now.left.now }
+        requires bounded { IsBounded (P.problem self.now.priced.now) pricing.now
+            node.now.accepted node.now.left.now node.now.bound }
         requires slack { IsSlack self.now.problem.now self.now.conflicts.now.limits.limits
-            node.now.taken node.now.left.now slack.now }
+            node.now.accepted node.now.left.now slack.now }
         requires ready { IsReady
             (I.greatest_read incumbent.old) (I.greatest_offer incumbent.old) found.old }
-        ensures walked { IsWalkedOpen self.now.problem.now node.now.taken node.now.left.now
+        ensures walked { IsWalkedOpen self.now.problem.now node.now.accepted node.now.left.now
             (I.greatest_offer incumbent.old)
             (I.greatest_read incumbent.new) (I.greatest_offer incumbent.new)
             found.old found.new }
         ensures kept { I.kept incumbent.new ≡ I.kept incumbent.old }
     {
-        dam_bound::laws::most_bounds_open_selections();
+        dam_bound::laws::pricing_bounds_open_selections();
         found.visited = found.visited.saturating_add(1);
         found.read = incumbent.read();
         if is_passed(node, found) {
             return;
         }
         if node.left.len() < LEAST_LEFT_TO_REPRICE {
-            self.branch(node, bound, slack, incumbent, found);
+            self.branch(node, pricing, slack, incumbent, found);
             return;
         }
-        self.explore_repriced(node, bound, slack, incumbent, found);
+        self.explore_repriced(node, pricing, slack, incumbent, found);
     }
 
     /// Explores a node with prices of its own, if they give it a lesser bound.
@@ -191,44 +191,44 @@ impl<A: Allocator, P: PricedProblem> PriceWalk<'_, A, P> {
     fn explore_repriced<I: Incumbent>(
         &self,
         node: &Node,
-        bound: &PriceBound,
+        pricing: &Pricing,
         slack: &Slack,
         incumbent: &mut I,
         found: &mut WalkState,
     )
-        requires node { IsNode node.now.taken node.now.rejected node.now.left.now }
-        requires bounded { IsBounded (P.problem self.now.priced.now) bound.now
-            node.now.taken node.now.left.now node.now.most }
+        requires node { IsNode node.now.accepted node.now.rejected node.now.left.now }
+        requires bounded { IsBounded (P.problem self.now.priced.now) pricing.now
+            node.now.accepted node.now.left.now node.now.bound }
         requires slack { IsSlack self.now.problem.now self.now.conflicts.now.limits.limits
-            node.now.taken node.now.left.now slack.now }
-        requires reached { (pos found.old.read ≤ℤ node.now.most) × (found.old.read < 2 ^ 63) }
+            node.now.accepted node.now.left.now slack.now }
+        requires reached { (pos found.old.read ≤ℤ node.now.bound) × (found.old.read < 2 ^ 63) }
         requires ready { IsReady
             (I.greatest_read incumbent.old) (I.greatest_offer incumbent.old) found.old }
-        ensures walked { IsWalkedOpen self.now.problem.now node.now.taken node.now.left.now
+        ensures walked { IsWalkedOpen self.now.problem.now node.now.accepted node.now.left.now
             (I.greatest_offer incumbent.old)
             (I.greatest_read incumbent.new) (I.greatest_offer incumbent.new)
             found.old found.new }
         ensures kept { I.kept incumbent.new ≡ I.kept incumbent.old }
     {
-        dam_bound::laws::most_bounds_open_selections();
-        let mut own_bound = PriceBound::placeholder();
+        dam_bound::laws::pricing_bounds_open_selections();
+        let mut own_pricing = Pricing::placeholder();
         self.priced
-            .write_price_bound(node.taken, node.left, &mut own_bound);
-        let most = own_bound.most(node.taken, node.left);
-        if most >= node.most {
-            self.branch(node, bound, slack, incumbent, found);
+            .write_pricing(node.accepted, node.left, &mut own_pricing);
+        let bound = own_pricing.bound(node.accepted, node.left);
+        if bound >= node.bound {
+            self.branch(node, pricing, slack, incumbent, found);
             return;
         }
         let node = Node {
-            taken: node.taken,
+            accepted: node.accepted,
             rejected: node.rejected,
             left: node.left,
-            most,
+            bound,
         };
         if is_passed(&node, found) {
             return;
         }
-        self.branch(&node, &own_bound, slack, incumbent, found);
+        self.branch(&node, &own_pricing, slack, incumbent, found);
     }
 
     /// Explores both decisions on the next place, first the one that the sign of the block's gain is for. If no place
@@ -237,20 +237,20 @@ impl<A: Allocator, P: PricedProblem> PriceWalk<'_, A, P> {
     fn branch<I: Incumbent>(
         &self,
         node: &Node,
-        bound: &PriceBound,
+        pricing: &Pricing,
         slack: &Slack,
         incumbent: &mut I,
         found: &mut WalkState,
     )
-        requires node { IsNode node.now.taken node.now.rejected node.now.left.now }
-        requires bounded { IsBounded (P.problem self.now.priced.now) bound.now
-            node.now.taken node.now.left.now node.now.most }
+        requires node { IsNode node.now.accepted node.now.rejected node.now.left.now }
+        requires bounded { IsBounded (P.problem self.now.priced.now) pricing.now
+            node.now.accepted node.now.left.now node.now.bound }
         requires slack { IsSlack self.now.problem.now self.now.conflicts.now.limits.limits
-            node.now.taken node.now.left.now slack.now }
-        requires reached { (pos found.old.read ≤ℤ node.now.most) × (found.old.read < 2 ^ 63) }
+            node.now.accepted node.now.left.now slack.now }
+        requires reached { (pos found.old.read ≤ℤ node.now.bound) × (found.old.read < 2 ^ 63) }
         requires ready { IsReady
             (I.greatest_read incumbent.old) (I.greatest_offer incumbent.old) found.old }
-        ensures walked { IsWalkedOpen self.now.problem.now node.now.taken node.now.left.now
+        ensures walked { IsWalkedOpen self.now.problem.now node.now.accepted node.now.left.now
             (I.greatest_offer incumbent.old)
             (I.greatest_read incumbent.new) (I.greatest_offer incumbent.new)
             found.old found.new }
@@ -258,13 +258,13 @@ impl<A: Allocator, P: PricedProblem> PriceWalk<'_, A, P> {
     {
         dam_blocks::laws::ranking_is_total();
         let Some((place, left)) = node.left.split_first() else {
-            self.try_selection(node.taken, bound, incumbent, found);
+            self.try_selection(node.accepted, pricing, incumbent, found);
             return;
         };
         let place = usize::from(*place);
-        let accept = bound.gains[place] >= 0;
-        self.decide(node, place, left, accept, bound, slack, incumbent, found);
-        self.decide(node, place, left, !accept, bound, slack, incumbent, found);
+        let accept = pricing.gains[place] >= 0;
+        self.decide(node, place, left, accept, pricing, slack, incumbent, found);
+        self.decide(node, place, left, !accept, pricing, slack, incumbent, found);
     }
 
     /// Explores the node with this decision on the block at `place`, unless no eligible selection has it, by the conflicts
@@ -276,22 +276,22 @@ impl<A: Allocator, P: PricedProblem> PriceWalk<'_, A, P> {
         place: usize,
         left: &[u8],
         accept: bool,
-        bound: &PriceBound,
+        pricing: &Pricing,
         slack: &Slack,
         incumbent: &mut I,
         found: &mut WalkState,
     )
         requires split { node.now.left.now ≡ place ∷ left.now }
-        requires node { IsNode node.now.taken node.now.rejected node.now.left.now }
-        requires bounded { IsBounded (P.problem self.now.priced.now) bound.now
-            node.now.taken node.now.left.now node.now.most }
+        requires node { IsNode node.now.accepted node.now.rejected node.now.left.now }
+        requires bounded { IsBounded (P.problem self.now.priced.now) pricing.now
+            node.now.accepted node.now.left.now node.now.bound }
         requires slack { IsSlack self.now.problem.now self.now.conflicts.now.limits.limits
-            node.now.taken node.now.left.now slack.now }
-        requires reached { pos 0 ≤ℤ node.now.most }
+            node.now.accepted node.now.left.now slack.now }
+        requires reached { pos 0 ≤ℤ node.now.bound }
         requires ready { IsReady
             (I.greatest_read incumbent.old) (I.greatest_offer incumbent.old) found.old }
         ensures walked { IsWalkedOpen self.now.problem.now
-            (with_place_if accept node.now.taken place) left.now
+            (with_place_if accept node.now.accepted place) left.now
             (I.greatest_offer incumbent.old)
             (I.greatest_read incumbent.new) (I.greatest_offer incumbent.new)
             found.old found.new }
@@ -304,8 +304,8 @@ impl<A: Allocator, P: PricedProblem> PriceWalk<'_, A, P> {
         let Some(slack) = limits.slack_after(slack, place, accept) else {
             return;
         };
-        let next = node.after_decision(place, left, accept, bound.gains[place]);
-        self.visit(&next, bound, &slack, incumbent, found);
+        let next = node.after_decision(place, left, accept, pricing.gains[place]);
+        self.visit(&next, pricing, &slack, incumbent, found);
     }
 }
 
@@ -356,8 +356,8 @@ pub(crate) fn explore_by_prices<A: Allocator, P: PricedProblem, I: Incumbent>(
 {
     dam_blocks::laws::fronts_are_admissible();
     use_invariant(problem);
-    let taken = Selection::choice(depth, piece);
-    if !admissible(problem, taken) {
+    let accepted = Selection::choice(depth, piece);
+    if !admissible(problem, accepted) {
         return PieceAnswer {
             piece,
             best: None,
@@ -366,7 +366,7 @@ pub(crate) fn explore_by_prices<A: Allocator, P: PricedProblem, I: Incumbent>(
             done: true,
         };
     }
-    let Some(slack) = slack_of_piece(&conflicts.limits, taken, depth) else {
+    let Some(slack) = slack_of_piece(&conflicts.limits, accepted, depth) else {
         return PieceAnswer {
             piece,
             best: None,
@@ -375,13 +375,13 @@ pub(crate) fn explore_by_prices<A: Allocator, P: PricedProblem, I: Incumbent>(
             done: true,
         };
     };
-    let mut bound = PriceBound::placeholder();
-    let most = write_bound_of_piece(priced, taken, order, depth, &mut bound);
+    let mut pricing = Pricing::placeholder();
+    let bound = write_pricing_of_piece(priced, accepted, order, depth, &mut pricing);
     let node = Node {
-        taken,
-        rejected: rejected_under(depth, taken),
+        accepted,
+        rejected: rejected_under(depth, accepted),
         left: order,
-        most,
+        bound,
     };
     let mut found = WalkState {
         best: None,
@@ -393,7 +393,7 @@ pub(crate) fn explore_by_prices<A: Allocator, P: PricedProblem, I: Incumbent>(
         priced,
         conflicts,
     };
-    walk.visit(&node, &bound, &slack, incumbent, &mut found);
+    walk.visit(&node, &pricing, &slack, incumbent, &mut found);
     PieceAnswer {
         piece,
         best: found.best,

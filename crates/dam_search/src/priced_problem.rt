@@ -5,10 +5,10 @@ ghost use Rattle.dam_blocks.specs.Selection.{accepts};
 ghost use Rattle.dam_blocks.specs.Eligible.{selection_welfare, ArePrices, HasNoLoss, IsEligible};
 ghost use Rattle.dam_bound.specs.ClassPrices.{AreClassPrices};
 ghost use Rattle.dam_bound.specs.NetLimits.{AreLimits};
-ghost use Rattle.dam_bound.specs.Prices.{IsPriceBound};
+ghost use Rattle.dam_bound.specs.Prices.{IsPricing};
 
 use dam_blocks::Selection;
-use dam_bound::{ClassCurves, ClassPrices, NetLimits, PriceBound};
+use dam_bound::{ClassCurves, ClassPrices, NetLimits, Pricing};
 use std::alloc::Allocator;
 
 /// A problem that can be priced: the hourly orders and blocks of a problem, as a walk by prices asks for them.
@@ -16,21 +16,21 @@ pub trait PricedProblem {
     /// The problem, without its rows.
     ghost problem: { Self → ProblemState };
 
-    /// Writes a bound by the prices that suit the selections that accept `taken`, any of the blocks that are left, and
+    /// Writes a pricing by the prices that suit the selections that accept `accepted`, any of the blocks that are left, and
     /// nothing else.
-    fn write_price_bound(&self, taken: Selection, left: &[u8], bound: &mut PriceBound)
+    fn write_pricing(&self, accepted: Selection, left: &[u8], pricing: &mut Pricing)
         requires { All (λ place. place < most_blocks) left.now }
-        ensures { IsPriceBound (problem self.now) bound.new };
+        ensures { IsPricing (problem self.now) pricing.new };
 
     /// The welfare of a selection, unless it has none or less than `least`; and the prices at which it clears.
     fn clear_selection(
         &self,
         selection: Selection,
-        bound: &PriceBound,
+        pricing: &Pricing,
         least: i64,
         prices: &mut ClassPrices,
     ) -> Option<i64>
-        requires { IsPriceBound (problem self.now) bound.now }
+        requires { IsPricing (problem self.now) pricing.now }
         ensures some { IfSome result (λ w.
             (selection_welfare (problem self.now) selection ≡ Some w) × (least ≤ℤ w)) }
         ensures none { result ≡ None → (w : ℤ)
@@ -62,18 +62,18 @@ pub trait PricedProblem {
 impl<A: Allocator, B: Allocator> PricedProblem for ClassCurves<'_, A, B> {
     ghost problem = { λ problem. problem };
 
-    fn write_price_bound(&self, taken: Selection, left: &[u8], bound: &mut PriceBound) {
-        self.write_price_bound(taken, left, bound);
+    fn write_pricing(&self, accepted: Selection, left: &[u8], pricing: &mut Pricing) {
+        self.write_pricing(accepted, left, pricing);
     }
 
     fn clear_selection(
         &self,
         selection: Selection,
-        bound: &PriceBound,
+        pricing: &Pricing,
         least: i64,
         prices: &mut ClassPrices,
     ) -> Option<i64> {
-        self.clear_selection(selection, bound, least, prices)
+        self.clear_selection(selection, pricing, least, prices)
     }
 
     fn has_loss(&self, selection: Selection, prices: &ClassPrices) -> bool {

@@ -5,68 +5,68 @@ ghost use Rattle.dam_book.specs.Limits.{most_blocks};
 ghost use Rattle.dam_blocks.specs.Eligible.{IsEligible};
 ghost use Rattle.dam_blocks.specs.Problem.{ProblemState};
 ghost use Rattle.dam_bound.specs.NetLimits.{AreLimits, AreSlacks, HasSlack};
-ghost use Rattle.dam_bound.specs.Prices.{most_of, IsPriceBound};
+ghost use Rattle.dam_bound.specs.Prices.{bound_of, IsPricing};
 ghost use Rattle.dam_search.specs.inside.PriceWalk.{AgreesUnder};
 
 use crate::first::all_places;
 use crate::priced_problem::PricedProblem;
 use dam_blocks::Selection;
-use dam_bound::{NetLimits, PriceBound, Slack};
+use dam_bound::{NetLimits, Pricing, Slack};
 
-/// Writes a bound by prices, and returns its bound of the selections that accept `taken`, any of the places of `order`, and
-/// nothing else. `taken` are decisions on the first `depth` blocks.
+/// Writes a pricing, and returns its bound of the selections that accept `accepted`, any of the places of `order`, and
+/// nothing else. `accepted` are decisions on the first `depth` blocks.
 ///
 /// The prices are those that suit one of the prefixes of these decisions: of all of them, and of none, those with the least
 /// bound. A walk that decides one block after the other has the same bounds on its way. The prices of the whole prefix
 /// alone may be poor ones, if the decisions are far from the best selection.
-pub(crate) fn write_bound_of_piece<P: PricedProblem>(
+pub(crate) fn write_pricing_of_piece<P: PricedProblem>(
     priced: &P,
-    taken: Selection,
+    accepted: Selection,
     order: &[u8],
     depth: usize,
-    bound: &mut PriceBound,
+    pricing: &mut Pricing,
 ) -> i64
     requires depth { depth ≤ most_blocks }
     requires places { All (λ place. place < most_blocks) order.now }
     requires few { length order.now ≤ most_blocks }
-    ensures bound { IsPriceBound (P.problem priced.now) bound.new }
-    ensures most { result ≡ most_of bound.new taken order.now }
+    ensures pricing { IsPricing (P.problem priced.now) pricing.new }
+    ensures bound { result ≡ bound_of pricing.new accepted order.now }
 {
     let places = all_places();
     let mut prefix = Selection::none();
-    priced.write_price_bound(prefix, &places, bound);
-    let mut most = bound.most(taken, order);
+    priced.write_pricing(prefix, &places, pricing);
+    let mut bound = pricing.bound(accepted, order);
     for at in 0..depth {
-        if taken.has(at) {
+        if accepted.has(at) {
             prefix = prefix.with(at);
         }
-        let mut own_bound = PriceBound::placeholder();
-        priced.write_price_bound(prefix, &places[at + 1..], &mut own_bound);
-        let own_most = own_bound.most(taken, order);
-        if own_most < most {
-            most = own_most;
-            *bound = own_bound;
+        let mut own_pricing = Pricing::placeholder();
+        priced.write_pricing(prefix, &places[at + 1..], &mut own_pricing);
+        let own_bound = own_pricing.bound(accepted, order);
+        if own_bound < bound {
+            bound = own_bound;
+            *pricing = own_pricing;
         }
     }
-    most
+    bound
 }
 
-/// The slack that the decisions of `taken` on the first `depth` blocks leave; `None` only if no eligible selection has them.
-pub(crate) fn slack_of_piece(limits: &NetLimits, taken: Selection, depth: usize) -> Option<Slack>
+/// The slack that the decisions of `accepted` on the first `depth` blocks leave; `None` only if no eligible selection has them.
+pub(crate) fn slack_of_piece(limits: &NetLimits, accepted: Selection, depth: usize) -> Option<Slack>
     requires depth { depth ≤ most_blocks }
     requires limits { (problem : ProblemState) × AreLimits problem limits.now.limits }
     ensures none { result ≡ None → (problem : ProblemState) (selection : List Bool) (w : ℤ)
         → AreLimits problem limits.now.limits → IsEligible problem selection w
-        → AgreesUnder depth taken selection → ⊥ }
+        → AgreesUnder depth accepted selection → ⊥ }
     ensures slacks { IfSome result (λ slack. AreSlacks slack.slacks) }
     ensures some { IfSome result (λ slack. (problem : ProblemState) (selection : List Bool) (w : ℤ)
         → AreLimits problem limits.now.limits → IsEligible problem selection w
-        → AgreesUnder depth taken selection
+        → AgreesUnder depth accepted selection
         → HasSlack limits.now.limits selection (λ place. not (nat_lt place depth)) slack.slacks) }
 {
     let mut slack = limits.slack();
     for at in 0..depth {
-        let Some(next) = limits.slack_after(&slack, at, taken.has(at)) else {
+        let Some(next) = limits.slack_after(&slack, at, accepted.has(at)) else {
             return None;
         };
         slack = next;

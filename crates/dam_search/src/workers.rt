@@ -17,8 +17,8 @@ use crate::fault::SearchFault;
 use crate::first::first_selection;
 use crate::incumbent::Incumbent;
 use crate::order::decision_order;
+use crate::prefix_walk::ByPrefixes;
 use crate::priced_problem::PricedProblem;
-use crate::space::SearchSpace;
 use crate::words::{ClosedWords, close_words, new_words};
 use crate::worker::work;
 use crate::worker_seat::WorkerSeat;
@@ -263,12 +263,12 @@ fn search_priced<R: Threads + Sync, P: PricedProblem + Sync, T: Turnstile + Sync
     let depth = plan.depth(problem.block_count());
     if limit_can_bind(problem, depth, plan.nodes()) {
         let relaxed = &Relaxed::build(alloc, problem)?;
-        let space = &SearchSpace { problem, relaxed };
+        let by_prefixes = &ByPrefixes { problem, relaxed };
         return search_with_explorer(
             rt,
             alloc,
             problem,
-            space,
+            by_prefixes,
             depth,
             plan,
             first_welfare,

@@ -11,7 +11,7 @@ use Rattle.dam_store.specs.FileLines.{bytes_on_disk, head_line, is_unmade, lines
 use Rattle.dam_store.specs.declared.fault.FileFault.{FileFault}
 use Rattle.dam_store.specs.declared.fault.FileFault.TheVariants as files
 use Rattle.dam_store.specs.declared.fault.StoreFault.{StoreFault}
-use Rattle.dam_store.specs.declared.fault.StoreFault.TheVariants.{NotAJournal, TooLong, Full, Read, Write, Sync}
+use Rattle.dam_store.specs.declared.fault.StoreFault.TheVariants.{NotAStore, TooLong, Full, Read, Write, Sync}
 
 -- the system is out of memory
 abbrev pub is_out_of_memory : ErrorKind → Bool
@@ -63,7 +63,7 @@ is_failed_read fault = false
 
 -- the bytes of the file are refused
 abbrev pub is_refused_file : StoreFault → Bool
-is_refused_file NotAJournal = true
+is_refused_file NotAStore = true
 is_refused_file TooLong = true
 is_refused_file Full = true
 is_refused_file fault = false
@@ -71,7 +71,7 @@ is_refused_file fault = false
 -- The cause of a refusal, of which a file has at most one. `Full`: no byte more has room after its lines.
 abbrev pub IsCause : List ℕ → StoreFault → Type 0
 IsCause file TooLong = most_file_bytes < length file
-IsCause file NotAJournal =
+IsCause file NotAStore =
     (length file ≤ most_file_bytes) × (bytes_eq (take (length head_line) file) head_line ≡ false) × (is_unmade file ≡ false)
 IsCause file Full =
     (length file ≤ most_file_bytes) × (bytes_eq (take (length head_line) file) head_line ≡ true)

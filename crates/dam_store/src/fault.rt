@@ -45,7 +45,7 @@ pub enum BatchFault {
 pub enum StoreFault {
     /// The file holds bytes that no journal begins with.
     #[error("the file isn't a desk's journal")]
-    NotAJournal,
+    NotAStore,
     /// The file is longer than a journal may be.
     #[error("the file has more than {MOST_FILE_BYTES} bytes")]
     TooLong,

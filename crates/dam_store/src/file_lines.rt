@@ -35,7 +35,7 @@ pub(crate) fn file_lines(alloc: Global, file: &[u8]) -> Result<FileLines, StoreF
             let text = Vec::new(alloc);
             Ok(FileLines { text, end: None })
         } else {
-            Err(StoreFault::NotAJournal)
+            Err(StoreFault::NotAStore)
         };
     }
     let found = read_lines(alloc, &file[HEAD_LINE.len()..])?;

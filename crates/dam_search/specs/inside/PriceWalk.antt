@@ -9,52 +9,52 @@ use Rattle.dam_blocks.specs.declared.selection.Solution.{Solution}
 use Rattle.dam_blocks.specs.Problem.{ProblemState}
 use Rattle.dam_blocks.specs.Selection.{accepts}
 use Rattle.dam_blocks.specs.Eligible.{IsEligible}
-use Rattle.dam_bound.specs.declared.price_bound.PriceBound.{PriceBound}
+use Rattle.dam_bound.specs.declared.pricing.Pricing.{Pricing}
 use Rattle.dam_bound.specs.declared.net_limits.NetLimit.{NetLimit}
 use Rattle.dam_bound.specs.declared.net_limits.Slack.{Slack}
 use Rattle.dam_bound.specs.NetLimits.{AreSlacks, HasSlack}
 use Rattle.dam_bound.specs.Open.{is_among, IsOpen, AreFree}
-use Rattle.dam_bound.specs.Prices.{most_of, IsPriceBound}
-use Rattle.dam_search.specs.declared.piece.WalkState.{WalkState}
+use Rattle.dam_bound.specs.Prices.{bound_of, IsPricing}
+use Rattle.dam_search.specs.declared.walk_state.WalkState.{WalkState}
 use Rattle.dam_search.specs.Piece.{IsMatched, Rises, welfare_found}
 use Rattle.dam_search.specs.inside.Collect.{IsLong}
 
 -- ---- the nodes
 
--- the decisions of a node: no place that is left is taken, and no rejected one is taken or left
-pub record IsNode (taken rejected : List Bool) (left : List ℕ) : Type 0 where
-  pub as_long : length taken ≡ most_blocks
-  pub free : AreFree taken left
+-- the decisions of a node: no place that is left is accepted, and no rejected one is accepted or left
+pub record IsNode (accepted rejected : List Bool) (left : List ℕ) : Type 0 where
+  pub as_long : length accepted ≡ most_blocks
+  pub free : AreFree accepted left
   pub few : length left ≤ most_blocks
   pub apart : (place : ℕ) → accepts rejected place ≡ true
-      → (accepts taken place ≡ false) × (is_among place left ≡ false)
+      → (accepts accepted place ≡ false) × (is_among place left ≡ false)
 
 -- the prices bound the welfare of each selection, and their bound of the open ones is at most this number
-pub record IsBounded (problem : ProblemState) (prices : PriceBound) (taken : List Bool) (left : List ℕ)
+pub record IsBounded (problem : ProblemState) (prices : Pricing) (accepted : List Bool) (left : List ℕ)
     (bound : ℤ) : Type 0 where
-  pub is_price_bound : IsPriceBound problem prices
-  pub most : most_of prices taken left ≤ℤ bound
+  pub is_pricing : IsPricing problem prices
+  pub bound_reaches : bound_of prices accepted left ≤ℤ bound
 
 -- what the decisions of each eligible open selection take on the places that are left is no more than the slack
-pub record IsSlack (problem : ProblemState) (limits : List NetLimit) (taken : List Bool) (left : List ℕ) (slack : Slack)
+pub record IsSlack (problem : ProblemState) (limits : List NetLimit) (accepted : List Bool) (left : List ℕ) (slack : Slack)
     : Type 0 where
   pub slacks : AreSlacks slack.slacks
-  pub has : (selection : List Bool) (w : ℤ) → IsOpen taken left selection → IsEligible problem selection w
+  pub has : (selection : List Bool) (w : ℤ) → IsOpen accepted left selection → IsEligible problem selection w
       → HasSlack limits selection (λ place. is_among place left) slack.slacks
 
 -- the selection decides on the first places as the other one does
 abbrev pub AgreesUnder : ℕ → List Bool → List Bool → Type 0
-AgreesUnder depth taken selection = (place : ℕ) → place < depth → accepts selection place ≡ accepts taken place
+AgreesUnder depth accepted selection = (place : ℕ) → place < depth → accepts selection place ≡ accepts accepted place
 
 -- the places with this one too, if it is so decided
 abbrev pub with_place_if : Bool → List Bool → ℕ → List Bool
-with_place_if true taken place = slice_set taken place true
-with_place_if false taken place = taken
+with_place_if true accepted place = slice_set accepted place true
+with_place_if false accepted place = accepted
 
 -- the places with all of these too
 abbrev pub with_all : List Bool → List ℕ → List Bool
-with_all taken [] = taken
-with_all taken (place ∷ left) = with_all (slice_set taken place true) left
+with_all accepted [] = accepted
+with_all accepted (place ∷ left) = with_all (slice_set accepted place true) left
 
 -- a bound after a decision on a block with this gain: one against its sign costs its size
 abbrev pub bound_after : Bool → ℤ → ℤ → ℤ
@@ -65,20 +65,20 @@ bound_after false bound gain = bound -ℤ int_max gain (pos 0)
 
 -- a find: none, or an eligible open selection with its welfare
 abbrev pub IsOpenFind : ProblemState → List Bool → List ℕ → Option Solution → Type 0
-IsOpenFind problem taken left None = Unit {0}
-IsOpenFind problem taken left (Some b) =
-    IsOpen taken left b.selection × IsEligible problem b.selection (pos b.welfare)
+IsOpenFind problem accepted left None = Unit {0}
+IsOpenFind problem accepted left (Some b) =
+    IsOpen accepted left b.selection × IsEligible problem b.selection (pos b.welfare)
 
 -- the find changes to an eligible open selection, or not at all, and only rises
-pub record FindsOpen (problem : ProblemState) (taken : List Bool) (left : List ℕ)
+pub record FindsOpen (problem : ProblemState) (accepted : List Bool) (left : List ℕ)
     (before after : Option Solution) : Type 0 where
-  pub found : (after ≡ before) ⊎ IsOpenFind problem taken left after
+  pub found : (after ≡ before) ⊎ IsOpenFind problem accepted left after
   pub rises : Rises before after
 
 -- each eligible open selection has less welfare than the value read or ranks at or below the selection that was found
 abbrev pub CoversOpen : ProblemState → List Bool → List ℕ → Option Solution → ℕ → Type 0
-CoversOpen problem taken left best read =
-    (selection : List Bool) (w : ℤ) → IsOpen taken left selection → IsEligible problem selection w
+CoversOpen problem accepted left best read =
+    (selection : List Bool) (w : ℤ) → IsOpen accepted left selection → IsEligible problem selection w
     → (w <ℤ pos read) ⊎ IsMatched w selection best
 
 -- a walk before it goes on, if these are the greatest value read of its incumbent and the greatest that was offered
@@ -89,11 +89,11 @@ pub record IsReady (greatest_read greatest_offer : ℕ) (found : WalkState) : Ty
 
 -- a walk over the open selections: its find and value read before and after, the greatest value offered to its
 -- incumbent before, and the greatest value read of it and offered to it after
-pub record IsWalkedOpen (problem : ProblemState) (taken : List Bool) (left : List ℕ)
+pub record IsWalkedOpen (problem : ProblemState) (accepted : List Bool) (left : List ℕ)
     (greatest_offer_before greatest_read_after greatest_offer_after : ℕ) (before after : WalkState)
     : Type 0 where
-  pub finds : FindsOpen problem taken left before.best after.best
-  pub covers : CoversOpen problem taken left after.best after.read
+  pub finds : FindsOpen problem accepted left before.best after.best
+  pub covers : CoversOpen problem accepted left after.best after.read
   pub grows : before.read ≤ after.read
   pub read : after.read ≡ greatest_read_after
   pub offered : greatest_offer_after ≡ max greatest_offer_before (welfare_found after.best)

@@ -13,7 +13,7 @@ returns-clause-value g c =
     let few = c.hour-hour.ensures.steps.few in
     let small = c.in_ok-cleared.ensures.small in
     let net = c.net_volume.ensures.value in
-    cleared_period c.args.blocks.now c.args.taken c.args.period c.hour-hour.result.now _ _ c.in_ok-cleared.cleared.welfare
+    cleared_period c.args.blocks.now c.args.accepted c.args.period c.hour-hour.result.now _ _ c.in_ok-cleared.cleared.welfare
     c.accepted_value.result _
     steps (omega (arith, ints, net, c.net_volume.ensures.valid.at_least, c.net_volume.ensures.valid.at_most))
     c.in_ok-cleared.ensures.welfare c.accepted_value.ensures.value

@@ -5,30 +5,30 @@ use Rattle.dam_search.proofs.FirstNode.{piece_node, piece_sound}
 use Rattle.dam_search.proofs.Slacks.{piece_slack, nothing_sound}
 use Rattle.dam_search.proofs.price_walk.explore_by_prices.Goals as goal
 
-pub write_bound_of_piece-most-requires-clause-places : goal.write_bound_of_piece-most-requires-clause-places
-write_bound_of_piece-most-requires-clause-places g c =
-    let node = piece_node c.args.depth c.args.piece (length c.args.problem.now.blocks) c.choice-taken.result [] c.args.order.now
-    c.choice-taken.ensures c.requires.depth c.use_invariant.ensures.few_blocks c.requires.order (λ place e. absurd (cc)) in
-    all_within c.choice-taken.result c.args.order.now node.free
+pub write_pricing_of_piece-bound-requires-clause-places : goal.write_pricing_of_piece-bound-requires-clause-places
+write_pricing_of_piece-bound-requires-clause-places g c =
+    let node = piece_node c.args.depth c.args.piece (length c.args.problem.now.blocks) c.choice-accepted.result [] c.args.order.now
+    c.choice-accepted.ensures c.requires.depth c.use_invariant.ensures.few_blocks c.requires.order (λ place e. absurd (cc)) in
+    all_within c.choice-accepted.result c.args.order.now node.free
 
 pub visit-requires-clause-node : goal.visit-requires-clause-node
 visit-requires-clause-node g c =
-    piece_node c.args.depth c.args.piece (length c.args.problem.now.blocks) c.choice-taken.result c.rejected_under.result c.args.order.now
-    c.choice-taken.ensures c.requires.depth c.use_invariant.ensures.few_blocks c.requires.order c.rejected_under.ensures
+    piece_node c.args.depth c.args.piece (length c.args.problem.now.blocks) c.choice-accepted.result c.rejected_under.result c.args.order.now
+    c.choice-accepted.ensures c.requires.depth c.use_invariant.ensures.few_blocks c.requires.order c.rejected_under.ensures
 
 pub visit-requires-clause-slack : goal.visit-requires-clause-slack
 visit-requires-clause-slack g c =
-    piece_slack c.args.problem.now c.args.conflicts.now.limits.limits c.args.depth (length c.args.problem.now.blocks) c.choice-taken.result
+    piece_slack c.args.problem.now c.args.conflicts.now.limits.limits c.args.depth (length c.args.problem.now.blocks) c.choice-accepted.result
     c.args.order.now c.in-Some.slack c.requires.order c.requires.conflicts.limits c.in-Some.ensures.slacks c.in-Some.ensures.some
 
 pub returns-in_default-clause-sound : goal.returns-in_default-clause-sound
 returns-in_default-clause-sound g c =
     let few = c.use_invariant.ensures.few_blocks in let deep = c.requires.depth in
-    nothing_sound c.args.problem.now c.args.conflicts.now.limits.limits c.args.depth c.args.piece c.choice-taken.result c.args.order.now
-    c.choice-taken.ensures (omega (arith, few, deep)) c.requires.order c.requires.conflicts.limits (c.slack_of_piece.ensures.none c.in_default.is)
+    nothing_sound c.args.problem.now c.args.conflicts.now.limits.limits c.args.depth c.args.piece c.choice-accepted.result c.args.order.now
+    c.choice-accepted.ensures (omega (arith, few, deep)) c.requires.order c.requires.conflicts.limits (c.slack_of_piece.ensures.none c.in_default.is)
 
 pub returns-clause-sound : goal.returns-clause-sound
 returns-clause-sound g c =
     let found = c.visit.new.found in let few = c.use_invariant.ensures.few_blocks in let deep = c.requires.depth in
-    piece_sound c.args.problem.now c.args.depth c.args.piece c.choice-taken.result c.args.order.now found.best found.read
-    c.choice-taken.ensures (omega (arith, few, deep)) c.requires.order c.visit.ensures.walked.finds c.visit.ensures.walked.covers
+    piece_sound c.args.problem.now c.args.depth c.args.piece c.choice-accepted.result c.args.order.now found.best found.read
+    c.choice-accepted.ensures (omega (arith, few, deep)) c.requires.order c.visit.ensures.walked.finds c.visit.ensures.walked.covers

@@ -19,8 +19,8 @@ loop-at-preserved c =
       slacks = c.in-Some.ensures.slacks;
       has = λ problem sel w are e agrees.
           c.in-Some.ensures.some sel (λ p. not (nat_lt p at)) (λ p. not (nat_lt p (at + 1)))
-          (c.loop-at.invariant.has problem sel w are e (agrees_less at c.args.taken sel agrees)) (open_at at) (decided_at at) (others_open at)
-          (agrees_here at c.args.taken sel agrees ∙ sym c.has.ensures.value);
+          (c.loop-at.invariant.has problem sel w are e (agrees_less at c.args.accepted sel agrees)) (open_at at) (decided_at at) (others_open at)
+          (agrees_here at c.args.accepted sel agrees ∙ sym c.has.ensures.value);
     }
 
 pub returns-in_default-clause-none : goal.returns-in_default-clause-none

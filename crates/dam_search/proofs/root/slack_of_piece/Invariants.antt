@@ -11,5 +11,5 @@ abbrev pub invariant-loop-at : goal.invariant-loop-at
 invariant-loop-at l = record {
   slacks : AreSlacks l.slack.slacks;
   has : (problem : ProblemState) (sel : List Bool) (w : ℤ) → AreLimits problem l.limits.limits → IsEligible problem sel w
-      → AgreesUnder l.at l.taken sel → HasSlack l.limits.limits sel (λ place. not (nat_lt place l.at)) l.slack.slacks;
+      → AgreesUnder l.at l.accepted sel → HasSlack l.limits.limits sel (λ place. not (nat_lt place l.at)) l.slack.slacks;
 }

@@ -39,9 +39,9 @@ begun total base gains e = omega (arith, ints, e)
 
 pub loop-class-init : goal.loop-class-init
 loop-class-init g c =
-    let total : to_z w64 (of_z w64 c.most-total.result) ≡ c.most-total.result = search rules in record {
-      lowered = lowered_first c.args.self.now c.args.bound.now c.args.selection _ c.requires.by_lines (total
-          ∙ begun c.most-total.result c.args.bound.now.base (over_gains c.args.bound.now.gains c.args.selection) c.most-total.ensures);
+    let total : to_z w64 (of_z w64 c.bound-total.result) ≡ c.bound-total.result = search rules in record {
+      lowered = lowered_first c.args.self.now c.args.pricing.now c.args.selection _ c.requires.by_lines (total
+          ∙ begun c.bound-total.result c.args.pricing.now.base (over_gains c.args.pricing.now.gains c.args.selection) c.bound-total.ensures);
       priced = no_price c.args.self.now c.args.selection _ (search rules);
     }
 
@@ -76,8 +76,8 @@ returns-in_default-clause-none g c none w e =
     absurd (none_balances c.args.self.now c.args.selection class.at w
     (sym joint ∙ ap (option_map (λ (p : Point). p.welfare)) c.in_default.is) e)
 
-pub bounds-bound-class : goal.bounds-bound-class
-bounds-bound-class g c =
+pub bounds-pricing-class : goal.bounds-pricing-class
+bounds-pricing-class g c =
     (own_class _ _ _ _ _ c.deref-class-items.result.now c.loop-class.class-index nothing c.self.invariant
     c.deref-class-items.ensures.value c.loop-class-test.true).place.below
 
@@ -111,8 +111,8 @@ overflow_sub-total-in-loop-class g c =
     let range = range_read c.args.self.now c.args.selection class.at _ net.0 in
     let joint = c.in-Some.ensures.welfare _ _ _ own.is.curve_is range.0 range.1
     ∙ ap (joint_welfare (class_orders c.args.self.now class.at)) net.0 ∙ joint_here c.args.self.now c.args.selection class.at in
-    let line = c.line_value.ensures.value ∙ ap (line_value (line_in c.args.bound.now.lines class.at)) net.0 in
-    let lowered = one_lowered c.args.self.now c.args.bound.now c.args.selection j class.at (to_z w64 c.loop-class.total-bits) c.line_value.result
+    let line = c.line_value.ensures.value ∙ ap (line_value (line_in c.args.pricing.now.lines class.at)) net.0 in
+    let lowered = one_lowered c.args.self.now c.args.pricing.now c.args.selection j class.at (to_z w64 c.loop-class.total-bits) c.line_value.result
     c.in-Some.point.welfare are.few_periods are.blocks_are are.few_blocks own.place.place c.requires.by_lines (sym joint)
     (record { at_least = c.in-Some.ensures.small.welfare_at_least; at_most = c.in-Some.ensures.small.welfare_at_most }) line c.line_value.ensures.size
     c.loop-class.invariant.lowered in
@@ -132,12 +132,12 @@ returns-then-total-least-clause-none g c none w e =
     let range = range_read c.args.self.now c.args.selection class.at _ net.0 in
     let joint = c.in-Some.ensures.welfare _ _ _ own.is.curve_is range.0 range.1
     ∙ ap (joint_welfare (class_orders c.args.self.now class.at)) net.0 ∙ joint_here c.args.self.now c.args.selection class.at in
-    let line = c.line_value.ensures.value ∙ ap (line_value (line_in c.args.bound.now.lines class.at)) net.0 in
-    let lowered = one_lowered c.args.self.now c.args.bound.now c.args.selection j class.at (to_z w64 c.loop-class.total-bits) c.line_value.result
+    let line = c.line_value.ensures.value ∙ ap (line_value (line_in c.args.pricing.now.lines class.at)) net.0 in
+    let lowered = one_lowered c.args.self.now c.args.pricing.now c.args.selection j class.at (to_z w64 c.loop-class.total-bits) c.line_value.result
     c.in-Some.point.welfare are.few_periods are.blocks_are are.few_blocks own.place.place c.requires.by_lines (sym joint)
     (record { at_least = c.in-Some.ensures.small.welfare_at_least; at_most = c.in-Some.ensures.small.welfare_at_most }) line c.line_value.ensures.size
     c.loop-class.invariant.lowered in
-    let most = most_lowered c.args.self.now c.args.bound.now c.args.selection (j + 1) _ w c.requires.by_lines lowered.1 e in
+    let most = most_lowered c.args.self.now c.args.pricing.now c.args.selection (j + 1) _ w c.requires.by_lines lowered.1 e in
     let less = c.if-total-least.true in
     let least : to_z w64 (of_z w64 c.args.least) ≡ c.args.least = search rules in
     omega (arith, ints, most, less, least)
@@ -161,8 +161,8 @@ loop-class-preserved g c =
     let range = range_read c.args.self.now c.args.selection class.at _ net.0 in
     let joint = c.in-Some.ensures.welfare _ _ _ own.is.curve_is range.0 range.1
     ∙ ap (joint_welfare (class_orders c.args.self.now class.at)) net.0 ∙ joint_here c.args.self.now c.args.selection class.at in
-    let line = c.line_value.ensures.value ∙ ap (line_value (line_in c.args.bound.now.lines class.at)) net.0 in
-    let lowered = one_lowered c.args.self.now c.args.bound.now c.args.selection j class.at (to_z w64 c.loop-class.total-bits) c.line_value.result
+    let line = c.line_value.ensures.value ∙ ap (line_value (line_in c.args.pricing.now.lines class.at)) net.0 in
+    let lowered = one_lowered c.args.self.now c.args.pricing.now c.args.selection j class.at (to_z w64 c.loop-class.total-bits) c.line_value.result
     c.in-Some.point.welfare are.few_periods are.blocks_are are.few_blocks own.place.place c.requires.by_lines (sym joint)
     (record { at_least = c.in-Some.ensures.small.welfare_at_least; at_most = c.in-Some.ensures.small.welfare_at_most }) line c.line_value.ensures.size
     c.loop-class.invariant.lowered in
@@ -183,7 +183,7 @@ loop-class-preserved g c =
 
 pub returns-then-total-least-2-clause-none : goal.returns-then-total-least-2-clause-none
 returns-then-total-least-2-clause-none g c none w e =
-    let most = most_lowered c.args.self.now c.args.bound.now c.args.selection c.loop-class.class-index _ w c.requires.by_lines
+    let most = most_lowered c.args.self.now c.args.pricing.now c.args.selection c.loop-class.class-index _ w c.requires.by_lines
     c.loop-class.invariant.lowered e in
     let less = c.if-total-least-2.true in
     let least : to_z w64 (of_z w64 c.args.least) ≡ c.args.least = search rules in
@@ -197,7 +197,7 @@ returns-else-total-least-2-clause-some g c =
     let long = ap (λ (xs : List Class). length xs) c.deref-class-items.ensures.value in
     let past = c.loop-class-test.false in let more = c.if-total-least-2.false in
     let least : to_z w64 (of_z w64 c.args.least) ≡ c.args.least = search rules in (
-      all_lowered c.args.self.now c.args.bound.now.lines c.args.selection c.loop-class.class-index (to_z w64 c.loop-class.total-bits)
+      all_lowered c.args.self.now c.args.pricing.now.lines c.args.selection c.loop-class.class-index (to_z w64 c.loop-class.total-bits)
           (omega (arith, many, long, past)) c.loop-class.invariant.lowered,
       omega (arith, ints, more, least),
     )

@@ -5,6 +5,6 @@ use Rattle.dam_bound.proofs.class_curves.ClassCurves.clear_selection.Given as go
 
 abbrev pub invariant-loop-class : goal.invariant-loop-class
 invariant-loop-class g l = record {
-  lowered : IsLowered l.self l.bound.lines l.fn.selection l.class-index l.total;
+  lowered : IsLowered l.self l.pricing.lines l.fn.selection l.class-index l.total;
   priced : ArePricedSoFar l.self l.fn.selection l.class-index l.prices.prices;
 }

@@ -47,7 +47,7 @@ returns-clause-small c =
       many = c.loop-k.invariant.many;
       small = λ k d l.
           (let is = c.loop-k.invariant.lowered k d (omega (arith, l, past)) in let was = c.requires.slacks.small k d l in
-          let taken = taken_within c.args.accept _ ((c.requires.limits.1.each k l).small c.args.place (pos 0) c.requires.place) in
-          let a = was.at_least in let b = was.at_most in let low = taken.0 in let high = taken.1 in
+          let accepted = taken_within c.args.accept _ ((c.requires.limits.1.each k l).small c.args.place (pos 0) c.requires.place) in
+          let a = was.at_least in let b = was.at_most in let low = accepted.0 in let high = accepted.1 in
           record { at_least = omega (arith, ints, is, a, high); at_most = omega (arith, ints, is, b, low) });
     }

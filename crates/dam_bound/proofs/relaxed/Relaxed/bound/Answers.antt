@@ -25,12 +25,12 @@ loop-place-preserved g c =
     let there = ap (λ (hs : List (List Step)). slice_get hs c.loop-place.place) hours
     ∙ hour_of c.self.inside.periods.items c.loop-place.place c.levels-item.result periods in
     let welfare = c.in_ok-welfare.ensures.value
-    ∙ ap (λ (bs : List Block). period_welfare bs c.args.taken c.at-period.result
+    ∙ ap (λ (bs : List Block). period_welfare bs c.args.accepted c.at-period.result
     (last_steps c.levels-item.result ++ as_steps c.at-period.result (drop c.args.depth bs))) blocks in
     let few = c.self.invariant.0.few_periods in let long = ap length c.deref-levels-items.ensures.value in let inside =
     c.loop-place-test.true in
     let low = c.loop-place.invariant.low in let high = c.loop-place.invariant.high in
-    one_bound c.args.self.now.blocks c.args.taken (drop c.args.depth c.args.self.now.blocks)
+    one_bound c.args.self.now.blocks c.args.accepted (drop c.args.depth c.args.self.now.blocks)
     c.args.self.now.hours c.loop-place.place c.at-period.result (last_steps c.levels-item.result)
     c.in_ok-welfare.welfare _ _ there c.at-period.ensures welfare c.in_ok-welfare.ensures.size
     (omega (arith, ints, few, long, inside, low, high, c.in_ok-welfare.ensures.size.at_least, c.in_ok-welfare.ensures.size.at_most))
@@ -46,20 +46,20 @@ returns-in_err-welfare g c prefix depth is =
     let there = ap (λ (hs : List (List Step)). slice_get hs c.loop-place.place) hours
     ∙ hour_of c.self.inside.periods.items c.loop-place.place c.levels-item.result periods in
     let none = c.in_err-welfare.ensures.value
-    ∙ ap (λ (bs : List Block). period_welfare bs c.args.taken c.at-period.result
+    ∙ ap (λ (bs : List Block). period_welfare bs c.args.accepted c.at-period.result
     (last_steps c.levels-item.result ++ as_steps c.at-period.result (drop c.args.depth bs))) blocks in
     c.from_residual.ensures
-    ∙ none_bound c.args.self.now.blocks c.args.taken (drop c.args.depth c.args.self.now.blocks)
+    ∙ none_bound c.args.self.now.blocks c.args.accepted (drop c.args.depth c.args.self.now.blocks)
     c.args.self.now.hours c.loop-place.place c.at-period.result (last_steps c.levels-item.result) _
     there c.at-period.ensures none c.loop-place.invariant
     ∙ padded_welfare (record { parted = c.sums_split_at_fronts.ensures.parted; padded = c.sums_split_at_fronts.ensures.padded })
-    c.args.self.now.blocks prefix c.args.taken c.args.depth c.args.self.now.hours depth is
+    c.args.self.now.blocks prefix c.args.accepted c.args.depth c.args.self.now.hours depth is
 
 pub returns : goal.returns
 returns g c prefix depth is =
     let hours = ap (λ (p : ProblemState). length p.hours) (sym c.self.view_is) ∙ length-map c.self.inside.periods.items last_steps
     ∙ sym (ap length c.deref-levels-items.ensures.value) in
-    all_bound c.args.self.now.blocks c.args.taken (drop c.args.depth c.args.self.now.blocks) c.args.self.now.hours c.loop-place.place _
+    all_bound c.args.self.now.blocks c.args.accepted (drop c.args.depth c.args.self.now.blocks) c.args.self.now.hours c.loop-place.place _
     (omega (arith, hours, c.loop-place-test.false)) c.loop-place.invariant
     ∙ padded_welfare (record { parted = c.sums_split_at_fronts.ensures.parted; padded = c.sums_split_at_fronts.ensures.padded })
-    c.args.self.now.blocks prefix c.args.taken c.args.depth c.args.self.now.hours depth is
+    c.args.self.now.blocks prefix c.args.accepted c.args.depth c.args.self.now.hours depth is

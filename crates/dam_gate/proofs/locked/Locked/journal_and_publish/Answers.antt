@@ -69,11 +69,11 @@ with_journal passes journal = record { journal = journal; passes = passes }
 
 pub returns-in_err-slot-clause-err : goal.returns-in_err-slot-clause-err
 returns-in_err-slot-clause-err g c =
-    when_refused c.from_residual-in_err-slot.result (ap (with_journal c.self.inside.passes) c.prepare_packed.ensures.journal ∙ c.self.view_is)
+    when_refused c.from_residual-in_err-slot.result (ap (with_journal c.self.inside.issued) c.prepare_packed.ensures.journal ∙ c.self.view_is)
 
 pub returns-in_err-after-clause-err : goal.returns-in_err-after-clause-err
 returns-in_err-after-clause-err g c =
-    when_refused c.from_residual-in_err-after.result (ap (with_journal c.self.inside.passes) c.prepare_packed.ensures.journal ∙ c.self.view_is)
+    when_refused c.from_residual-in_err-after.result (ap (with_journal c.self.inside.issued) c.prepare_packed.ensures.journal ∙ c.self.view_is)
 
 pub invariant_of-self : goal.invariant_of-self
 invariant_of-self g c = rw c.prepare_packed.ensures.journal c.self.invariant

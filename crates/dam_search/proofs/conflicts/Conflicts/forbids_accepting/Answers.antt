@@ -1,4 +1,4 @@
--- A place in common is a needed block that is rejected, or an excluded one that is taken.
+-- A place in common is a needed block that is rejected, or an excluded one that is accepted.
 use Rattle.std.proofs.Common.{List, Bool, ap, ◌∙◌, rules}
 use Rattle.std.proofs.lemmas.Option.{slice_get_read}
 use Rattle.dam_blocks.specs.Selection.{accepts}
@@ -15,6 +15,6 @@ returns-then-meets c e problem selection w are eligible all none =
 pub returns-else-meets : goal.returns-else-meets
 returns-else-meets c e problem selection w are eligible all none =
     let row = c.index-self-place-else-meets in let meets = c.meets-else-meets.ensures.0 e in
-    beside_one problem c.args.self.now c.args.place meets.0 row.result c.args.taken selection w are
+    beside_one problem c.args.self.now c.args.place meets.0 row.result c.args.accepted selection w are
     (slice_get_read _ _ c.args.place _ (search rules) c.requires row.is)
     (ap (λ (r : List Bool). accepts r meets.0) row.is ∙ meets.1) meets.2 eligible all

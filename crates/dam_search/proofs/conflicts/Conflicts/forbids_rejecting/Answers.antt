@@ -1,4 +1,4 @@
--- A place in common is a taken block that needs this one.
+-- A place in common is a accepted block that needs this one.
 use Rattle.std.proofs.Common.{List, Bool, ap, ◌∙◌, rules}
 use Rattle.std.proofs.lemmas.Option.{slice_get_read}
 use Rattle.dam_blocks.specs.Selection.{accepts}
@@ -8,6 +8,6 @@ use Rattle.dam_search.proofs.conflicts.Conflicts.forbids_rejecting.Goals as goal
 pub returns : goal.returns
 returns c e problem selection w are eligible all =
     let row = c.index-self-place in let meets = c.meets.ensures.0 e in
-    needed_by_one problem c.args.self.now c.args.place meets.0 row.result c.args.taken selection w are
+    needed_by_one problem c.args.self.now c.args.place meets.0 row.result c.args.accepted selection w are
     (slice_get_read _ _ c.args.place _ (search rules) c.requires row.is)
     (ap (λ (r : List Bool). accepts r meets.0) row.is ∙ meets.1) meets.2 eligible all

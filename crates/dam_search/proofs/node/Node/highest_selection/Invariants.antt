@@ -4,4 +4,4 @@ use Rattle.dam_search.specs.inside.PriceWalk.{with_all}
 use Rattle.dam_search.proofs.node.Node.highest_selection.Given as goal
 
 abbrev pub invariant-loop-place : goal.invariant-loop-place
-invariant-loop-place l = with_all l.top (drop l.place-index l.self.left.now) ≡ with_all l.self.taken l.self.left.now
+invariant-loop-place l = with_all l.top (drop l.place-index l.self.left.now) ≡ with_all l.self.accepted l.self.left.now

@@ -11,6 +11,6 @@ returns-clause-completions g c rejected sel whole admitted =
     let blocks = c.args.problem.now.blocks in
     let prefix = c.fronts_are_admissible.ensures c.args.problem.now c.args.self.now whole.rest c.use_invariant.ensures
     (subst (λ (xs : List Bool). IsAdmissible blocks xs) whole.agrees admitted) in
-    let taken : padded c.args.self.now ≡ c.self.inside.taken = sym (c.self.invariant.0 ∙ ap padded c.self.view_is) in
-    let here = subst (λ (xs : List Bool). IsAdmissible blocks xs) taken prefix in
+    let accepted : padded c.args.self.now ≡ c.self.inside.accepted = sym (c.self.invariant.0 ∙ ap padded c.self.view_is) in
+    let here = subst (λ (xs : List Bool). IsAdmissible blocks xs) accepted prefix in
     true_and_false c.admissible.result (c.admissible.ensures.1 here) rejected

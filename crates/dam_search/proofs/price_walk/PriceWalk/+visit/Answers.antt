@@ -16,12 +16,12 @@ branch-returns-clause-walked g t c =
     let problem = c.args.self.now.problem.now in let node = c.args.node.now in let left = c.in-Some.left.now in
     let place = c.from-place.result in
     let split : node.left.now ≡ place ∷ left = c.in-Some.ensures.cases.0 ∙ ap (λ (k : ℕ). k ∷ left) (sym c.from-place.ensures) in
-    let is = subst (λ (xs : List ℕ). IsNode node.taken node.rejected xs) split c.requires.node in
+    let is = subst (λ (xs : List ℕ). IsNode node.accepted node.rejected xs) split c.requires.node in
     let told = g.I.Incumbent.greatest_read in let top = g.I.Incumbent.greatest_offer in
     let before = c.args.incumbent.now in let middle = c.decide.new.incumbent in let after = c.decide-2.new.incumbent in
-    subst (λ (xs : List ℕ). IsWalkedOpen problem node.taken xs (top before) (told after) (top after) c.args.found.now c.decide-2.new.found)
+    subst (λ (xs : List ℕ). IsWalkedOpen problem node.accepted xs (top before) (told after) (top after) c.args.found.now c.decide-2.new.found)
     (sym split)
-    (walked_both _ problem node.taken node.rejected place left (told before) (top before) (told middle) (top middle) (told after) (top after)
+    (walked_both _ problem node.accepted node.rejected place left (told before) (top before) (told middle) (top middle) (told after) (top after)
     c.args.found.now c.decide.new.found
     c.decide-2.new.found c.ranking_is_total.ensures.transitive is c.requires.ready c.decide.ensures.walked c.decide-2.ensures.walked)
 
@@ -30,81 +30,81 @@ branch-returns-clause-walked g t c =
 pub decide-forbids-requires : goal.decide-forbids-requires
 decide-forbids-requires g t c =
     let node = c.args.node.now in
-    (subst (λ (xs : List ℕ). IsNode node.taken node.rejected xs) c.requires.split c.requires.node).free.0
+    (subst (λ (xs : List ℕ). IsNode node.accepted node.rejected xs) c.requires.split c.requires.node).free.0
 
 pub decide-returns-then-forbids-clause-walked : goal.decide-returns-then-forbids-clause-walked
 decide-returns-then-forbids-clause-walked g t c =
     let problem = c.args.self.now.problem.now in let node = c.args.node.now in
     let accept = c.args.accept in let place = c.args.place in let left = c.args.left.now in
-    let is = subst (λ (xs : List ℕ). IsNode node.taken node.rejected xs) c.requires.split c.requires.node in
-    walked_nothing problem (with_place_if accept node.taken place) left _ _ c.args.found.now c.requires.ready
+    let is = subst (λ (xs : List ℕ). IsNode node.accepted node.rejected xs) c.requires.split c.requires.node in
+    walked_nothing problem (with_place_if accept node.accepted place) left _ _ c.args.found.now c.requires.ready
     (λ sel w opened e.
-    (let any = open_any accept node.taken place left sel opened in
-    let here = open_here accept node.taken node.rejected place left sel is opened in
-    let other = c.forbids.ensures c.if-forbids.true sel w e (accepts_taken node.taken (place ∷ left) sel is.free any)
-    (accepts_none_rejected node.taken node.rejected (place ∷ left) sel is any) in
+    (let any = open_any accept node.accepted place left sel opened in
+    let here = open_here accept node.accepted node.rejected place left sel is opened in
+    let other = c.forbids.ensures c.if-forbids.true sel w e (accepts_taken node.accepted (place ∷ left) sel is.free any)
+    (accepts_none_rejected node.accepted node.rejected (place ∷ left) sel is any) in
     absurd (not_both _ accept here other)))
 
 pub decide-slack_after-requires-clause-place : goal.decide-slack_after-requires-clause-place
 decide-slack_after-requires-clause-place g t c =
     let node = c.args.node.now in
-    (subst (λ (xs : List ℕ). IsNode node.taken node.rejected xs) c.requires.split c.requires.node).free.0
+    (subst (λ (xs : List ℕ). IsNode node.accepted node.rejected xs) c.requires.split c.requires.node).free.0
 
 pub decide-returns-in_default-clause-walked : goal.decide-returns-in_default-clause-walked
 decide-returns-in_default-clause-walked g t c =
     let problem = c.args.self.now.problem.now in let node = c.args.node.now in
     let limits = c.args.self.now.conflicts.now.limits.limits in
     let accept = c.args.accept in let place = c.args.place in let left = c.args.left.now in
-    let is = subst (λ (xs : List ℕ). IsNode node.taken node.rejected xs) c.requires.split c.requires.node in
-    let slack = subst (λ (xs : List ℕ). IsSlack problem limits node.taken xs c.args.slack.now) c.requires.split c.requires.slack in
-    walked_nothing problem (with_place_if accept node.taken place) left _ _ c.args.found.now c.requires.ready
-    (λ sel w opened e. absurd (no_slack problem limits accept node.taken node.rejected place left c.args.slack.now sel w is slack
+    let is = subst (λ (xs : List ℕ). IsNode node.accepted node.rejected xs) c.requires.split c.requires.node in
+    let slack = subst (λ (xs : List ℕ). IsSlack problem limits node.accepted xs c.args.slack.now) c.requires.split c.requires.slack in
+    walked_nothing problem (with_place_if accept node.accepted place) left _ _ c.args.found.now c.requires.ready
+    (λ sel w opened e. absurd (no_slack problem limits accept node.accepted node.rejected place left c.args.slack.now sel w is slack
     (c.slack_after.ensures.none c.in_default.is) opened e))
 
 pub decide-visit-requires : goal.decide-visit-requires
 decide-visit-requires g t c κs within =
     let node = c.args.node.now in let next = c.after_decision-next.result in let relaxed = g.P.PricedProblem.problem c.args.self.now.priced.now in
     let accept = c.args.accept in let place = c.args.place in let left = c.args.left.now in
-    let is = subst (λ (xs : List ℕ). IsNode node.taken node.rejected xs) c.requires.split c.requires.node in
-    let bounded = subst (λ (xs : List ℕ). IsBounded relaxed c.args.bound.now node.taken xs node.most) c.requires.split c.requires.bounded in
+    let is = subst (λ (xs : List ℕ). IsNode node.accepted node.rejected xs) c.requires.split c.requires.node in
+    let bounded = subst (λ (xs : List ℕ). IsBounded relaxed c.args.pricing.now node.accepted xs node.bound) c.requires.split c.requires.bounded in
     let ensured = c.after_decision-next.ensures in
-    let gain = get_or c.args.bound.now.gains place (pos 0) in
-    let own = bounded.is_price_bound.small_gains place (pos 0) is.free.0 in
+    let gain = get_or c.args.pricing.now.gains place (pos 0) in
+    let own = bounded.is_pricing.small_gains place (pos 0) is.free.0 in
     let low = own.at_least in let high = own.at_most in
     let value = to_z-of_z w64 gain (omega (arith, ints, low, high)) in
-    let bound = ensured.bound ∙ ap (λ (z : ℤ). bound_after accept node.most z) value in
-    let node' : IsNode next.taken next.rejected next.left.now =
-    node_is _ _ next.taken next.rejected left next.left.now ensured.taken ensured.rejected ensured.left
-    (node_after accept node.taken node.rejected place left is) in
-    let bounded' : IsBounded relaxed c.args.bound.now next.taken next.left.now next.most =
-    bounded_is relaxed c.args.bound.now _ next.taken left next.left.now _ next.most ensured.taken ensured.left bound
-    (bounded_after accept relaxed c.args.bound.now node.taken node.rejected place left node.most is bounded) in
+    let bound = ensured.bound ∙ ap (λ (z : ℤ). bound_after accept node.bound z) value in
+    let node' : IsNode next.accepted next.rejected next.left.now =
+    node_is _ _ next.accepted next.rejected left next.left.now ensured.accepted ensured.rejected ensured.left
+    (node_after accept node.accepted node.rejected place left is) in
+    let bounded' : IsBounded relaxed c.args.pricing.now next.accepted next.left.now next.bound =
+    bounded_is relaxed c.args.pricing.now _ next.accepted left next.left.now _ next.bound ensured.accepted ensured.left bound
+    (bounded_after accept relaxed c.args.pricing.now node.accepted node.rejected place left node.bound is bounded) in
     let long = ap (λ (xs : List ℕ). length xs) ensured.left in
     let limits = c.args.self.now.conflicts.now.limits.limits in
-    let had = subst (λ (xs : List ℕ). IsSlack c.args.self.now.problem.now limits node.taken xs c.args.slack.now) c.requires.split c.requires.slack in
-    let slack' : IsSlack c.args.self.now.problem.now limits next.taken next.left.now c.in-Some.slack =
-    slack_after_is c.args.self.now.problem.now limits accept node.taken node.rejected next.taken place left next.left.now c.args.slack.now c.in-Some.slack
-    ensured.taken ensured.left is c.in-Some.ensures.slacks c.in-Some.ensures.some had in
+    let had = subst (λ (xs : List ℕ). IsSlack c.args.self.now.problem.now limits node.accepted xs c.args.slack.now) c.requires.split c.requires.slack in
+    let slack' : IsSlack c.args.self.now.problem.now limits next.accepted next.left.now c.in-Some.slack =
+    slack_after_is c.args.self.now.problem.now limits accept node.accepted node.rejected next.accepted place left next.left.now c.args.slack.now c.in-Some.slack
+    ensured.accepted ensured.left is c.in-Some.ensures.slacks c.in-Some.ensures.some had in
     search rules
 
 -- ---- prices of its own
 
-pub explore_repriced-write_price_bound-requires : goal.explore_repriced-write_price_bound-requires
-explore_repriced-write_price_bound-requires g t c = all_within c.args.node.now.taken c.args.node.now.left.now c.requires.node.free
+pub explore_repriced-write_pricing-requires : goal.explore_repriced-write_pricing-requires
+explore_repriced-write_pricing-requires g t c = all_within c.args.node.now.accepted c.args.node.now.left.now c.requires.node.free
 
-pub explore_repriced-most-most-requires-clause-places : goal.explore_repriced-most-most-requires-clause-places
-explore_repriced-most-most-requires-clause-places g t c = all_within c.args.node.now.taken c.args.node.now.left.now c.requires.node.free
+pub explore_repriced-bound-bound-requires-clause-places : goal.explore_repriced-bound-bound-requires-clause-places
+explore_repriced-bound-bound-requires-clause-places g t c = all_within c.args.node.now.accepted c.args.node.now.left.now c.requires.node.free
 
 pub explore_repriced-returns-then-is_passed-clause-walked : goal.explore_repriced-returns-then-is_passed-clause-walked
 explore_repriced-returns-then-is_passed-clause-walked g t c =
     let problem = c.args.self.now.problem.now in let relaxed = g.P.PricedProblem.problem c.args.self.now.priced.now in
-    let node = c.args.node.now in let own = c.write_price_bound.new.bound in
-    let fits : SFits w64 c.most-most.result = search rules in
-    let value = to_z-of_z w64 c.most-most.result fits in let most = c.most-most.ensures in
-    walked_nothing problem node.taken node.left.now _ _ c.args.found.now c.requires.ready
+    let node = c.args.node.now in let own = c.write_pricing.new.pricing in
+    let fits : SFits w64 c.bound-bound.result = search rules in
+    let value = to_z-of_z w64 c.bound-bound.result fits in let at_most = c.bound-bound.ensures in
+    walked_nothing problem node.accepted node.left.now _ _ c.args.found.now c.requires.ready
     (λ sel w opened e. c.is_passed.ensures.passed c.if-is_passed.true sel w opened
-    (under_bound problem relaxed own node.taken node.rejected sel node.left.now _ w c.most_bounds_open_selections.ensures c.args.self.now.same c.requires.node
-    (record { is_price_bound = c.write_price_bound.ensures; most = omega (arith, ints, value, most) }) opened e))
+    (under_bound problem relaxed own node.accepted node.rejected sel node.left.now _ w c.pricing_bounds_open_selections.ensures c.args.self.now.same c.requires.node
+    (record { is_pricing = c.write_pricing.ensures; bound_reaches = omega (arith, ints, value, at_most) }) opened e))
 
 pub explore_repriced-branch-self-requires-2 : goal.explore_repriced-branch-self-requires-2
 explore_repriced-branch-self-requires-2 g t c = search rules
@@ -116,8 +116,8 @@ visit-returns-then-is_passed-clause-walked g t c =
     let problem = c.args.self.now.problem.now in let relaxed = g.P.PricedProblem.problem c.args.self.now.priced.now in
     let node = c.args.node.now in let was = c.requires.ready.read in
     let read = c.read-found.ensures in let rises = read.rises in
-    walked_over problem node.taken node.left.now _ _ _ _ c.args.found.now _ c.requires.ready refl (omega (arith, was, rises))
+    walked_over problem node.accepted node.left.now _ _ _ _ c.args.found.now _ c.requires.ready refl (omega (arith, was, rises))
     (sym read.greatest_read) read.greatest_offer
     (λ sel w opened e. c.is_passed.ensures.passed c.if-is_passed.true sel w opened
-    (under_bound problem relaxed c.args.bound.now node.taken node.rejected sel node.left.now _ w c.most_bounds_open_selections.ensures c.args.self.now.same
+    (under_bound problem relaxed c.args.pricing.now node.accepted node.rejected sel node.left.now _ w c.pricing_bounds_open_selections.ensures c.args.self.now.same
     c.requires.node c.requires.bounded opened e))

@@ -1,6 +1,0 @@
--- The lines of the classes so far.
-use Rattle.dam_bound.proofs.LineByLine.{IsLinedSoFar}
-use Rattle.dam_bound.proofs.class_curves.ClassCurves.write_price_bound.Given as goal
-
-abbrev pub invariant-loop-class : goal.invariant-loop-class
-invariant-loop-class g l = IsLinedSoFar l.self l.class-index l.bound.base l.bound.gains l.bound.lines

@@ -1,0 +1,60 @@
+-- The walk from the decisions of the piece, with nothing found before.
+use Rattle.std.proofs.Common.{◌≡◌, inl, inr, ℕ, ◌-◌, List, Bool, true, Option, None, length, ◌∙◌, ap, sym, subst, arith}
+use Rattle.dam_blocks.specs.declared.selection.Solution.{Solution}
+use Rattle.dam_blocks.specs.Problem.{ProblemState}
+use Rattle.dam_blocks.specs.Selection.{choice}
+use Rattle.dam_search.specs.Piece.{IsFind, IsSound, IsSpent}
+use Rattle.dam_search.specs.inside.PrefixWalk.{Finds, Covers}
+use Rattle.dam_search.proofs.Prefixes.{length-choice}
+use Rattle.dam_search.proofs.Walks.{spent_from}
+use Rattle.dam_search.proofs.prefix_walk.explore_by_prefixes.Goals as goal
+
+as_long : (prefix : List Bool) (depth piece : ℕ) → prefix ≡ choice depth piece → length prefix ≡ depth
+as_long prefix depth piece e = ap (λ (xs : List Bool). length xs) e ∙ length-choice depth piece
+
+sound : (problem : ProblemState) (prefix : List Bool) (best : Option Solution) (read : ℕ) (done : Bool) → Finds problem prefix None best
+    → (done ≡ true → Covers problem prefix best read) → IsSound problem prefix best read done
+sound problem prefix best read done f covers = record {
+  found = elim f.found [ inl e ↦ subst (λ (o : Option Solution). IsFind problem prefix o) (sym e) tt | inr g ↦ g ];
+  others = covers;
+}
+
+pub walk-done-requires-clause-depth : goal.walk-done-requires-clause-depth
+walk-done-requires-clause-depth g c =
+    let long = as_long c.of_piece-prefix.result c.args.depth c.args.piece c.of_piece-prefix.ensures in
+    omega (arith, long, c.requires.depth)
+
+pub walk-done-requires-clause-going : goal.walk-done-requires-clause-going
+walk-done-requires-clause-going g c = record { within = omega arith; read = omega arith; best = tt; offered = omega arith }
+
+pub returns-clause-sound : goal.returns-clause-sound
+returns-clause-sound g c =
+    let found = c.walk-done.new.found in
+    subst (λ (prefix : List Bool). IsSound c.args.problem.now prefix found.best found.read c.walk-done.result) c.of_piece-prefix.ensures
+    (sound c.args.problem.now c.of_piece-prefix.result found.best found.read c.walk-done.result c.walk-done.ensures.walked.finds
+    c.walk-done.ensures.walked.covers)
+
+pub returns-clause-spent : goal.returns-clause-spent
+returns-clause-spent g c =
+    let told = g.I.Incumbent.greatest_read c.args.incumbent.now in let n = length c.args.problem.now.blocks in
+    let long = as_long c.of_piece-prefix.result c.args.depth c.args.piece c.of_piece-prefix.ensures in
+    let found = c.walk-done.new.found in let walked = c.walk-done.ensures.walked in
+    subst (λ (left : ℕ). IsSpent c.args.problem.now (choice c.args.depth c.args.piece) (n - left) told c.args.nodes found.visited
+    found.read c.walk-done.result) long
+    (subst (λ (prefix : List Bool). IsSpent c.args.problem.now prefix (n - length c.of_piece-prefix.result) told c.args.nodes
+    found.visited found.read c.walk-done.result) c.of_piece-prefix.ensures
+    (spent_from c.args.problem.now c.of_piece-prefix.result (n - length c.of_piece-prefix.result) told c.args.nodes found.visited
+    found.read c.walk-done.result walked.spends walked.needed))
+
+pub returns-clause-read : goal.returns-clause-read
+returns-clause-read g c some few =
+    let long = as_long c.of_piece-prefix.result c.args.depth c.args.piece c.of_piece-prefix.ensures in
+    c.walk-done.ensures.walked.reads.asked some (omega (arith, long, few))
+
+pub returns-clause-unread : goal.returns-clause-unread
+returns-clause-unread g c h =
+    let long = as_long c.of_piece-prefix.result c.args.depth c.args.piece c.of_piece-prefix.ensures in
+    elim h [
+      | inl none ↦ c.walk-done.ensures.walked.reads.unvisited none
+      | inr full ↦ c.walk-done.ensures.walked.reads.full (omega (arith, long, full))
+    ]

@@ -1,0 +1,71 @@
+-- The account of a walk from a prefix: the selection that it finds, its cost, and its effect on the
+-- incumbent.
+use Rattle.std.specs.Prelude.{◌≡◌, ℕ, ◌+◌, ◌-◌, ◌*◌, ◌^◌, ◌<◌, ◌≤◌, max, ℤ, pos, ◌<ℤ◌, ◌⊎◌, Bool, true, false, Option}
+use Rattle.std.specs.Prelude.{List, [], length}
+use Rattle.dam_blocks.specs.declared.selection.Solution.{Solution}
+use Rattle.dam_blocks.specs.Problem.{ProblemState}
+use Rattle.dam_blocks.specs.Eligible.{IsEligible}
+use Rattle.dam_bound.specs.Prefix.{IsCompletion}
+use Rattle.dam_bound.specs.Relaxed.{live_count}
+use Rattle.dam_search.specs.declared.walk_state.WalkState.{WalkState}
+use Rattle.dam_search.specs.Piece.{IsFind, IsMatched, Rises, welfare_found, HasNeeded}
+
+-- the find changes to an eligible completion of the prefix, or not at all, and only rises
+pub record Finds (problem : ProblemState) (prefix : List Bool) (before after : Option Solution)
+    : Type 0 where
+  pub found : (after ≡ before) ⊎ IsFind problem prefix after
+  pub rises : Rises before after
+
+-- once the walk is done, each eligible completion has less welfare than the value read or ranks at
+-- or below the selection that was found
+abbrev pub Covers : ProblemState → List Bool → Option Solution → ℕ → Type 0
+Covers problem prefix best read =
+    (sel : List Bool) (w : ℤ) → IsCompletion prefix sel → IsEligible problem sel w
+    → (w <ℤ pos read) ⊎ IsMatched w sel best
+
+-- the nodes visited before and after, if this number of blocks is undecided and the value was read
+-- before
+pub record Spends (problem : ProblemState) (prefix : List Bool)
+    (left greatest_read nodes before after : ℕ) (done : Bool) : Type 0 where
+  pub grows : before ≤ after
+  pub within : after ≤ nodes
+  pub all : after + 1 ≤ before + 2 ^ (left + 1)
+  pub live : (v : ℕ) → v ≤ greatest_read → after ≤ before + 1 + 2 * live_count problem v prefix left
+  pub unfinished : done ≡ false → after ≡ nodes
+  pub over_all : done ≡ false → nodes + 1 < before + 2 ^ (left + 1)
+  pub over_live : done ≡ false → (v : ℕ) → v ≤ greatest_read
+      → nodes < before + 1 + 2 * live_count problem v prefix left
+
+-- the greatest value read by the walk before and after, compared with the greatest value read of
+-- its incumbent
+pub record ReadsIncumbent (left visited_before visited_after read_before read_after greatest_read_before
+    greatest_read_after : ℕ) : Type 0 where
+  pub grows : read_before ≤ read_after
+  pub greatest_read : greatest_read_after ≡ max greatest_read_before read_after
+  pub asked : visited_before < visited_after → 0 < left → read_after ≡ greatest_read_after
+  pub unvisited : visited_after ≡ visited_before → read_after ≡ read_before
+  pub full : left ≡ 0 → read_after ≡ read_before
+
+-- a walk before it goes on: it may visit this number of nodes, and these are the greatest value read
+-- of its incumbent and the greatest that was offered
+pub record IsGoing (problem : ProblemState) (nodes greatest_read greatest_offer : ℕ) (found : WalkState)
+    : Type 0 where
+  pub within : found.visited ≤ nodes
+  pub read : found.read ≤ greatest_read
+  pub best : IsFind problem [] found.best
+  pub offered : welfare_found found.best ≤ greatest_offer
+
+-- a walk from the prefix, and whether it is done: its find, value read and visited nodes before and
+-- after, and the greatest value read of its incumbent and offered to it before and after
+pub record IsWalked (problem : ProblemState) (prefix : List Bool)
+    (nodes greatest_read_before greatest_offer_before greatest_read_after greatest_offer_after : ℕ)
+    (before after : WalkState) (done : Bool) : Type 0 where
+  pub finds : Finds problem prefix before.best after.best
+  pub covers : done ≡ true → Covers problem prefix after.best after.read
+  pub spends : Spends problem prefix (length problem.blocks - length prefix) greatest_read_before
+      nodes before.visited after.visited done
+  pub needed : done ≡ true → HasNeeded problem prefix (length problem.blocks - length prefix)
+      after.read (after.visited - before.visited)
+  pub reads : ReadsIncumbent (length problem.blocks - length prefix) before.visited after.visited
+      before.read after.read greatest_read_before greatest_read_after
+  pub offered : greatest_offer_after ≡ max greatest_offer_before (welfare_found after.best)

@@ -1,0 +1,173 @@
+ghost use Rattle.std.specs.Prelude.{◌≡◌, ◌⊎◌, ◌-◌, ◌^◌, ◌<◌, ◌≤◌, max, true, false, Some, length, MatchOption};
+ghost use Rattle.dam_blocks.specs.Selection.{choice};
+ghost use Rattle.dam_bound.specs.Relaxed.{without_rows, relaxed_welfare, reaches};
+ghost use Rattle.dam_search.specs.Piece.{welfare_found, IsSound, IsSpent};
+ghost use Rattle.dam_search.specs.inside.PrefixWalk.{Finds, Covers, IsGoing, IsWalked};
+
+use crate::answer::PieceAnswer;
+use crate::incumbent::Incumbent;
+use crate::invariant::use_invariant;
+use crate::prefix::Prefix;
+use crate::walk_state::{WalkState, bound_equals, bound_reaches, ranks_above_found};
+use dam_blocks::{Problem, Solution, Verdict, score};
+use dam_bound::Relaxed;
+use dam_plan::Nodes;
+use std::alloc::Allocator;
+
+/// A problem, and the relaxed welfares by which its prefixes are explored.
+#[derive(Drop)]
+pub(crate) struct ByPrefixes<'a, A: Allocator, B: Allocator> {
+    pub(crate) problem: &'a Problem<A>,
+    pub(crate) relaxed: &'a Relaxed<B>,
+    ghost same: { relaxed.now ≡ without_rows problem.now },
+}
+
+impl<A: Allocator, B: Allocator> ByPrefixes<'_, A, B> {
+    /// The prefix's bound, if it is at least the value.
+    fn live_bound(&self, prefix: &Prefix, least: u64) -> Option<i64>
+        requires { length prefix.now ≤ length self.now.problem.now.blocks }
+        ensures { MatchOption result
+            (reaches (relaxed_welfare self.now.problem.now prefix.now) least ≡ false)
+            (λ bound. (relaxed_welfare self.now.problem.now prefix.now ≡ Some bound)
+            × (reaches (relaxed_welfare self.now.problem.now prefix.now) least ≡ true)) }
+    {
+        let bound = self.relaxed.bound(prefix.selection(), prefix.depth())?;
+        if bound_reaches(bound, least) {
+            Some(bound)
+        } else {
+            None
+        }
+    }
+
+    /// Takes the selection of a prefix that decides every block, and offers its welfare, if it is eligible, has at
+    /// least the welfare that was read, and is the best so far.
+    fn try_selection<I: Incumbent>(&self, prefix: &Prefix, incumbent: &mut I, found: &mut WalkState)
+        requires full { length self.now.problem.now.blocks ≡ length prefix.now }
+        requires offered { welfare_found found.old.best ≤ I.greatest_offer incumbent.old }
+        ensures finds { Finds self.now.problem.now prefix.now found.old.best found.new.best }
+        ensures covers { Covers self.now.problem.now prefix.now found.new.best found.new.read }
+        ensures offered { I.greatest_offer incumbent.new
+            ≡ max (I.greatest_offer incumbent.old) (welfare_found found.new.best) }
+        ensures greatest_read { I.greatest_read incumbent.new ≡ I.greatest_read incumbent.old }
+        ensures kept { I.kept incumbent.new ≡ I.kept incumbent.old }
+        ensures read { found.new.read ≡ found.old.read }
+        ensures visited { found.new.visited ≡ found.old.visited }
+    {
+        dam_blocks::laws::verdict_tells_eligibility();
+        dam_bound::laws::completions_split();
+        use_invariant(self.problem);
+        let selection = prefix.selection();
+        let Verdict::Eligible(welfare) = score(self.problem, selection) else {
+            return;
+        };
+        let candidate = Solution { selection, welfare };
+        if welfare < found.read || !ranks_above_found(&candidate, &found.best) {
+            return;
+        }
+        found.best = Some(candidate);
+        incumbent.offer(welfare);
+    }
+
+    /// Visits the prefix and the prefixes that extend it, as far as the limit on nodes allows. Returns whether no node
+    /// is left.
+    ///
+    /// A prefix that the links and the groups don't admit is passed over without a visit. One whose bound is less than
+    /// the value read is passed over after its own visit. 'Rejected' is explored before 'accepted', which finds good
+    /// selections sooner. If the bound equals the value read, no completion has more welfare than that, and only the
+    /// order of ties counts: 'accepted' comes first in it, and is explored first.
+    fn walk<I: Incumbent>(
+        &self,
+        nodes: Nodes,
+        prefix: &Prefix,
+        incumbent: &mut I,
+        found: &mut WalkState,
+    ) -> bool
+        requires depth { length prefix.now ≤ length self.now.problem.now.blocks }
+        requires going { IsGoing self.now.problem.now nodes
+            (I.greatest_read incumbent.old) (I.greatest_offer incumbent.old) found.old }
+        ensures walked { IsWalked self.now.problem.now prefix.now nodes
+            (I.greatest_read incumbent.old) (I.greatest_offer incumbent.old)
+            (I.greatest_read incumbent.new) (I.greatest_offer incumbent.new)
+            found.old found.new result }
+        ensures kept { I.kept incumbent.new ≡ I.kept incumbent.old }
+    {
+        dam_blocks::laws::ranking_is_total();
+        dam_bound::laws::relaxed_welfare_bounds_completions();
+        dam_bound::laws::completions_split();
+        if !prefix.is_admissible(self.problem) {
+            return true;
+        }
+        if found.visited == nodes {
+            return false;
+        }
+        found.visited += 1;
+        if prefix.depth() == self.problem.block_count() {
+            self.try_selection(prefix, incumbent, found);
+            return true;
+        }
+        found.read = incumbent.read();
+        let Some(bound) = self.live_bound(prefix, found.read) else {
+            return true;
+        };
+        let accept = bound_equals(bound, found.read);
+        if !self.walk(nodes, &prefix.extended(accept), incumbent, found) {
+            return false;
+        }
+        self.walk(nodes, &prefix.extended(!accept), incumbent, found)
+    }
+}
+
+/// Explores a piece of the cutting that decides the first `depth` blocks. If the answer is `done`, it has the piece's
+/// best eligible selection, apart from those with less welfare than was read of the incumbent.
+///
+/// In piece j the block at place i is accepted if the binary digit of j with weight 2 to the power
+/// `depth` - 1 - i is 0. A node is a prefix that extends the piece's. If the links and the groups admit
+/// it, it is visited when its bound is compared with the value read, or, if it decides every block, when
+/// its welfare is looked at; otherwise it is passed over without a visit. A node is never visited twice,
+/// and the answer isn't `done` if it takes more than `nodes` nodes. The search takes no memory.
+pub fn explore_by_prefixes<A: Allocator, B: Allocator, I: Incumbent>(
+    problem: &Problem<A>,
+    relaxed: &Relaxed<B>,
+    piece: u32,
+    depth: usize,
+    nodes: Nodes,
+    incumbent: &mut I,
+) -> PieceAnswer
+    requires same { relaxed.now ≡ without_rows problem.now }
+    requires depth { depth ≤ length problem.now.blocks }
+    requires piece { piece < 2 ^ depth }
+    ensures piece { result.piece ≡ piece }
+    ensures sound { IsSound problem.now (choice depth piece) result.best result.read result.done }
+    ensures spent { IsSpent problem.now (choice depth piece) (length problem.now.blocks - depth)
+        (I.greatest_read incumbent.old) nodes result.visited result.read result.done }
+
+    // The incumbent after the call.
+    ensures offered { I.greatest_offer incumbent.new
+        ≡ max (I.greatest_offer incumbent.old) (welfare_found result.best) }
+    ensures greatest_read { I.greatest_read incumbent.new
+        ≡ max (I.greatest_read incumbent.old) result.read }
+    ensures kept { I.kept incumbent.new ≡ I.kept incumbent.old }
+
+    // The greatest value read in the call. That the incumbent is read at each node under full depth is only tested.
+    ensures read { 0 < result.visited → depth < length problem.now.blocks
+        → result.read ≡ I.greatest_read incumbent.new }
+    ensures unread { (result.visited ≡ 0) ⊎ (depth ≡ length problem.now.blocks)
+        → result.read ≡ 0 }
+{
+    use_invariant(problem);
+    let by_prefixes = ByPrefixes { problem, relaxed };
+    let mut found = WalkState {
+        best: None,
+        read: 0,
+        visited: 0,
+    };
+    let prefix = Prefix::of_piece(depth, piece);
+    let done = by_prefixes.walk(nodes, &prefix, incumbent, &mut found);
+    PieceAnswer {
+        piece,
+        best: found.best,
+        read: found.read,
+        visited: found.visited,
+        done,
+    }
+}

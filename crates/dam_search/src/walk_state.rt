@@ -1,0 +1,40 @@
+ghost use Rattle.std.specs.Prelude.{◌≡◌, pos, Some, IsTrue, ◌↔◌, ◌≤ℤ◌, MatchBool};
+ghost use Rattle.dam_search.specs.Piece.{IsMatched, Rises};
+
+use dam_blocks::{Solution, ranks_above};
+use dam_plan::Nodes;
+
+/// The state of a walk: its finding, reads and visits so far.
+#[derive(Drop)]
+pub(crate) struct WalkState {
+    pub(crate) best: Option<Solution>,
+    /// The greatest value read.
+    pub(crate) read: u64,
+    pub(crate) visited: Nodes,
+}
+
+/// Whether the candidate ranks above the selection found.
+pub(crate) fn ranks_above_found(candidate: &Solution, best: &Option<Solution>) -> bool
+    ensures { MatchBool result (Rises best.now (Some candidate.now))
+        (IsMatched (pos candidate.now.welfare) candidate.now.selection best.now) }
+{
+    dam_blocks::laws::ranking_is_total();
+    match best {
+        Some(best) => ranks_above(*candidate, *best),
+        None => true,
+    }
+}
+
+/// Whether the bound is at least the value.
+pub(crate) fn bound_reaches(bound: i64, value: u64) -> bool
+    ensures { IsTrue result ↔ (pos value ≤ℤ bound) }
+{
+    bound >= 0 && value <= bound as u64
+}
+
+/// Whether the bound equals the value.
+pub(crate) fn bound_equals(bound: i64, value: u64) -> bool
+    ensures { IsTrue result ↔ (bound ≡ pos value) }
+{
+    bound >= 0 && bound as u64 == value
+}
