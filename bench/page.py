@@ -42,7 +42,7 @@ CELLS = {
 # The figures of many books together, which the page shows of any part.
 TOGETHER = r"(?:deep|all thin) books together: .*"
 PICTURES = {
-    "growth": "The nodes are the twin's, each for all selections with its decisions. The further a family lies below the dashed line, the more\n"
+    "growth": "Nodes: the plain twin's, each for the selections with its decisions. The further a family lies below the dashed line, the more\n"
     "is left out.\n\n"
     "![Nodes of each family by the number of blocks, compared with 2^n](growth.svg)\n"
 }
@@ -80,7 +80,7 @@ def facts_of_this_run(part):
     processors = re.findall(r"(?m)^model name\s*: (.*)", Path("/proc/cpuinfo").read_text()) or [os.uname().machine]
     load, limit, before = (os.environ.get(name, "") for name in ("LOAD", "PEER_LIMIT", "BEFORE_IS"))
     peers = f"HiGHS (of SciPy {version_of('python3-scipy')}) and CBC ({version_of('coinor-cbc')})"
-    notes = [f"{peers} each had {limit} s for each book"] if limit and part in ("blocks", "thin") else []
+    notes = [f"{peers}: the time of solving alone, at most {limit} s"] if limit and part in ("blocks", "thin") else []
     notes += [f"the program before is {before}"] if before else []
     machine = f"{os.cpu_count()} processors ({processors[0]})"
     return [part, str(datetime.date.today()), commit, machine, load, printed("rt", "version"), "; ".join(notes)]

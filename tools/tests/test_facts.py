@@ -72,7 +72,7 @@ ONCE = {
     r"the launcher `\./dam` has no program": ["FORMATS.md"],
     r"\| `device: read` \|": ["FORMATS.md"],
     r"no run is known": ["FORMATS.md"],
-    r"has run \(25 minutes\)": ["README.md"],
+    r"ends \(25 minutes\)": ["README.md"],
     r"never change the results": ["USING.md"],
     r"\| `--workers N` \|": ["USING.md"],
     r"[Tt]ies go to the larger bought volume, and|Ties go to the selection": ["RULES.md", "RULES.md"],

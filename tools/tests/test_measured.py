@@ -85,7 +85,7 @@ class Measured(unittest.TestCase):
                     page.take_over(["blocks"])
                     of_peers = [page.facts_of_this_run(part)[-1] for part in ("blocks", "thin")]
                 text = page.page()
-        peers = "HiGHS (of SciPy 13) and CBC (10) each had 5 s for each book"  # the lengths of the packages' names
+        peers = "HiGHS (of SciPy 13) and CBC (10): the time of solving alone, at most 5 s"  # the lengths of the packages' names
         self.assertEqual(of_peers, [f"{peers}; the program before is that of yesterday"] * 2)
         self.assertIn(f"Notes: (1) {peers}; (2) the program before is that of yesterday.", " ".join(text.split()))
         self.assertRegex(text, r"\| blocks \| \[5\]\(../bench/measured/blocks.csv\) \| 2 of 3 \| .* \| \(1\) \(2\) \|\n")
