@@ -1,6 +1,7 @@
-//! The search for the best selection of blocks in plain Rust with std only, for comparison, without any proof: its walk is `dam`'s but for
-//! limits on net volumes. `twin WORKERS CUT < JOURNAL` prints the welfare, and the nodes that the walk visited. It reads the journals that
-//! `make_family.py` and `make_blocks.py` print, which have only submits that are accepted.
+//! The search for the best selection of blocks in plain Rust with std only, for comparison, without any proof: its walk is `dam`'s, but
+//! without limits on net volumes, and a piece begins with the prices of all its decisions. `twin WORKERS CUT < JOURNAL` prints the
+//! welfare, and the nodes that the walk visited. It reads the journals that `make_family.py` and `make_blocks.py` print, which have only
+//! submits that are accepted.
 //!
 //! The bound of a node is by prices: any price for each period bounds the welfare of every selection. Some pairs of a sell and a buy are
 //! ruled out by prices too: those of which one loses at any prices. Workers draw the pieces from one shared word and prune by another, the
