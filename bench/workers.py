@@ -8,14 +8,19 @@ at another place."""
 
 import make_family
 from figures import LIMIT, MEASURES, by_turns, record_ratio, run_to_file
-from make_blocks import book
+from make_blocks import drawn_book
 
 CUT = "8"
 DEFAULT, ONE = ("2", "3"), ("1", "0")
 LEAST = {"2": 1.8, "4": 3.2}  # times as fast as one worker
 ORDERS = ("500", "4000")
 # They are among the books of thin.py.
-LONG = [book("base", 0, 1, 1, 200), book("shaped", 20, 1, 4, 500), book("odd", 0, 1, 4, 1_500), book("random", 50, 1, 4, 200)]
+LONG = [
+    drawn_book("base", 0, 1, 1, 200),
+    drawn_book("shaped", 20, 1, 4, 500),
+    drawn_book("odd", 0, 1, 4, 1_500),
+    drawn_book("random", 50, 1, 4, 200),
+]
 
 
 def searched(plans, book, most):

@@ -1,5 +1,6 @@
 """The page of measured figures: that it is made of the kept figures, and how a part's figures are taken over."""
 
+import ast
 import re
 import sys
 import tempfile
@@ -19,6 +20,35 @@ ROWS = [
     ["links 24, spread 50, seed 1: dam clear compared with the twin", "2.70 x", "at most 2.00 x", "MISSED", "2.7 ms and 1 ms"],
     ["deep books together: dam clear", "10 ms", "", "", "2 books"],
 ]
+
+
+def defined_in(path):
+    """The names that a module defines or imports."""
+    found = set()
+    for node in ast.parse(path.read_text(encoding="utf-8")).body:
+        if isinstance(node, (ast.FunctionDef, ast.ClassDef)):
+            found.add(node.name)
+        elif isinstance(node, (ast.Import, ast.ImportFrom)):
+            found.update((alias.asname or alias.name).split(".")[0] for alias in node.names)
+        else:
+            found.update(name.id for name in ast.walk(node) if isinstance(name, ast.Name) and isinstance(name.ctx, ast.Store))
+    return found
+
+
+class Benchmarks(unittest.TestCase):
+    def test_each_imports_what_another_defines(self):
+        """`./check` doesn't run them, so nothing else shows that a renamed function is still imported by its old name."""
+        modules = {path.stem: path for path in (TOP / "bench").glob("*.py")}
+        for name, path in modules.items():
+            nodes = list(ast.walk(ast.parse(path.read_text(encoding="utf-8"))))
+            imported = {alias.name for node in nodes if isinstance(node, ast.Import) for alias in node.names} & modules.keys()
+            for node in nodes:
+                if isinstance(node, ast.ImportFrom) and node.module in modules:
+                    with self.subTest(name, imports=node.module):
+                        self.assertLessEqual({alias.name for alias in node.names}, defined_in(modules[node.module]))
+                elif isinstance(node, ast.Attribute) and isinstance(node.value, ast.Name) and node.value.id in imported:
+                    with self.subTest(name, names=f"{node.value.id}.{node.attr}"):
+                        self.assertIn(node.attr, defined_in(modules[node.value.id]))
 
 
 class Measured(unittest.TestCase):
