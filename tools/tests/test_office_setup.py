@@ -277,6 +277,26 @@ class Setup(Office):
         self.assertEqual((made["revoked"], made["tokens"]), (["GAS"], {}))
         self.assertEqual(tool("office", "status", self.office.path, "--desk", "true")[0], 0)
 
+    def test_words_like_the_end_of_options(self):
+        """The first `--` ends the options, and each further one is a word: a day `--` isn't the only day, which could not be opened again."""
+        self.participants("participant\nGAS\n")
+        tool("office", "init", self.office.path, "--day", "2099-11-29", "--close", "12:00", "--participants", self.table)
+        (day,) = self.office.days().values()
+        for name in ("close", "publish"):
+            for words in ([self.office.path, "--", "--"], ["--", self.office.path, "--"]):
+                said = "office: there is no day --: there is 2099-11-29\n"
+                self.assertEqual(tool("office", name, *words), (command.NO_INPUT, b"", said), words)
+        for name in ("revoke", "renew"):
+            status, out, err = tool("office", name, self.office.path, "--", "--")
+            self.assertEqual((status, out), (command.COMMAND_LINE, b""))
+            self.assertIn("argument NAME: '--' should be 1 to 8 letters A to Z\n", err)
+        status, out, err = tool("office", "close", self.office.path, "--", "--", "--")
+        self.assertEqual((status, out, err.splitlines()[-1]), (command.COMMAND_LINE, b"", "office: error: unrecognized arguments: --"))
+        self.assertFalse(day.has(folder.CLOSE_NOW))
+        said = b"2099-11-29 will be closed once the office is served\n"
+        self.assertEqual(tool("office", "close", self.office.path, "--"), (command.DONE, said, ""))
+        self.assertTrue(day.has(folder.CLOSE_NOW))
+
     def test_the_members_of_each_record_are_described(self):
         (self.office.path.parent / "p.csv").write_text("participant\nGAS\n")
         words = ["--day", "2099-11-28", "--close", "12:00", "--participants", self.office.path.parent / "p.csv"]

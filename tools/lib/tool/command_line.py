@@ -24,6 +24,15 @@ def day(word):
     return word
 
 
+class Dashes(str):
+    """A word `--` after the one that ends the options. argparse would leave it out."""
+
+    def __eq__(self, other):
+        return self is other
+
+    __hash__ = str.__hash__
+
+
 class Parser(argparse.ArgumentParser):
     """A tool's command line, with no shortened options. Its help is written as all output is."""
 
@@ -40,11 +49,18 @@ class Parser(argparse.ArgumentParser):
         words = "the results of that journal; omit them for the output of `dam day`"
         self.add_argument("results", metavar="RESULTS", nargs="?", help=words)
 
+    def parse_known_args(self, args=None, namespace=None):
+        words = list(sys.argv[1:] if args is None else args)
+        end = words.index("--") + 1 if "--" in words else len(words)
+        return super().parse_known_args(words[:end] + [Dashes(word) if word == "--" else word for word in words[end:]], namespace)
+
     def _get_value(self, action, word):
         """The value of a word. An empty one, as of a variable of the shell that isn't set, is never taken for a word that is left out."""
-        if not word and action.nargs != argparse.PARSER:  # the words of a command are read by its own parser
+        if action.nargs == argparse.PARSER:  # the words of a command are read by its own parser
+            return super()._get_value(action, word)
+        if not word:
             raise argparse.ArgumentError(action, "it is empty")
-        return super()._get_value(action, word)
+        return super()._get_value(action, str(word))
 
     def _get_values(self, action, words):
         """The value of the words of an option or an argument. argparse takes `--` for no word also if it is the value of an option."""
