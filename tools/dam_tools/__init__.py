@@ -50,6 +50,7 @@ from .checks import (
     whatif_limit,
 )
 from .given import JournalSource, Source, as_faults, as_journal, bytes_of, is_text, one_of_many, read_journal
+from .lib.audit import verdict
 from .lib.journal import book, journal
 from .lib.runs import by_library, by_program, engine, which
 from .lib.sheets import order_table, shapes, tables
@@ -228,14 +229,14 @@ class Reply(NamedTuple):
 
 
 def replay(source: JournalSource, program: Program | None = None, timeout: float | None = None) -> list[Reply]:
-    """The book's reply to each command of a journal, by a run of the program."""
+    """The book's reply to each command of a journal, by a run of the program. Other replies than the rules give are a fault."""
     read = as_journal(source)
-    lines = printed(read, [by_program.program_of(program), "replay"], timeout).decode(errors="replace").splitlines()
-    found = [line.split(",") for line in lines[1:]]
-    replies = [Reply(int(fields[0]), fields[2] if len(fields) == 3 else None) for fields in found if fields[0].isdecimal()]
-    if [reply.command for reply in replies] != list(range(1, len(read.commands) + 1)):
-        raise Fault("the program printed other replies than those of the journal")
-    return replies
+    found = printed(read, [by_program.program_of(program), "replay"], timeout)
+    reasons = book.run(read)[1]
+    if found != book.replies_of(read.periods, reasons).encode():
+        first, *_ = verdict.reply_faults(read.periods, reasons, found)
+        raise Fault(f"the program printed other replies than those of the journal ({first})")
+    return [Reply(number, reason) for number, reason in enumerate(reasons, 1)]
 
 
 def rows_of(day: Day | Journal, table: str, long: bool, date: Date | None) -> Any:

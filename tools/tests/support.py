@@ -8,6 +8,7 @@ import os
 import random
 import re
 import runpy
+import shlex
 import signal
 import subprocess
 import sys
@@ -191,6 +192,15 @@ def run_in_copy(path, words, files):
         except (OSError, ValueError):
             status = 120
         os._exit(status)
+
+
+def doctored(folder, program, mark, edit):
+    """A program that prints the output of another one, with an edit of sed if the journal has a mark."""
+    made = Path(folder, "doctored")
+    run = f"printf '%s\\n' \"$text\" | {shlex.quote(str(program))} \"$@\""
+    made.write_text(f"#!/bin/sh\ntext=$(cat)\ncase \"$text\" in\n*{mark}*) {run} | sed '{edit}' ;;\n*) {run} ;;\nesac\n")
+    made.chmod(0o755)
+    return made
 
 
 def audit(data, text, *words):

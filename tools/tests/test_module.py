@@ -55,10 +55,18 @@ class Module(unittest.TestCase):
         self.assertEqual([reply.command for reply in replies if not reply.done], [9, 12, 13, 15])
         self.assertEqual(replies[8].reason, "NameTaken")
         wrong = Path(self.program.parent, "wrong")
-        wrong.write_text("#!/bin/sh\nprintf 'day,24\\n1,done\\n'\n")
-        wrong.chmod(0o755)
-        with self.assertRaisesRegex(dam_tools.Fault, "^the program printed other replies than those of the journal$"):
-            dam_tools.replay(FIRST, program=wrong)
+        for line, place in (
+            (r"printf 'day,24\n1,done\n'", "replies line 3: '2,done' is missing"),
+            (f'{self.program} "$@" | sed s/done/refused,Closed/', "replies line 2: it is '1,refused,Closed' and should be '1,done'"),
+            (f'{self.program} "$@" | sed s/NameTaken/Closed/', "replies line 10: it is '9,refused,Closed' and should be '9,refused,NameTaken'"),
+            (f'{self.program} "$@" | sed s/day,24/day,25/', "replies line 1: "),
+            (":", "the replies are empty"),
+        ):
+            wrong.write_text(f"#!/bin/sh\n{line}\n")
+            wrong.chmod(0o755)
+            said = re.escape(f"the program printed other replies than those of the journal ({place}")
+            with self.assertRaisesRegex(dam_tools.Fault, f"^{said}"):
+                dam_tools.replay(FIRST, program=wrong)
 
     def test_what_is_printed_of_objects_is_short(self):
         self.assertEqual(repr(dam_tools.read_journal(FIRST)), "<Journal: 24 periods, 15 commands>")
@@ -195,6 +203,10 @@ class Module(unittest.TestCase):
         table = b"what,participant,order,price_eur_mwh,periods,volume_mw,Note\namend,GEN,UNIT,40,1,2,x\n"
         again = dam_tools.whatif_change(journal, table, "GEN", program=self.program)
         self.assertEqual(again, dam_tools.Changes(found.changes, ["the column 'Note' isn't used"]))
+        wrong = support.doctored(self.program.parent, self.program, "", "s/^welfare,/welfare,1/")
+        for call in (dam_tools.whatif_limit, journal, "GEN", "UNIT", wrong), (dam_tools.whatif_change, journal, table, None, wrong):
+            with self.assertRaisesRegex(dam_tools.Fault, r"^the program's results of the day break the rules \(results line 2: the welfare is 1"):
+                call[0](*call[1:])
         for call, said in (
             (lambda: dam_tools.whatif_limit(journal, "GEN", "X"), "^GEN has no order X in the book: its blocks are UNIT$"),
             (lambda: dam_tools.whatif_limit(journal, "CITY", "TOWN"), "^TOWN of CITY isn't a block$"),
