@@ -185,7 +185,7 @@ class Days(unittest.TestCase):
         """A name with a comma that isn't quoted is two cells, and the files are others."""
         self.write(a=(DATA, TEXT))
         right = "right,a.csv,a.txt,\n"
-        (self.folder / "list").write_text(f"day,journal,results\nmore,a,b.csv,a.txt\nright,a.csv,a.txt\n,,,note\n{right}")
+        (self.folder / "list").write_text(f"day,journal,results\nmore,a,b.csv,a.txt\nother,a.csv,a.txt\n,,,note\n{right}")
         status, out, _ = self.audit(place=self.folder / "list")
         more, other, last, empty = out.splitlines()[1:5]
         self.assertEqual((status, other.split()[1]), (command.NO_INPUT, verdict.RIGHT))
