@@ -10,6 +10,7 @@ import json
 import os
 import re
 import subprocess
+import tracemalloc
 from pathlib import Path
 from unittest import mock
 
@@ -21,9 +22,8 @@ from lib.tool import command, modules
 
 try:
     from lib.seal import signing
-    from lib.office import demo, folder, gate, guards, newest, observed, operate, setup, tokens, web
+    from lib.office import clearing, demo, desk, folder, gate, guards, newest, observed, operate, setup, tokens, web
     from lib.office import serve as serving
-    from lib.office.desk import how_ended
 except ImportError:  # without python3-aiohttp and the like, whose tests are skipped
     pass
 
@@ -557,6 +557,7 @@ class Setup(Office):
             (f"#!/bin/sh\n{prints}; exit 4", "it ended with status 4"),
             ("#!/bin/sh\nkill -9 $$", "it was ended by signal 9"),
             ("#!/bin/sh\nexec sleep 60", "it took more than 0.2 s"),
+            ("#!/bin/sh\nexec head -c 3000000 /dev/zero", "it printed more than 1,048,576 bytes"),
             ("#!/nowhere/sh\n", "No such file or directory"),
         ):
             made.write_text(lines)
@@ -567,9 +568,27 @@ class Setup(Office):
         made.write_text(f"#!/bin/sh\n{prints}")
         self.assertEqual(serving.programs(made, "false"), (str(made), "false"))
 
+    def test_a_program_that_says_much(self):
+        """Of its standard error, the office takes no more than it logs."""
+        made = self.office.path.parent / "dam"
+        made.write_text("#!/bin/sh\necho begin >&2\nhead -c 30000000 /dev/zero | tr '\\0' x >&2\nexit 3\n")
+        made.chmod(0o755)
+        tracemalloc.start()
+        self.addCleanup(tracemalloc.stop)
+        for call in (clearing.output(str(made), "clear", data=b"x" * 300_000), desk.shown(str(made), "file")):
+            with self.assertRaises((clearing.Failed, desk.Ended)) as raised:
+                asyncio.run(call)
+            self.assertTrue(str(raised.exception).endswith("ended with status 3: begin\n" + "x" * (desk.MOST_FAULT - len("begin\n"))))
+        self.assertLess(tracemalloc.get_traced_memory()[1], 8 << 20)
+        made.write_text("#!/bin/sh\nexec head -c 3000000 /dev/zero\n")
+        with mock.patch.object(desk, "MOST_PRINTED", 2_000_000):
+            for call in (clearing.output(str(made), "clear"), desk.shown(str(made), "file")):
+                with self.assertRaisesRegex(OSError, f"it printed 2,000,000 bytes or more: '{made}'$"):
+                    asyncio.run(call)
+
     def test_how_a_program_ended(self):
-        self.assertEqual(how_ended(4), "ended with status 4")
-        self.assertEqual(how_ended(-9), "was ended by signal 9")
+        self.assertEqual(desk.how_ended(4), "ended with status 4")
+        self.assertEqual(desk.how_ended(-9), "was ended by signal 9")
 
     def test_the_proxy_of_the_examples_has_the_limits_of_the_office(self):
         """It is in front of the port of the unit, and limits addresses as an office without a proxy does."""
