@@ -128,6 +128,11 @@ class Handler(web_protocol.RequestHandler):
         if len(self._messages) > MOST_AHEAD:
             self.transport.abort()
 
+    async def _handle_request(self, request, *words):
+        if self.transport is None:  # the connection was lost when the request's turn had just come
+            raise ConnectionError("the connection is lost")
+        return await super()._handle_request(request, *words)
+
     async def finish_response(self, request, response, began):
         if isinstance(response, web.HTTPException):  # of aiohttp itself, which says the request's words again
             response = self.handle_error(request, response.status)
