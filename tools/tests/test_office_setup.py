@@ -10,6 +10,7 @@ import json
 import os
 import re
 import subprocess
+import threading
 from pathlib import Path
 from unittest import mock
 
@@ -26,6 +27,8 @@ try:
     from lib.office.desk import how_ended
 except ImportError:  # without python3-aiohttp and the like, whose tests are skipped
     pass
+
+PAUSE = 0.3  # seconds that another thread gets to overtake this one, if nothing holds it
 
 
 def others(value):
@@ -81,6 +84,46 @@ class Setup(Office):
         status, out, _ = tool("office", "init", path, "--day", "2099-11-30", *words)
         self.assertEqual((status, [line[:5] for line in out.splitlines()[-1:]]), (command.DONE, [b"WIND."]))
         self.assertEqual(sorted(self.office.days()), ["2099-11-29", "2099-11-30"])
+
+    def test_two_at_once_make_one_office(self):
+        """The key that each prints is the stored one."""
+        made, printed = signing.made, []
+
+        def init():
+            setup.make_office(self.office)
+            printed.append(self.office.public_text(self.office.key()))
+
+        def overtaken():
+            if other.ident is None:
+                other.start()
+                other.join(PAUSE)
+            return made()
+
+        other = threading.Thread(target=init)
+        with mock.patch.object(signing, "made", overtaken):
+            init()
+            other.join()
+        self.assertEqual(printed, [self.office.file(folder.PUBLIC).read_text()] * 2)
+
+    def test_two_at_once_make_one_day(self):
+        """The other makes no token, which nobody would see."""
+        self.make()
+        terms, seen = folder.Terms("2026-11-30", 24, FUTURE, "UTC", {}), []
+
+        def make():
+            try:
+                with setup.new_day(self.office, terms):
+                    seen.append("a token")
+            except command.Stop as fault:
+                seen.append(str(fault))
+
+        other = threading.Thread(target=make)
+        with setup.new_day(self.office, terms):
+            other.start()
+            other.join(PAUSE)
+        other.join()
+        self.assertEqual(seen, ["there is a day 2026-11-30 already"])
+        self.assertEqual(sorted(os.listdir(self.office.file(folder.DAYS))), [DAY, "2026-11-30"])
 
     @property
     def table(self):

@@ -86,6 +86,18 @@ def sync(folder):
         os.close(number)
 
 
+@contextlib.contextmanager
+def alone(path):
+    """Holds a folder: others that hold it wait until the end of the block. A process that ends lets go of it."""
+    number = os.open(path, os.O_RDONLY | os.O_DIRECTORY | os.O_CLOEXEC)
+    try:
+        with named(path):
+            fcntl.flock(number, fcntl.LOCK_EX)
+        yield
+    finally:
+        os.close(number)
+
+
 def give(made, path):
     """Gives a file that was made, by its path or its number, the owner of the office's folder: root may run a command on the office of a
     user, which has to read it."""

@@ -141,18 +141,23 @@ def shares_of(given):
 
 
 def make_office(office):
-    """Makes the folder with its key, without participants."""
+    """Makes the folder with its key, without participants. Of several processes at once, one makes it, and the others find it."""
     os.makedirs(office.path, mode=0o700, exist_ok=True)
-    if not office.file(folder.KEY).exists():
-        if any(os.scandir(office.path)):
-            raise command.Stop(f"{command.shown(office.path)} isn't empty, and isn't the folder of an office")
-        key = signing.made()
-        folder.put(office.file(folder.PUBLIC), signing.public_text(key))
-        folder.put(office.file(folder.KEY), signing.private_text(key))
-    office.public_text(office.key())
-    if not office.file(folder.PARTICIPANTS).exists():
-        folder.put(office.file(folder.PARTICIPANTS), folder.as_json({}))
-    os.makedirs(office.file(folder.DAYS), exist_ok=True)
+    with folder.alone(office.path):
+        if not office.file(folder.KEY).exists():
+            make_key(office)
+        office.public_text(office.key())
+        if not office.file(folder.PARTICIPANTS).exists():
+            folder.put(office.file(folder.PARTICIPANTS), folder.as_json({}))
+        os.makedirs(office.file(folder.DAYS), exist_ok=True)
+
+
+def make_key(office):
+    if any(os.scandir(office.path)):
+        raise command.Stop(f"{command.shown(office.path)} isn't empty, and isn't the folder of an office")
+    key = signing.made()
+    folder.put(office.file(folder.PUBLIC), signing.public_text(key))
+    folder.put(office.file(folder.KEY), signing.private_text(key))
 
 
 def make_day(office, terms):
@@ -162,10 +167,19 @@ def make_day(office, terms):
 
 @contextlib.contextmanager
 def new_day(office, terms):
-    """Makes the folder of a day, whole or not at all: it is there once the block has ended."""
+    """Makes the folder of a day, whole or not at all: it is there once the block has ended. Another process that makes a day waits until
+    then, so that the block of a day that is there already never begins."""
+    with folder.alone(office.path):
+        if (office.file(folder.DAYS) / terms.day).exists():
+            raise command.Stop(f"there is a day {terms.day} already")
+        with folder_of_day(office, terms):
+            yield
+
+
+@contextlib.contextmanager
+def folder_of_day(office, terms):
+    """Makes the folder of a day next to its place, in which it is once the block has ended."""
     days = office.file(folder.DAYS)
-    if (days / terms.day).exists():
-        raise command.Stop(f"there is a day {terms.day} already")
     made = tempfile.mkdtemp(prefix=".new-", dir=days)
     try:
         files = folder.DayFolder(made)
