@@ -38,6 +38,25 @@ else:
     modules.elsewhere = lambda *modules: True
     modules.python_with("numpy")
 """
+# Settings of dask that make a folder once it is imported, and the variables that have such ones, or keep it from being imported.
+SETTINGS = {"version": 1, "handlers": {"x": {"()": "os.mkdir", "path": "ran"}}}
+OF_DASK = {"DASK_LOGGING": json.dumps(SETTINGS)}, {"DASK_DISTRIBUTED": "5"}, {"DASK_INTERNAL_INHERIT_CONFIG": "zzz"}
+# It prints settings of dask as a tool has them.
+SHOWN = """
+import sys
+
+sys.path.insert(0, {tools!r})
+from lib.base import ending
+
+ending.watch("program")
+from lib.runs import cluster
+
+cluster.imported()
+cluster.take_certificates({address!r})
+import dask.config
+
+print(dask.config.get("distributed.client.preload"), dask.config.get("distributed.comm.tls.client"))
+"""
 STRANGE = {"PYTHONSAFEPATH": "1", "PYTHONOPTIMIZE": "2", "MPLBACKEND": "nosuch", "MATPLOTLIBRC": ".", "MPLCONFIGDIR": "."}
 
 
@@ -99,6 +118,41 @@ class Isolation(unittest.TestCase):
                         dict(os.environ),
                         {"HOME": home, "OPENSSL_CONF": "/etc/ssl.cnf", "XDG_CACHE_HOME": "", "LC_ALL": "/tmp", "LANGUAGE": "C"},
                     )
+
+    def test_settings_of_dask_and_numpy_are_removed(self):
+        """Some name code to run, and others let no import of these end."""
+        others = {"DASK_CONFIG": "/etc/dask", "NPY_DISABLE_CPU_FEATURES": "SSE2", "NUMPY_MADVISE_HUGEPAGE": "x"}
+        for given in (*OF_DASK, others):
+            with mock.patch.dict(os.environ, {"HOME": "/", "DASK": "1", **given}, clear=True):
+                surroundings.keep_apart()
+                self.assertEqual(dict(os.environ), {"HOME": "/", "DASK": "1", "LANGUAGE": "C"})
+
+    def dask_settings(self, **found):
+        """Writes a file of settings for a user whose home is the working folder."""
+        folder = self.folder / ".config" / "dask"
+        folder.mkdir(parents=True, exist_ok=True)
+        folder.joinpath("settings.json").write_text(json.dumps(found))
+
+    @unittest.skipUnless(modules.has("distributed"), "dask is missing (Debian's python3-distributed)")
+    def test_no_settings_of_dask_run_code(self):
+        table = self.folder / "table.csv"
+        table.write_text("scenario,what,participant,order,kind,side,price_eur_mwh,periods,volume_mw\nas is,,,,,,,,\n")
+        words = ("whatif", "scenarios", "--program", "/bin/true", AUCTION, table, "--cluster", "tcp://127.0.0.1:1")
+        said = b"whatif: the cluster tcp://127.0.0.1:1 can't be reached: Connection refused\n"
+        for given in OF_DASK:
+            self.assertEqual(self.ran(*words, **given), (3, b"", said), given)
+        for found in ({"logging": SETTINGS}, {"distributed": 5}, {"array": 5}):
+            self.dask_settings(**found)
+            self.assertEqual(self.ran(*words, HOME=str(self.folder)), (3, b"", said), found)
+
+    @unittest.skipUnless(modules.has("distributed"), "dask is missing (Debian's python3-distributed)")
+    def test_certificates_of_dask_are_taken_where_they_are_needed(self):
+        program = self.folder / "program"
+        self.dask_settings(distributed={"client": {"preload": ["ran"]}, "comm": {"tls": {"client": {"cert": "a.pem"}}}})
+        for address, cert in (("tcp://a:1", None), ("tls://a:1", "a.pem")):
+            program.write_text(SHOWN.format(tools=str(TOOLS), address=address))
+            ran = subprocess.run([sys.executable, "-I", program], env={**os.environ, "HOME": str(self.folder)}, capture_output=True, text=True)
+            self.assertEqual((ran.stdout, ran.stderr), (f"[] {{'key': None, 'cert': {cert!r}}}\n", ""), address)
 
     def test_a_list_of_paths_has_none_that_is_relative(self):
         for name in surroundings.LISTS:

@@ -410,7 +410,7 @@ class Tool(unittest.TestCase):
             dask = unittest.mock.Mock(Client=unittest.mock.Mock(side_effect=fault))
             for seconds, said in ((10, "it closed the connection"), (0, str(fault))):
                 with (
-                    unittest.mock.patch.dict("sys.modules", distributed=dask),
+                    unittest.mock.patch.object(cluster, "imported", return_value=dask),
                     unittest.mock.patch.object(cluster, "SECONDS", seconds or 1e-9),
                     unittest.mock.patch.object(cluster.socket, "create_connection"),
                     self.assertRaisesRegex(errors.Fault, f"the cluster {address} can't be reached: {said}$"),

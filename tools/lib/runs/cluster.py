@@ -4,21 +4,56 @@ at once: dask itself would wait for them."""
 import concurrent.futures
 import contextlib
 import logging
+import os
 import re
 import socket
 import time
 import warnings
 
-from ..base import text
+from ..base import surroundings, text
 from ..tool import modules
 from .errors import Fault, Lost
 
 SECONDS = 10  # that a cluster may take to answer, or be without workers
 PAUSE = 1  # seconds from one look at a cluster to the next
+ADDRESS = re.compile(r"(?:tcp|tls)://(?P<host>.+):(?P<port>[0-9]{1,5})")
+SETTINGS = "/etc/dask", "~/.config/dask"  # the folders with the settings of dask
+TLS = "distributed.comm.tls"  # those of them that are taken
 
 
 def first_line(fault):
     return getattr(fault, "strerror", None) or text.safe(str(fault).split("\n")[0]) or type(fault).__name__
+
+
+@contextlib.contextmanager
+def without_settings():
+    """In this block dask finds no folder with settings."""
+    before = dict(os.environ)
+    os.environ.update(HOME=surroundings.NO_HOME, DASK_ROOT_CONFIG=surroundings.NO_HOME)
+    try:
+        yield
+    finally:
+        os.environ.clear()
+        os.environ.update(before)
+
+
+def imported():
+    """dask's part for clusters, with the settings that dask itself has: others may name code to run, or keep dask from being imported."""
+    with without_settings():
+        import dask.config
+
+        dask.config.refresh(paths=[], env={})  # also without those of Python's own folder
+        import distributed
+    return distributed
+
+
+def take_certificates(address):
+    """Takes the settings of TLS, which are no code, if the address needs them."""
+    if address.startswith("tls:"):
+        import dask.config
+
+        found = dask.config.get(TLS, {}, dask.config.collect(paths=list(SETTINGS), env={}))
+        dask.config.update(dask.config.config, {"distributed": {"comm": {"tls": found}}})
 
 
 class Cluster:
@@ -34,17 +69,17 @@ class Cluster:
 
     def reached(self, address):
         """The client of the scheduler. What dask reports of lost connections isn't shown."""
-        import distributed
-
+        found = ADDRESS.fullmatch(address)
+        if not found:
+            raise Fault(f"{self.name} should be an address such as tcp://10.0.0.1:8786")
+        distributed = imported()
         logging.disable(logging.CRITICAL)
         warnings.simplefilter("ignore")
         began = time.monotonic()
         try:
-            host, port = re.fullmatch(r"(?:tcp|tls)://(.+):([0-9]{1,5})", address).groups()
-            socket.create_connection((host.strip("[]"), int(port)), SECONDS).close()
+            take_certificates(address)
+            socket.create_connection((found["host"].strip("[]"), int(found["port"])), SECONDS).close()
             return distributed.Client(address, timeout=SECONDS, set_as_default=False)
-        except AttributeError:
-            raise Fault(f"{self.name} should be an address such as tcp://10.0.0.1:8786") from None
         except Exception as fault:
             # dask says that its time is over also if the other side closes the connection
             is_late = time.monotonic() - began >= SECONDS or "timed out" not in str(fault).lower()
