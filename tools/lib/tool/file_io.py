@@ -85,29 +85,33 @@ def say(lines):
     write_output("".join(f"{command.on_lines(line)}\n" for line in lines).encode())
 
 
-def write_bytes(tool, path, data):
+def write_bytes(tool, path, data, advice=None):
     """Writes a file that is whole, and at a terminal says so; or standard output if the path is `-`."""
     if path == "-":
         write_output(data)
     else:
-        write_files(tool, {path: data})
+        write_files(tool, {path: data}, advice)
 
 
-def write_files(tool, files):
-    """Writes files by their paths. None is put in its place before each is whole."""
+def write_files(tool, files, advice=None):
+    """Writes files by their paths. None is put in its place before each is whole. With advice, none replaces a file that is there by then:
+    the tool ends as by `refuse_to_replace`."""
+    prepare = replacing.prepare_new if advice else replacing.prepare
     with contextlib.ExitStack() as cleanups:
-        puts = {path: to_write(path, replacing.prepare, path, data, cleanups) for path, data in files.items()}
+        puts = {path: to_write(path, prepare, path, data, cleanups) for path, data in files.items()}
         for path, put in puts.items():
-            to_write(path, put)
+            to_write(path, put, advice=advice)
             if sys.stderr.isatty():
                 command.tell(tool, f"{command.shown(path)} was written")
 
 
-def to_write(path, call, *words):
+def to_write(path, call, *words, advice=None):
     """The result of a call for a file that is written."""
     try:
         return call(*words)
     except OSError as fault:
+        if advice and isinstance(fault, FileExistsError):
+            raise there_already(path, advice) from None
         raise command.Stop(f"{command.shown(path)} can't be written: {fault.strerror}") from None
 
 
@@ -122,7 +126,12 @@ def is_same(path, other):
 def refuse_to_replace(path, advice):
     """Ends the tool if there is a file that nobody asked to replace."""
     if os.path.lexists(path):
-        raise command.Stop(f"{command.shown(path)} is there already{advice}", command.COMMAND_LINE)
+        raise there_already(path, advice)
+
+
+def there_already(path, advice):
+    """The fault of a file that nobody asked to replace."""
+    return command.Stop(f"{command.shown(path)} is there already{advice}", command.COMMAND_LINE)
 
 
 def refuse_inputs(path, *inputs):
