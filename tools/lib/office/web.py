@@ -2,7 +2,6 @@
 the participant's own data, nothing of another's."""
 
 import asyncio
-import functools
 import json
 import os
 import time
@@ -120,8 +119,7 @@ class Web:
     def application(self):
         app = web.Application(middlewares=[self.around], client_max_size=MOST_BODY)
         app.on_response_prepare.append(self.prepare)
-        router = app.router
-        get, put, post = (functools.partial(add, expect_handler=self.expected) for add in (router.add_get, router.add_put, router.add_post))
+        get, put, post = app.router.add_get, app.router.add_put, app.router.add_post
         put(f"{DAY}/commands{OWN}{NUMBER}", self.put)  # first, since routes are tried in turn
         get(f"{DAY}/commands{OWN}{NUMBER}", self.receipt)
         for path in self.files:
@@ -144,11 +142,6 @@ class Web:
             get("/demo", self.demo_tokens)
             post(f"{DAY}/close", self.demo_close)
         return app
-
-    async def expected(self, request):
-        """Tells a client that waits for it to send its body. Other expectations are ignored: aiohttp would say them again in its answer."""
-        if request.headers["Expect"].lower() == "100-continue":
-            await request.writer.write(b"HTTP/1.1 100 Continue\r\n\r\n")
 
     async def prepare(self, request, response):
         response.headers.update(self.headers)
