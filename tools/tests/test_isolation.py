@@ -151,7 +151,8 @@ class Isolation(unittest.TestCase):
         self.dask_settings(distributed={"client": {"preload": ["ran"]}, "comm": {"tls": {"client": {"cert": "a.pem"}}}})
         for address, cert in (("tcp://a:1", None), ("tls://a:1", "a.pem")):
             program.write_text(SHOWN.format(tools=str(TOOLS), address=address))
-            ran = subprocess.run([sys.executable, "-I", program], env={**os.environ, "HOME": str(self.folder)}, capture_output=True, text=True)
+            environment = {**os.environ, "HOME": str(self.folder)}
+            ran = subprocess.run([sys.executable, "-I", program], env=environment, capture_output=True, text=True)
             self.assertEqual((ran.stdout, ran.stderr), (f"[] {{'key': None, 'cert': {cert!r}}}\n", ""), address)
 
     def test_a_list_of_paths_has_none_that_is_relative(self):

@@ -1,4 +1,4 @@
-"""A written file gets its name only once it is whole: if the disk is full, an old file stays. A new file never takes the name of another."""
+"""A written file gets its name only once it is whole: if the disk is full, an old file stays. A new file takes no name of another."""
 
 import contextlib
 import errno

@@ -7,8 +7,8 @@ import sys
 
 # Each of these names a file or a folder of a library.
 PATHS = (
-    "FONTCONFIG_FILE", "FONTCONFIG_PATH", "FONTCONFIG_SYSROOT", "HOME", "MPLCONFIGDIR", "OPENSSL_CONF", "OPENSSL_ENGINES", "OPENSSL_MODULES",
-    "PYTHONTZPATH", "XDG_CACHE_HOME", "XDG_CONFIG_HOME", "XDG_DATA_HOME",
+    "FONTCONFIG_FILE", "FONTCONFIG_PATH", "FONTCONFIG_SYSROOT", "HOME", "MPLCONFIGDIR", "OPENSSL_CONF", "OPENSSL_ENGINES",
+    "OPENSSL_MODULES", "PYTHONTZPATH", "XDG_CACHE_HOME", "XDG_CONFIG_HOME", "XDG_DATA_HOME",
 )  # fmt: skip
 LISTS = "FONTCONFIG_PATH", "PYTHONTZPATH"  # those of them that name several
 SETTINGS = "DASK_", "NPY_", "NUMPY_"  # the beginnings of the names of settings, of which some run code, and others stop an import
