@@ -1,6 +1,7 @@
 """The formats of cells: how each shows numbers, and whether it shows texts in another way."""
 
 import decimal
+import functools
 import re
 import unicodedata
 
@@ -13,8 +14,10 @@ from .part import ANY_OTHERS, BLANK, Part, unsigned
 DATE_FORMATS = {*range(14, 23), *range(27, 37), *range(45, 48), *range(50, 59), *range(71, 82)}
 PERCENT_FORMATS = 9, 10, 67, 68  # the numbers of Excel's own
 MOST_DIGITS = 11  # that Excel shows of a number in the format General
-PIECE = re.compile(r'"[^"]*"|\\.|_.|\*.|\[[^\]\[]*\]|(?i:general)|.')  # of a format
-NUMBER = re.compile("[0#?]|general", re.IGNORECASE)  # a piece in whose place digits stand
+PIECE = re.compile(r'"[^"]*"|\\.|_.|\*.|\[[^\]\[]*\]|(?i:general)|[Ee][+-]|.')  # of a format
+GENERAL = "\1"  # in place of the piece General
+DIGIT = f"[0#?{GENERAL}]"  # a place of digits
+DIGITS = re.compile(f"{DIGIT}(?:.*{DIGIT})?", re.DOTALL)
 UNSEEN = re.compile(r"_.|\* | |\[(?:\$(?:-.*)?|[^$].*)?\]", re.DOTALL)  # a piece that adds no character
 SEPARATORS = " '\u00a0\u202f"  # of thousands, besides the comma
 POINTS = ".,\u00b7\u066b\u066c\u3001\u3002"  # and commas, in one width, of all scripts
@@ -23,7 +26,7 @@ OTHER_MINUSES = "\u25b2\u25b3\u2500"  # the triangles of Japanese tables, and a 
 REVERSED = "\u202e"  # the characters after it are shown from right to left
 LETTER, OTHER = r"[^\W\d_]", r"[\W\d_]"
 IN_BRACKETS = re.compile(r"\([^()]*\)")
-# Characters before and after a number that are a sign: a bracket, or a minus that doesn't join words.
+# A sign in words before or after a number: a bracket, or a minus that doesn't join words.
 SIGN_BEFORE = re.compile(rf"[()]|^{OTHER}*-|-{OTHER}*$|(?<!{LETTER})-(?={LETTER})")
 SIGN_AFTER = re.compile(rf"[()]|^{OTHER}*-(?!{LETTER})|-{OTHER}*$")
 NO_DATE = re.compile(r'"[^"]*"|\\.|_.|\*.|\[(?!(?:h+|m+|s+)\])[^\]\[]*\]', re.IGNORECASE)
@@ -80,29 +83,36 @@ def added(piece):
     return "" if piece.isascii() else piece
 
 
-def without_added(piece):
-    """A piece of a format, with 0 for General. Of one that adds characters, a character that no format has; nothing if they may separate
-    thousands."""
+def code_of(piece):
+    """A piece as one character. Of one that adds characters, a character that no format has, or nothing if they may separate thousands."""
     if words := added(piece):
         return "\0" if words.strip(SEPARATORS) else ""
-    return "0" if piece.lower() == "general" else piece if len(piece) == 1 else ""
+    if piece.lower() == "general":
+        return GENERAL
+    return piece[0] if len(piece) == 1 or piece[0] in "Ee" else ""
 
 
 def is_changed(pieces):
     """Whether a section of a format shows another number: if it adds digits, a point or a comma, or anything between digits, or shows a
     thousandth, digits in reverse, or none."""
     words = list(map(added, pieces))
-    marks = "".join(each for each in words if not any(map(str.isalpha, each)))
     if any(each.isnumeric() or each == REVERSED for each in "".join(words)):
         return True
-    if re.search(f"[{POINTS}]", unicodedata.normalize("NFKC", marks)):
+    if re.search(f"[{POINTS}]", unicodedata.normalize("NFKC", without_letters(words))):
         return True
-    code = re.sub("[Ee][+-]", "E", "".join(map(without_added, pieces)))
-    if re.search(rf"[0#?][^0#?.,/E{SEPARATORS}]+[0#?]|[1-9]|[0#?],+(?![0#?,])", code):
+    code = "".join(map(code_of, pieces))
+    found = DIGITS.search(code)
+    if not found or re.search(rf"[^0#?.,/E{SEPARATORS}]", found[0][1:-1]) or "," in code[found.end() :]:
         return True
-    return not re.search("[0#?]", code)
+    return bool(re.search("[1-9]|[0#?],+(?![0#?,])", code))
 
 
+def without_letters(words):
+    """Those of some words that have no letter."""
+    return "".join(each for each in words if not any(map(str.isalpha, each)))
+
+
+@functools.lru_cache(2**10)
 def sign(character):
     """A minus or a bracket for those of all scripts; other characters as they are."""
     kind = unicodedata.category(character)
@@ -111,34 +121,36 @@ def sign(character):
     return {"Ps": "(", "Pe": ")"}.get(kind, character)
 
 
-def around(pieces):
-    """The characters that a format shows before or after a number, without words in brackets."""
-    words = "".join(added(piece) or (piece if len(piece) == 1 else "") for piece in pieces)
-    return IN_BRACKETS.sub(lambda found: "" if any(map(str.isalpha, found[0])) else found[0], "".join(map(sign, words)))
+def signs(pieces):
+    """The characters that each piece shows besides digits, with the same signs for all scripts."""
+    return ["".join(map(sign, added(piece) or (piece if len(piece) == 1 else ""))) for piece in pieces]
 
 
 def has_sign(pieces):
-    """Whether a section of a format shows the sign of a negative number: a minus, or brackets around the number."""
-    places = [at for at, piece in enumerate(pieces) if NUMBER.fullmatch(piece)]
-    if not places:
-        return False
-    before, after = around(pieces[: places[0]]), around(pieces[places[-1] + 1 :])
+    """Whether a section of a format shows the sign of a negative number: a minus, or brackets around the number. Within words, such as
+    EUR-MWh or (MW), they are none."""
+    marks, places = signs(pieces), [at for at, piece in enumerate(pieces) if re.fullmatch(DIGIT, code_of(piece))]
+    if re.search("[-()]", without_letters(marks)) or not places:
+        return bool(places)
+    before, after = (
+        IN_BRACKETS.sub(lambda found: without_letters([found[0]]), "".join(part)) for part in (marks[: places[0]], marks[places[-1] + 1 :])
+    )
     return bool(SIGN_BEFORE.search(before) or SIGN_AFTER.search(after))
 
 
 def hides_zero(pieces):
     """Whether a section of a format shows zero without a digit, and without the dash that stands for it in accounts."""
-    return not re.search("[0/]", "".join(map(without_added, pieces))) and "-" not in around(pieces)
+    return not re.search(f"[0/{GENERAL}]", "".join(map(code_of, pieces))) and "-" not in "".join(signs(pieces))
 
 
 def changes(code):
     """Whether a format changes positive numbers, negative ones and zero. A section of its own for negative ones shows them without their
-    sign, unless it has one. Under conditions, any section may be of any number."""
+    sign, unless it has one. Under conditions, any section may be of any number, and show it without its sign."""
     sections = sections_of(code)[:3]
     changed, signed, hides = (list(map(call, sections)) for call in (is_changed, has_sign, hides_zero))
     if re.search(r"\[[<>=]", code):
         positive = any(changed) or any(signed)
-        return positive, any(changed) or not all(signed), positive or any(hides)
+        return positive, True, positive or any(hides)
     positive = changed[0] or signed[0]
     negative = changed[1] or not signed[1] if len(sections) > 1 else positive
     return positive, negative, changed[2] or hides[2] if len(sections) > 2 else positive or hides[0]
