@@ -259,7 +259,8 @@ def add_scenarios(commands, epilog):
     add("--seed", metavar="WORD", help="the seed of the random scenarios (default: 1)")
     add("--price-sd", metavar="EUR", type=standard_deviation, help="the standard deviation of the changes of limits (default: 3)")
     add("--volume-sd", metavar="SHARE", type=standard_deviation, help="the standard deviation of the factor of volumes (default: 0.1)")
-    add("--cluster", metavar="ADDRESS", help="the scheduler of a dask cluster to run on, such as tcp://10.0.0.1:8786")
+    add("--cluster", metavar="ADDRESS", help="the scheduler of a dask cluster to run on, such as tcp://10.0.0.1:8786; with tls:// the"
+        " certificates are those of ~/.config/dask or /etc/dask")
     add_quiet(parser)
 
 
