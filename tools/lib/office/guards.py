@@ -65,8 +65,8 @@ def length_of(message):
 
 
 def plain(message):
-    """A request without the name of an office, since there is one, and to decode another may take seconds; and without an expectation,
-    unless the client waits before it sends the body. aiohttp refuses other expectations before any limit, and repeats them."""
+    """A request as the office answers it. The name of an office is left out: there is one, and to decode another may take seconds. So is an
+    expectation, but for that of a client that waits: aiohttp would refuse others before any limit, and repeat them."""
     if message.url.is_absolute():
         message = message._replace(url=message.url.relative())
     if message.headers.get("Expect", WAITS).lower() != WAITS:
