@@ -169,7 +169,7 @@ def record_times(what, ones, others, most=None, least=None):
 def enumeration(path):
     """The command that tries all selections of a book by `tools/audit`, with four threads, and fails if the results of `dam` aren't right
     and best; None if numpy is missing, or `dam` takes too long."""
-    cleared = run([DAM, "clear"], path) if modules.has("numpy") or modules.elsewhere("numpy") else None
+    cleared = run([DAM, "clear"], path) if modules.has_module("numpy") or modules.debian_has("numpy") else None
     if cleared is None:
         return None
     results = f"{path}.txt"

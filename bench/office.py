@@ -65,7 +65,7 @@ def whole_day():
 
 
 def main():
-    if not all(map(modules.has, ("aiohttp", "cryptography", "jinja2"))):
+    if not all(map(modules.has_module, ("aiohttp", "cryptography", "jinja2"))):
         record_figure("the office: python3-aiohttp, python3-cryptography or python3-jinja2 is missing", "")
         return
     compare()

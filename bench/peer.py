@@ -105,13 +105,13 @@ def find(solve, model, problem, limit):
 
 def missing(peer):
     """The package that is missing, if one is. The program of both is written with scipy."""
-    if not modules.has("scipy"):
+    if not modules.has_module("scipy"):
         return PACKAGES["highs"]
     return None if peer == "highs" or shutil.which("cbc") else PACKAGES["cbc"]
 
 
 def main():
-    modules.python_with("scipy")
+    modules.restart_with("scipy")
     peer, path, limit = sys.argv[1:]
     if lacking := missing(peer):
         print(f"missing: {lacking}")

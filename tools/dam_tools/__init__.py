@@ -258,7 +258,7 @@ def with_times(table: str, rows: list[Any], date: Date, periods: int) -> list[An
     if "period" not in rows[0]:
         raise Fault(f"a date can't be used with {table}, which has no column of periods" + (": long=True" if table in tables.LONG else ""))
     with as_faults():
-        modules.need_zone(shapes.ZONE)
+        modules.refuse_missing_zone(shapes.ZONE)
         return list(shapes.with_times(rows, shapes.as_date(date), periods))
 
 

@@ -149,8 +149,8 @@ class Audited(verdict.Audit):
         """As the tool does it, but a missing package is a fault: a program isn't started again with another Python."""
         by_highs = self.options.by == better.HIGHS
         module = "scipy" if by_highs else "numpy"
-        if (by_highs or len(problem.blocks) > best_of.ENUMERABLE) and not modules.has(module):
-            raise command.Stop(modules.missing(module), command.FAILED)
+        if (by_highs or len(problem.blocks) > best_of.ENUMERABLE) and not modules.has_module(module):
+            raise command.Stop(modules.missing_message(module), command.FAILED)
         return super().look(problem, said)
 
 

@@ -150,7 +150,7 @@ def unsaid(name, record, *parts):
 
 def load(name):
     """Loads the packages that a tool needs, for all runs of it."""
-    if name in ("plot", "report") and modules.has("matplotlib") and modules.has("jinja2"):
+    if name in ("plot", "report") and modules.has_module("matplotlib") and modules.has_module("jinja2"):
         importlib.import_module("lib.report.page")
 
 

@@ -316,7 +316,7 @@ class Best(unittest.TestCase):
             self.assertEqual((found.welfare, found.accepted), selections[0])
 
     def test_highs(self):
-        if not modules.has("scipy"):
+        if not modules.has_module("scipy"):
             self.skipTest("scipy is missing (Debian's python3-scipy)")
         from lib.audit import solver
 
@@ -358,7 +358,7 @@ class Best(unittest.TestCase):
             yield day, selections
 
     def methods(self):
-        return ["enumeration", "highs"] if modules.has("scipy") else ["enumeration"]
+        return ["enumeration", "highs"] if modules.has_module("scipy") else ["enumeration"]
 
     def test_worse_selections_are_refused_on_request_alone(self):
         data = AUCTION.read_bytes()
@@ -423,7 +423,7 @@ class CommandLine(unittest.TestCase):
         blocks = [f"submit,A,K{number},block,sell,1,1:1,," for number in range(rules.MOST_BLOCKS)]
         data = journal_of(*blocks)
         text = results_of(data, frozenset())
-        wanted = command.DONE if modules.has("numpy") or modules.elsewhere("numpy") else command.FAILED
+        wanted = command.DONE if modules.has_module("numpy") or modules.debian_has("numpy") else command.FAILED
         self.assertEqual(audit(data, text, "--best")[0], wanted)
 
     def test_a_tool_without_its_parts_has_no_verdict(self):
@@ -479,21 +479,21 @@ class CommandLine(unittest.TestCase):
     def test_too_little_time(self):
         """The other rules have been checked, and it is said how far the search is."""
         methods = {"enumeration": "0 of 512 selections have been tried"}
-        if modules.has("scipy"):
+        if modules.has_module("scipy"):
             methods["highs"] = "HiGHS is still searching"
         for method, far in methods.items():
             status, out, err = audit(AUCTION.read_bytes(), printed(AUCTION), "--best", "--by", method, "--seconds", "0")
             said = f"audit: the results obey the other rules, but after 0 seconds, {far}: --seconds gives more time\n"
             self.assertEqual((status, out, err), (command.UNDECIDED, b"", said))
 
-    @unittest.skipUnless(modules.has("scipy"), "scipy is missing (Debian's python3-scipy)")
+    @unittest.skipUnless(modules.has_module("scipy"), "scipy is missing (Debian's python3-scipy)")
     def test_highs_without_blocks(self):
         """The day has one selection, and the answer is as without HiGHS."""
         found = [audit(FIRST, results_of(FIRST, frozenset()), "--best", *words) for words in ((), ("--by", "highs"))]
         self.assertEqual((found[0][0], found[0]), (command.DONE, found[1]))
         self.assertIn(b"; no selection is better: there is no block to select\n", found[1][1])
 
-    @unittest.skipUnless(modules.has("scipy"), "scipy is missing (Debian's python3-scipy)")
+    @unittest.skipUnless(modules.has_module("scipy"), "scipy is missing (Debian's python3-scipy)")
     def test_the_words_for_what_highs_offers(self):
         from lib.audit import solver
 

@@ -104,7 +104,7 @@ class Blocks(unittest.TestCase):
         self.assertEqual([line for line in blocks.splitlines() if ",block," not in line], hours.splitlines())
 
 
-@unittest.skipUnless(modules.has("numpy"), "numpy is missing (Debian's python3-numpy)")
+@unittest.skipUnless(modules.has_module("numpy"), "numpy is missing (Debian's python3-numpy)")
 class Enumeration(unittest.TestCase):
     def better(self, day, accepted, welfare, few=1_024, **more):
         """`few` selections are looked at for every block's loss at once, and more of them for one block's at first."""
@@ -243,7 +243,7 @@ class Enumeration(unittest.TestCase):
             enumeration.better(day, frozenset(), selection.eligible(day, frozenset()), Progress("test", 0), jobs=2)
 
 
-@unittest.skipUnless(modules.has("numpy"), "numpy is missing (Debian's python3-numpy)")
+@unittest.skipUnless(modules.has_module("numpy"), "numpy is missing (Debian's python3-numpy)")
 class CommandLine(unittest.TestCase):
     def test_a_better_selection_is_told(self):
         data = family("market", "200", "12")
@@ -283,7 +283,7 @@ class CommandLine(unittest.TestCase):
 
     def test_every_way_of_checking_takes_no_longer_than_it_may(self):
         ways = ["--by", "enumeration"], ["--by", "highs"]
-        for count, way in itertools.product(("6", "12"), ways if modules.has("scipy") else ways[:1]):
+        for count, way in itertools.product(("6", "12"), ways if modules.has_module("scipy") else ways[:1]):
             data = family("market", "200", count)
             accepted = best.enumerate_all(problem(data))[0].accepted if count == "6" else frozenset()
             status, out, err = audit(data, results_of(data, accepted), "--best", *way, "--seconds", "0")

@@ -384,7 +384,7 @@ class Facts(unittest.TestCase):
 
     def test_the_crates_that_are_proved_for_the_programs(self):
         """Their number, and the length of the longest chain in which each uses the next."""
-        used = crates.own(crates.listed_in(TOP))
+        used = crates.without_foreign(crates.read_crates(TOP))
 
         def longest(name):
             return 1 + max(map(longest, used[name]), default=0)

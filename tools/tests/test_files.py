@@ -21,7 +21,7 @@ from lib.tool import command, modules
 
 PACKAGES = {"plot": ["matplotlib"], "report": ["matplotlib", "jinja2"], "table": []}
 MARK, OLD = b"\xef\xbb\xbf", b"\xd0\xcf\x11\xe0\xa1\xb1\x1a\xe1"
-TOOLS_HERE = [name for name, packages in PACKAGES.items() if all(map(modules.has, packages))]
+TOOLS_HERE = [name for name, packages in PACKAGES.items() if all(map(modules.has_module, packages))]
 NOTE = "table: 1 of 94 commands was refused (of GAS): see --rows commands\n"
 
 
@@ -83,7 +83,7 @@ class Files(unittest.TestCase):
         self.assertEqual(self.journal.read_bytes(), before)
         self.assertEqual(sorted(path.name for path in self.folder.iterdir()), ["day.csv", "results.txt"])
 
-    @unittest.skipUnless(modules.has("openpyxl"), "openpyxl is missing (Debian's python3-openpyxl)")
+    @unittest.skipUnless(modules.has_module("openpyxl"), "openpyxl is missing (Debian's python3-openpyxl)")
     def test_a_workbook_whose_temporary_files_cant_be_written(self):
         small = {"preexec_fn": lambda: resource.setrlimit(resource.RLIMIT_FSIZE, (1_000, 1_000))}
         for words in (["--all", self.folder / "a.xlsx", self.journal, self.results], ["--template", self.folder / "a.xlsx"]):
@@ -95,16 +95,16 @@ class Files(unittest.TestCase):
         out, old = self.folder / "a.csv", b"old" * 100
         out.write_bytes(old)
         number, limits = out.stat().st_ino, resource.getrlimit(resource.RLIMIT_FSIZE)
-        with mock.patch.object(replacing, "replace", side_effect=OSError(errno.EBUSY, "")):
+        with mock.patch.object(replacing, "prepare_replacement", side_effect=OSError(errno.EBUSY, "")):
             resource.setrlimit(resource.RLIMIT_FSIZE, (1_000, limits[1]))
             try:
                 with self.assertRaisesRegex(OSError, "File too large"):
-                    replacing.write(out, b"new" * 1_000)
+                    replacing.write_replacing(out, b"new" * 1_000)
             finally:
                 resource.setrlimit(resource.RLIMIT_FSIZE, limits)
             self.assertEqual(out.read_bytes(), old)
             for data in (b"new" * 1_000, b"less", b""):
-                replacing.write(out, data)
+                replacing.write_replacing(out, data)
                 self.assertEqual((out.read_bytes(), out.stat().st_ino), (data, number))
 
     def test_the_rights_of_an_old_file_and_a_link_to_it_stay(self):
@@ -113,14 +113,14 @@ class Files(unittest.TestCase):
         out.chmod(0o640)
         link.symlink_to("a.csv")
         number = out.stat().st_ino
-        replacing.write(link, b"new")
+        replacing.write_replacing(link, b"new")
         self.assertEqual((link.readlink(), out.read_bytes(), out.stat().st_mode & 0o777), (Path("a.csv"), b"new", 0o640))
         self.assertNotEqual(out.stat().st_ino, number)
         before = os.umask(0o027)
         self.addCleanup(os.umask, before)
         link.unlink()
         link.symlink_to("none.csv")
-        replacing.write(link, b"made")
+        replacing.write_replacing(link, b"made")
         made = self.folder / "none.csv"
         self.assertEqual((made.read_bytes(), made.stat().st_mode & 0o777), (b"made", 0o640))
 
@@ -138,13 +138,13 @@ class Files(unittest.TestCase):
         self.assertEqual(out.read_bytes()[-len(right) :], right)
         os.mkfifo(pipe)
         with subprocess.Popen(["cat", pipe], stdout=subprocess.PIPE) as reader:
-            replacing.write(pipe, b"new")
+            replacing.write_replacing(pipe, b"new")
             self.assertEqual(reader.stdout.read(), b"new")
         self.assertTrue(pipe.is_fifo())
         number = out.stat().st_ino
         for fault in replacing.FIXED:
             with mock.patch.object(os, "rename", side_effect=OSError(fault, "")):
-                replacing.write(out, b"%d" % fault)
+                replacing.write_replacing(out, b"%d" % fault)
             self.assertEqual((out.read_bytes(), out.stat().st_ino), (b"%d" % fault, number))
         self.assertEqual(sorted(path.name for path in self.folder.iterdir()), ["a.csv", "day.csv", "pipe", "results.txt"])
 

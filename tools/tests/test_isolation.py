@@ -34,9 +34,9 @@ if "AGAIN" in os.environ:
     print(any(path.endswith("dist-packages") for path in sys.path))
 else:
     os.environ["AGAIN"] = "yes"
-    modules.has = lambda module: False
-    modules.elsewhere = lambda *modules: True
-    modules.python_with("numpy")
+    modules.has_module = lambda module: False
+    modules.debian_has = lambda *modules: True
+    modules.restart_with("numpy")
 """
 STRANGE = {"PYTHONSAFEPATH": "1", "PYTHONOPTIMIZE": "2", "MPLBACKEND": "nosuch", "MATPLOTLIBRC": ".", "MPLCONFIGDIR": "."}
 
@@ -94,7 +94,7 @@ class Isolation(unittest.TestCase):
             given = {**relative, "DASK_CONFIG": "dask", "OPENSSL_CONF": "/etc/ssl.cnf", "XDG_CACHE_HOME": "", "LC_ALL": "/tmp"}
             for found, home in (({"return_value": user}, "/a/home"), ({"side_effect": KeyError}, surroundings.NO_HOME)):
                 with mock.patch.dict(os.environ, given, clear=True), mock.patch.object(pwd, "getpwuid", **found):
-                    surroundings.keep_apart()
+                    surroundings.isolate_environment()
                     self.assertEqual(
                         dict(os.environ),
                         {"HOME": home, "OPENSSL_CONF": "/etc/ssl.cnf", "XDG_CACHE_HOME": "", "LC_ALL": "/tmp", "LANGUAGE": "C"},
@@ -104,13 +104,13 @@ class Isolation(unittest.TestCase):
         for name in surroundings.LISTS:
             for given, stays in (("/a:/b", True), ("/a:.", False), ("b:/a", False), ("/a:", False)):
                 with mock.patch.dict(os.environ, {name: given}):
-                    surroundings.keep_apart()
+                    surroundings.isolate_environment()
                     self.assertEqual(name in os.environ, stays, (name, given))
         words = ("table", AUCTION, AUCTION_RESULTS, "--date", "2026-11-25", "--quiet")
         for places in (".", f"/nowhere:{self.folder}/..:."):
             self.assertEqual(self.ran(*words, PYTHONTZPATH=places)[::2], (0, b""), places)
 
-    @unittest.skipUnless(modules.has("matplotlib"), "matplotlib is missing (Debian's python3-matplotlib)")
+    @unittest.skipUnless(modules.has_module("matplotlib"), "matplotlib is missing (Debian's python3-matplotlib)")
     def test_a_date_of_files_that_is_none(self):
         words, pictures = ("plot", AUCTION, AUCTION_RESULTS, "-o"), []
         for name, given in (("a.svg", "abc"), ("b.svg", "1")):
@@ -119,7 +119,7 @@ class Isolation(unittest.TestCase):
             pictures.append(self.folder.joinpath(name).read_bytes())
         self.assertEqual(*pictures)
 
-    @unittest.skipUnless(modules.has("matplotlib"), "matplotlib is missing (Debian's python3-matplotlib)")
+    @unittest.skipUnless(modules.has_module("matplotlib"), "matplotlib is missing (Debian's python3-matplotlib)")
     def test_the_cache_of_pictures_is_apart_too(self):
         names = {path.name for path in self.folder.iterdir()}
         words = ("plot", AUCTION, AUCTION_RESULTS, "-o", "-")
@@ -133,7 +133,7 @@ class Isolation(unittest.TestCase):
 
     def test_no_program_of_the_working_folder_runs(self):
         """The launcher keeps unproved programs in the user's cache. Without a kit it has none to compile."""
-        name = hashlib.sha256(json.dumps(sources.sums("dam_cli"), sort_keys=True).encode()).hexdigest()[:16]
+        name = hashlib.sha256(json.dumps(sources.source_sums("dam_cli"), sort_keys=True).encode()).hexdigest()[:16]
         for cache, given in ((".", {"XDG_CACHE_HOME": "."}), (".cache", {"XDG_CACHE_HOME": "", "HOME": "."})):
             program = self.folder / cache / "dam" / "unproved" / f"dam_cli-{name}"
             program.parent.mkdir(parents=True)
@@ -141,7 +141,7 @@ class Isolation(unittest.TestCase):
             program.chmod(0o755)
             self.ran("unproved", "--version", options=["-I", "-S"], PATH="/nowhere", **given)
 
-    @unittest.skipUnless(modules.has("matplotlib"), "matplotlib is missing (Debian's python3-matplotlib)")
+    @unittest.skipUnless(modules.has_module("matplotlib"), "matplotlib is missing (Debian's python3-matplotlib)")
     def test_no_settings_of_pictures_are_obeyed(self):
         settings, texts = self.folder / "matplotlibrc", (AUCTION, AUCTION_RESULTS, "-o", "-")
         status, right, err = tool("plot", *texts)
@@ -153,7 +153,7 @@ class Isolation(unittest.TestCase):
         self.assertEqual(self.ran("plot", *texts), (0, right, b""))
         self.assertEqual([path.name for path in self.folder.iterdir() if path.suffix != ".py"], ["matplotlibrc"])
 
-    @unittest.skipUnless(modules.has("matplotlib"), "matplotlib is missing (Debian's python3-matplotlib)")
+    @unittest.skipUnless(modules.has_module("matplotlib"), "matplotlib is missing (Debian's python3-matplotlib)")
     def test_pictures_without_a_folder_for_temporary_files(self):
         from lib.pictures import drawing
 
@@ -165,7 +165,7 @@ class Isolation(unittest.TestCase):
     def test_debians_python_is_asked_apart(self):
         """A Python that lacks packages asks Debian's for them; neither looks into the working folder."""
         code = "import sys\nsys.path.insert(0, {tools!r})\nfrom lib.tool import modules\nmodules.is_debians = lambda: False\n"
-        code += "print(modules.elsewhere('json'), modules.elsewhere('json', 'nosuch'), modules.elsewhere('lib'))\n"
+        code += "print(modules.debian_has('json'), modules.debian_has('json', 'nosuch'), modules.debian_has('lib'))\n"
         path = self.folder.parent / f"{self.folder.name}-ask"
         path.write_text(code.format(tools=str(TOOLS)))
         self.addCleanup(path.unlink)
@@ -181,21 +181,21 @@ class Isolation(unittest.TestCase):
             fault = OSError(number, os.strerror(number))
             with mock.patch.object(modules, "is_debians", return_value=False), mock.patch.object(subprocess, "run", side_effect=fault):
                 if is_known:
-                    self.assertFalse(modules.elsewhere("json"))
+                    self.assertFalse(modules.debian_has("json"))
                 else:
-                    self.assertRaises(OSError, modules.elsewhere, "json")
+                    self.assertRaises(OSError, modules.debian_has, "json")
 
     def test_a_tool_starts_again_apart(self):
         """By the file of the tool, since the command of an installed one belongs to another Python."""
         main = mock.Mock(__file__=str(TOOLS / "audit"))
         with (
-            mock.patch.object(modules, "has", return_value=False),
-            mock.patch.object(modules, "elsewhere", return_value=True),
+            mock.patch.object(modules, "has_module", return_value=False),
+            mock.patch.object(modules, "debian_has", return_value=True),
             mock.patch.object(os, "execv") as execv,
             mock.patch.dict(sys.modules, {"__main__": main}),
             mock.patch.object(sys, "argv", ["/bin/dam-audit", "--best"]),
         ):
-            modules.python_with("numpy")
+            modules.restart_with("numpy")
         late = ["-S"] if sys.flags.no_site else []
         execv.assert_called_once_with(modules.DEBIAN_PYTHON, [modules.DEBIAN_PYTHON, "-I", *late, str(TOOLS / "audit"), "--best"])
 

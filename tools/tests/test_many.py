@@ -287,7 +287,7 @@ class Many(unittest.TestCase):
             self.assertIs(engine.with_bar(results, quiet=True), results)
             with unittest.mock.patch.dict(sys.modules, {"tqdm": None}):
                 self.assertIs(engine.with_bar(results), results)
-            if modules.has("tqdm"):
+            if modules.has_module("tqdm"):
                 self.assertIsNot(engine.with_bar(results), results)
 
     @unittest.skipUnless(which.BUILT.exists(), "the program isn't built")

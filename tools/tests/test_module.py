@@ -177,7 +177,8 @@ class Module(unittest.TestCase):
                 call()
         with self.assertRaisesRegex(ValueError, "^there is no method x: the methods are enumeration and highs$"):
             dam_tools.audit(AUCTION, AUCTION_RESULTS, by="x")
-        with unittest.mock.patch("os.execv", side_effect=AssertionError), unittest.mock.patch.object(dam_tools.modules, "has", lambda _: False):
+        lacking = unittest.mock.patch.object(dam_tools.modules, "has_module", lambda _: False)
+        with unittest.mock.patch("os.execv", side_effect=AssertionError), lacking:
             with self.assertRaisesRegex(dam_tools.Fault, "^it needs scipy, which Debian has in the package python3-scipy"):
                 dam_tools.audit(AUCTION, AUCTION_RESULTS, best=True, by="highs")
 
@@ -297,7 +298,7 @@ class Module(unittest.TestCase):
         self.assertEqual(rows[0]["begins"], "2026-07-01T00:00:00+02:00")
         self.assertEqual(dam_tools.records(day, "orders", long=True, date="2026-07-01"), rows)
 
-    @unittest.skipUnless(modules.has("pandas"), "pandas is missing (Debian's python3-pandas)")
+    @unittest.skipUnless(modules.has_module("pandas"), "pandas is missing (Debian's python3-pandas)")
     def test_frames(self):
         day = dam_tools.read_results(AUCTION, AUCTION_RESULTS)
         frame = dam_tools.frame(day, "periods", date=datetime.date(2026, 11, 25))
@@ -313,7 +314,7 @@ class Module(unittest.TestCase):
         frame = dam_tools.frame(day, "orders", long=True)
         self.assertAlmostEqual(frame["amount_eur"].sum(), 0)
 
-    @unittest.skipUnless(modules.has("pandas") and modules.has_zone(shapes.ZONE), "pandas or the time zones are missing")
+    @unittest.skipUnless(modules.has_module("pandas") and modules.has_zone(shapes.ZONE), "pandas or the time zones are missing")
     def test_the_example_of_the_pages(self):
         example = self.examples()[0]
         self.assertIn("dam_tools.clear(journal)", example)
@@ -335,16 +336,16 @@ class Module(unittest.TestCase):
         """It is run if pyarrow is there, and its query too if DuckDB is; otherwise the frames are written as CSV, which needs less."""
         self.assertEqual(len(self.examples()), 2)
         example, folder = self.examples()[1], self.program.parent
-        if not modules.has("pandas"):
+        if not modules.has_module("pandas"):
             self.skipTest("pandas is missing (Debian's python3-pandas)")
         Path(folder, "day.csv").write_bytes(AUCTION.read_bytes())
         Path(folder, "results.txt").write_bytes(printed(AUCTION))
-        if not modules.has("pyarrow"):
+        if not modules.has_module("pyarrow"):
             example = example.replace("to_parquet", "to_csv")
         ran = subprocess.run([sys.executable, "-B", "-c", example], cwd=folder, env={**os.environ, "PYTHONPATH": str(support.TOOLS)})
         self.assertEqual(ran.returncode, 0)
         self.assertTrue(Path(folder, "orders.parquet").stat().st_size and Path(folder, "executions.parquet").stat().st_size)
-        if modules.has("pyarrow") and modules.has("duckdb"):
+        if modules.has_module("pyarrow") and modules.has_module("duckdb"):
             import duckdb
 
             query = re.search(r"```sql\n(.*?)```", (TOP / "docs" / "PYTHON.md").read_text(), re.DOTALL)[1]

@@ -192,7 +192,7 @@ class Setup(Office):
             setup.participants_read(path)
 
     def test_a_workbook_of_participants_is_read(self):
-        if not modules.has("openpyxl"):
+        if not modules.has_module("openpyxl"):
             self.skipTest("python3-openpyxl is missing")
         made, path = sheets.writer().Workbook(), self.office.path.parent / "p.xlsx"
         for row in (["Participant", "commands"], ["A", 100], [], ["GAS"]):
@@ -347,7 +347,7 @@ class Setup(Office):
     def test_a_fault_of_a_write_names_the_file(self):
         full = OSError(errno.ENOSPC, "No space left on device")
         for fault in (full, OSError(errno.ENOSPC, full.strerror, ".dam-0123")):
-            with mock.patch.object(folder.replacing, "write", side_effect=fault), self.assertRaises(OSError) as caught:
+            with mock.patch.object(folder.replacing, "write_replacing", side_effect=fault), self.assertRaises(OSError) as caught:
                 self.make()
             self.assertRegex(caught.exception.filename, "operator.pem")
             self.assertEqual(command.status_and_message(caught.exception)[0], command.NO_INPUT)

@@ -49,7 +49,7 @@ class Missing(unittest.TestCase):
         self.assertEqual(err, f"audit: it needs {self.words('numpy')}\n")
 
 
-@unittest.skipUnless(modules.has("matplotlib"), "matplotlib is missing (Debian's python3-matplotlib)")
+@unittest.skipUnless(modules.has_module("matplotlib"), "matplotlib is missing (Debian's python3-matplotlib)")
 class Pictures(unittest.TestCase):
     def test_days_with_little_in_them(self):
         from lib.pictures import canvas, pictures
@@ -203,7 +203,7 @@ class Pictures(unittest.TestCase):
             self.assertEqual((status, "has a journal instead of results" in err), (command.NO_INPUT, True))
 
 
-@unittest.skipUnless(modules.has("matplotlib"), "matplotlib is missing (Debian's python3-matplotlib)")
+@unittest.skipUnless(modules.has_module("matplotlib"), "matplotlib is missing (Debian's python3-matplotlib)")
 class Apart(unittest.TestCase):
     """matplotlib works in an empty folder of its own."""
 

@@ -105,7 +105,7 @@ class Figures(unittest.TestCase):
         for periods in rules.DAYS:
             peak = [number for number in range(1, periods + 1) if published.is_peak(periods, number)]
             self.assertEqual(len(peak) * rules.DAYS[periods], 12)
-            self.assertEqual(clock.begins(periods, peak[0]), "08:00")
+            self.assertEqual(clock.begin_time(periods, peak[0]), "08:00")
 
     def test_sums_are_those_of_the_tables(self):
         """Also of quarter-hours, whose energy and amounts are a fourth."""
@@ -154,7 +154,7 @@ class Times(unittest.TestCase):
         for date, hours in (((2026, 3, 29), 23), ((2026, 10, 25), 25), ((2026, 11, 25), 24)):
             for periods in (hours, 4 * hours):
                 times = shapes.begins(datetime.date(*date), periods)
-                clocks = [clock.begins(periods, number) for number in range(1, periods + 1)]
+                clocks = [clock.begin_time(periods, number) for number in range(1, periods + 1)]
                 self.assertEqual([time.strftime("%H:%M") for time in times[:-1]], clocks)
                 self.assertEqual(len({time.timestamp() for time in times}), periods + 1)
                 self.assertEqual(times[-1].strftime("%H:%M"), "00:00")

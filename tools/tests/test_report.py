@@ -85,7 +85,7 @@ def made(data, text, curves):
 PACKAGES = "matplotlib or jinja2 is missing (Debian's python3-matplotlib, python3-jinja2)"
 
 
-@unittest.skipUnless(modules.has("matplotlib") and modules.has("jinja2"), PACKAGES)
+@unittest.skipUnless(modules.has_module("matplotlib") and modules.has_module("jinja2"), PACKAGES)
 class Page(unittest.TestCase):
     def page(self, data, text, curves=()):
         return made(data, text, tuple(curves))

@@ -183,7 +183,7 @@ class Distribution(unittest.TestCase):
         self.assertEqual(list(none.table())[1][4:], [0, "0.0000", "0.00", "", "", "", "", ""])
 
 
-    @unittest.skipUnless(modules.has("matplotlib"), "matplotlib is missing (Debian's python3-matplotlib)")
+    @unittest.skipUnless(modules.has_module("matplotlib"), "matplotlib is missing (Debian's python3-matplotlib)")
     def test_the_median_of_a_picture(self):
         """Of quarter-hours it is a fourth."""
         from lib.pictures.drawing import pyplot
@@ -208,7 +208,7 @@ class Distribution(unittest.TestCase):
         self.assertEqual((over.surpluses, over.rejected), ({("GEN", "UNIT"): []}, {("GEN", "UNIT"): 0}))
 
 
-@unittest.skipUnless(modules.has("numpy"), "numpy is missing (Debian's python3-numpy)")
+@unittest.skipUnless(modules.has_module("numpy"), "numpy is missing (Debian's python3-numpy)")
 class Samples(unittest.TestCase):
     def setUp(self):
         self.held = changes.before_close(journal.read_journal(AUCTION.read_bytes()))
@@ -279,7 +279,7 @@ class Tool(unittest.TestCase):
         self.assertEqual((len(found), found[0]["price_eur_mwh"], found[24]["change_eur_mwh"]), (72, "50.00", "-20.00"))
         self.assertEqual(tool("whatif", "scenarios", *words, "--jobs", "1")[1], out)
 
-    @unittest.skipUnless(modules.has("openpyxl"), "openpyxl is missing (Debian's python3-openpyxl)")
+    @unittest.skipUnless(modules.has_module("openpyxl"), "openpyxl is missing (Debian's python3-openpyxl)")
     def test_a_name_stays_as_it_is(self):
         """Also a long one, and one that a workbook would show as another."""
         names = ["x" * 200 + "1", "x" * 200 + "2", "a\u00a0b", "_x0041_", "_x005F_x0041_x0042_", "\U0001f469\u200d\U0001f527", "-1"]
@@ -318,7 +318,7 @@ class Tool(unittest.TestCase):
         self.assertEqual(found, (3, b"", f"{note}whatif: the day as it was: /bin/true printed no results of this journal\n"))
         self.assertNotIn("note", tool("whatif", "scenarios", "--quiet", "--program", "/bin/true", self.journal, self.table)[2])
 
-    @unittest.skipUnless(which.BUILT.exists() and modules.has("numpy"), "the program isn't built, or numpy is missing")
+    @unittest.skipUnless(which.BUILT.exists() and modules.has_module("numpy"), "the program isn't built, or numpy is missing")
     def test_a_sample(self):
         words = "--sample", 30, "--participant", "OLD", AUCTION, "--program", which.BUILT
         status, out, err = tool("whatif", "scenarios", *words)
@@ -330,7 +330,7 @@ class Tool(unittest.TestCase):
         orders = rows(tool("whatif", "scenarios", "--rows", "orders", "--order", "UNIT-7", *words)[1])
         accepted = [row for row in orders if row["outcome"] == "accepted"]
         self.assertEqual((len(orders), str(len(accepted))), (30, row["accepted"]))
-        if modules.has("matplotlib"):
+        if modules.has_module("matplotlib"):
             for name, begin in (("a.svg", b"<?xml"), ("a.png", b"\x89PNG")):
                 path = Path(self.folder, name)
                 self.assertEqual(tool("whatif", "scenarios", "--quiet", *words, "-o", path), (0, out, ""))
@@ -392,7 +392,7 @@ class Tool(unittest.TestCase):
         for option, word in (("--sample", "0"), ("--price-sd", "-1"), ("--volume-sd", "x"), ("--jobs", "0")):
             self.assertEqual(tool("whatif", "scenarios", *table, option, word)[0], 2)
 
-    @unittest.skipUnless(modules.has("distributed"), "dask is missing (Debian's python3-distributed)")
+    @unittest.skipUnless(modules.has_module("distributed"), "dask is missing (Debian's python3-distributed)")
     def test_a_cluster_that_is_not_there(self):
         for address, said in (
             ("here", "should be an address such as tcp://10.0.0.1:8786"),

@@ -17,7 +17,7 @@ from lib.tool import command, modules
 
 HEADER = "participant,order,kind,side,price_eur_mwh,periods,volume_mw,parent,group"
 TEXTS = [AUCTION, AUCTION_RESULTS]
-WITH_EXCEL = unittest.skipUnless(modules.has("openpyxl"), "openpyxl is missing (Debian's python3-openpyxl)")
+WITH_EXCEL = unittest.skipUnless(modules.has_module("openpyxl"), "openpyxl is missing (Debian's python3-openpyxl)")
 
 
 def table(*rows, header=HEADER):
@@ -123,8 +123,8 @@ class Times(unittest.TestCase):
     def test_each_period_by_its_own_times(self):
         for periods in rules.DAYS:
             for number in range(1, periods + 1):
-                first, last = clock.span(periods, number).split(" to ")
-                times = [clock.begins(periods, at) for at in range(1, periods + 1)]
+                first, last = clock.time_span(periods, number).split(" to ")
+                times = [clock.begin_time(periods, at) for at in range(1, periods + 1)]
                 if times.count(first) == 1 and times.count(last) <= 1:
                     self.assertEqual(clock.periods_between(periods, first, last), [number], (periods, first, last))
 

@@ -569,7 +569,7 @@ class Tools(unittest.TestCase):
         self.assertEqual((status, len(self.rows(out))), (0, 2), err)
 
 
-@unittest.skipUnless(which.BUILT.exists() and modules.has("numpy") and modules.has("matplotlib"), "the program or a package is missing")
+@unittest.skipUnless(which.BUILT.exists() and all(map(modules.has_module, ("numpy", "matplotlib"))), "the program or a package is missing")
 class Examples(unittest.TestCase):
     """The page, and the section on many days: that the commands work, one after another, and print the quotes."""
 

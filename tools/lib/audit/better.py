@@ -24,7 +24,7 @@ def look(problem, said, method, progress, jobs):
 def enumerate_all(problem, said, progress, jobs, few=FEW_BLOCKS):
     """With numpy; without it if the blocks are few, or if it is missing and they aren't too many."""
     count = len(problem.blocks)
-    if count <= few or count <= best.ENUMERABLE and not modules.has("numpy"):
+    if count <= few or count <= best.ENUMERABLE and not modules.has_module("numpy"):
         try:
             found, how = best.enumerate_all(problem, progress)
         finally:
@@ -50,7 +50,7 @@ def ask_highs(problem, said, progress, jobs):
         except solver.GaveUp as fault:
             raise TimeoutError(f"HiGHS gave up (its status is {fault}): without --by highs every selection is tried") from None
 
-    return aside.answer(ask, progress, "HiGHS is still searching")
+    return aside.run_aside(ask, progress, "HiGHS is still searching")
 
 
 def named(problem, places):

@@ -262,4 +262,4 @@ def asked(model, progress, looked):
             return model.next(left)
     except TimeoutError:
         pass
-    raise TimeoutError(progress.over(offered(looked)))
+    raise TimeoutError(progress.timeout_message(offered(looked)))

@@ -34,7 +34,7 @@ NOT_CHECKED = "; whether another selection of blocks is better was not checked (
 HINTS = {
     kinds.REPLIES: "; --replies checks replies",
     kinds.DAY: "; give it as the only file",
-    kinds.ORDERS: place.as_here("; tools/table --journal makes a journal of it"),
+    kinds.ORDERS: place.with_commands_of_here("; tools/table --journal makes a journal of it"),
 }
 
 
@@ -114,14 +114,14 @@ class Audit:
         options = self.options
         if options.results is not None:
             written, published = self.read("journal", options.journal), self.read("results", options.results)
-            day_files.refuse_kind(options.journal, written, kinds.JOURNAL, HINTS)
-            day_files.refuse_kind(options.results, published, kinds.REPLIES if options.replies else kinds.RESULTS, HINTS)
+            day_files.refuse_other_kind(options.journal, written, kinds.JOURNAL, HINTS)
+            day_files.refuse_other_kind(options.results, published, kinds.REPLIES if options.replies else kinds.RESULTS, HINTS)
             return written, published
         data = self.read("day", options.journal)
         written, published = results.split_day(data) or (data, None)
         if published is not None and data[len(written) :].startswith(b"results\r") and b"\r" not in published:
             self.odd.append(Fault("the line 'results' ends with CR LF instead of LF alone", "encoding"))
-        day_files.refuse_kind(options.journal, written, kinds.JOURNAL, HINTS)
+        day_files.refuse_other_kind(options.journal, written, kinds.JOURNAL, HINTS)
         if published is None:
             if options.sent is None or options.best:
                 raise command.Stop(day_files.no_results(options.journal))
@@ -205,7 +205,7 @@ class Audit:
         self.progress = Progress("audit", self.seconds, options.quiet)
         words = f"the commands of {options.participant} aren't compared yet"
         try:
-            wrong, right = sent.compared(own, published, closed, options.participant, lambda: self.progress.look(words), proof)
+            wrong, right = sent.compared(own, published, closed, options.participant, lambda: self.progress.check_time(words), proof)
         except TimeoutError as fault:
             raise command.Stop(str(fault), command.UNDECIDED) from None
         finally:

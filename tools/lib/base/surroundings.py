@@ -16,7 +16,7 @@ DATE = "SOURCE_DATE_EPOCH"  # matplotlib fails if it isn't a number, also for a 
 NO_HOME = "/nonexistent"  # as Debian has it for users without a home
 
 
-def keep_apart():
+def isolate_environment():
     """Removes relative paths and the date of files from the environment, and the search for translations, which would follow any path. Tools
     start this Python again by its own name, which it doesn't know without a PATH, or if the environment has another one."""
     if os.environ.pop(PYTHON, None) is not None or not sys.executable:
@@ -27,10 +27,10 @@ def keep_apart():
             del os.environ[name]
     os.environ.pop(DATE, None)
     os.environ["LANGUAGE"] = "C"  # before the locale, whose name gettext would take for a folder
-    os.environ.setdefault("HOME", home())
+    os.environ.setdefault("HOME", home_of_user())
 
 
-def home():
+def home_of_user():
     """The user's home by the system's list of users, which may lack the user."""
     try:
         return pwd.getpwuid(os.getuid()).pw_dir

@@ -18,7 +18,7 @@ MOST_LINES = 20  # of those with characters that aren't ASCII
 FEW = 5  # faults that other tools report
 MOST_QUOTES = 20  # that aren't closed and are reported
 SEPARATORS = {";": "semicolons", "\t": "tabs"}  # that stand in place of commas
-AUDIT, LINT, TABLE = map(place.as_here, ("tools/audit", "tools/lint", "tools/table"))
+AUDIT, LINT, TABLE = map(place.with_commands_of_here, ("tools/audit", "tools/lint", "tools/table"))
 # The tool for a text of another kind.
 OTHERS = {
     kinds.ORDERS: f"this seems to be a table of orders: {TABLE} --journal makes a journal of it",

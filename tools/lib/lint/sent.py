@@ -168,7 +168,7 @@ def held_of(closed, who):
 
 def differences(sent, published, where=JOURNAL, look=lambda: None, proof=no_proof):
     """The faults of the published commands, or of the book's, a line each, by their records."""
-    pairs = subsequence.in_order(*([entry.command for entry in entries] for entries in (sent, published)), look)
+    pairs = subsequence.longest_pairs(*([entry.command for entry in entries] for entries in (sent, published)), look)
     there, here = ({place[side] for place in pairs} for side in (0, 1))
     left = [entry for at, entry in enumerate(sent) if at not in there]
     more = [entry for at, entry in enumerate(published) if at not in here]

@@ -172,7 +172,7 @@ async def sign(gate):
     """The head of the whole journal, which no later one follows, with the journal and its replies."""
     for name, data in ((folder.JOURNAL, gate.ledger.journal_text()), (folder.REPLIES, gate.ledger.replies_text())):
         with folder.named(gate.files.file(name)):
-            replacing.write(gate.files.file(name), data)
+            replacing.write_replacing(gate.files.file(name), data)
     folder.put(gate.files.file(folder.HEAD), heads.line(gate.ledger.head()))
 
 

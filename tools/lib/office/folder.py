@@ -57,14 +57,14 @@ def is_name(form, word):
 
 def is_by_participant(value, is_right):
     """Whether a value that was read has a right value for each participant, by its name."""
-    names = isinstance(value, dict) and all(text.participant(name.encode(errors="replace")) for name in value)
+    names = isinstance(value, dict) and all(text.parse_participant(name.encode(errors="replace")) for name in value)
     return names and all(map(is_right, value.values()))
 
 
 def put(path, data):
     """Writes a file that is whole, and on the disk, or not there."""
     with named(path):
-        replacing.write(path, data)
+        replacing.write_replacing(path, data)
     sync(Path(path).parent)
 
 
@@ -155,7 +155,8 @@ class Folder:
         if self.file(KEY).is_file() and not self.file(PARTICIPANTS).is_file():
             raise command.Stop(f"{command.shown(self.file(PARTICIPANTS))} is missing: put it back")
         if not self.file(PARTICIPANTS).is_file():
-            raise command.Stop(f"{command.shown(self.path)} isn't the folder of an office: {place.as_here('tools/office init')} makes one")
+            init = place.with_commands_of_here("tools/office init")
+            raise command.Stop(f"{command.shown(self.path)} isn't the folder of an office: {init} makes one")
         for name in (KEY, PARTICIPANTS):
             if self.file(name).stat().st_mode & PRIVATE:
                 raise command.Stop(f"{command.shown(self.file(name))} can be read by others: chmod 600")

@@ -28,7 +28,7 @@ def day_of(words):
 
 
 def zone_of(words):
-    modules.need_zone(shapes.ZONE)
+    modules.refuse_missing_zone(shapes.ZONE)
     try:
         return zoneinfo.ZoneInfo(words)
     except (zoneinfo.ZoneInfoNotFoundError, ValueError):

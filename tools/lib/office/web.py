@@ -393,7 +393,7 @@ class Web:
     async def day(self, request):
         gate = self.gate_of(request)
         periods = gate.terms.periods
-        return web.json_response({**self.shown(gate), "begins": [clock.begins(periods, number) for number in range(1, periods + 1)]})
+        return web.json_response({**self.shown(gate), "begins": [clock.begin_time(periods, number) for number in range(1, periods + 1)]})
 
     def unstopped(self, request):
         """The day of a request. A stopped day shows nothing: its journal may differ from the one that earlier heads sign, or a file may

@@ -148,7 +148,7 @@ def draw_curves(axes, day, number):
     axes.set_ylabel("limit price, EUR/MWh")
     if axes.get_legend_handles_labels()[0]:
         legend(axes, columns=1 if is_narrow(axes) else 2, below=True)
-    heading(axes, f"Period {number}, {clock.span(day.problem.periods, number)}" + ("" if traded else ": no trade"))
+    heading(axes, f"Period {number}, {clock.time_span(day.problem.periods, number)}" + ("" if traded else ": no trade"))
 
 
 def without_orders(axes):

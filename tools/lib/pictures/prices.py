@@ -16,7 +16,7 @@ def period_axis(axes, day):
     periods = day.problem.periods
     numbers = range(1, periods + 1, int((3 if is_narrow(axes) else 1) / day.problem.hours))
     axes.set_xlim(0.5, periods + 0.5)
-    axes.set_xticks(numbers, [f"{number}\n{clock.begins(periods, number)}" for number in numbers], fontsize=6.5)
+    axes.set_xticks(numbers, [f"{number}\n{clock.begin_time(periods, number)}" for number in numbers], fontsize=6.5)
     axes.set_xlabel("period of the day, and when it begins")
 
 
@@ -55,7 +55,7 @@ def draw_prices(axes, day):
 
 def period_words(day, number):
     """A period in a line: when it is, its price and its volume."""
-    words = f"period {number}, {clock.span(day.problem.periods, number)}"
+    words = f"period {number}, {clock.time_span(day.problem.periods, number)}"
     if not trades.is_traded(day, number):
         return f"{words}: no trade"
     price, volume = day.said.prices[number - 1], day.said.volumes[number - 1]

@@ -139,7 +139,7 @@ def period_table(day):
     rows, shares = [], trades.shares(day)
     for number, found in day.outcome.cleared.items():
         parts = map(text.shown_volume, shares[number].values())
-        begins = clock.begins(day.problem.periods, number)
+        begins = clock.begin_time(day.problem.periods, number)
         cents = text.shown_price(day.said.prices[number - 1]) if trades.is_traded(day, number) else "no trade"
         rows.append([number, begins, cents, supporting(found), text.shown_volume(day.said.volumes[number - 1]), *parts])
     words = ["hourly buys, MW", "block buys, MW", "hourly sells, MW", "block sells, MW"]
@@ -148,7 +148,7 @@ def period_table(day):
 
 
 def periods_of(order):
-    return spans.in_words(number for number, _ in order.volumes)
+    return spans.spans_words(number for number, _ in order.volumes)
 
 
 def block_table(day, found, needed):
@@ -252,7 +252,7 @@ def curve(day, number, folded):
     if trades.is_traded(day, number):
         words = f"{text.shown_price(said.prices[number - 1])} EUR/MWh, {text.shown_volume(said.volumes[number - 1])} MW"
     summary = Markup('<b>Period {}</b> {}: <span class="soft">{}</span>')
-    return picture._replace(summary=summary.format(number, clock.span(day.problem.periods, number), words))
+    return picture._replace(summary=summary.format(number, clock.time_span(day.problem.periods, number), words))
 
 
 def folded_curve(number):
@@ -269,7 +269,7 @@ def curves_of(day, numbers):
         yield (curve(day, number, len(numbers) > MOST_SHOWN) for number in numbers)
         return
     curves_of.day, bar = day, StepBar("report", len(numbers), "curves")
-    with aside.deaf():
+    with aside.blocking_interrupts():
         made = multiprocessing.get_context("fork").Pool(jobs)
     with made as pool:
         try:
@@ -330,7 +330,7 @@ def own_periods(day, who):
     rows = []
     for owner, number, *sums in list(published.long_participants(day))[1:]:
         if owner == who:
-            price, begins = text.shown_price(day.said.prices[number - 1]), clock.begins(day.problem.periods, number)
+            price, begins = text.shown_price(day.said.prices[number - 1]), clock.begin_time(day.problem.periods, number)
             rows.append([number, begins, price, *(text.shown(Fraction(value), digits) for value, digits in zip(sums, (1, 1, 2, 2)))])
     columns = heads("#period", "#begins", "price, EUR/MWh", "bought, MW", "sold, MW", "pays, EUR", "is paid, EUR")
     return Table(f"What {who} trades in each period", columns, rows)

@@ -64,7 +64,7 @@ def matched(wanted, found):
         return [(at, at) for at in range(len(wanted))]
     near = found[: 2 * len(wanted)]
     pairs, first, begin = [], 0, 0
-    for last, end in [*subsequence.in_order(wanted, near), (len(wanted), len(near))]:
+    for last, end in [*subsequence.longest_pairs(wanted, near), (len(wanted), len(near))]:
         both = min(last - first, end - begin)
         pairs += [(first + step, begin + step) for step in range(both)]
         pairs += [(at, None) for at in range(first + both, last)] + [(None, at) for at in range(begin + both, end)]

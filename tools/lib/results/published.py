@@ -46,7 +46,7 @@ def curves(day):
 
 
 def is_peak(periods, number):
-    return PEAK[0] <= clock.minutes(periods, number) < PEAK[1]
+    return PEAK[0] <= clock.begin_minutes(periods, number) < PEAK[1]
 
 
 def mean(prices):

@@ -32,7 +32,7 @@ OTHER_NUMBER = re.compile(rb"[+-]?[0-9]{1,16}")
 
 
 def number(field):
-    return text.number(field, -LARGE, LARGE)
+    return text.parse_number(field, -LARGE, LARGE)
 
 
 def expected_lines(problem):

@@ -57,7 +57,7 @@ def scaled(cell, factor, least, greatest, unit, decimal_comma):
         raise BadOrders(f"{text.quoted(cell)} has more than {digits} digit{'s' * (digits > 1)} after the decimal point{hint}")
     value = int(f"{sign}{whole}{(rest or '').ljust(digits, '0')}")
     if not least <= value <= greatest:
-        ends = [text.fixed(Fraction(end) / factor, digits) for end in (least, greatest)]
+        ends = [text.fixed_point(Fraction(end) / factor, digits) for end in (least, greatest)]
         raise BadOrders(f"{text.quoted(cell)} should be from {ends[0]} to {ends[1]} {unit}")
     return int(value)
 
@@ -117,7 +117,7 @@ def refuse_many(found, cell):
 def read_numbers(cell, periods):
     refuse_many(parts(cell), cell)
     try:
-        return spans.read(cell, rules.GREATEST_PERIOD, periods=periods)
+        return spans.parse_periods(cell, rules.GREATEST_PERIOD, periods=periods)
     except ValueError as fault:
         hint = ": a spreadsheet has taken it for a date, so make the cell one of text" if DATE.fullmatch(cell) else ""
         raise BadOrders(f"{text.quoted(cell)} should be {fault}{hint}") from None

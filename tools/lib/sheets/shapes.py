@@ -110,7 +110,7 @@ def typed(kind, name, cell, row):
     if cell == "":
         return [] if kind == "array" else None
     if kind == "array":
-        numbers = spans.read(row["periods"], rules.GREATEST_PERIOD)
+        numbers = spans.parse_periods(row["periods"], rules.GREATEST_PERIOD)
         if name == "periods":
             return numbers
         volumes = [float(part) for part in cell.split(";")]

@@ -42,7 +42,7 @@ def order_cells(row):
     order = row.order
     volumes = [text.mw(tenths) for _, tenths in order.volumes]
     each = volumes[0] if len(set(volumes)) == 1 else ";".join(volumes)
-    numbers = spans.written(number for number, _ in order.volumes)
+    numbers = spans.spans_text(number for number, _ in order.volumes)
     return [row.who, row.name, order.kind, order.side, text.eur_per_mwh(order.price), numbers, each, order.parent, order.group]
 
 

@@ -10,12 +10,12 @@ from . import file_io
 
 def participant(word):
     """A participant's name on the command line."""
-    if text.participant(word.encode(errors="surrogateescape")) is None:
+    if text.parse_participant(word.encode(errors="surrogateescape")) is None:
         raise argparse.ArgumentTypeError(f"{text.quoted(word)} should be {text.A_PARTICIPANT}")
     return word
 
 
-def day(word):
+def parse_day(word):
     """The name of a day on the command line, as in a head."""
     from ..seal import heads
 
@@ -29,8 +29,8 @@ class Parser(argparse.ArgumentParser):
 
     def __init__(self, prog, description, epilog):
         description = description or place.docstring(place.FOLDER / prog)
-        form, prog = argparse.RawDescriptionHelpFormatter, place.command(prog)
-        description, epilog = place.as_here(description), place.as_here(epilog)
+        form, prog = argparse.RawDescriptionHelpFormatter, place.command_name(prog)
+        description, epilog = place.with_commands_of_here(description), place.with_commands_of_here(epilog)
         super().__init__(prog=prog, description=description, epilog=epilog, formatter_class=form, allow_abbrev=False)
         self.add_argument("--version", action="version", version=f"{prog} {VERSION}", help="print the version")
 
@@ -58,10 +58,10 @@ class Parser(argparse.ArgumentParser):
         super().error(text.escaped(message))
 
     def print_help(self, file=None):
-        file_io.write_output(self.format_help().encode())
+        file_io.write_stdout(self.format_help().encode())
 
     def _print_message(self, message, file=None):
         if file is sys.stdout:  # the version
-            file_io.write_output(message.encode())
+            file_io.write_stdout(message.encode())
         else:
             super()._print_message(message, file)

@@ -34,7 +34,7 @@ def is_table(path):
     return is_workbook(path) or path.lower().endswith(CSV)
 
 
-def workbook(tables):
+def workbook_bytes(tables):
     """The bytes of a workbook with a sheet for each table, by name."""
     try:
         return sheets.workbook(tables)
@@ -46,7 +46,7 @@ def write(tool, args, name, rows, periods):
     """Writes a table, which is whole before the first byte is written."""
     rows = list(rows)
     if is_workbook(args.out):
-        data = workbook({name: rows})
+        data = workbook_bytes({name: rows})
     elif args.json:
         data = shapes.as_json(name, rows, shapes.day_of_periods(periods)).encode()
     else:
