@@ -126,7 +126,7 @@ def load(files, ledger):
         head = files.read(folder.HEAD)
     except (FileNotFoundError, ValueError, Contradiction):
         raise Contradiction(f"{folder.JOURNAL}, {folder.REPLIES} or {folder.HEAD} is missing or damaged") from None
-    if heads.line(ledger.head()) != head:
+    if heads.line_of(ledger.head()) != head:
         raise Contradiction("the published head isn't of the journal next to it, or isn't of this key")
     check_sums(files)
     return ledger
@@ -173,7 +173,7 @@ async def sign(gate):
     for name, data in ((folder.JOURNAL, gate.ledger.journal_text()), (folder.REPLIES, gate.ledger.replies_text())):
         with folder.named(gate.files.file(name)):
             replacing.write_replacing(gate.files.file(name), data)
-    folder.put(gate.files.file(folder.HEAD), heads.line(gate.ledger.head()))
+    folder.put(gate.files.file(folder.HEAD), heads.line_of(gate.ledger.head()))
 
 
 async def clear(gate):

@@ -138,7 +138,7 @@ class DayFolder:
 
     def salts(self):
         with sound(self.file(SALTS), "the salts of a day"):
-            return heads.parsed(self.read(SALTS), heads.salts_read)[0]
+            return heads.parse(self.read(SALTS), heads.parse_salts)[0]
 
 
 class Folder:
@@ -165,7 +165,7 @@ class Folder:
         from ..receipts import receipts
         from ..seal import signing
 
-        return receipts.key_read(self.file(KEY), signing.private)
+        return receipts.read_key(self.file(KEY), signing.parse_private)
 
     def public_text(self, key):
         """The public half of the office's key, as its file has it. Ends the tool if the file is of another key."""

@@ -86,7 +86,7 @@ class Ledger:
 
     def sign(self, heads_found):
         """Signs heads. It touches nothing else here, and so may run in a thread of its own."""
-        return [signing.signed(self.seal.key, head) for head in heads_found]
+        return [signing.sign(self.seal.key, head) for head in heads_found]
 
     async def sign_ahead(self, begin, end):
         """Signs the heads of the entries after `begin` up to `end`, while the next ones are entered."""

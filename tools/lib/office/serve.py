@@ -64,7 +64,7 @@ def runnable(path, name, option):
 def dam_program(named=None, may_compile=False):
     """The program dam: the one that is named, or else the package's, the clone's or the system's; or, if it may be compiled, the clone's
     without proofs."""
-    found = which.built()
+    found = which.find_program()
     path = named or os.environ.get("DAM") or (found.path if found else None) or (compiled("dam_cli") if may_compile else None)
     return runnable(path, "dam", "--dam")
 

@@ -58,7 +58,7 @@ def terms_of(args, shares, now=None):
     if args.periods not in rules.DAYS:
         raise command.Stop(f"--periods should be one of {', '.join(map(str, sorted(rules.DAYS)))}", command.COMMAND_LINE)
     try:
-        shapes.begins(date, args.periods, args.zone)
+        shapes.begin_times(date, args.periods, args.zone)
     except shapes.BadDate as fault:
         raise command.Stop(f"--periods: {fault}", command.COMMAND_LINE) from None
     closes = close_of(args.close, date, zone)
@@ -146,7 +146,7 @@ def make_office(office):
     if not office.file(folder.KEY).exists():
         if any(os.scandir(office.path)):
             raise command.Stop(f"{command.shown(office.path)} isn't empty, and isn't the folder of an office")
-        key = signing.made()
+        key = signing.new_key()
         folder.put(office.file(folder.PUBLIC), signing.public_text(key))
         folder.put(office.file(folder.KEY), signing.private_text(key))
     office.public_text(office.key())
@@ -169,7 +169,7 @@ def new_day(office, terms):
     made = tempfile.mkdtemp(prefix=".new-", dir=days)
     try:
         files = folder.DayFolder(made)
-        folder.put(files.file(folder.SALTS), heads.line(sealing.new_salts(terms.day)))
+        folder.put(files.file(folder.SALTS), heads.line_of(sealing.new_salts(terms.day)))
         folder.put(files.file(folder.TERMS), folder.as_json(terms.value()))
         for path in (files.file(folder.SALTS), files.file(folder.TERMS), made):
             folder.give(path, office.path)
