@@ -90,7 +90,7 @@ def lower(problem, accepted, welfare):
             away = {rival for group in problem.groups().values() if line & set(group) for rival in set(group) - line}
             away |= {below for rival in away for below in problem.rescuers[rival]}
             other = (accepted | line) - away
-        value = selection.eligible(problem, other)
+        value = selection.eligible_welfare(problem, other)
         if value is not None and selection.ranks_above(len(problem.blocks), welfare, accepted, value, other):
             found.append((value, [block in other for block in range(len(problem.blocks))], other))
     if not found:

@@ -143,7 +143,7 @@ def clear(
 
 def printed(read: Journal, words: list[Any], timeout: float | None) -> bytes:
     """The output of a run of the program for a journal."""
-    return by_program.output_of(words, journal.journal_text(read).encode(), timeout)
+    return by_program.run_for_output(words, journal.journal_text(read).encode(), timeout)
 
 
 class LateDay(Day):
@@ -281,7 +281,7 @@ def frame(day: Day | Journal, table: str = "periods", long: bool = False, date: 
     rows = list(rows_of(day, table, long, date))
     made = pandas.DataFrame(list(shapes.records(rows, flat)), columns=rows[0])
     for name in rows[0]:
-        if shapes.column(name, rows[0])["type"] == "number":
+        if shapes.column_type(name, rows[0])["type"] == "number":
             made[name] = made[name].astype(float)  # also if each cell is empty
     if "begins" in made:
         made["begins"] = pandas.to_datetime(made["begins"], utc=True).dt.tz_convert(shapes.ZONE)

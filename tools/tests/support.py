@@ -96,7 +96,7 @@ def ranked(day):
     """The eligible selections of a problem, with their welfare, the best one first."""
     subsets = itertools.product([True, False], repeat=len(day.blocks))
     chosen = [frozenset(itertools.compress(range(len(day.blocks)), flags)) for flags in subsets]
-    found = [(selection.eligible(day, accepted), accepted) for accepted in chosen]
+    found = [(selection.eligible_welfare(day, accepted), accepted) for accepted in chosen]
     # The selections come from the one that accepts most in front, and the sort keeps that order among equals.
     return sorted(((welfare, accepted) for welfare, accepted in found if welfare is not None), key=lambda pair: -pair[0])
 

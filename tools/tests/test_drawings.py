@@ -69,7 +69,7 @@ class Receipt(unittest.TestCase):
         """The marked nodes are those of the inclusion proof."""
         tree = merkle.Tree(merkle.leaf_hash(b"%d" % entry) for entry in range(1, draw_receipt.ENTRIES + 1))
         given = draw_receipt.kinds(dict(draw_receipt.nodes(0, draw_receipt.ENTRIES)))[1]
-        self.assertEqual({tree.hashed(*node) for node in given}, set(tree.inclusion(draw_receipt.OWN - 1)))
+        self.assertEqual({tree.hashed(*node) for node in given}, set(tree.inclusion_proof(draw_receipt.OWN - 1)))
 
 
 class Desk(unittest.TestCase):

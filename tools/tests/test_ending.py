@@ -75,7 +75,7 @@ from lib.tool import command
 days.TOOL = Path(sys.argv[1])
 pairs = [days.Pair(str(number), Path(sys.argv[1]), None) for number in range(8)]
 def main():
-    with drawing.apart():
+    with drawing.empty_settings():
         days.audit_all(pairs, [], 3, StepBar("audit", 8, "days"))
 command.run("audit", main)
 """
@@ -432,7 +432,7 @@ class Interrupted(unittest.TestCase):
             aside.run_aside(lambda tell: os._exit(1), Progress("audit", SECONDS), "")
         for fault, status in ((aside.Died("it ended"), command.FAILED), (TimeoutError("it is late"), command.UNDECIDED)):
             with mock.patch.object(better, "ask_highs", side_effect=fault), self.assertRaises(command.Stop) as stop:
-                better.look(None, None, better.HIGHS, None, 1)
+                better.find_better(None, None, better.HIGHS, None, 1)
             self.assertEqual((stop.exception.status, str(stop.exception)), (status, f"the results obey the other rules, but {fault}"))
 
     def test_what_a_call_returns_reports_and_raises(self):

@@ -158,7 +158,8 @@ class Isolation(unittest.TestCase):
         from lib.pictures import drawing
 
         environment, fault = dict(os.environ), FileNotFoundError(errno.ENOENT, "No usable temporary directory found")
-        with mock.patch.object(tempfile, "TemporaryDirectory", side_effect=fault), self.assertRaises(FileNotFoundError), drawing.apart():
+        missing = mock.patch.object(tempfile, "TemporaryDirectory", side_effect=fault)
+        with missing, self.assertRaises(FileNotFoundError), drawing.empty_settings():
             pass
         self.assertEqual(dict(os.environ), environment)
 

@@ -90,7 +90,7 @@ class Module(unittest.TestCase):
         journal = dam_tools.read_journal(FIRST)
         self.assertEqual(dam_tools.records(journal, "commands")[12]["reason"], "PeriodOutOfDay")
         day = dam_tools.read_results(AUCTION.read_bytes(), printed(AUCTION))
-        text = sheets.written(tables.orders(day)).encode()
+        text = sheets.table_text(tables.orders(day)).encode()
         made = dam_tools.journal_of_orders(text)
         self.assertEqual(dam_tools.clear(made, program=self.program).said.welfare, day.said.welfare)
 
@@ -106,12 +106,12 @@ class Module(unittest.TestCase):
             dam_tools.read_results(AUCTION, b"day,24\n")
         with self.assertRaises(dam_tools.Fault):
             dam_tools.journal_of_orders(b"x\n")
-        small = sheets.written([tables.ORDER]).encode() + b"a,H,hour,buy,1,8,5,,\n"
+        small = sheets.table_text([tables.ORDER]).encode() + b"a,H,hour,buy,1,8,5,,\n"
         for call in (lambda: dam_tools.journal_of_orders(small), lambda: dam_tools.whatif_change(AUCTION, small, program=self.program)):
             with self.assertRaisesRegex(dam_tools.Fault, "^line 2, column participant: 'a' should be 1 to 8 capitals A to Z: write A"):
                 call()
         with self.assertRaisesRegex(dam_tools.Fault, "a day has 23, 24, 25, 92, 96 or 100 periods, not 26"):
-            dam_tools.journal_of_orders(sheets.written([tables.ORDER]).encode(), periods=26)
+            dam_tools.journal_of_orders(sheets.table_text([tables.ORDER]).encode(), periods=26)
         day = dam_tools.read_results(AUCTION, AUCTION_RESULTS)
         for words in ({"table": "none"}, {"table": "curves", "long": True}):
             with self.assertRaises(ValueError):

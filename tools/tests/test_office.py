@@ -100,12 +100,12 @@ class Crashes(Office):
         with opener(disk):
             async with self.running(self.gate()) as given:
                 entries = await given.submit("GAS", 1, commands("submit,GAS,A,hour,buy,1,1:1,,", "cancel,GAS,B,,,,,,"))
-                before = [heads.line(given.ledger.receipt(entry)) for entry in entries]
+                before = [heads.line_of(given.ledger.receipt(entry)) for entry in entries]
                 await given.submit("A", 1, commands("cancel,A,B,,,,,,"))
-                self.assertEqual([heads.line(given.ledger.receipt(entry)) for entry in entries], before)
+                self.assertEqual([heads.line_of(given.ledger.receipt(entry)) for entry in entries], before)
             async with self.running(self.gate()) as given:
                 again = await given.submit("GAS", 1, commands("submit,GAS,A,hour,buy,1,1:1,,", "cancel,GAS,B,,,,,,"))
-                self.assertEqual([heads.line(given.ledger.receipt(entry)) for entry in again], before)
+                self.assertEqual([heads.line_of(given.ledger.receipt(entry)) for entry in again], before)
         self.assertEqual(len(disk.records), 3)
 
     async def test_a_token_that_was_revoked_enters_nothing_more(self):

@@ -154,7 +154,7 @@ class Closing(Office):
             ends.set()
             await task
         self.assertTrue(again.is_known.is_set())
-        self.assertEqual((again.fault, heads.line(again.ledger.head())), (None, given.files.read(folder.HEAD)))
+        self.assertEqual((again.fault, heads.line_of(again.ledger.head())), (None, given.files.read(folder.HEAD)))
         journal_file, kept = given.files.file(folder.JOURNAL), given.files.read(folder.JOURNAL)
         journal_file.write_bytes(kept.replace(b"GAS,A,", b"GAS,B,"))
         again = self.gate()

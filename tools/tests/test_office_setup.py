@@ -113,7 +113,7 @@ class Setup(Office):
         public = self.office.file(folder.PUBLIC)
         kept = public.read_bytes()
         self.participants("participant\nGAS\nWIND\n")
-        for other in (signing.public_text(signing.made()), b"", kept[:-30]):
+        for other in (signing.public_text(signing.new_key()), b"", kept[:-30]):
             public.write_bytes(other)
             with self.subTest(other=other):
                 with self.assertRaisesRegex(command.Stop, "operator.pem.pub isn't the public key of operator.pem"):
@@ -194,7 +194,7 @@ class Setup(Office):
     def test_a_workbook_of_participants_is_read(self):
         if not modules.has_module("openpyxl"):
             self.skipTest("python3-openpyxl is missing")
-        made, path = sheets.writer().Workbook(), self.office.path.parent / "p.xlsx"
+        made, path = sheets.workbook_writer().Workbook(), self.office.path.parent / "p.xlsx"
         for row in (["Participant", "commands"], ["A", 100], [], ["GAS"]):
             made.active.append(row)
         made.create_sheet("notes", 0).append(["x"])

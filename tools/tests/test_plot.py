@@ -111,7 +111,7 @@ class Pictures(unittest.TestCase):
             for day, number in ((auction, 19), (few, 8), (few, 19), (auction, 19), (auction, 3), (few, 19)):
                 for words_as_text in (True, False):
                     fresh = canvas.picture(pictures.period_picture(day, number, width), "svg", words_as_text)
-                    self.assertEqual(canvas.picture(sheet.drawn(day, number), "svg", words_as_text), fresh, (number, width))
+                    self.assertEqual(canvas.picture(sheet.draw(day, number), "svg", words_as_text), fresh, (number, width))
 
     def test_the_axes_of_small_volumes_and_of_no_orders(self):
         from lib.pictures import canvas, pictures
@@ -149,7 +149,7 @@ class Pictures(unittest.TestCase):
 
         for case in (AUCTION, QUARTERS):
             day = day_of(case.read_bytes(), support.printed(case))
-            bars = sum(volume > 0 for parts in trades.shares(day).values() for volume in parts.values())
+            bars = sum(volume > 0 for parts in trades.volume_shares(day).values() for volume in parts.values())
             bars *= day.problem.periods == 24
             self.assertEqual(len(pictures.prices_picture(day).axes[1].patches), bars)
             # Of each block one outline, since its periods follow one another.
@@ -211,7 +211,7 @@ class Apart(unittest.TestCase):
         from lib.pictures import drawing
 
         before = os.getcwd()
-        with drawing.apart():
+        with drawing.empty_settings():
             self.assertNotEqual(os.getcwd(), before)
             self.assertEqual((os.listdir("."), os.environ["MPLCONFIGDIR"]), ([], os.getcwd()))
         self.assertEqual(os.getcwd(), before)
@@ -228,7 +228,7 @@ class Apart(unittest.TestCase):
                 raise PermissionError
             return opened(path, *others, **more)
 
-        with mock.patch.object(drawing.os, "open", refused), drawing.apart():
+        with mock.patch.object(drawing.os, "open", refused), drawing.empty_settings():
             self.assertEqual(os.getcwd(), before)
             self.assertEqual(os.listdir(os.environ["MPLCONFIGDIR"]), [])
 

@@ -429,7 +429,7 @@ class Hanging(unittest.TestCase):
         for clock in (110, 114):
             with self.assertRaisesRegex(errors.Lost, "^the worker tcp://a:1 of the cluster C doesn't answer any more$"):
                 self.look(made, clock, {"tcp://a:1": 1, "tcp://b:2": clock})
-        made.listen()
+        made.watch_workers()
         self.assertEqual(self.look(made, 115, {"tcp://a:1": 1, "tcp://b:2": 115}), 2)
         self.assertEqual(self.look(made, 120, {"tcp://a:1": 2, "tcp://b:2": 120}), 2)
         self.assertEqual(self.look(made, 129, {"tcp://a:1": 3, "tcp://b:2": 129}), 2)
@@ -448,7 +448,7 @@ class Hanging(unittest.TestCase):
         for answer in (None, [], {}, {"workers": None}, {"workers": [1]}, {"workers": {"a": None}}, {"workers": {"a": {"status": "running"}}}):
             made.client.sync.return_value = answer
             with self.assertRaisesRegex(errors.Lost, "^the cluster C doesn't answer any more$"):
-                made.workers()
+                made.count_workers()
 
     def test_no_worker(self):
         made = self.cluster()
@@ -463,7 +463,7 @@ class Hanging(unittest.TestCase):
         made = cluster.Cluster.__new__(cluster.Cluster)
         made.name, made.reports, made.client = "the cluster C", {}, unittest.mock.Mock()
         with unittest.mock.patch.object(cluster.time, "monotonic", return_value=100.0):
-            made.listen()
+            made.watch_workers()
         return made
 
     def look(self, made, now, seen):
@@ -471,7 +471,7 @@ class Hanging(unittest.TestCase):
         workers = {address: {"last_seen": when, "status": "running"} for address, when in seen.items()}
         made.client.sync.return_value = {"workers": workers}
         with unittest.mock.patch.object(cluster.time, "monotonic", return_value=now):
-            return made.workers()
+            return made.count_workers()
 
 
 if __name__ == "__main__":

@@ -173,7 +173,7 @@ class ForSpreadsheets(unittest.TestCase):
             ("a;b, -c; d", "a;b, -c; d"),
         ):
             for decimal_comma in (False, True):
-                out = sheets.written([["scenario", "period"], [name, 1]], decimal_comma)
+                out = sheets.table_text([["scenario", "period"], [name, 1]], decimal_comma)
                 rows = list(csv.reader(io.StringIO(out, newline=""), delimiter=";" if decimal_comma else ","))
                 self.assertEqual(rows[1], [shown, "1"])
             self.assertEqual(sheets.unescaped(shown), name)
@@ -261,7 +261,7 @@ class ForSpreadsheets(unittest.TestCase):
         import openpyxl
 
         rows = [HEADER.split(","), *(f"A,K,block,buy,1.00,1-2,{volumes},,".split(",") for volumes in ("5.0", "5.0;6.5"))]
-        sheet = openpyxl.load_workbook(io.BytesIO(sheets.workbook({"orders": rows})))["orders"]
+        sheet = openpyxl.load_workbook(io.BytesIO(sheets.workbook_bytes({"orders": rows})))["orders"]
         self.assertEqual([sheet.cell(line, 7).value for line in (2, 3)], [5.0, "5.0;6.5"])
 
     @WITH_EXCEL

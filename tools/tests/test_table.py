@@ -27,7 +27,7 @@ PRICES = f"from {text.eur_per_mwh(rules.LOWEST_PRICE)} to {text.eur_per_mwh(rule
 
 def read(rows):
     """The rows of a written table as dictionaries."""
-    return list(csv.DictReader(io.StringIO(sheets.written(rows))))
+    return list(csv.DictReader(io.StringIO(sheets.table_text(rows))))
 
 
 def total(rows, column):
@@ -91,7 +91,7 @@ class Results(unittest.TestCase):
 
     def test_the_table_of_orders_makes_the_same_book(self):
         for day in self.days():
-            text = sheets.written(tables.orders(day)).encode()
+            text = sheets.table_text(tables.orders(day)).encode()
             again = order_table.read_orders(text, day.problem.periods, True)
             made, reasons = book.run(again)
             self.assertEqual(set(reasons), {None})

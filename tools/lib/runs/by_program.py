@@ -23,7 +23,7 @@ def program_of(program=None):
     if program == "":
         raise Unstarted("a program with an empty name can't be run")
     named = program or os.environ.get("DAM")
-    found = None if named else which.built()
+    found = None if named else which.find_program()
     if not named and not found:
         raise Unstarted("no program was found: build it, or name it as `program` or in the environment variable DAM")
     return os.fspath(named or found.path)
@@ -48,11 +48,11 @@ def run_program(words, text, timeout=None, running=None):
             process.kill()
             raise
     if not process.returncode:
-        relay(said)
+        print_once(said)
     return process.returncode, out, said
 
 
-def relay(said):
+def print_once(said):
     """Passes on the lines of a run that succeeded, such as that it isn't proved; each once."""
     for line in said.decode(errors="replace").splitlines():
         if line not in RELAYED and sys.stderr:
@@ -61,7 +61,7 @@ def relay(said):
                 print(line, file=sys.stderr, flush=True)
 
 
-def output_of(words, text, timeout=None):
+def run_for_output(words, text, timeout=None):
     """The output of a run of a program."""
     status, out, said = run_program(words, text, timeout)
     if status:

@@ -21,7 +21,7 @@ class Cleared:
     def of_text(cls, rows, periods, printed):
         """The same from the output of `dam clear` for a book; a fault if it isn't of this book."""
         try:
-            welfare, prices, volumes, orders = parts(printed.decode())
+            welfare, prices, volumes, orders = parse_printed(printed.decode())
         except (ValueError, IndexError):
             raise Fault(NO_RESULTS) from None
         if welfare is None or len(prices) != periods or orders.keys() != rows.keys():
@@ -78,10 +78,10 @@ class Cleared:
             return ""
         if order.kind == "block":
             return "accepted" if self.orders[key] else "rejected"
-        return trades.how_far(order, self.orders[key])
+        return trades.execution_words(order, self.orders[key])
 
 
-def parts(printed):
+def parse_printed(printed):
     """The welfare, the prices, the volumes and the orders of an output of `dam clear`."""
     welfare, prices, volumes, orders = None, [], [], {}
     for line in printed.splitlines():

@@ -29,7 +29,7 @@ class BadOrders(Exception):
         self.more = more
 
 
-def unlike(cell):
+def unlike_words(cell):
     """The words on a cell of a workbook that isn't what Excel shows."""
     return f"{text.quoted(cell)} is {cell.kind}: {cell.remedy}"
 
@@ -38,11 +38,11 @@ def refuse_unlike(cell, is_name):
     """Refuses a cell of a workbook that isn't what Excel shows: a formula without its value, another number or text, or in a column of
     names also a date."""
     if isinstance(cell, (Uncomputed, Percentage, Changed, Styled)) or is_name and isinstance(cell, Unlike):
-        raise BadOrders(unlike(cell))
+        raise BadOrders(unlike_words(cell))
 
 
 @functools.lru_cache(MOST_KEPT)
-def scaled(cell, factor, least, greatest, unit, decimal_comma):
+def parse_scaled(cell, factor, least, greatest, unit, decimal_comma):
     """A decimal number times a factor, which must be whole and in a range. Further digits are refused even if they are zeros: 2.000 may be
     meant for two thousand."""
     if not cell:
@@ -161,7 +161,7 @@ def read_volumes(cell, numbers, decimal_comma):
     refuse_empty(cell)
     refuse_thousands(cell)
     found = parts(cell)
-    values = [scaled(part, 10, 1, rules.GREATEST_VOLUME, "MW", decimal_comma) for part in found[: rules.GREATEST_PERIOD]]
+    values = [parse_scaled(part, 10, 1, rules.GREATEST_VOLUME, "MW", decimal_comma) for part in found[: rules.GREATEST_PERIOD]]
     if len(found) == 1:
         values *= len(numbers)
     elif len(found) != len(numbers):
@@ -169,7 +169,7 @@ def read_volumes(cell, numbers, decimal_comma):
     return tuple(zip(numbers, values))
 
 
-def read_word(*words):
+def word_reader(*words):
     def read(cell):
         if cell.lower() not in words:
             raise BadOrders(f"{text.quoted(cell)} should be {' or '.join(words)}")
@@ -178,7 +178,7 @@ def read_word(*words):
     return read
 
 
-def read_field(name):
+def field_reader(name):
     """A name, as a field of a journal; for one that breaks its rule the message says the right form."""
 
     @functools.lru_cache(MOST_KEPT)
@@ -191,8 +191,8 @@ def read_field(name):
     return read
 
 
-read_participant, read_name = read_field("participant"), read_field("order")
+read_participant, read_name = field_reader("participant"), field_reader("order")
 
 
 def read_price(cell, decimal_comma):
-    return scaled(cell, 100, rules.LOWEST_PRICE, rules.HIGHEST_PRICE, "EUR/MWh", decimal_comma)
+    return parse_scaled(cell, 100, rules.LOWEST_PRICE, rules.HIGHEST_PRICE, "EUR/MWh", decimal_comma)
