@@ -14,7 +14,7 @@ of a few milliseconds."""
 import make_blocks
 import make_family
 from clearing import MOST_OF_BEFORE, MOST_OF_DEEP, MeasuredBook, Together, kinds_of
-from figures import TWIN, enumeration
+from running import TWIN, enumeration
 
 DEFAULT = ["2", "3"]  # the default plan: workers, and how many of the first blocks are cut
 MOST = {"before": MOST_OF_BEFORE, "the twin": 2, "enumeration": 0.1}  # times as long
@@ -24,7 +24,7 @@ MOST_TOGETHER = {"alone": 12, "before": 1}
 def measured(drawn):
     book = MeasuredBook("blocks", drawn)
     twin = {"the twin": [TWIN, *DEFAULT]} if drawn in make_family.BOOKS else {}
-    book.clear({**twin, "enumeration": enumeration(book.path)})
+    book.time_with({**twin, "enumeration": enumeration(book.path)})
     book.show(MOST_OF_DEEP, MOST)
     book.peers()
     return book

@@ -10,8 +10,8 @@ program that takes longer than 1 s isn't run again."""
 import statistics
 import sys
 
-from figures import BEFORE, DAM, PEER_LIMIT, LIMIT, by_turns, multiple_text, run_to_file, seconds_text
-from figures import record_at_most, record_figure, record_ratio
+from figures import multiple_text, record_at_most, record_figure, record_ratio, seconds_text
+from running import BEFORE, DAM, LIMIT, PEER_LIMIT, by_turns, run_to_file
 
 MOST_OF_DEEP = 0.15  # seconds
 MOST_OF_BEFORE = 2  # times as long as the program before
@@ -66,7 +66,7 @@ class MeasuredBook:
         words = {"dam": clear, "alone": clear, **{name: given for name, given in more.items() if given}}
         return by_turns(words, self.path, TURNS, SECONDS, ONCE, inputs={"alone": self.alone}, limit=limit)
 
-    def clear(self, more):
+    def time_with(self, more):
         """Runs `dam clear` and other programs by turns; `more` has the words of further ones. The twin must find the same welfare."""
         runs = self.in_turns({"before": BEFORE and [BEFORE, "clear"], **more})
         if runs["dam"] and any(int(each.text.split()[1]) != welfare_of(runs["dam"][0]) for each in runs.get("the twin", [])):
@@ -136,10 +136,10 @@ class Together:
         for name, most_times in others.items():
             run_on = self.run_on(name)
             if run_on:
-                ones, others = (sum(self.lasted(run_on, each)) for each in ("dam", name))
+                ours, theirs = (sum(self.lasted(run_on, each)) for each in ("dam", name))
                 late = sum(book.median(name) is None for book in run_on)
                 note = f"{late} of {len(run_on)} didn't end in {LIMIT:g} s" if late else ""
-                record_ratio(f"{self.name}: dam clear compared with {OTHERS.get(name, name)}", [ones], [others], most_times, note=note)
+                record_ratio(f"{self.name}: dam clear compared with {OTHERS.get(name, name)}", [ours], [theirs], most_times, note=note)
 
     def run_on(self, name):
         """The books on which a program was run."""

@@ -18,7 +18,8 @@ import time
 from concurrent.futures import ThreadPoolExecutor
 from pathlib import Path
 
-from figures import DAM, DESK, MIB, PER_SECOND, in_turns, peak_memory, record_at_most, record_ratio, record_times, run, run_to_file
+from figures import MIB, PER_SECOND, record_at_most, record_ratio, record_times
+from running import DAM, DESK, in_turns, peak_memory, run, run_to_file
 
 sys.path.insert(0, str(Path(__file__).resolve().parent.parent / "tests" / "desk"))
 
@@ -49,14 +50,14 @@ def next_to_replay(desk):
     return in_turns({"desk": desk, "replay": lambda _: run([DAM, "replay"], JOURNAL)}, TURNS, seconds=30).values()
 
 
-def writing(folder):
+def record_writing(folder):
     desk, replay = next_to_replay(lambda _: run([DESK, new_in(folder)], JOURNAL))
     if desk[0].text != replay[0].text:
         sys.exit("the desk and dam replay print different texts")
     record_times("dam replay compared with a desk in memory, 10,000 records", replay, desk, least=0.5)
 
 
-def opening(folder, medium):
+def record_opening(folder, medium):
     file = new_in(folder)
     run([DESK, file], JOURNAL)
     record_times(f"opening 10,000 records {medium} compared with dam replay", *next_to_replay(lambda _: run([DESK, file])), 2)
@@ -119,7 +120,7 @@ def seconds_of_sqlite(folder, size):
         return time.perf_counter() - begun
 
 
-def memory(folder):
+def record_memory(folder):
     run_to_file(BLOCKS, "./make_journal.py", "blocks")
     for about, journal in [("10,000 records", JOURNAL), ("10,000 blocks of 100 volumes", BLOCKS)]:
         replay = peak_memory([DAM, "replay"], journal)
@@ -132,11 +133,11 @@ def memory(folder):
 def main():
     in_memory = MEMORY if os.path.isdir(MEMORY) else "out"
     with tempfile.TemporaryDirectory(dir=in_memory, prefix="desk-") as folder:
-        writing(folder)
-        opening(folder, "in memory")
-        memory(folder)
+        record_writing(folder)
+        record_opening(folder, "in memory")
+        record_memory(folder)
     with tempfile.TemporaryDirectory(dir="out", prefix="desk-") as folder:
-        opening(folder, "on disk")
+        record_opening(folder, "on disk")
         record_kept(folder)
 
 

@@ -10,7 +10,8 @@ import sys
 
 import make_blocks
 import make_family
-from figures import TWIN, record_figure, run, run_to_file
+from figures import record_figure
+from running import TWIN, run, run_to_file
 
 BLOCKS = (8, 12, 16, 20, 24)
 MOST = 2 ** (BLOCKS[-1] + 1) // 100  # nodes

@@ -6,7 +6,8 @@ The plain program looks at a version through a lock-free pointer, and copies its
 
 import statistics
 
-from figures import MEASURES, by_turns, record_at_most, record_ratio, run_to_file, seconds_text
+from figures import record_at_most, record_ratio, seconds_text
+from running import MEASURES, by_turns, run_to_file
 
 PLAIN = "out/looks"
 LOOKS, CALLS = 1_000_000, 2_000

@@ -10,12 +10,14 @@ import subprocess
 import sys
 from pathlib import Path
 
-from figures import DAM, DESK, PER_SECOND, in_turns, modules, record_at_most, record_figure, record_ratio
+from figures import PER_SECOND, record_at_most, record_figure, record_ratio
+from running import DAM, DESK, in_turns
 
 HERE = Path(__file__).resolve().parent
 sys.path.insert(0, str(HERE.parent / "tests" / "office"))
 
 import loads
+from lib.tool import modules
 from served import Served, served
 
 CONNECTIONS, TURNS, COMMANDS = 50, 5, 40  # COMMANDS of each connection in a turn
@@ -65,7 +67,7 @@ def whole_day():
 
 
 def main():
-    if not all(map(modules.has, ("aiohttp", "cryptography", "jinja2"))):
+    if not all(map(modules.has_module, ("aiohttp", "cryptography", "jinja2"))):
         record_figure("the office: python3-aiohttp, python3-cryptography or python3-jinja2 is missing", "")
         return
     compare()

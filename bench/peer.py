@@ -31,7 +31,7 @@ LATE = 5.0  # seconds after its limit at which CBC is ended
 def highs(model, left):
     """A selection, or None if there is none, and the seconds that it took. Fails if there is no time left."""
     begun = time.perf_counter()
-    return model.next(left), time.perf_counter() - begun
+    return model.solve_next(left), time.perf_counter() - begun
 
 
 def cbc(model, left):
@@ -96,7 +96,7 @@ def find(solve, model, problem, limit):
         lasted += taken
         if chosen is None:
             return "failed", lasted
-        welfare = selection.eligible(problem, chosen)
+        welfare = selection.eligible_welfare(problem, chosen)
         if welfare is not None and lasted < limit:  # at its limit HiGHS returns its selection, whether it is the best or not
             return welfare, lasted
         model.forbid(chosen)
@@ -105,13 +105,13 @@ def find(solve, model, problem, limit):
 
 def missing(peer):
     """The package that is missing, if one is. The program of both is written with scipy."""
-    if not modules.has("scipy"):
+    if not modules.has_module("scipy"):
         return PACKAGES["highs"]
     return None if peer == "highs" or shutil.which("cbc") else PACKAGES["cbc"]
 
 
 def main():
-    modules.python_with("scipy")
+    modules.restart_with("scipy")
     peer, path, limit = sys.argv[1:]
     if lacking := missing(peer):
         print(f"missing: {lacking}")
@@ -121,7 +121,7 @@ def main():
     closed, _ = book.run(journal.read_journal(Path(path).read_bytes()))
     problem = selection.Problem(closed)
     model = solver.Model(problem)
-    model.ask(0, [], solver.ROOM)
+    model.restrict(0, [], solver.ROOM)
     found, lasted = find(SOLVERS[peer], model, problem, float(limit))
     print(found)
     print(peer, round(lasted * 1e9), file=sys.stderr)

@@ -7,12 +7,13 @@ compares each receipt with its entry. The times that are compared also have the 
 
 import sys
 
-from figures import BASELINE, DAM, MEASURES, MIB, by_turns, peak_memory, record_ratio, record_times
+from figures import MIB, record_ratio, record_times
+from running import BASELINE, DAM, MEASURES, by_turns, peak_memory
 
 JOURNAL, HOURLY, DAY = "out/journal.csv", "out/hourly.csv", "out/day.csv"
 
 
-def programs(what, words, others, journal, most, same=False):
+def record_programs(what, words, others, journal, most, same=False):
     """Wall and processor time of a program compared with another one's."""
     ones, others = by_turns({"one": words, "other": others}, journal, seconds=30).values()
     if same and len({each.text for each in ones + others}) > 1:
@@ -20,17 +21,17 @@ def programs(what, words, others, journal, most, same=False):
     record_times(what, ones, others, most)
 
 
-def journals():
+def record_journals():
     baseline, replay, day = [BASELINE, "day"], [DAM, "replay"], [DAM, "day"]
-    programs("dam replay compared with the baseline, 10,000 records", replay, [BASELINE], JOURNAL, 1.2, same=True)
-    programs("dam clear compared with dam replay, 4,000 hourly orders", [DAM, "clear"], replay, HOURLY, 1.5)
-    programs("dam day compared with the baseline with threads, 9,999 commands", day, baseline, DAY, 1.2)
+    record_programs("dam replay compared with the baseline, 10,000 records", replay, [BASELINE], JOURNAL, 1.2, same=True)
+    record_programs("dam clear compared with dam replay, 4,000 hourly orders", [DAM, "clear"], replay, HOURLY, 1.5)
+    record_programs("dam day compared with the baseline with threads, 9,999 commands", day, baseline, DAY, 1.2)
     what = "dam day compared with the baseline with threads, peak memory"
     note = "the baseline keeps one book, and a gate that shows versions two; each entry and order has room for 100 volumes"
     record_ratio(what, [peak_memory(day, DAY)], [peak_memory(baseline, DAY)], 1.5, shown=MIB, note=note)
 
 
-journals()
+record_journals()
 laps = by_turns({"": [MEASURES, "settlement"]}, DAY)[""]
 what = "settle of 10,000 entries and 9 passes compared with a plain pass"
 record_ratio(what, *([each.lap(part) for each in laps] for part in ("settle", "receipts")), 3)

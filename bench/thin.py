@@ -16,7 +16,7 @@ search looks for a subset of the volumes with the best sum, and hardly any bound
 import make_blocks
 import make_family
 from clearing import MOST_OF_BEFORE, MeasuredBook, Together, kinds_of
-from figures import enumeration
+from running import enumeration
 
 MOST = 3.0  # seconds
 MOST_OF_SUM_BEFORE, ONE_IN = 1 / 6, 20
@@ -26,7 +26,7 @@ BOOKS = make_blocks.THIN + make_blocks.HARDEST + make_blocks.BOUND + make_family
 
 def measured(drawn):
     book = MeasuredBook("thin", drawn)
-    book.clear({"enumeration": enumeration(book.path)})
+    book.time_with({"enumeration": enumeration(book.path)})
     book.show(MOST, {"before": MOST_OF_BEFORE, "enumeration": MOST_OF_ENUMERATION[drawn.is_thin]})
     if not drawn.is_thin:
         book.peers()

@@ -7,8 +7,9 @@ win back. The size of a program's environment moves its stack, and with that the
 at another place."""
 
 import make_family
-from figures import LIMIT, MEASURES, by_turns, record_ratio, run_to_file
+from figures import record_ratio
 from make_blocks import drawn_book
+from running import LIMIT, MEASURES, by_turns, run_to_file
 
 CUT = "8"
 DEFAULT, ONE = ("2", "3"), ("1", "0")
@@ -29,13 +30,13 @@ def searched(plans, book, most):
     return {plan: [each.lap("search") for each in found] or [LIMIT] for plan, found in runs.items()}
 
 
-def speed(name, book):
+def record_speed(name, book):
     found = searched([(workers, CUT) for workers in ("1", *LEAST)], book, most=8)
     for workers, least in LEAST.items():
         record_ratio(f"{name}, cut {CUT}: the rate of {workers} workers compared with 1", found["1", CUT], found[workers, CUT], least=least)
 
 
-def default(name, book):
+def record_default(name, book):
     found = searched([DEFAULT, ONE], book, most=32)
     record_ratio(f"{name}: the search by the default plan compared with 1 worker", found[DEFAULT], found[ONE], 1)
 
@@ -43,11 +44,11 @@ def default(name, book):
 def main():
     for drawn in LONG:
         name, book = drawn.name, run_to_file(f"out/workers-{'-'.join(drawn.words)}.csv", drawn.script, *drawn.words)
-        speed(name, book)
-        default(name, book)
+        record_speed(name, book)
+        record_default(name, book)
     for family in make_family.FAMILIES:
         for orders in ORDERS:
-            default(f"{family} {orders}", run_to_file(f"out/{family}-{orders}.csv", "./make_family.py", family, orders))
+            record_default(f"{family} {orders}", run_to_file(f"out/{family}-{orders}.csv", "./make_family.py", family, orders))
 
 
 main()

@@ -26,7 +26,7 @@ def problem():
 
 def middle(day, number):
     """The middle of the net volumes that the blocks can make of a period, rounded down."""
-    return sum(dict(selection.signed(block.order)).get(number, 0) for block in day.blocks) // 2
+    return sum(dict(selection.net_volumes(block.order)).get(number, 0) for block in day.blocks) // 2
 
 
 def prices_of(day):
@@ -99,10 +99,10 @@ def is_forbidden(day, place, accept, taken, later):
 
 def result(day, bound, order):
     """The greatest welfare of an eligible selection, by a search by one bound that begins with the empty selection."""
-    best = selection.eligible(day, frozenset())
+    best = selection.eligible_welfare(day, frozenset())
     for node in nodes(day, bound, order, lambda: best):
         if len(node.decisions) == len(order) and not node.is_cut:
-            welfare = selection.eligible(day, node.taken)
+            welfare = selection.eligible_welfare(day, node.taken)
             best = best if welfare is None else max(best, welfare)
     return best
 

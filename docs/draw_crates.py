@@ -20,7 +20,7 @@ LOOK = 'font-family="DejaVu Sans, sans-serif" font-size="12" text-anchor="middle
 
 
 def read(top=TOP):
-    return crates.own(crates.listed_in(top))
+    return crates.without_foreign(crates.read_crates(top))
 
 
 def direct(used, name):

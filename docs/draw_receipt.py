@@ -21,7 +21,7 @@ def nodes(begin, end):
     if end - begin == 1:
         yield (begin, end), ()
         return
-    middle = begin + merkle.split(end - begin)
+    middle = begin + merkle.left_half(end - begin)
     children = (begin, middle), (middle, end)
     for child in children:
         yield from nodes(*child)

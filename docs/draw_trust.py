@@ -30,13 +30,13 @@ class Counting(best.Search):
         super().__init__(problem)
         self.eligible, self.losing = [], []
 
-    def look(self, accepted, net, worth, value):
+    def keep_if_better(self, accepted, net, worth, value):
         self.tried += 1
         if None in worth.values():
             return
-        prices = {number: rules.price_between(*curve.supporting(net[number]))[0] for number, curve in self.curves.items()}
+        prices = {number: rules.price_between(*curve.supporting_prices(net[number]))[0] for number, curve in self.curves.items()}
         surpluses = [selection.surplus(block.order, prices) for block in self.problem.blocks]
-        loses = selection.losing(self.problem, accepted, surpluses)
+        loses = selection.losses_of(self.problem, accepted, surpluses)
         (self.losing if loses else self.eligible).append((sum(worth.values()) + value, accepted))
 
 
@@ -75,7 +75,7 @@ def problem():
 def counted(day):
     """The counts, and the best selection."""
     search = Counting(day)
-    search.run()
+    search.find_best()
     welfare, accepted = max(search.eligible, key=lambda found: found[0])
     greatest = sum(other == welfare for other, _ in search.eligible)
     above = sorted((found for found in search.losing if found[0] > welfare), reverse=True, key=lambda found: found[0])

@@ -136,7 +136,7 @@ def refuse_large(path, size):
 
 def within(path, file):
     """The bytes of an open file, unless they are too many."""
-    data = file_io.first_bytes(file, file_io.MOST_BYTES + 1)
+    data = file_io.read_first_bytes(file, file_io.MOST_BYTES + 1)
     refuse_large(path, len(data))
     return data
 

@@ -59,7 +59,7 @@ class Clone:
         self.tracked = [name for name in git("ls-files", "-z").split("\0") if name]
         refuse_changes()
         refuse_old()
-        self.records = {name: sources.recorded(TOP / name) for name in BUILT}
+        self.records = {name: sources.read_record(TOP / name) for name in BUILT}
 
     def below(self, folder, *endings):
         """The tracked files of a folder, and of those below it, with one of these endings."""
@@ -78,7 +78,7 @@ def refuse_changes():
 def refuse_old():
     """Ends the tool if something that was built is missing, or not of the present sources."""
     for name, crate in BUILT.items():
-        fault = sources.fault(TOP / name, crate)
+        fault = sources.build_fault(TOP / name, crate)
         if fault:
             raise command.Stop(f"{fault}: run {MADE_BY[name]}")
 
@@ -112,4 +112,4 @@ def refuse_lack():
 def made_with():
     """The versions of the programs that make the files of a package here; other ones may make others. git makes none, and go-md2man doesn't
     tell its version."""
-    return {name: sources.first_line([name, "--version"]) for name in NEEDED if name not in ("git", "go-md2man")}
+    return {name: sources.run_for_first_line([name, "--version"]) for name in NEEDED if name not in ("git", "go-md2man")}

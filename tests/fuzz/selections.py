@@ -90,7 +90,7 @@ def lower(problem, accepted, welfare):
             away = {rival for group in problem.groups().values() if line & set(group) for rival in set(group) - line}
             away |= {below for rival in away for below in problem.rescuers[rival]}
             other = (accepted | line) - away
-        value = selection.eligible(problem, other)
+        value = selection.eligible_welfare(problem, other)
         if value is not None and selection.ranks_above(len(problem.blocks), welfare, accepted, value, other):
             found.append((value, [block in other for block in range(len(problem.blocks))], other))
     if not found:
@@ -134,10 +134,10 @@ def wrong_of(program, data, jobs):
 
 def main():
     args = arguments()
-    modules.python_with("numpy")
+    modules.restart_with("numpy")
     if args.families or args.books or args.thin or (args.blocks or 0) > FEW_BLOCKS:
         modules.need("numpy")
-    args.most_blocks = MOST_BLOCKS if modules.has("numpy") else FEW_BLOCKS
+    args.most_blocks = MOST_BLOCKS if modules.has_module("numpy") else FEW_BLOCKS
     program, counts, altered = compare.Program(args.program, args.wait), Counts(), {}
     for name, data in inputs(args):
         wrong, kind = wrong_of(program, data, args.jobs)

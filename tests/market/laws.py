@@ -8,8 +8,8 @@ import books
 from lib.base import rules
 
 
-class Printed(NamedTuple):
-    """The program's output for a book."""
+class Results(NamedTuple):
+    """The results that the program prints for a book."""
 
     welfare: int
     prices: list  # by period, from 1
@@ -23,7 +23,7 @@ class Printed(NamedTuple):
     def accepts(self, row):
         return self.orders[row.key][0]
 
-    def accepted(self, book):
+    def accepted_keys(self, book):
         return {row.key for row in book.blocks if self.accepts(row)}
 
 
@@ -38,7 +38,7 @@ def read(text):
     for kind, who, name, *values in (line for line in lines if line[0] in ("hour", "block")):
         orders[who, name] = int(values[0]) if kind == "hour" else (values[0] == "accepted", int(values[1]))
     (welfare,) = (int(line[1]) for line in lines if line[0] == "welfare")
-    return Printed(welfare, [int(line[2]) for line in periods], [int(line[3]) for line in periods], orders)
+    return Results(welfare, [int(line[2]) for line in periods], [int(line[3]) for line in periods], orders)
 
 
 class Market:
@@ -207,11 +207,11 @@ def a_block_more_never_lowers_welfare(market, book, rng):
 
 def book_order_of_hourly_orders_decides_only_ties(market, book, rng):
     printed, other = market.results(book), market.results(book.hourly_shuffled(rng))
-    if (other.welfare, other.prices, other.volumes, other.accepted(book)) != (
+    if (other.welfare, other.prices, other.volumes, other.accepted_keys(book)) != (
         printed.welfare,
         printed.prices,
         printed.volumes,
-        printed.accepted(book),
+        printed.accepted_keys(book),
     ):
         yield "with the hourly orders in another order the results are others"
 
@@ -220,7 +220,7 @@ def book_order_of_blocks_decides_only_ties(market, book, rng):
     printed, other = market.results(book), market.results(book.blocks_shuffled(rng))
     if other.welfare != printed.welfare:
         yield "with the blocks in another order the welfare is another"
-    if other.accepted(book) == printed.accepted(book) and other != printed:
+    if other.accepted_keys(book) == printed.accepted_keys(book) and other != printed:
         yield "with the blocks in another order the same selection has other prices or executions"
 
 

@@ -6,7 +6,7 @@ import unittest
 import books
 import laws
 from books import Book, Row
-from laws import Printed
+from laws import Results
 from lib.base import rules
 from lib.journal.journal import Order
 
@@ -15,8 +15,8 @@ START = Row("GAS", "START", Order("block", "sell", 3_000, ((1, 10),)))
 TOWN = Row("CITY", "TOWN", Order("hour", "buy", 5_000, ((1, 20),)))
 MILL = Row("MILL", "SAW", Order("hour", "buy", 5_000, ((1, 20),)))
 BOOK = Book(1, (UNIT, TOWN))
-RIGHT = Printed(20_000, [5_000], [20], {UNIT.key: (True, 20_000), TOWN.key: 20})
-NOTHING = Printed(0, [5_000], [0], {UNIT.key: (False, 20_000), TOWN.key: 0})
+RIGHT = Results(20_000, [5_000], [20], {UNIT.key: (True, 20_000), TOWN.key: 20})
+NOTHING = Results(0, [5_000], [0], {UNIT.key: (False, 20_000), TOWN.key: 0})
 
 
 class Fixed:

@@ -132,7 +132,7 @@ def check(office, counts, periods):
         body = json.dumps(commands if len(commands) > 1 or rng.random() < 0.5 else commands[0]).encode()
         status, data = asked(office, counts, "PUT", "/days/{day}/commands/{who}/{number}", {**values, "number": number}, typed, body)
         if status == 200:
-            found = [heads.parsed(line, heads.receipt_read) for line in data.splitlines(keepends=True)]
+            found = [heads.parse(line, heads.parse_receipt) for line in data.splitlines(keepends=True)]
             counts.check("receipts are in their written form", all(is_written for _, is_written in found) and len(found) == len(commands))
             again = asked(office, counts, "PUT", "/days/{day}/commands/{who}/{number}", {**values, "number": number}, typed, body)
             counts.check("the same request again gets the same receipts", again == (200, data))

@@ -85,7 +85,7 @@ def faults(load, records, replies, key, sample=300):
             yield f"{who} {number}: entry {entry} is another command's"
         seen.add(entry)
     for _, _, receipt in random.Random("sample").sample(load.acknowledged, min(sample, len(load.acknowledged))):
-        found = heads.receipt_read(receipt)
+        found = heads.parse_receipt(receipt)
         root = merkle.root_of_inclusion(found.leaf(), found.number - 1, found.head.size, found.path)
         if root != found.head.root or not signing.is_signed(key, found.head):
             yield f"the receipt of entry {found.number} proves nothing"

@@ -29,7 +29,7 @@ SECONDS = 12  # that a load may take in the check
 
 
 def key_of(office):
-    return signing.public((office.folder / "operator.pem.pub").read_bytes())
+    return signing.parse_public((office.folder / "operator.pem.pub").read_bytes())
 
 
 def tool(name, *words):
@@ -330,7 +330,7 @@ def week(args, counts):
         counts.check("an office ends at Ctrl-C", office.process.wait(SECONDS) == 0)
         office.start()
         receipts = office.client(who).receipts(first)
-        counts.check("a closed day is served after a start", heads.parsed(receipts, heads.receipt_read)[0].head.size == 2)
+        counts.check("a closed day is served after a start", heads.parse(receipts, heads.parse_receipt)[0].head.size == 2)
         counts.check("and the other day is still open", office.client("NEW").enter(later, "cancel,NEW,A,,,,,,")[0]["number"] == 2)
 
 
@@ -400,7 +400,7 @@ def check_published(args, counts, office):
         "a statement has each command of the participant",
         len(rows) == client.next(office.day) - 1 and {row["participant"] for row in rows} <= {who},
     )
-    first = heads.extension_read(heads.json.loads(client.head(office.day, 1)))
+    first = heads.parse_extension(heads.json.loads(client.head(office.day, 1)))
     counts.check("the last head goes on from the first", first.is_valid() and first.new.size == len(office.journal()))
 
 

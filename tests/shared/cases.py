@@ -43,7 +43,7 @@ class Fault(Exception):
     """The fault of a file of cases; a first argument is the number of the line."""
 
 
-class Printed(NamedTuple):
+class Expected(NamedTuple):
     """The right output of a stream: one of some texts, or any text that begins and ends so."""
 
     texts: list
@@ -63,8 +63,8 @@ class Case(NamedTuple):
     words: list  # its arguments
     runs: list  # the further arguments of each run
     stdin: bytes
-    stdout: Printed
-    stderr: Printed
+    stdout: Expected
+    stderr: Expected
     status: int
 
     @property
@@ -118,7 +118,7 @@ class Reader:
     def printed(self, stream, parts):
         its = [(it.kind, self.text(it)) for it in parts if it.kind.split()[0] == stream]
         texts, ends = [text for kind, text in its if kind == stream], dict(its)
-        return Printed(texts or [b""], ends.get(f"{stream} begins", b""), ends.get(f"{stream} ends", b""))
+        return Expected(texts or [b""], ends.get(f"{stream} begins", b""), ends.get(f"{stream} ends", b""))
 
     def text(self, part):
         """The text of a part."""

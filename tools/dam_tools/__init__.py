@@ -50,6 +50,7 @@ from .checks import (
     whatif_limit,
 )
 from .given import JournalSource, Source, as_faults, as_journal, bytes_of, is_text, one_of_many, read_journal
+from .lib.audit import verdict
 from .lib.journal import book, journal
 from .lib.runs import by_library, by_program, engine, which
 from .lib.sheets import order_table, shapes, tables
@@ -143,7 +144,7 @@ def clear(
 
 def printed(read: Journal, words: list[Any], timeout: float | None) -> bytes:
     """The output of a run of the program for a journal."""
-    return by_program.output_of(words, journal.journal_text(read).encode(), timeout)
+    return by_program.run_for_output(words, journal.journal_text(read).encode(), timeout)
 
 
 class LateDay(Day):
@@ -228,14 +229,14 @@ class Reply(NamedTuple):
 
 
 def replay(source: JournalSource, program: Program | None = None, timeout: float | None = None) -> list[Reply]:
-    """The book's reply to each command of a journal, by a run of the program."""
+    """The book's reply to each command of a journal, by a run of the program. Other replies than the rules give are a fault."""
     read = as_journal(source)
-    lines = printed(read, [by_program.program_of(program), "replay"], timeout).decode(errors="replace").splitlines()
-    found = [line.split(",") for line in lines[1:]]
-    replies = [Reply(int(fields[0]), fields[2] if len(fields) == 3 else None) for fields in found if fields[0].isdecimal()]
-    if [reply.command for reply in replies] != list(range(1, len(read.commands) + 1)):
-        raise Fault("the program printed other replies than those of the journal")
-    return replies
+    found = printed(read, [by_program.program_of(program), "replay"], timeout)
+    reasons = book.run(read)[1]
+    if found != book.replies_of(read.periods, reasons).encode():
+        first, *_ = verdict.reply_faults(read.periods, reasons, found)
+        raise Fault(f"the program printed other replies than those of the journal ({first})")
+    return [Reply(number, reason) for number, reason in enumerate(reasons, 1)]
 
 
 def rows_of(day: Day | Journal, table: str, long: bool, date: Date | None) -> Any:
@@ -258,7 +259,7 @@ def with_times(table: str, rows: list[Any], date: Date, periods: int) -> list[An
     if "period" not in rows[0]:
         raise Fault(f"a date can't be used with {table}, which has no column of periods" + (": long=True" if table in tables.LONG else ""))
     with as_faults():
-        modules.need_zone(shapes.ZONE)
+        modules.refuse_missing_zone(shapes.ZONE)
         return list(shapes.with_times(rows, shapes.as_date(date), periods))
 
 
@@ -281,7 +282,7 @@ def frame(day: Day | Journal, table: str = "periods", long: bool = False, date: 
     rows = list(rows_of(day, table, long, date))
     made = pandas.DataFrame(list(shapes.records(rows, flat)), columns=rows[0])
     for name in rows[0]:
-        if shapes.column(name, rows[0])["type"] == "number":
+        if shapes.column_type(name, rows[0])["type"] == "number":
             made[name] = made[name].astype(float)  # also if each cell is empty
     if "begins" in made:
         made["begins"] = pandas.to_datetime(made["begins"], utc=True).dt.tz_convert(shapes.ZONE)

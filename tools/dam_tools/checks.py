@@ -141,17 +141,17 @@ class Audited(verdict.Audit):
         super().__init__(options)
         self.sources = sources
 
-    def read(self, role: str, path: str) -> bytes:
+    def read_input(self, role: str, path: str) -> bytes:
         self.inputs.append({"role": role})
         return self.sources[role]
 
-    def look(self, problem: selection.Problem, said: object) -> object:
+    def look_for_better(self, problem: selection.Problem, said: object) -> object:
         """As the tool does it, but a missing package is a fault: a program isn't started again with another Python."""
         by_highs = self.options.by == better.HIGHS
         module = "scipy" if by_highs else "numpy"
-        if (by_highs or len(problem.blocks) > best_of.ENUMERABLE) and not modules.has(module):
-            raise command.Stop(modules.missing(module), command.FAILED)
-        return super().look(problem, said)
+        if (by_highs or len(problem.blocks) > best_of.ENUMERABLE) and not modules.has_module(module):
+            raise command.Stop(modules.missing_message(module), command.FAILED)
+        return super().look_for_better(problem, said)
 
 
 def audit(
@@ -189,7 +189,7 @@ def audit(
 
 def whatif_limit(source: JournalSource, participant: str, order: str, program: str | os.PathLike[str] | None = None) -> BlockLimit:
     """The worst limit at which a block of a closed journal is accepted, to the cent, as tools/whatif limit finds it. The day is cleared
-    some twenty times, by the library or the program as `clear` has it."""
+    some twenty times, by the library or the program as `clear` has it. Results that break the rules are a `Fault`."""
     held, key = changes.before_close(as_journal(source)), (participant, order)
     if key not in held.rows:
         raise Fault(whatif.unknown(held, *key))
@@ -207,7 +207,7 @@ def whatif_change(
     source: JournalSource, commands: Source, participant: str | None = None, program: str | os.PathLike[str] | None = None
 ) -> Changes:
     """The differences if further commands come before the close of a journal: records as in a journal, or a table, as tools/whatif change
-    takes them. With a participant only its orders, with its gain and net amount."""
+    takes them. With a participant only its orders, with its gain and net amount. Results that break the rules are a `Fault`."""
     held = changes.before_close(as_journal(source))
     further, notes = changes.read_changes(bytes_of(commands), held.periods)
     after = changes.entered(held, further)

@@ -23,7 +23,7 @@ NEEDS_CRYPTOGRAPHY = unittest.skipIf(signing is None, "python3-cryptography is m
 
 def sealed_of(data, day=DAY, salts=None, key=None):
     read = journal.read_journal(data)
-    return sealing.sealed(read, book.run(read)[1], day, salts or sealing.new_salts(day), key or signing.made())
+    return sealing.seal_of(read, book.run(read)[1], day, salts or sealing.new_salts(day), key or signing.new_key())
 
 
 def replies_of(data):
@@ -33,12 +33,12 @@ def replies_of(data):
 def verdict_of(data, head, key, links=None):
     """The verdict on the text of a receipt, compared with a head."""
     with mock.patch.object(file_io, "read_bytes", lambda path: data):
-        return receipts.verdict(list(receipts.judged("receipts", head, key, links or receipts.Links([], key, []))))
+        return receipts.verdict(list(receipts.read_and_judge("receipts", head, key, links or receipts.Links([], key, []))))
 
 
 def lines_of(seal, head=None):
     head = head or seal.head()
-    return [heads.line(seal.receipt(number, head)) for number in range(1, head.size + 1)]
+    return [heads.line_of(seal.receipt(number, head)) for number in range(1, head.size + 1)]
 
 
 class InFolder(unittest.TestCase):

@@ -8,6 +8,7 @@ import os
 import random
 import re
 import runpy
+import shlex
 import signal
 import subprocess
 import sys
@@ -96,7 +97,7 @@ def ranked(day):
     """The eligible selections of a problem, with their welfare, the best one first."""
     subsets = itertools.product([True, False], repeat=len(day.blocks))
     chosen = [frozenset(itertools.compress(range(len(day.blocks)), flags)) for flags in subsets]
-    found = [(selection.eligible(day, accepted), accepted) for accepted in chosen]
+    found = [(selection.eligible_welfare(day, accepted), accepted) for accepted in chosen]
     # The selections come from the one that accepts most in front, and the sort keeps that order among equals.
     return sorted(((welfare, accepted) for welfare, accepted in found if welfare is not None), key=lambda pair: -pair[0])
 
@@ -150,7 +151,7 @@ def unsaid(name, record, *parts):
 
 def load(name):
     """Loads the packages that a tool needs, for all runs of it."""
-    if name in ("plot", "report") and modules.has("matplotlib") and modules.has("jinja2"):
+    if name in ("plot", "report") and modules.has_module("matplotlib") and modules.has_module("jinja2"):
         importlib.import_module("lib.report.page")
 
 
@@ -191,6 +192,15 @@ def run_in_copy(path, words, files):
         except (OSError, ValueError):
             status = 120
         os._exit(status)
+
+
+def doctored(folder, program, mark, edit):
+    """A program that prints the output of another one, with an edit of sed if the journal has a mark."""
+    made = Path(folder, "doctored")
+    run = f"printf '%s\\n' \"$text\" | {shlex.quote(str(program))} \"$@\""
+    made.write_text(f"#!/bin/sh\ntext=$(cat)\ncase \"$text\" in\n*{mark}*) {run} | sed '{edit}' ;;\n*) {run} ;;\nesac\n")
+    made.chmod(0o755)
+    return made
 
 
 def audit(data, text, *words):

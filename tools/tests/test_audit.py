@@ -130,7 +130,7 @@ class Results(unittest.TestCase):
         self.assertEqual(chain.rescuers, [[1, 2], [2], []])
         for accepted, losers in ({0}, {0: 500}), ({0, 1}, {0: 2_500, 1: 2_000}), ({0, 1, 2}, {}):
             found = selection.outcome(chain, accepted)
-            self.assertEqual(selection.losing(chain, accepted, found.surpluses), losers)
+            self.assertEqual(selection.losses_of(chain, accepted, found.surpluses), losers)
         case = support.cases("clear")["rescue-not-upwards"]
         wrong = "\n".join(differences(case.stdin, case.printed.replace(b"K2,rejected", b"K2,accepted")))
         self.assertIn("block A,K2: it is accepted and loses 500", wrong)
@@ -306,7 +306,7 @@ class Period(unittest.TestCase):
                 found = period.clear(orders, net)
                 self.assertEqual(curve.welfare(net), found and found.welfare)
                 if found:
-                    self.assertEqual(curve.supporting(net), (found.low, found.high))
+                    self.assertEqual(curve.supporting_prices(net), (found.low, found.high))
 
 
 class Best(unittest.TestCase):
@@ -316,14 +316,14 @@ class Best(unittest.TestCase):
             self.assertEqual((found.welfare, found.accepted), selections[0])
 
     def test_highs(self):
-        if not modules.has("scipy"):
+        if not modules.has_module("scipy"):
             self.skipTest("scipy is missing (Debian's python3-scipy)")
         from lib.audit import solver
 
         tried = 0
         for day, selections in [*small_problems(80), *self.equal_prices(), *self.equal_blocks()]:
             for rank, (welfare, accepted) in enumerate(selections[:4]):
-                found, _ = solver.better(day, accepted, welfare, Progress("audit", 60))
+                found, _ = solver.find_better(day, accepted, welfare, Progress("audit", 60))
                 self.assertEqual(found is None, rank == 0)
                 if found:
                     self.assertIn((found.welfare, found.accepted), selections[:rank])
@@ -358,7 +358,7 @@ class Best(unittest.TestCase):
             yield day, selections
 
     def methods(self):
-        return ["enumeration", "highs"] if modules.has("scipy") else ["enumeration"]
+        return ["enumeration", "highs"] if modules.has_module("scipy") else ["enumeration"]
 
     def test_worse_selections_are_refused_on_request_alone(self):
         data = AUCTION.read_bytes()
@@ -423,7 +423,7 @@ class CommandLine(unittest.TestCase):
         blocks = [f"submit,A,K{number},block,sell,1,1:1,," for number in range(rules.MOST_BLOCKS)]
         data = journal_of(*blocks)
         text = results_of(data, frozenset())
-        wanted = command.DONE if modules.has("numpy") or modules.elsewhere("numpy") else command.FAILED
+        wanted = command.DONE if modules.has_module("numpy") or modules.debian_has("numpy") else command.FAILED
         self.assertEqual(audit(data, text, "--best")[0], wanted)
 
     def test_a_tool_without_its_parts_has_no_verdict(self):
@@ -479,27 +479,27 @@ class CommandLine(unittest.TestCase):
     def test_too_little_time(self):
         """The other rules have been checked, and it is said how far the search is."""
         methods = {"enumeration": "0 of 512 selections have been tried"}
-        if modules.has("scipy"):
+        if modules.has_module("scipy"):
             methods["highs"] = "HiGHS is still searching"
         for method, far in methods.items():
             status, out, err = audit(AUCTION.read_bytes(), printed(AUCTION), "--best", "--by", method, "--seconds", "0")
             said = f"audit: the results obey the other rules, but after 0 seconds, {far}: --seconds gives more time\n"
             self.assertEqual((status, out, err), (command.UNDECIDED, b"", said))
 
-    @unittest.skipUnless(modules.has("scipy"), "scipy is missing (Debian's python3-scipy)")
+    @unittest.skipUnless(modules.has_module("scipy"), "scipy is missing (Debian's python3-scipy)")
     def test_highs_without_blocks(self):
         """The day has one selection, and the answer is as without HiGHS."""
         found = [audit(FIRST, results_of(FIRST, frozenset()), "--best", *words) for words in ((), ("--by", "highs"))]
         self.assertEqual((found[0][0], found[0]), (command.DONE, found[1]))
         self.assertIn(b"; no selection is better: there is no block to select\n", found[1][1])
 
-    @unittest.skipUnless(modules.has("scipy"), "scipy is missing (Debian's python3-scipy)")
+    @unittest.skipUnless(modules.has_module("scipy"), "scipy is missing (Debian's python3-scipy)")
     def test_the_words_for_what_highs_offers(self):
         from lib.audit import solver
 
         day = problem(AUCTION.read_bytes())
         accepted = frozenset(results.read_results(day, printed(AUCTION))[0].accepted)
-        welfare = selection.eligible(day, accepted)
+        welfare = selection.eligible_welfare(day, accepted)
         for offers, said in (
             ([None], "HiGHS found none better"),
             ([{0}, None], "HiGHS offers 1 other, which breaks a rule or ranks below"),
@@ -507,8 +507,8 @@ class CommandLine(unittest.TestCase):
         ):
             answers = itertools.chain(offers, itertools.repeat(None))
             told = []
-            with unittest.mock.patch.object(solver.Model, "next", lambda *_: next(answers)):
-                self.assertEqual(solver.better(day, accepted, welfare, Progress("audit", 60), told.append), (None, said))
+            with unittest.mock.patch.object(solver.Model, "solve_next", lambda *_: next(answers)):
+                self.assertEqual(solver.find_better(day, accepted, welfare, Progress("audit", 60), told.append), (None, said))
             many = "HiGHS is still searching, and has offered 2 other selections"
             words = ["HiGHS is still searching", "HiGHS is still searching, and has offered 1 other selection", many]
             self.assertEqual(told, words[: len(offers)])
@@ -525,7 +525,7 @@ class CommandLine(unittest.TestCase):
     def test_a_text_in_the_place_of_another_is_named(self):
         journal_data, text = AUCTION.read_bytes(), printed(AUCTION)
         replies, day = b"day,24\n1,done\n", journal_data + b"results\n" + text
-        orders = sheets.written([tables.ORDER]).encode()
+        orders = sheets.table_text([tables.ORDER]).encode()
         for words, one, other, said in (
             ([], text, journal_data, "journal has results instead of a journal"),
             ([], journal_data, journal_data, "results has a journal instead of results"),
@@ -679,12 +679,12 @@ class CommandLine(unittest.TestCase):
         self.assertIn(b"buyers pay 885,657.75 EUR, sellers receive 885,657.75 EUR; ", out)
 
     def test_the_words_for_what_was_tried(self):
-        self.assertEqual(best.tried(0, 1), "there is no block to select")
-        self.assertEqual(best.tried(1, 2), "each of 2 selections was tried")
+        self.assertEqual(best.tried_words(0, 1), "there is no block to select")
+        self.assertEqual(best.tried_words(1, 2), "each of 2 selections was tried")
         whole = "each of 16,777,216 selections was tried; 1 would be better if none of its blocks lost"
-        self.assertEqual(best.tried(24, 2**24, 1), whole)
-        self.assertEqual(best.tried(1, 2, 2), "each of 2 selections was tried; 2 would be better if none of their blocks lost")
-        self.assertEqual(best.tried(11, 7), "each of 2,048 selections was tried, of which links and groups admit 7")
+        self.assertEqual(best.tried_words(24, 2**24, 1), whole)
+        self.assertEqual(best.tried_words(1, 2, 2), "each of 2 selections was tried; 2 would be better if none of their blocks lost")
+        self.assertEqual(best.tried_words(11, 7), "each of 2,048 selections was tried, of which links and groups admit 7")
 
     def test_quiet_and_help(self):
         self.assertEqual(audit(AUCTION.read_bytes(), printed(AUCTION), "--quiet"), (0, b"", ""))

@@ -61,12 +61,12 @@ z\\
 -- status 3
 """)
         self.assertEqual(list(found), ["a", "b c"])
-        none = worked.Printed([b""])
-        self.assertEqual(found["a"], worked.Case("file/a", ["clear", "--workers", "1"], [[]], b"day,24\n\nclose\n", worked.Printed([b"x\n"]), none, 0))
-        two = worked.Printed([b"x\n", b"y\n"])
+        none = worked.Expected([b""])
+        self.assertEqual(found["a"], worked.Case("file/a", ["clear", "--workers", "1"], [[]], b"day,24\n\nclose\n", worked.Expected([b"x\n"]), none, 0))
+        two = worked.Expected([b"x\n", b"y\n"])
         plans = [["--cut", cut, "--workers", workers] for cut in "23" for workers in "12"]
         runs = [["--cut", "1"], [], *plans]
-        self.assertEqual(found["b c"], worked.Case("file/b c", [], runs, b"day,24\n\nclose\n", two, worked.Printed([b""], b"z\nz\n", b"z"), 3))
+        self.assertEqual(found["b c"], worked.Case("file/b c", [], runs, b"day,24\n\nclose\n", two, worked.Expected([b""], b"z\nz\n", b"z"), 3))
 
     def test_lines_that_stand_for_others(self):
         self.assertEqual(self.one("-- stdin\na{9..11}b\n{2 times}c\n{1..2},{3..4}\n").stdin, b"a9b\na10b\na11b\nc\nc\n1,3\n1,4\n2,3\n2,4\n")

@@ -49,15 +49,15 @@ class Contradictions(InFolder):
 
     def setUp(self):
         super().setUp()
-        self.key = signing.private(Path("key.pem").read_bytes())
+        self.key = signing.parse_private(Path("key.pem").read_bytes())
         prices, salts = [100] * 18, sealing.new_salts(DAY)
         for names, own in (("A B C", prices), ("A B F", fork(prices, 17)), ("A2 B2 C2", fork(prices, 1))):
             seal, signed = grown(self.key, own, (6, 9, 18), salts)
             for name, head in zip(names.split(), signed.values()):
-                Path(f"{name}.head").write_bytes(heads.line(head))
+                Path(f"{name}.head").write_bytes(heads.line_of(head))
                 Path(f"{name}.receipts").write_bytes(b"".join(lines_of(seal, head)))
                 if head.size > 6:
-                    Path(f"{name}.extension").write_bytes(heads.line(seal.extension(signed[6], head)))
+                    Path(f"{name}.extension").write_bytes(heads.line_of(seal.extension(signed[6], head)))
 
     def told(self, status, *words):
         """The lines of a run before the last one, and the last one."""
@@ -108,7 +108,7 @@ class Contradictions(InFolder):
         """Of one size, or of two."""
         for size in (6, 9):
             _, signed = grown(self.key, [100] * size, (size,), periods=96)
-            Path("other.head").write_bytes(heads.line(signed[size]))
+            Path("other.head").write_bytes(heads.line_of(signed[size]))
             lines, _ = self.told(1, "heads", "A.head", "other.head", *KEYS)
             self.assertIn("other.head: the operator signed 2026-11-28 with 96 periods, and with 24, in A.head", lines)
             lines, _ = self.told(1, "verify", "A.receipts", "--head", "other.head", *KEYS)
@@ -116,7 +116,7 @@ class Contradictions(InFolder):
 
     def test_two_signatures_of_one_head(self):
         """Anyone with the key can make them. They are of one tree."""
-        head, _ = heads.parsed(Path("A.head").read_bytes(), heads.head_read)
+        head, _ = heads.parse(Path("A.head").read_bytes(), heads.parse_head)
         with mock.patch.object(signing, "is_signed", return_value=True):
             links = receipts.Links([], self.key.public_key(), [])
             for signature in (head.signature, bytes(64)):
@@ -147,7 +147,7 @@ class Contradictions(InFolder):
         self.assertIn("; and with another salt, in same.jsonl line 1: ", lines[-1])
         # Of another day, and of another key: nothing is contradicted.
         seal, signed = grown(self.key, [101] * 7, (7,), day="2026-11-29")
-        foreign, theirs = grown(signing.made(), [101] * 7, (7,))
+        foreign, theirs = grown(signing.new_key(), [101] * 7, (7,))
         Path("others.jsonl").write_bytes(lines_of(seal, signed[7])[0] + lines_of(foreign, theirs[7])[0])
         lines, _ = self.told(1, "verify", self.lines("one.jsonl", "A", 1), "others.jsonl", "--head", "A.head", *KEYS)
         self.assertFalse([line for line in lines if "the operator signed" in line])
@@ -187,8 +187,8 @@ class Contradictions(InFolder):
         """Both are beginnings of it, so the longer one begins with the shorter one."""
         seal, signed = grown(self.key, [100] * 18, (6, 9, 18), sealing.new_salts(DAY))
         for size, head in signed.items():
-            Path(f"{size}.head").write_bytes(heads.line(head))
-            Path(f"{size}.extension").write_bytes(heads.line(seal.extension(head, signed[18])))
+            Path(f"{size}.head").write_bytes(heads.line_of(head))
+            Path(f"{size}.extension").write_bytes(heads.line_of(seal.extension(head, signed[18])))
         files, ends = ["6.head", "9.head", "18.head"], ["--extension", "6.extension", "--extension", "9.extension"]
         self.assertEqual(self.told(0, "heads", *files, *ends, *KEYS)[1], "right: 3 heads of 1 day")
         self.assertEqual(self.told(4, "heads", *files, *ends[:2], *KEYS)[1], "undecided: 3 heads of 1 day")
@@ -205,15 +205,15 @@ class Contradictions(InFolder):
             chosen = chance.sample(every, chance.randrange(12))
             paths = [Path(f"{old}-{new}.json") for old, new in chosen]
             for path, (old, new) in zip(paths, chosen):
-                path.write_bytes(heads.line(seal.extension(signed[old], signed[new])))
+                path.write_bytes(heads.line_of(seal.extension(signed[old], signed[new])))
             links, proved = receipts.Links(paths, self.key.public_key(), []), closed(chosen)
             for old, new in every:
                 self.assertEqual(links.leads(signed[old], signed[new]), (old, new) in proved, (chosen, old, new))
 
     def test_an_extension_that_connects_nothing(self):
         """Anyone can make one of two right heads: the operator isn't at fault, and the rest is as it is without it."""
-        extension, _ = heads.parsed(Path("C.extension").read_bytes(), heads.extension_read)
-        Path("no.extension").write_bytes(heads.line(extension._replace(path=extension.path[::-1])))
+        extension, _ = heads.parse(Path("C.extension").read_bytes(), heads.parse_extension)
+        Path("no.extension").write_bytes(heads.line_of(extension._replace(path=extension.path[::-1])))
         said = "no.extension: it doesn't connect its heads: its path doesn't lead from the earlier one to the later one"
         lines, last = self.told(4, "verify", "A.receipts", "--head", "C.head", "--extension", "no.extension", *KEYS)
         self.assertEqual((lines[0], len(lines)), (said, 7))
@@ -231,10 +231,10 @@ class Contradictions(InFolder):
     def test_two_keys(self):
         """On the day on which a new key comes: two heads under two published keys are compared, and each is shown with its key."""
         self.run_tool(0, "keys", "new.pem")
-        new = signing.private(Path("new.pem").read_bytes())
+        new = signing.parse_private(Path("new.pem").read_bytes())
         for day, status in ((DAY, 1), ("2026-11-29", 0)):
             _, signed = grown(new, [101] * 6, (6,), day=day)
-            Path("new.head").write_bytes(heads.line(signed[6]))
+            Path("new.head").write_bytes(heads.line_of(signed[6]))
             lines, _ = self.told(status, "heads", "A.head", "new.head", *KEYS, "--key", "new.pem.pub")
             # Each key signs a journal of its own, and one may be a stranger's: nothing else is told.
             said = [line for line in lines if "signed by" not in line and "the last with" not in line]
@@ -251,11 +251,11 @@ class Contradictions(InFolder):
     def test_two_keys_of_one_day(self):
         """The heads are of one journal, and may be the same. An extension between two keys is refused; anyone can make one of two days."""
         self.run_tool(0, "keys", "new.pem")
-        new, keys = signing.private(Path("new.pem").read_bytes()), [*KEYS, "--key", "new.pem.pub"]
-        extension, _ = heads.parsed(Path("B.extension").read_bytes(), heads.extension_read)
-        mixed = extension._replace(new=signing.signed(new, extension.new))
-        Path("again.head").write_bytes(heads.line(mixed.new))
-        Path("mixed.extension").write_bytes(heads.line(mixed))
+        new, keys = signing.parse_private(Path("new.pem").read_bytes()), [*KEYS, "--key", "new.pem.pub"]
+        extension, _ = heads.parse(Path("B.extension").read_bytes(), heads.parse_extension)
+        mixed = extension._replace(new=signing.sign(new, extension.new))
+        Path("again.head").write_bytes(heads.line_of(mixed.new))
+        Path("mixed.extension").write_bytes(heads.line_of(mixed))
         said = "two keys signed 2026-11-28: {}, and {} in {}"
         other, own = said.format("new.pem.pub", "key.pem.pub", "{}"), said.format("key.pem.pub", "new.pem.pub", "{}")
         refused = "mixed.extension: it doesn't connect its heads: they are signed with two keys, key.pem.pub and new.pem.pub"
@@ -264,11 +264,11 @@ class Contradictions(InFolder):
         lines, _ = self.told(1, "heads", "A.head", "again.head", "--extension", "mixed.extension", *keys)
         self.assertIn(refused, lines)
         self.assertIn(f"mixed.extension: {other.format('mixed.extension')}", lines)
-        links = receipts.Links(["mixed.extension"], signing.Keys({path: receipts.key_read(path) for path in keys[1::2]}), [])
+        links = receipts.Links(["mixed.extension"], signing.Keys({path: receipts.read_key(path) for path in keys[1::2]}), [])
         self.assertFalse(links.leads(mixed.old, mixed.new))
         self.told(0, "heads", "A.head", "B.head", "--extension", "B.extension", *keys)
-        mixed = extension._replace(new=signing.signed(new, extension.new._replace(day="2026-11-29")))
-        Path("mixed.extension").write_bytes(heads.line(mixed))
+        mixed = extension._replace(new=signing.sign(new, extension.new._replace(day="2026-11-29")))
+        Path("mixed.extension").write_bytes(heads.line_of(mixed))
         lines, _ = self.told(4, "heads", "A.head", "--extension", "mixed.extension", *keys)
         self.assertEqual(lines[0], refused)
 
@@ -278,10 +278,10 @@ class Contradictions(InFolder):
         for name, prices in (("left", [100] * 18), ("right", fork([100] * 18, 7))):
             seal, signed = grown(self.key, prices, range(1, 19), salts)
             for size, head in signed.items():
-                Path(f"{name}{size}.head").write_bytes(heads.line(head))
+                Path(f"{name}{size}.head").write_bytes(heads.line_of(head))
                 Path(f"{name}{size}.receipts").write_bytes(b"".join(lines_of(seal, head)))
                 for old in range(1, size + 1):
-                    Path(f"{name}{old}-{size}.extension").write_bytes(heads.line(seal.extension(signed[old], head)))
+                    Path(f"{name}{old}-{size}.extension").write_bytes(heads.line_of(seal.extension(signed[old], head)))
 
     def test_two_hashes_of_the_same_entries(self):
         """Heads of other sizes, extensions and receipts of equal entries show a fork by the hashes that they have in common."""
@@ -330,12 +330,12 @@ class Contradictions(InFolder):
     def test_an_extension_from_the_entries_of_another_head(self):
         """Its path leads to the later head alone. No one can make such a path to heads of one journal, so it proves the fork."""
         self.forked()
-        left, right = (heads.parsed(Path(f"{name}7-18.extension").read_bytes(), heads.extension_read)[0] for name in ("left", "right"))
-        Path("mixed.extension").write_bytes(heads.line(right._replace(old=left.old)))
+        left, right = (heads.parse(Path(f"{name}7-18.extension").read_bytes(), heads.parse_extension)[0] for name in ("left", "right"))
+        Path("mixed.extension").write_bytes(heads.line_of(right._replace(old=left.old)))
         lines, _ = self.told(1, "heads", "left7.head", "--extension", "mixed.extension", *KEYS)
         said = f"mixed.extension: {HASHES} entries 1 to 7 of 2026-11-28: {TWICE}; the other one is in mixed.extension"
         self.assertEqual([line for line in lines if HASHES in line], [said])
-        Path("mixed.extension").write_bytes(heads.line(left._replace(new=right.new)))  # the earlier head's: anyone can make one
+        Path("mixed.extension").write_bytes(heads.line_of(left._replace(new=right.new)))  # the earlier head's: anyone can make one
         self.told(4, "heads", "left7.head", "--extension", "mixed.extension", *KEYS)
 
     def test_any_files_of_two_journals(self):
@@ -392,14 +392,14 @@ class Contradictions(InFolder):
             self.assertIn("1 file unread", last)
 
     def test_why_an_extension_connects_nothing(self):
-        extension, _ = heads.parsed(Path("C.extension").read_bytes(), heads.extension_read)
-        other, periods = (signing.signed(self.key, extension.new._replace(**more)) for more in ({"day": "2026-11-29"}, {"periods": 25}))
+        extension, _ = heads.parse(Path("C.extension").read_bytes(), heads.parse_extension)
+        other, periods = (signing.sign(self.key, extension.new._replace(**more)) for more in ({"day": "2026-11-29"}, {"periods": 25}))
         for changed, status, said in (
             (extension._replace(old=extension.new, new=extension.old), 4, "the first one has 18 entries, and the second one 6"),
             (extension._replace(new=other), 4, "they are of two days, 2026-11-28 and 2026-11-29"),
             (extension._replace(new=periods), 1, "they have 24 and 25 periods"),
         ):
-            Path("no.extension").write_bytes(heads.line(changed))
+            Path("no.extension").write_bytes(heads.line_of(changed))
             lines, _ = self.told(status, "heads", "A.head", "--extension", "no.extension", *KEYS)
             self.assertEqual(lines[0], f"no.extension: it doesn't connect its heads: {said}")
 
@@ -439,9 +439,9 @@ class Contradictions(InFolder):
     def test_the_guides_words_of_evidence(self):
         """A line has each of them, if a file contradicts another one."""
         self.run_tool(0, "keys", "new.pem")
-        for name, key, more in (("periods", self.key, {"periods": 96}), ("keys", signing.private(Path("new.pem").read_bytes()), {})):
+        for name, key, more in (("periods", self.key, {"periods": 96}), ("keys", signing.parse_private(Path("new.pem").read_bytes()), {})):
             _, signed = grown(key, [100] * 9, (9,), **more)
-            Path(f"{name}.head").write_bytes(heads.line(signed[9]))
+            Path(f"{name}.head").write_bytes(heads.line_of(signed[9]))
         seal, signed = grown(self.key, [100] * 7, (7,))
         Path("again.jsonl").write_bytes(b"".join(lines_of(seal, signed[7])))
         lines, _ = self.told(1, "verify", "A.receipts", "A2.receipts", "again.jsonl", "--head", "A.head", *KEYS)
@@ -487,7 +487,7 @@ class Contradictions(InFolder):
             seal.append(sealing.Entry(record, heads.DONE, "TOWN"))
         for size, price, status in ((1, "50", 0), (1, "60", 1), (2, "60", 1)):
             head = seal.head(size)
-            Path("own.head").write_bytes(heads.line(head))
+            Path("own.head").write_bytes(heads.line_of(head))
             Path("own.jsonl").write_bytes(b"".join(lines_of(seal, head)))
             Path("mine.csv").write_text(f"participant,order,kind,side,price_eur_mwh,periods,volume_mw\nTOWN,K,hour,buy,{price},8,10\n")
             lines, last = self.told(status, "verify", "own.jsonl", "--head", "own.head", "--sent", "mine.csv", "--participant", "TOWN", *KEYS)
@@ -498,7 +498,7 @@ class Contradictions(InFolder):
     def test_the_names_of_days(self):
         """One day under two names is seen by their lines."""
         _, signed = grown(self.key, [101] * 6, (6,), day="2026.11.28")
-        Path("other.head").write_bytes(heads.line(signed[6]))
+        Path("other.head").write_bytes(heads.line_of(signed[6]))
         days = ["2026-11-28: 2 heads, the last with 9 entries", "2026.11.28: 1 head, the last with 6 entries"]
         words = ["heads", "A.head", "other.head", "B.head", "--extension", "B.extension", *KEYS]
         self.assertEqual(self.told(0, *words), (days, "right: 3 heads of 2 days"))
@@ -521,7 +521,7 @@ class Contradictions(InFolder):
         for number, reply in enumerate((heads.DONE, "refused,Closed", "refused,NameTaken"), 1):
             seal.append(sealing.Entry(ENTRY.format(number, 100), reply, "TOWN"))
         head = seal.head()
-        Path("own.head").write_bytes(heads.line(head))
+        Path("own.head").write_bytes(heads.line_of(head))
         Path("own.jsonl").write_bytes(b"".join([*reversed(lines_of(seal, head)), lines_of(seal, head)[1]]))
         lines, last = self.told(0, "verify", "own.jsonl", "--head", "own.head", *KEYS)
         said = [f"entry 2: {ENTRY.format(2, 100)}, refused,Closed", f"entry 3: {ENTRY.format(3, 100)}, refused,NameTaken"]
@@ -539,7 +539,7 @@ class Contradictions(InFolder):
             seal = sealing.Seal(DAY, 24, sealing.new_salts(DAY), self.key)
             seal.append(sealing.Entry(record, reply, "TOWN"))
             head = seal.head()
-            Path("own.head").write_bytes(heads.line(head))
+            Path("own.head").write_bytes(heads.line_of(head))
             Path("own.jsonl").write_bytes(lines_of(seal, head)[0])
             with self.subTest(record):
                 lines, last = self.told(status, "verify", "own.jsonl", "--head", "own.head", *KEYS)
@@ -561,7 +561,7 @@ def is_contradicted(facts, most):
     for part, hashed in facts:
         found.setdefault(part, set()).add(hashed)
     for begin, end in sorted(parts, key=lambda part: part[1] - part[0]):
-        middle = begin + merkle.split(end - begin)
+        middle = begin + merkle.left_half(end - begin)
         for left, right in itertools.product(found.get((begin, middle), ()), found.get((middle, end), ())):
             found.setdefault((begin, end), set()).add(merkle.node_hash(left, right))
     return any(len(hashes) > 1 for hashes in found.values())

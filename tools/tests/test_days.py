@@ -154,6 +154,22 @@ class Days(unittest.TestCase):
         said = f"audit: {self.folder / 'list'} isn't a table of days: its first line should name the columns journal, results\n"
         self.assertEqual(self.audit(place=self.folder / "list"), (command.NO_INPUT, "", said))
 
+    def test_two_rows_of_a_manifest_with_one_name(self):
+        """Neither is read: a reader could take the verdict of one for the other's. Names that no row gives may be equal."""
+        self.write(a=(DATA, TEXT), b=(DATA, TEXT))
+        (self.folder / "more").mkdir()
+        for name in ("a.csv", "a.txt"):
+            shutil.copy(self.folder / name, self.folder / "more")
+        rows = "Monday,a.csv,a.txt", "b,b.csv,b.txt", "", " Monday ,b.csv,b.txt", ",a.csv,a.txt", ",more/a.csv,more/a.txt", "Monday,b.csv,b.txt,"
+        (self.folder / "list").write_text("\n".join(["day,journal,results", *rows, "MONDAY,a.csv,a.txt", ""]))
+        status, out, err = self.audit("--json", place=self.folder / "list")
+        found = [(day["name"], day["verdict"], day["message"]) for day in json.loads(out)["days"]]
+        said = "lines 2 and 5 of the table give two days the name 'Monday': change one of them"
+        extra = "line 8 of the table has 4 cells, but the header has 3"
+        wanted = [("Monday", "unread", said), ("b", "right", None), ("Monday", "unread", said), ("a", "right", None), ("a", "right", None)]
+        wanted += [("Monday", "unread", extra), ("MONDAY", "right", None)]
+        self.assertEqual((status, err, found), (command.NO_INPUT, "", wanted))
+
     def test_a_manifest_with_many_columns(self):
         """Cells that aren't used take no memory."""
         heads = ["journal", "results", *(f"c{number}" for number in range(16_000))]
@@ -169,7 +185,7 @@ class Days(unittest.TestCase):
         """A name with a comma that isn't quoted is two cells, and the files are others."""
         self.write(a=(DATA, TEXT))
         right = "right,a.csv,a.txt,\n"
-        (self.folder / "list").write_text(f"day,journal,results\nmore,a,b.csv,a.txt\nright,a.csv,a.txt\n,,,note\n{right}")
+        (self.folder / "list").write_text(f"day,journal,results\nmore,a,b.csv,a.txt\nother,a.csv,a.txt\n,,,note\n{right}")
         status, out, _ = self.audit(place=self.folder / "list")
         more, other, last, empty = out.splitlines()[1:5]
         self.assertEqual((status, other.split()[1]), (command.NO_INPUT, verdict.RIGHT))

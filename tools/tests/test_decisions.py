@@ -259,7 +259,7 @@ class Hand(unittest.TestCase):
                 words = r"period ([0-9]+) wouldn't balance: ([0-9.]+) MW would have no (buyer|seller)$"
                 number, volume, side = re.search(words, decision.why).groups()
                 tenths, orders = round(float(volume) * 10), day.orders[int(number)]
-                net = sum(dict(selection.signed(day.blocks[at].order)).get(int(number), 0) for at in decision.other.accepted)
+                net = sum(dict(selection.net_volumes(day.blocks[at].order)).get(int(number), 0) for at in decision.other.accepted)
                 ends = [net - less if side == "buyer" else net + less for less in (tenths, tenths - 1)]
                 is_balanced = [period.clear(orders, end) is not None for end in ends]
                 self.assertEqual(is_balanced, [True, False])

@@ -26,26 +26,26 @@ import images
 
 LIST = "# a comment\nlow:\nhigh staticlib: low kit # more\nmiddle: low\ntop: high middle low\nhigh: other\n"
 WELFARE_OF_THE_SUNNY_DAY = 245_193_556_800  # the line `welfare` of `dam clear < examples/sunny-day.csv`
-NEEDS_MATPLOTLIB = unittest.skipUnless(modules.has("matplotlib"), "matplotlib is missing (Debian's python3-matplotlib)")
+NEEDS_MATPLOTLIB = unittest.skipUnless(modules.has_module("matplotlib"), "matplotlib is missing (Debian's python3-matplotlib)")
 
 
 class Crates(unittest.TestCase):
     def test_a_list(self):
-        found = crates.listed(LIST)
+        found = crates.parse_crates(LIST)
         self.assertEqual(found, {"low": [], "high": ["low", "kit", "other"], "middle": ["low"], "top": ["high", "middle", "low"]})
-        self.assertEqual(list(crates.listed(LIST, with_kinds=True)), ["low", "high staticlib", "middle", "top", "high"])
-        self.assertEqual(crates.own(found)["high"], ["low"])
+        self.assertEqual(list(crates.parse_crates(LIST, with_kinds=True)), ["low", "high staticlib", "middle", "top", "high"])
+        self.assertEqual(crates.without_foreign(found)["high"], ["low"])
         self.assertEqual(crates.all_below(found, "top"), {"low", "high", "middle"})
 
     def test_the_list_of_a_repository_and_another(self):
         with tempfile.TemporaryDirectory() as top:
             Path(top, "crates.txt").write_text("low:\nhigh: low")
             Path(top, "tests").write_text("test: high\nhigh: other\n")
-            self.assertEqual(crates.listed_in(top, f"{top}/tests"), {"low": [], "high": ["low", "other"], "test": ["high"]})
-        self.assertIn("dam_book", crates.listed_in(TOP))
+            self.assertEqual(crates.read_crates(top, f"{top}/tests"), {"low": [], "high": ["low", "other"], "test": ["high"]})
+        self.assertIn("dam_book", crates.read_crates(TOP))
 
     def test_a_line_by_way_of_another_is_left_out(self):
-        used = crates.own(crates.listed(LIST))
+        used = crates.without_foreign(crates.parse_crates(LIST))
         self.assertEqual(draw_crates.direct(used, "top"), ["high", "middle"])
         self.assertEqual(list(draw_crates.ways({**used, "last": ["top", "low"]}))[-1], ["last", "top"])
         self.assertEqual(list(draw_crates.ways({"a": [], "b": ["a"], "c": ["b"], "d": ["c"], "e": ["a"]}))[-1],
@@ -69,7 +69,7 @@ class Receipt(unittest.TestCase):
         """The marked nodes are those of the inclusion proof."""
         tree = merkle.Tree(merkle.leaf_hash(b"%d" % entry) for entry in range(1, draw_receipt.ENTRIES + 1))
         given = draw_receipt.kinds(dict(draw_receipt.nodes(0, draw_receipt.ENTRIES)))[1]
-        self.assertEqual({tree.hashed(*node) for node in given}, set(tree.inclusion(draw_receipt.OWN - 1)))
+        self.assertEqual({tree.hashed(*node) for node in given}, set(tree.inclusion_proof(draw_receipt.OWN - 1)))
 
 
 class Desk(unittest.TestCase):

@@ -75,7 +75,7 @@ from lib.tool import command
 days.TOOL = Path(sys.argv[1])
 pairs = [days.Pair(str(number), Path(sys.argv[1]), None) for number in range(8)]
 def main():
-    with drawing.apart():
+    with drawing.empty_settings():
         days.audit_all(pairs, [], 3, StepBar("audit", 8, "days"))
 command.run("audit", main)
 """
@@ -156,7 +156,7 @@ class Failing(unittest.TestCase):
 
     def test_right_results_are_never_called_wrong(self):
         """The search for a better selection needs far more memory than the rest."""
-        if not modules.has("numpy"):
+        if not modules.has_module("numpy"):
             self.skipTest("numpy is missing (Debian's python3-numpy)")
         data = journal_of(*[f"submit,A,K{number},block,sell,1,1:1,," for number in range(24)])
         text = data + b"results\n" + results_of(data, frozenset())
@@ -220,7 +220,7 @@ class Interrupted(unittest.TestCase):
 
     def test_each_tool(self):
         for name, packages in PACKAGES.items():
-            if all(map(modules.has, packages)):
+            if all(map(modules.has_module, packages)):
                 with self.subTest(name):
                     self.assertEqual(self.interrupted(name), (130, b"", f"{name}: interrupted\n"))
 
@@ -277,7 +277,7 @@ class Interrupted(unittest.TestCase):
             self.assertEqual((ran.returncode, ran.stdout[:6], ran.stderr), (0, "usage:", ""), module)
 
     def test_each_signal_leaves_no_process_and_no_folder(self):
-        if not modules.has("matplotlib"):
+        if not modules.has_module("matplotlib"):
             self.skipTest("matplotlib is missing (Debian's python3-matplotlib)")
         for number, said in ((signal.SIGTERM, "ended by SIGTERM"), (signal.SIGHUP, "ended by SIGHUP"), (signal.SIGINT, "interrupted")):
             self.addCleanup(signal.signal, number, signal.signal(number, signal.SIG_DFL))  # whatever this process ignores
@@ -355,10 +355,10 @@ class Interrupted(unittest.TestCase):
                 for now, is_heeded in ((100, True), (100, False), (104, False), (105, True)):
                     clock.return_value = now
                     if is_heeded:
-                        self.assertRaises(kind, ending.end, first, None)
+                        self.assertRaises(kind, ending.raise_signal, first, None)
                     else:
-                        self.assertIsNone(ending.end(signal.SIGHUP, None))
-                        self.assertIsNone(ending.end(signal.SIGINT, None))
+                        self.assertIsNone(ending.raise_signal(signal.SIGHUP, None))
+                        self.assertIsNone(ending.raise_signal(signal.SIGINT, None))
 
     def test_signals_at_once(self):
         """One of them decides, and no other is a defect of the tool. After a stop, any thread may get them."""
@@ -381,12 +381,12 @@ class Interrupted(unittest.TestCase):
         for number in (signal.SIGTERM, signal.SIGHUP):
             before = signal.getsignal(number)
             self.addCleanup(signal.signal, number, before)
-            signal.signal(number, ending.end)
-            with ending.at_once():
+            signal.signal(number, ending.raise_signal)
+            with ending.exiting_at_signals():
                 self.assertEqual(signal.getsignal(number), signal.SIG_DFL)
-            self.assertEqual(signal.getsignal(number), ending.end)
+            self.assertEqual(signal.getsignal(number), ending.raise_signal)
             signal.signal(number, signal.SIG_IGN)
-            with ending.at_once():
+            with ending.exiting_at_signals():
                 self.assertEqual(signal.getsignal(number), signal.SIG_IGN)
 
     def test_a_step_of_a_run(self):
@@ -401,8 +401,9 @@ class Interrupted(unittest.TestCase):
     def test_a_call_that_keeps_python_from_everything(self):
         """As HiGHS does; its process ends with the tool."""
         call = "lambda tell: (tell(str(os.getpid())), ctypes.PyDLL(None).sleep(600))"
-        shown = "type('', (), {'look': lambda self, words: print(words, flush=True), 'end': lambda self: None})()"
-        main = f"import ctypes, os; from lib.base import aside; from lib.tool import command; command.run('audit', lambda: aside.answer({call}, {shown}, ''))"
+        shown = "type('', (), {'check_time': lambda self, words: print(words, flush=True), 'end': lambda self: None})()"
+        run = f"command.run('audit', lambda: aside.run_aside({call}, {shown}, ''))"
+        main = f"import ctypes, os; from lib.base import aside; from lib.tool import command; {run}"
         words = [sys.executable, "-B", "-c", main]
         running = subprocess.Popen(words, stdout=subprocess.PIPE, stderr=subprocess.PIPE, cwd=TOOLS, text=True)
         try:
@@ -418,30 +419,31 @@ class Interrupted(unittest.TestCase):
 
     def test_a_call_that_aborts(self):
         """Code in C says why; the tool has one line of its own."""
-        shown = "type('', (), {'look': lambda self, words: None, 'end': lambda self: None})()"
+        shown = "type('', (), {'check_time': lambda self, words: None, 'end': lambda self: None})()"
         call = "lambda tell: (os.write(2, b'no memory: ABORT'), os.abort())"
         said = "audit: a defect of this tool, please report it: Died: the search ended without an answer: memory may have run out (DAM_DEBUG=1 shows where)\n"
-        main = f"import os; from lib.base import aside; from lib.tool import command; command.run('audit', lambda: aside.answer({call}, {shown}, ''))"
+        run = f"command.run('audit', lambda: aside.run_aside({call}, {shown}, ''))"
+        main = f"import os; from lib.base import aside; from lib.tool import command; {run}"
         ran = subprocess.run([sys.executable, "-B", "-c", f"from lib.base import ending; ending.watch('audit'); {main}"], capture_output=True, text=True, cwd=TOOLS)
         self.assertEqual((ran.returncode, ran.stderr), (command.FAILED, said))
 
     def test_a_call_that_dies(self):
         with self.assertRaisesRegex(aside.Died, "^the search ended without an answer: memory may have run out$"):
-            aside.answer(lambda tell: os._exit(1), Progress("audit", SECONDS), "")
+            aside.run_aside(lambda tell: os._exit(1), Progress("audit", SECONDS), "")
         for fault, status in ((aside.Died("it ended"), command.FAILED), (TimeoutError("it is late"), command.UNDECIDED)):
             with mock.patch.object(better, "ask_highs", side_effect=fault), self.assertRaises(command.Stop) as stop:
-                better.look(None, None, better.HIGHS, None, 1)
+                better.find_better(None, None, better.HIGHS, None, 1)
             self.assertEqual((stop.exception.status, str(stop.exception)), (status, f"the results obey the other rules, but {fault}"))
 
     def test_what_a_call_returns_reports_and_raises(self):
         progress = Progress("audit", SECONDS)
-        with mock.patch.object(progress, "look") as look:
-            self.assertEqual(aside.answer(lambda tell: tell("half") or 7, progress, ""), 7)
+        with mock.patch.object(progress, "check_time") as look:
+            self.assertEqual(aside.run_aside(lambda tell: tell("half") or 7, progress, ""), 7)
         look.assert_any_call("half")
         with self.assertRaises(ZeroDivisionError):
-            aside.answer(lambda tell: 1 // 0, progress, "")
+            aside.run_aside(lambda tell: 1 // 0, progress, "")
         with self.assertRaisesRegex(TimeoutError, "^after 0 seconds, it isn't done: --seconds gives more time$"):
-            aside.answer(lambda tell: time.sleep(SECONDS), Progress("audit", 0), "it isn't done")
+            aside.run_aside(lambda tell: time.sleep(SECONDS), Progress("audit", 0), "it isn't done")
 
 
 class Written(unittest.TestCase):
@@ -455,7 +457,7 @@ class Written(unittest.TestCase):
     def test_each_tool(self):
         texts = [AUCTION, AUCTION_RESULTS]
         for name, packages in PACKAGES.items():
-            if all(map(modules.has, packages)):
+            if all(map(modules.has_module, packages)):
                 words = [sys.executable, TOOLS / name, AUCTION, *texts[1:][: name != "lint"]]
                 words += ["-o", "-"] if name in ("plot", "report") else []
                 for given in (words, [sys.executable, TOOLS / name, "--help"]):

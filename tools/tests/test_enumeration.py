@@ -104,14 +104,14 @@ class Blocks(unittest.TestCase):
         self.assertEqual([line for line in blocks.splitlines() if ",block," not in line], hours.splitlines())
 
 
-@unittest.skipUnless(modules.has("numpy"), "numpy is missing (Debian's python3-numpy)")
+@unittest.skipUnless(modules.has_module("numpy"), "numpy is missing (Debian's python3-numpy)")
 class Enumeration(unittest.TestCase):
     def better(self, day, accepted, welfare, few=1_024, **more):
         """`few` selections are looked at for every block's loss at once, and more of them for one block's at first."""
         from lib.audit import enumeration
 
         with mock.patch.object(enumeration, "FEW", few):
-            return enumeration.better(day, frozenset(accepted), welfare, Progress("test", 600), **more)
+            return enumeration.find_better(day, frozenset(accepted), welfare, Progress("test", 600), **more)
 
     def test_the_best_of_small_days_and_none_above_it(self):
         """However the bits of a selection's number are parted, and however many threads there are."""
@@ -153,7 +153,7 @@ class Enumeration(unittest.TestCase):
             nets = [rng.randint(-4, 4) for _ in range(rng.randint(0, 5))]
             low_bits = rng.randint(0, len(nets))
             tables = enumeration.Period(orders, [-net for net in nets], low_bits)
-            worths = tables.worths().tolist()
+            worths = tables.welfares().tolist()
             for chosen in range(2 ** len(nets)):
                 flags = f"{chosen:0{len(nets)}b}" if nets else ""
                 net = sum(net for net, flag in zip(nets, flags) if flag == "1")
@@ -179,12 +179,12 @@ class Enumeration(unittest.TestCase):
         for name, parts in ("links", "1"), ("groups", "4"), ("ties", "1"):
             with self.subTest(name):
                 day = problem(family(name, "200", "24", parts))
-                found, how = self.better(day, (), selection.eligible(day, frozenset()), jobs=2)
+                found, how = self.better(day, (), selection.eligible_welfare(day, frozenset()), jobs=2)
                 self.assertIn("each of 16,777,216 selections was tried", how)
                 again, _ = self.better(day, found.accepted, found.welfare)
                 self.assertIsNone(again)
                 one_less = found.accepted - {max(found.accepted)}
-                welfare = selection.eligible(day, one_less)
+                welfare = selection.eligible_welfare(day, one_less)
                 if welfare is not None:
                     self.assertEqual(self.better(day, one_less, welfare)[0], found)
 
@@ -201,7 +201,7 @@ class Enumeration(unittest.TestCase):
                 outcome = selection.outcome(day, accepted)
                 if any(selection.link_faults(day, accepted)) or outcome.welfare is None:
                     continue
-                wanted = set(selection.losing(day, accepted, outcome.surpluses))
+                wanted = set(selection.losses_of(day, accepted, outcome.surpluses))
                 numbers = numpy.array([number])
                 self.assertEqual({place for place in accepted if every.loses(place, numbers)[0]}, wanted)
                 self.assertEqual(set(numpy.flatnonzero(every.all_losing(numbers)[:, 0]).tolist()), wanted)
@@ -218,14 +218,14 @@ class Enumeration(unittest.TestCase):
         for few, (limit, accepted) in itertools.product((1, 1_024), ((50, frozenset({0})), (51, None))):
             hourly = ["submit,A,B,hour,buy,100,1:10,,", "submit,A,S1,hour,sell,40,1:9,,", "submit,A,S2,hour,sell,60,1:1,,"]
             day = problem(journal_of(*hourly, f"submit,A,K,block,sell,{limit},1:1,,"))
-            found, _ = self.better(day, (), selection.eligible(day, frozenset()), few)
+            found, _ = self.better(day, (), selection.eligible_welfare(day, frozenset()), few)
             self.assertEqual(found and found.accepted, accepted)
             self.assertEqual(enumeration.Selections(day).loses(0, numpy.array([1])).tolist(), [accepted is None])
 
     def test_as_many_are_tried_as_there_are(self):
         blocks = [f"submit,A,K{number},block,sell,1,1:1,{'K0' if number else ''},{'G' if number else ''}" for number in range(6)]
         day = problem(journal_of(*blocks, "submit,A,B,hour,buy,1000,1:100,,"))
-        found, how = self.better(day, {0, 1}, selection.eligible(day, frozenset({0, 1})), low_bits=2)
+        found, how = self.better(day, {0, 1}, selection.eligible_welfare(day, frozenset({0, 1})), low_bits=2)
         self.assertIsNone(found)
         self.assertEqual(how, "each of 64 selections was tried, of which links and groups admit 7")
 
@@ -240,17 +240,17 @@ class Enumeration(unittest.TestCase):
         with self.assertRaisesRegex(TimeoutError, "after 0 seconds, 0 of 0 selections have been tried"):
             from lib.audit import enumeration
 
-            enumeration.better(day, frozenset(), selection.eligible(day, frozenset()), Progress("test", 0), jobs=2)
+            enumeration.find_better(day, frozenset(), selection.eligible_welfare(day, frozenset()), Progress("test", 0), jobs=2)
 
 
-@unittest.skipUnless(modules.has("numpy"), "numpy is missing (Debian's python3-numpy)")
+@unittest.skipUnless(modules.has_module("numpy"), "numpy is missing (Debian's python3-numpy)")
 class CommandLine(unittest.TestCase):
     def test_a_better_selection_is_told(self):
         data = family("market", "200", "12")
         day = problem(data)
         from lib.audit import enumeration
 
-        found, _ = enumeration.better(day, frozenset(), selection.eligible(day, frozenset()), Progress("test", 600))
+        found, _ = enumeration.find_better(day, frozenset(), selection.eligible_welfare(day, frozenset()), Progress("test", 600))
         status, out, _ = audit(data, results_of(data, found.accepted), "--best", "--jobs", "2")
         self.assertEqual((status, b"each of 4,096 selections was tried" in out), (command.DONE, True))
         status, out, _ = audit(data, results_of(data, frozenset()), "--best")
@@ -283,7 +283,7 @@ class CommandLine(unittest.TestCase):
 
     def test_every_way_of_checking_takes_no_longer_than_it_may(self):
         ways = ["--by", "enumeration"], ["--by", "highs"]
-        for count, way in itertools.product(("6", "12"), ways if modules.has("scipy") else ways[:1]):
+        for count, way in itertools.product(("6", "12"), ways if modules.has_module("scipy") else ways[:1]):
             data = family("market", "200", count)
             accepted = best.enumerate_all(problem(data))[0].accepted if count == "6" else frozenset()
             status, out, err = audit(data, results_of(data, accepted), "--best", *way, "--seconds", "0")

@@ -59,7 +59,7 @@ class Walk:
         chosen = self.accepted - {self.names[name] for name in without} | {self.names[name] for name in plus}
         self.assertEqual(list(selection.link_faults(self.problem, chosen)), [])
         found = selection.outcome(self.problem, chosen)
-        losing = selection.losing(self.problem, chosen, found.surpluses)
+        losing = selection.losses_of(self.problem, chosen, found.surpluses)
         return found, {self.problem.blocks[place].name: loss for place, loss in losing.items()}
 
     def says(self, *amounts):

@@ -294,7 +294,7 @@ class Facts(unittest.TestCase):
         self.assertEqual([(path.name, line) for path, lines in sources.items() for line in lines if OF_BLOCKS.match(line)], [])
 
     def test_the_figures_of_the_notes_on_the_gate(self):
-        """They are those of the bench, or nearly so if they are said in words."""
+        """They are those of the bench."""
         texts = [(TOP / "bench" / "measured" / f"{part}.csv").read_text() for part in ("quick", "looks")]
         quick, looks = ({row[0]: row for row in csv.reader(text.splitlines())} for text in texts)
         day = "dam day compared with the baseline with threads, "
@@ -303,10 +303,8 @@ class Facts(unittest.TestCase):
         notes = plain(TOP / "crates/dam_gate/NOTES.md")
         wanted = f"takes {ours}, and {factor.split()[0]} times the CPU time of the plain program, which takes {plain_ones}"
         self.assertIn(wanted, notes)
-        self.assertIn("A call takes about a microsecond, with 100 orders in the book or 4,000;", notes)
-        for held in ("100", "4,000"):
-            count, unit = looks[f"a call, {held} orders held"][1].split()
-            self.assertLess(abs(float(count) / {"ns": 1_000, "us": 1}[unit] - 1), 0.5)
+        few, many = (looks[f"a call, {held} orders held"][1] for held in ("100", "4,000"))
+        self.assertIn(f"A call takes {few} with 100 orders in the book, and {many} with 4,000;", notes)
 
     def test_the_number_of_walked_books(self):
         """Of each market, the tests draw as many books."""
@@ -354,7 +352,7 @@ class Facts(unittest.TestCase):
         bench = TOP / "bench"
         with mock.patch.object(sys, "path", [str(bench), *sys.path]):
             drawn = runpy.run_path(str(bench / "make_blocks.py"))
-        said = re.search(r"for (\d+) such books of 24 blocks; with `--thin` instead, (\d+) mostly thin ones", plain(TOP / "docs" / "CHECK.md"))
+        said = re.search(r"for (\d+) deep books of 24 blocks; with `--thin` instead, (\d+) mostly thin ones", plain(TOP / "docs" / "CHECK.md"))
         self.assertEqual([found(number) for number in said.groups()], [len(drawn["BOOKS"]), len(drawn["MORE"])])
         self.assertGreater(sum(made.is_thin for made in drawn["MORE"]), len(drawn["MORE"]) / 2)
 
@@ -384,7 +382,7 @@ class Facts(unittest.TestCase):
 
     def test_the_crates_that_are_proved_for_the_programs(self):
         """Their number, and the length of the longest chain in which each uses the next."""
-        used = crates.own(crates.listed_in(TOP))
+        used = crates.without_foreign(crates.read_crates(TOP))
 
         def longest(name):
             return 1 + max(map(longest, used[name]), default=0)

@@ -1,6 +1,8 @@
 """The files that tools read and write: no input is lost, written files are named, and oddities of results are reported."""
 
+import contextlib
 import errno
+import functools
 import gzip
 import io
 import itertools
@@ -17,11 +19,11 @@ from support import AUCTION, AUCTION_RESULTS, TOOLS, new_folder, printed, tool
 
 from lib.base import replacing
 from lib.sheets import tables
-from lib.tool import command, modules
+from lib.tool import command, file_io, modules
 
 PACKAGES = {"plot": ["matplotlib"], "report": ["matplotlib", "jinja2"], "table": []}
 MARK, OLD = b"\xef\xbb\xbf", b"\xd0\xcf\x11\xe0\xa1\xb1\x1a\xe1"
-TOOLS_HERE = [name for name, packages in PACKAGES.items() if all(map(modules.has, packages))]
+TOOLS_HERE = [name for name, packages in PACKAGES.items() if all(map(modules.has_module, packages))]
 NOTE = "table: 1 of 94 commands was refused (of GAS): see --rows commands\n"
 
 
@@ -83,7 +85,7 @@ class Files(unittest.TestCase):
         self.assertEqual(self.journal.read_bytes(), before)
         self.assertEqual(sorted(path.name for path in self.folder.iterdir()), ["day.csv", "results.txt"])
 
-    @unittest.skipUnless(modules.has("openpyxl"), "openpyxl is missing (Debian's python3-openpyxl)")
+    @unittest.skipUnless(modules.has_module("openpyxl"), "openpyxl is missing (Debian's python3-openpyxl)")
     def test_a_workbook_whose_temporary_files_cant_be_written(self):
         small = {"preexec_fn": lambda: resource.setrlimit(resource.RLIMIT_FSIZE, (1_000, 1_000))}
         for words in (["--all", self.folder / "a.xlsx", self.journal, self.results], ["--template", self.folder / "a.xlsx"]):
@@ -95,16 +97,16 @@ class Files(unittest.TestCase):
         out, old = self.folder / "a.csv", b"old" * 100
         out.write_bytes(old)
         number, limits = out.stat().st_ino, resource.getrlimit(resource.RLIMIT_FSIZE)
-        with mock.patch.object(replacing, "replace", side_effect=OSError(errno.EBUSY, "")):
+        with mock.patch.object(replacing, "prepare_replacement", side_effect=OSError(errno.EBUSY, "")):
             resource.setrlimit(resource.RLIMIT_FSIZE, (1_000, limits[1]))
             try:
                 with self.assertRaisesRegex(OSError, "File too large"):
-                    replacing.write(out, b"new" * 1_000)
+                    replacing.write_replacing(out, b"new" * 1_000)
             finally:
                 resource.setrlimit(resource.RLIMIT_FSIZE, limits)
             self.assertEqual(out.read_bytes(), old)
             for data in (b"new" * 1_000, b"less", b""):
-                replacing.write(out, data)
+                replacing.write_replacing(out, data)
                 self.assertEqual((out.read_bytes(), out.stat().st_ino), (data, number))
 
     def test_the_rights_of_an_old_file_and_a_link_to_it_stay(self):
@@ -113,14 +115,14 @@ class Files(unittest.TestCase):
         out.chmod(0o640)
         link.symlink_to("a.csv")
         number = out.stat().st_ino
-        replacing.write(link, b"new")
+        replacing.write_replacing(link, b"new")
         self.assertEqual((link.readlink(), out.read_bytes(), out.stat().st_mode & 0o777), (Path("a.csv"), b"new", 0o640))
         self.assertNotEqual(out.stat().st_ino, number)
         before = os.umask(0o027)
         self.addCleanup(os.umask, before)
         link.unlink()
         link.symlink_to("none.csv")
-        replacing.write(link, b"made")
+        replacing.write_replacing(link, b"made")
         made = self.folder / "none.csv"
         self.assertEqual((made.read_bytes(), made.stat().st_mode & 0o777), (b"made", 0o640))
 
@@ -138,13 +140,13 @@ class Files(unittest.TestCase):
         self.assertEqual(out.read_bytes()[-len(right) :], right)
         os.mkfifo(pipe)
         with subprocess.Popen(["cat", pipe], stdout=subprocess.PIPE) as reader:
-            replacing.write(pipe, b"new")
+            replacing.write_replacing(pipe, b"new")
             self.assertEqual(reader.stdout.read(), b"new")
         self.assertTrue(pipe.is_fifo())
         number = out.stat().st_ino
         for fault in replacing.FIXED:
             with mock.patch.object(os, "rename", side_effect=OSError(fault, "")):
-                replacing.write(out, b"%d" % fault)
+                replacing.write_replacing(out, b"%d" % fault)
             self.assertEqual((out.read_bytes(), out.stat().st_ino), (b"%d" % fault, number))
         self.assertEqual(sorted(path.name for path in self.folder.iterdir()), ["a.csv", "day.csv", "pipe", "results.txt"])
 
@@ -173,6 +175,60 @@ class Files(unittest.TestCase):
             right = own.read_bytes()
             own.write_bytes(b"mine")
             self.assertEqual((tool(name, *texts, *words, "-o", out), own.read_bytes()), ((0, b"", ""), right))
+
+    def test_no_file_of_another_run_is_replaced(self):
+        """That run makes it after this one has looked, and before it writes."""
+        here, texts, look = Path.cwd(), [self.journal.name, self.results.name], file_io.refuse_to_replace
+        os.chdir(self.folder)
+        self.addCleanup(os.chdir, here)
+        Path("tables").mkdir()
+        lines = [("table", "tables/orders.csv", ["--all", "tables", *texts], ": name another folder, or replace it by --replace")]
+        filled = ", and may have been filled in: write to another file"
+        lines += [("table", "a.xlsx", ["--template", "a.xlsx"], filled)] * modules.has_module("openpyxl")
+        for name, out, *words in (("plot", "day.svg"), ("report", "day.html", "--no-limits", "--curves", "none")):
+            lines += [(name, out, [*texts, *words], file_io.NAMED_BY_OUT)] * (name in TOOLS_HERE)
+
+        def looked(made, path, advice):
+            look(path, advice)
+            if path == made:
+                Path(path).write_bytes(b"of another run")
+
+        for name, out, words, advice in lines:
+            with mock.patch.object(file_io, "refuse_to_replace", functools.partial(looked, out)):
+                found = tool(name, *words)
+            said = f"{NOTE if '--all' in words else ''}{name}: {out} is there already{advice}\n"
+            self.assertEqual((found, Path(out).read_bytes()), ((command.COMMAND_LINE, b"", said), b"of another run"))
+        self.assertEqual([path for path in self.folder.rglob(".*")], [])
+
+    def test_a_new_file_takes_no_name_that_another_has(self):
+        """Also on a file system without links."""
+        own, fault = self.folder / "a.csv", OSError(errno.EPERM, os.strerror(errno.EPERM))
+        for links in (contextlib.nullcontext(), mock.patch.object(os, "link", side_effect=fault)):
+            for make in (lambda: own.write_bytes(b"mine"), lambda: own.symlink_to("gone")):
+                with links, contextlib.ExitStack() as cleanups:
+                    put = replacing.prepare_new(own, b"new", cleanups)
+                    make()
+                    self.assertRaises(FileExistsError, put)
+                self.assertTrue(own.is_symlink() or own.read_bytes() == b"mine")
+                own.unlink()
+            with links, contextlib.ExitStack() as cleanups:
+                replacing.prepare_new(own, b"new", cleanups)()
+                self.assertEqual(own.read_bytes(), b"new")
+                self.assertEqual(sorted(path.name for path in self.folder.iterdir()), ["a.csv", "day.csv", "results.txt"])
+            own.unlink()
+
+    def test_a_new_file_is_written_whole_or_not_at_all(self):
+        """On a file system without links."""
+        own, limits = self.folder / "a.csv", resource.getrlimit(resource.RLIMIT_FSIZE)
+        with mock.patch.object(os, "link", side_effect=OSError(errno.EPERM, "")), contextlib.ExitStack() as cleanups:
+            put = replacing.prepare_new(own, b"new" * 1_000, cleanups)
+            resource.setrlimit(resource.RLIMIT_FSIZE, (1_000, limits[1]))
+            try:
+                with self.assertRaisesRegex(OSError, "File too large"):
+                    put()
+            finally:
+                resource.setrlimit(resource.RLIMIT_FSIZE, limits)
+        self.assertEqual(sorted(path.name for path in self.folder.iterdir()), ["day.csv", "results.txt"])
 
     def test_a_folder_is_made(self):
         texts, folder = [self.journal, self.results], self.folder / "a" / "b"

@@ -33,7 +33,7 @@ class Help(unittest.TestCase):
     def test_examples_work(self):
         """Each example is run in a folder with the examples and the tools, and with a program that answers by the rules."""
         for name, packages in TOOLS.items():
-            if not all(map(modules.has, packages)):
+            if not all(map(modules.has_module, packages)):
                 continue
             with self.subTest(name), tempfile.TemporaryDirectory() as folder:
                 for part in ("tools", "examples"):

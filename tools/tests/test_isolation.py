@@ -34,9 +34,28 @@ if "AGAIN" in os.environ:
     print(any(path.endswith("dist-packages") for path in sys.path))
 else:
     os.environ["AGAIN"] = "yes"
-    modules.has = lambda module: False
-    modules.elsewhere = lambda *modules: True
-    modules.python_with("numpy")
+    modules.has_module = lambda module: False
+    modules.debian_has = lambda *modules: True
+    modules.restart_with("numpy")
+"""
+# Settings of dask that make a folder once it is imported, and the variables that have such ones, or keep it from being imported.
+SETTINGS = {"version": 1, "handlers": {"x": {"()": "os.mkdir", "path": "ran"}}}
+OF_DASK = {"DASK_LOGGING": json.dumps(SETTINGS)}, {"DASK_DISTRIBUTED": "5"}, {"DASK_INTERNAL_INHERIT_CONFIG": "zzz"}
+# It prints settings of dask as a tool has them.
+SHOWN = """
+import sys
+
+sys.path.insert(0, {tools!r})
+from lib.base import ending
+
+ending.watch("program")
+from lib.runs import cluster
+
+cluster.imported()
+cluster.take_certificates({address!r})
+import dask.config
+
+print(dask.config.get("distributed.client.preload"), dask.config.get("distributed.comm.tls.client"))
 """
 STRANGE = {"PYTHONSAFEPATH": "1", "PYTHONOPTIMIZE": "2", "MPLBACKEND": "nosuch", "MATPLOTLIBRC": ".", "MPLCONFIGDIR": "."}
 
@@ -94,23 +113,59 @@ class Isolation(unittest.TestCase):
             given = {**relative, "DASK_CONFIG": "dask", "OPENSSL_CONF": "/etc/ssl.cnf", "XDG_CACHE_HOME": "", "LC_ALL": "/tmp"}
             for found, home in (({"return_value": user}, "/a/home"), ({"side_effect": KeyError}, surroundings.NO_HOME)):
                 with mock.patch.dict(os.environ, given, clear=True), mock.patch.object(pwd, "getpwuid", **found):
-                    surroundings.keep_apart()
+                    surroundings.isolate_environment()
                     self.assertEqual(
                         dict(os.environ),
                         {"HOME": home, "OPENSSL_CONF": "/etc/ssl.cnf", "XDG_CACHE_HOME": "", "LC_ALL": "/tmp", "LANGUAGE": "C"},
                     )
 
+    def test_settings_of_dask_and_numpy_are_removed(self):
+        """Some name code to run, and others let no import of these end."""
+        others = {"DASK_CONFIG": "/etc/dask", "NPY_DISABLE_CPU_FEATURES": "SSE2", "NUMPY_MADVISE_HUGEPAGE": "x"}
+        for given in (*OF_DASK, others):
+            with mock.patch.dict(os.environ, {"HOME": "/", "DASK": "1", **given}, clear=True):
+                surroundings.isolate_environment()
+                self.assertEqual(dict(os.environ), {"HOME": "/", "DASK": "1", "LANGUAGE": "C"})
+
+    def dask_settings(self, **found):
+        """Writes a file of settings for a user whose home is the working folder."""
+        folder = self.folder / ".config" / "dask"
+        folder.mkdir(parents=True, exist_ok=True)
+        folder.joinpath("settings.json").write_text(json.dumps(found))
+
+    @unittest.skipUnless(modules.has_module("distributed"), "dask is missing (Debian's python3-distributed)")
+    def test_no_settings_of_dask_run_code(self):
+        table = self.folder / "table.csv"
+        table.write_text("scenario,what,participant,order,kind,side,price_eur_mwh,periods,volume_mw\nas is,,,,,,,,\n")
+        words = ("whatif", "scenarios", "--program", "/bin/true", AUCTION, table, "--cluster", "tcp://127.0.0.1:1")
+        said = b"whatif: the cluster tcp://127.0.0.1:1 can't be reached: Connection refused\n"
+        for given in OF_DASK:
+            self.assertEqual(self.ran(*words, **given), (3, b"", said), given)
+        for found in ({"logging": SETTINGS}, {"distributed": 5}, {"array": 5}):
+            self.dask_settings(**found)
+            self.assertEqual(self.ran(*words, HOME=str(self.folder)), (3, b"", said), found)
+
+    @unittest.skipUnless(modules.has_module("distributed"), "dask is missing (Debian's python3-distributed)")
+    def test_certificates_of_dask_are_taken_where_they_are_needed(self):
+        program = self.folder / "program"
+        self.dask_settings(distributed={"client": {"preload": ["ran"]}, "comm": {"tls": {"client": {"cert": "a.pem"}}}})
+        for address, cert in (("tcp://a:1", None), ("tls://a:1", "a.pem")):
+            program.write_text(SHOWN.format(tools=str(TOOLS), address=address))
+            environment = {**os.environ, "HOME": str(self.folder)}
+            ran = subprocess.run([sys.executable, "-I", program], env=environment, capture_output=True, text=True)
+            self.assertEqual((ran.stdout, ran.stderr), (f"[] {{'key': None, 'cert': {cert!r}}}\n", ""), address)
+
     def test_a_list_of_paths_has_none_that_is_relative(self):
         for name in surroundings.LISTS:
             for given, stays in (("/a:/b", True), ("/a:.", False), ("b:/a", False), ("/a:", False)):
                 with mock.patch.dict(os.environ, {name: given}):
-                    surroundings.keep_apart()
+                    surroundings.isolate_environment()
                     self.assertEqual(name in os.environ, stays, (name, given))
         words = ("table", AUCTION, AUCTION_RESULTS, "--date", "2026-11-25", "--quiet")
         for places in (".", f"/nowhere:{self.folder}/..:."):
             self.assertEqual(self.ran(*words, PYTHONTZPATH=places)[::2], (0, b""), places)
 
-    @unittest.skipUnless(modules.has("matplotlib"), "matplotlib is missing (Debian's python3-matplotlib)")
+    @unittest.skipUnless(modules.has_module("matplotlib"), "matplotlib is missing (Debian's python3-matplotlib)")
     def test_a_date_of_files_that_is_none(self):
         words, pictures = ("plot", AUCTION, AUCTION_RESULTS, "-o"), []
         for name, given in (("a.svg", "abc"), ("b.svg", "1")):
@@ -119,7 +174,7 @@ class Isolation(unittest.TestCase):
             pictures.append(self.folder.joinpath(name).read_bytes())
         self.assertEqual(*pictures)
 
-    @unittest.skipUnless(modules.has("matplotlib"), "matplotlib is missing (Debian's python3-matplotlib)")
+    @unittest.skipUnless(modules.has_module("matplotlib"), "matplotlib is missing (Debian's python3-matplotlib)")
     def test_the_cache_of_pictures_is_apart_too(self):
         names = {path.name for path in self.folder.iterdir()}
         words = ("plot", AUCTION, AUCTION_RESULTS, "-o", "-")
@@ -133,7 +188,7 @@ class Isolation(unittest.TestCase):
 
     def test_no_program_of_the_working_folder_runs(self):
         """The launcher keeps unproved programs in the user's cache. Without a kit it has none to compile."""
-        name = hashlib.sha256(json.dumps(sources.sums("dam_cli"), sort_keys=True).encode()).hexdigest()[:16]
+        name = hashlib.sha256(json.dumps(sources.source_sums("dam_cli"), sort_keys=True).encode()).hexdigest()[:16]
         for cache, given in ((".", {"XDG_CACHE_HOME": "."}), (".cache", {"XDG_CACHE_HOME": "", "HOME": "."})):
             program = self.folder / cache / "dam" / "unproved" / f"dam_cli-{name}"
             program.parent.mkdir(parents=True)
@@ -141,7 +196,7 @@ class Isolation(unittest.TestCase):
             program.chmod(0o755)
             self.ran("unproved", "--version", options=["-I", "-S"], PATH="/nowhere", **given)
 
-    @unittest.skipUnless(modules.has("matplotlib"), "matplotlib is missing (Debian's python3-matplotlib)")
+    @unittest.skipUnless(modules.has_module("matplotlib"), "matplotlib is missing (Debian's python3-matplotlib)")
     def test_no_settings_of_pictures_are_obeyed(self):
         settings, texts = self.folder / "matplotlibrc", (AUCTION, AUCTION_RESULTS, "-o", "-")
         status, right, err = tool("plot", *texts)
@@ -153,19 +208,20 @@ class Isolation(unittest.TestCase):
         self.assertEqual(self.ran("plot", *texts), (0, right, b""))
         self.assertEqual([path.name for path in self.folder.iterdir() if path.suffix != ".py"], ["matplotlibrc"])
 
-    @unittest.skipUnless(modules.has("matplotlib"), "matplotlib is missing (Debian's python3-matplotlib)")
+    @unittest.skipUnless(modules.has_module("matplotlib"), "matplotlib is missing (Debian's python3-matplotlib)")
     def test_pictures_without_a_folder_for_temporary_files(self):
         from lib.pictures import drawing
 
         environment, fault = dict(os.environ), FileNotFoundError(errno.ENOENT, "No usable temporary directory found")
-        with mock.patch.object(tempfile, "TemporaryDirectory", side_effect=fault), self.assertRaises(FileNotFoundError), drawing.apart():
+        missing = mock.patch.object(tempfile, "TemporaryDirectory", side_effect=fault)
+        with missing, self.assertRaises(FileNotFoundError), drawing.empty_settings():
             pass
         self.assertEqual(dict(os.environ), environment)
 
     def test_debians_python_is_asked_apart(self):
         """A Python that lacks packages asks Debian's for them; neither looks into the working folder."""
         code = "import sys\nsys.path.insert(0, {tools!r})\nfrom lib.tool import modules\nmodules.is_debians = lambda: False\n"
-        code += "print(modules.elsewhere('json'), modules.elsewhere('json', 'nosuch'), modules.elsewhere('lib'))\n"
+        code += "print(modules.debian_has('json'), modules.debian_has('json', 'nosuch'), modules.debian_has('lib'))\n"
         path = self.folder.parent / f"{self.folder.name}-ask"
         path.write_text(code.format(tools=str(TOOLS)))
         self.addCleanup(path.unlink)
@@ -181,21 +237,21 @@ class Isolation(unittest.TestCase):
             fault = OSError(number, os.strerror(number))
             with mock.patch.object(modules, "is_debians", return_value=False), mock.patch.object(subprocess, "run", side_effect=fault):
                 if is_known:
-                    self.assertFalse(modules.elsewhere("json"))
+                    self.assertFalse(modules.debian_has("json"))
                 else:
-                    self.assertRaises(OSError, modules.elsewhere, "json")
+                    self.assertRaises(OSError, modules.debian_has, "json")
 
     def test_a_tool_starts_again_apart(self):
         """By the file of the tool, since the command of an installed one belongs to another Python."""
         main = mock.Mock(__file__=str(TOOLS / "audit"))
         with (
-            mock.patch.object(modules, "has", return_value=False),
-            mock.patch.object(modules, "elsewhere", return_value=True),
+            mock.patch.object(modules, "has_module", return_value=False),
+            mock.patch.object(modules, "debian_has", return_value=True),
             mock.patch.object(os, "execv") as execv,
             mock.patch.dict(sys.modules, {"__main__": main}),
             mock.patch.object(sys, "argv", ["/bin/dam-audit", "--best"]),
         ):
-            modules.python_with("numpy")
+            modules.restart_with("numpy")
         late = ["-S"] if sys.flags.no_site else []
         execv.assert_called_once_with(modules.DEBIAN_PYTHON, [modules.DEBIAN_PYTHON, "-I", *late, str(TOOLS / "audit"), "--best"])
 

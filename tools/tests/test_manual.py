@@ -25,12 +25,12 @@ from manual import navigation, pages, site
 from package import formats, tree
 from shared.site import Site
 
-if modules.has("aiohttp"):
+if modules.has_module("aiohttp"):
     from shared import browser
 
 MISSING = site.missing()
 NEEDS_MKDOCS = unittest.skipIf(MISSING, f"{' and '.join(MISSING)} missing")
-NO_BROWSER = "python3-aiohttp is missing" if not modules.has("aiohttp") else None if browser.found() else "chromium is missing"
+NO_BROWSER = "python3-aiohttp is missing" if not modules.has_module("aiohttp") else None if browser.found() else "chromium is missing"
 SECONDS = 60  # that the index of the search may take
 WIDTHS = {1_280: "dark", 390: "light"}
 SCHEMES = {"dark": "slate", "light": "default"}

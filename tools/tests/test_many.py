@@ -11,6 +11,7 @@ import signal
 import subprocess
 import sys
 import time
+import tracemalloc
 import unittest
 import unittest.mock
 from pathlib import Path
@@ -182,7 +183,7 @@ class Many(unittest.TestCase):
             dam_tools.clear("")
 
     def test_neither_library_nor_program(self):
-        with unittest.mock.patch.multiple(which, where=lambda: None, built=lambda: None):
+        with unittest.mock.patch.multiple(which, where=lambda: None, find_program=lambda: None):
             with unittest.mock.patch.object(dam_tools, "where", which.where), unittest.mock.patch.dict(os.environ, {"DAM": ""}):
                 with self.assertRaisesRegex(dam_tools.Fault, "^no program was found: "):
                     dam_tools.clear_many([AUCTION, AUCTION])
@@ -200,6 +201,37 @@ class Many(unittest.TestCase):
             for _ in range(2):
                 self.assertEqual(dam_tools.clear(AUCTION, launcher).text, dam_tools.clear(AUCTION, self.program).text)
         self.assertEqual(said.getvalue(), "dam: this run is not proved\n")
+
+    def test_a_program_that_says_much(self):
+        """Of its standard error the last part is kept, and of its output no more than any results have."""
+        much = "head -c 60000000 /dev/zero | tr '\\0' x >&2; echo >&2; echo last >&2"
+        most, wanted = by_program.MOST_SAID, 60_000_000 + len("\nlast\n")
+        begin, end = f"[the first {wanted - most:,} bytes of its standard error are left out]\n", "x" * (most - len("\nlast\n")) + "\nlast"
+        tracemalloc.start()
+        self.addCleanup(tracemalloc.stop)
+        with self.assertRaises(dam_tools.Fault) as raised:
+            dam_tools.clear(AUCTION, self.script("fails", f"{much}; exit 3"))
+        self.assertEqual((str(raised.exception) == begin + end, raised.exception.status), (True, 3), str(raised.exception)[:200])
+        with unittest.mock.patch.object(by_program, "RELAYED", set()), contextlib.redirect_stderr(io.StringIO()) as said:
+            found = dam_tools.clear(AUCTION, self.script("right", f'{much}; exec {self.program} "$@"')).text
+        self.assertEqual((found, said.getvalue() == f"{begin}{end}\n"), (printed(AUCTION), True), said.getvalue()[:200])
+        for call in dam_tools.clear, dam_tools.replay:
+            other = self.script("other", "exec head -c 60000000 /dev/zero")
+            with self.assertRaisesRegex(dam_tools.Fault, f"^{other} printed more than {by_program.MOST_PRINTED:,} bytes$"):
+                call(AUCTION, other)
+        self.assertLess(tracemalloc.get_traced_memory()[1], 8 << 20)
+
+    def test_a_program_that_says_something_else_each_time(self):
+        run = self.script("run", f'echo "$$" >&2; exec {self.program} "$@"')
+        with (
+            unittest.mock.patch.multiple(by_program, RELAYED=set(), MOST_RELAYED=3),
+            contextlib.redirect_stderr(io.StringIO()) as said,
+        ):
+            for _ in range(6):
+                dam_tools.clear(AUCTION, run)
+            self.assertEqual(len(by_program.RELAYED), 4)
+        *lines, last = said.getvalue().splitlines()
+        self.assertEqual((len(lines), last), (3, "further lines of the program aren't shown"))
 
     def test_a_program_that_fails_without_words(self):
         for line, status in ("exit 1", 1), ("kill -9 $$", -9), ("exit 70", 70):
@@ -287,7 +319,7 @@ class Many(unittest.TestCase):
             self.assertIs(engine.with_bar(results, quiet=True), results)
             with unittest.mock.patch.dict(sys.modules, {"tqdm": None}):
                 self.assertIs(engine.with_bar(results), results)
-            if modules.has("tqdm"):
+            if modules.has_module("tqdm"):
                 self.assertIsNot(engine.with_bar(results), results)
 
     @unittest.skipUnless(which.BUILT.exists(), "the program isn't built")

@@ -79,20 +79,20 @@ class Merkle(unittest.TestCase):
         for size in range(1, 70):
             leaves = LEAVES[:size]
             for place in range(size):
-                self.assertEqual(self.tree.inclusion(place, size), path_by_definition(place, leaves))
+                self.assertEqual(self.tree.inclusion_proof(place, size), path_by_definition(place, leaves))
             for old in range(1, size):
-                self.assertEqual(self.tree.consistency(old, size), proof_by_definition(old, leaves))
+                self.assertEqual(self.tree.consistency_proof(old, size), proof_by_definition(old, leaves))
 
     def test_each_path(self):
         for size in range(1, MOST + 1):
             for place in range(size):
-                path = self.tree.inclusion(place, size)
+                path = self.tree.inclusion_proof(place, size)
                 self.assertEqual(merkle.root_of_inclusion(LEAVES[place], place, size, path), self.roots[size])
 
     def test_a_path_fits_one_leaf_and_place(self):
         for size in range(1, 40):
             for place in range(size):
-                path = self.tree.inclusion(place, size)
+                path = self.tree.inclusion_proof(place, size)
                 for other in range(size):
                     if other != place:
                         self.assertNotEqual(merkle.root_of_inclusion(LEAVES[other], place, size, path), self.roots[size])
@@ -106,13 +106,13 @@ class Merkle(unittest.TestCase):
     def test_each_pair_of_sizes(self):
         for size in range(MOST + 1):
             for old in range(size + 1):
-                path = self.tree.consistency(old, size)
+                path = self.tree.consistency_proof(old, size)
                 self.assertTrue(merkle.is_consistent(old, self.roots[old], size, self.roots[size], path), (old, size))
 
     def test_a_consistency_proof_fits_two_roots(self):
         for size in range(1, 40):
             for old in range(size):
-                path, roots = self.tree.consistency(old, size), (self.roots[old], self.roots[size])
+                path, roots = self.tree.consistency_proof(old, size), (self.roots[old], self.roots[size])
                 wrong = merkle.leaf_hash(b"wrong")
                 self.assertFalse(merkle.is_consistent(old, wrong, size, roots[1], path))
                 if old:
@@ -132,16 +132,16 @@ class Merkle(unittest.TestCase):
                 self.assertEqual(tree.root(size) == self.roots[size], size <= place)
                 for old in range(place + 1, size):
                     self.assertFalse(
-                        merkle.is_consistent(old, self.roots[old], size, tree.root(size), tree.consistency(old, size))
+                        merkle.is_consistent(old, self.roots[old], size, tree.root(size), tree.consistency_proof(old, size))
                     )
 
     def test_each_hash_that_a_proof_shows(self):
         """It is the root of these leaves, and the neighbour of a right half is shown with what both make."""
         for size in range(1, 70):
             for place in range(size):
-                self.check_shown(merkle.shown_by_inclusion(LEAVES[place], place, size, self.tree.inclusion(place, size)), size)
+                self.check_shown(merkle.shown_by_inclusion(LEAVES[place], place, size, self.tree.inclusion_proof(place, size)), size)
             for old in range(1, size):
-                path = self.tree.consistency(old, size)
+                path = self.tree.consistency_proof(old, size)
                 shown = merkle.shown_by_consistency(old, self.roots[old], size, self.roots[size], path)
                 self.check_shown(shown, size)
                 self.assertEqual(shown[0, old], self.roots[old])
@@ -162,7 +162,7 @@ class Merkle(unittest.TestCase):
         """It shows the subtrees of that tree alone, among them the beginning with the old size, unless that is a subtree of the new one."""
         for size in range(2, 40):
             for old in range(1, size):
-                path, wrong = self.tree.consistency(old, size), merkle.leaf_hash(b"wrong")
+                path, wrong = self.tree.consistency_proof(old, size), merkle.leaf_hash(b"wrong")
                 is_whole = old & (old - 1) == 0
                 shown = merkle.shown_by_consistency(old, wrong, size, self.roots[size], path)
                 self.assertEqual(shown.get((0, old)), wrong if is_whole else self.roots[old])

@@ -55,10 +55,18 @@ class Module(unittest.TestCase):
         self.assertEqual([reply.command for reply in replies if not reply.done], [9, 12, 13, 15])
         self.assertEqual(replies[8].reason, "NameTaken")
         wrong = Path(self.program.parent, "wrong")
-        wrong.write_text("#!/bin/sh\nprintf 'day,24\\n1,done\\n'\n")
-        wrong.chmod(0o755)
-        with self.assertRaisesRegex(dam_tools.Fault, "^the program printed other replies than those of the journal$"):
-            dam_tools.replay(FIRST, program=wrong)
+        for line, place in (
+            (r"printf 'day,24\n1,done\n'", "replies line 3: '2,done' is missing"),
+            (f'{self.program} "$@" | sed s/done/refused,Closed/', "replies line 2: it is '1,refused,Closed' and should be '1,done'"),
+            (f'{self.program} "$@" | sed s/NameTaken/Closed/', "replies line 10: it is '9,refused,Closed' and should be '9,refused,NameTaken'"),
+            (f'{self.program} "$@" | sed s/day,24/day,25/', "replies line 1: "),
+            (":", "the replies are empty"),
+        ):
+            wrong.write_text(f"#!/bin/sh\n{line}\n")
+            wrong.chmod(0o755)
+            said = re.escape(f"the program printed other replies than those of the journal ({place}")
+            with self.assertRaisesRegex(dam_tools.Fault, f"^{said}"):
+                dam_tools.replay(FIRST, program=wrong)
 
     def test_what_is_printed_of_objects_is_short(self):
         self.assertEqual(repr(dam_tools.read_journal(FIRST)), "<Journal: 24 periods, 15 commands>")
@@ -90,7 +98,7 @@ class Module(unittest.TestCase):
         journal = dam_tools.read_journal(FIRST)
         self.assertEqual(dam_tools.records(journal, "commands")[12]["reason"], "PeriodOutOfDay")
         day = dam_tools.read_results(AUCTION.read_bytes(), printed(AUCTION))
-        text = sheets.written(tables.orders(day)).encode()
+        text = sheets.table_text(tables.orders(day)).encode()
         made = dam_tools.journal_of_orders(text)
         self.assertEqual(dam_tools.clear(made, program=self.program).said.welfare, day.said.welfare)
 
@@ -106,12 +114,12 @@ class Module(unittest.TestCase):
             dam_tools.read_results(AUCTION, b"day,24\n")
         with self.assertRaises(dam_tools.Fault):
             dam_tools.journal_of_orders(b"x\n")
-        small = sheets.written([tables.ORDER]).encode() + b"a,H,hour,buy,1,8,5,,\n"
+        small = sheets.table_text([tables.ORDER]).encode() + b"a,H,hour,buy,1,8,5,,\n"
         for call in (lambda: dam_tools.journal_of_orders(small), lambda: dam_tools.whatif_change(AUCTION, small, program=self.program)):
             with self.assertRaisesRegex(dam_tools.Fault, "^line 2, column participant: 'a' should be 1 to 8 capitals A to Z: write A"):
                 call()
         with self.assertRaisesRegex(dam_tools.Fault, "a day has 23, 24, 25, 92, 96 or 100 periods, not 26"):
-            dam_tools.journal_of_orders(sheets.written([tables.ORDER]).encode(), periods=26)
+            dam_tools.journal_of_orders(sheets.table_text([tables.ORDER]).encode(), periods=26)
         day = dam_tools.read_results(AUCTION, AUCTION_RESULTS)
         for words in ({"table": "none"}, {"table": "curves", "long": True}):
             with self.assertRaises(ValueError):
@@ -177,7 +185,8 @@ class Module(unittest.TestCase):
                 call()
         with self.assertRaisesRegex(ValueError, "^there is no method x: the methods are enumeration and highs$"):
             dam_tools.audit(AUCTION, AUCTION_RESULTS, by="x")
-        with unittest.mock.patch("os.execv", side_effect=AssertionError), unittest.mock.patch.object(dam_tools.modules, "has", lambda _: False):
+        lacking = unittest.mock.patch.object(dam_tools.modules, "has_module", lambda _: False)
+        with unittest.mock.patch("os.execv", side_effect=AssertionError), lacking:
             with self.assertRaisesRegex(dam_tools.Fault, "^it needs scipy, which Debian has in the package python3-scipy"):
                 dam_tools.audit(AUCTION, AUCTION_RESULTS, best=True, by="highs")
 
@@ -195,6 +204,10 @@ class Module(unittest.TestCase):
         table = b"what,participant,order,price_eur_mwh,periods,volume_mw,Note\namend,GEN,UNIT,40,1,2,x\n"
         again = dam_tools.whatif_change(journal, table, "GEN", program=self.program)
         self.assertEqual(again, dam_tools.Changes(found.changes, ["the column 'Note' isn't used"]))
+        wrong = support.doctored(self.program.parent, self.program, "", "s/^welfare,/welfare,1/")
+        for call in (dam_tools.whatif_limit, journal, "GEN", "UNIT", wrong), (dam_tools.whatif_change, journal, table, None, wrong):
+            with self.assertRaisesRegex(dam_tools.Fault, r"^the program's results of the day break the rules \(results line 2: the welfare is 1"):
+                call[0](*call[1:])
         for call, said in (
             (lambda: dam_tools.whatif_limit(journal, "GEN", "X"), "^GEN has no order X in the book: its blocks are UNIT$"),
             (lambda: dam_tools.whatif_limit(journal, "CITY", "TOWN"), "^TOWN of CITY isn't a block$"),
@@ -297,7 +310,7 @@ class Module(unittest.TestCase):
         self.assertEqual(rows[0]["begins"], "2026-07-01T00:00:00+02:00")
         self.assertEqual(dam_tools.records(day, "orders", long=True, date="2026-07-01"), rows)
 
-    @unittest.skipUnless(modules.has("pandas"), "pandas is missing (Debian's python3-pandas)")
+    @unittest.skipUnless(modules.has_module("pandas"), "pandas is missing (Debian's python3-pandas)")
     def test_frames(self):
         day = dam_tools.read_results(AUCTION, AUCTION_RESULTS)
         frame = dam_tools.frame(day, "periods", date=datetime.date(2026, 11, 25))
@@ -313,7 +326,7 @@ class Module(unittest.TestCase):
         frame = dam_tools.frame(day, "orders", long=True)
         self.assertAlmostEqual(frame["amount_eur"].sum(), 0)
 
-    @unittest.skipUnless(modules.has("pandas") and modules.has_zone(shapes.ZONE), "pandas or the time zones are missing")
+    @unittest.skipUnless(modules.has_module("pandas") and modules.has_zone(shapes.ZONE), "pandas or the time zones are missing")
     def test_the_example_of_the_pages(self):
         example = self.examples()[0]
         self.assertIn("dam_tools.clear(journal)", example)
@@ -335,16 +348,16 @@ class Module(unittest.TestCase):
         """It is run if pyarrow is there, and its query too if DuckDB is; otherwise the frames are written as CSV, which needs less."""
         self.assertEqual(len(self.examples()), 2)
         example, folder = self.examples()[1], self.program.parent
-        if not modules.has("pandas"):
+        if not modules.has_module("pandas"):
             self.skipTest("pandas is missing (Debian's python3-pandas)")
         Path(folder, "day.csv").write_bytes(AUCTION.read_bytes())
         Path(folder, "results.txt").write_bytes(printed(AUCTION))
-        if not modules.has("pyarrow"):
+        if not modules.has_module("pyarrow"):
             example = example.replace("to_parquet", "to_csv")
         ran = subprocess.run([sys.executable, "-B", "-c", example], cwd=folder, env={**os.environ, "PYTHONPATH": str(support.TOOLS)})
         self.assertEqual(ran.returncode, 0)
         self.assertTrue(Path(folder, "orders.parquet").stat().st_size and Path(folder, "executions.parquet").stat().st_size)
-        if modules.has("pyarrow") and modules.has("duckdb"):
+        if modules.has_module("pyarrow") and modules.has_module("duckdb"):
             import duckdb
 
             query = re.search(r"```sql\n(.*?)```", (TOP / "docs" / "PYTHON.md").read_text(), re.DOTALL)[1]

@@ -100,12 +100,12 @@ class Crashes(Office):
         with opener(disk):
             async with self.running(self.gate()) as given:
                 entries = await given.submit("GAS", 1, commands("submit,GAS,A,hour,buy,1,1:1,,", "cancel,GAS,B,,,,,,"))
-                before = [heads.line(given.ledger.receipt(entry)) for entry in entries]
+                before = [heads.line_of(given.ledger.receipt(entry)) for entry in entries]
                 await given.submit("A", 1, commands("cancel,A,B,,,,,,"))
-                self.assertEqual([heads.line(given.ledger.receipt(entry)) for entry in entries], before)
+                self.assertEqual([heads.line_of(given.ledger.receipt(entry)) for entry in entries], before)
             async with self.running(self.gate()) as given:
                 again = await given.submit("GAS", 1, commands("submit,GAS,A,hour,buy,1,1:1,,", "cancel,GAS,B,,,,,,"))
-                self.assertEqual([heads.line(given.ledger.receipt(entry)) for entry in again], before)
+                self.assertEqual([heads.line_of(given.ledger.receipt(entry)) for entry in again], before)
         self.assertEqual(len(disk.records), 3)
 
     async def test_a_token_that_was_revoked_enters_nothing_more(self):
@@ -190,7 +190,7 @@ class Crashes(Office):
             async with self.running(self.gate()) as given:
                 await given.submit("GAS", 1, commands(*(f"cancel,GAS,{number},,,,,," for number in range(100))))
                 task = asyncio.create_task(others())
-                with mock.patch.object(heads, "line", lambda value: seen.add(turns[0]) or b"\n"):
+                with mock.patch.object(heads, "line_of", lambda value: seen.add(turns[0]) or b"\n"):
                     answer = await web.Web.receipts(None, given, list(range(1, 101)))
                 task.cancel()
         self.assertEqual(len(answer.body), 100)

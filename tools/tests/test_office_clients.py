@@ -2,12 +2,15 @@
 
 import argparse
 import asyncio
+import contextlib
 import http.server
 import itertools
 import json
 import random
 import re
 import shutil
+import socket
+import struct
 import tempfile
 import threading
 import unittest
@@ -22,7 +25,7 @@ from lib.journal import journal
 from lib.seal import heads
 
 try:
-    from lib.office import clearing, folder, gate, guards, requests
+    from lib.office import clearing, folder, gate, guards, observed, requests, serve
     from lib.office import tables as reader
 except ImportError:  # without python3-aiohttp and the like, whose tests are skipped
     pass
@@ -419,6 +422,54 @@ class RequestHeads(unittest.IsolatedAsyncioTestCase):
             for byte in self.head(size):
                 made.data_received(bytes([byte]))
             self.assertEqual(made.transport.is_aborted, size > guards.MOST_HEAD)
+
+
+class Connections(unittest.IsolatedAsyncioTestCase):
+    """Connections to a listener, whose log has no defect."""
+
+    async def asyncSetUp(self):
+        if aiohttp is None:
+            self.skipTest("python3-aiohttp is missing")
+        application = aiohttp.web.Application()
+        application.router.add_get("/", self.answer)
+        self.counts = observed.Counts()
+        self.runner = guards.Runner(application, self.counts)
+        await self.runner.setup()
+        listener = guards.Listener(self.runner.server, serve.bound("127.0.0.1", 0), None, self.counts)
+        self.port = listener.socket.getsockname()[1]
+        for step in (self.runner.cleanup, self.runner.server.shutdown, listener.close):
+            self.addAsyncCleanup(step)
+
+    async def answer(self, request):
+        return aiohttp.web.Response(text="right")
+
+    async def answers(self, count):
+        """How many answers come to this number of requests that are sent at once, until the connection ends or is idle."""
+        reader, writer = await asyncio.open_connection("127.0.0.1", self.port)
+        writer.write(b"GET / HTTP/1.1\r\nHost: x\r\n\r\n" * count)
+        found = b""
+        with contextlib.suppress(asyncio.TimeoutError, ConnectionError):
+            while part := await asyncio.wait_for(reader.read(1 << 16), 20 if found.count(b"right") < count else 0.2):
+                found += part
+        writer.close()
+        return found.count(b"right")
+
+    async def test_requests_that_are_sent_ahead(self):
+        """One too many ends the connection, whichever of them has its turn."""
+        with self.assertNoLogs("aiohttp"):
+            for count in (1, guards.MOST_AHEAD, *[guards.MOST_AHEAD + 1] * 20, 2 * guards.MOST_AHEAD, 100):
+                self.assertEqual(await self.answers(count), count if count <= guards.MOST_AHEAD else 0)
+
+    async def test_a_connection_that_is_reset(self):
+        """At once after a request, or with its answer on the way."""
+        with self.assertNoLogs("aiohttp"):
+            for number in range(100):
+                one = socket.create_connection(("127.0.0.1", self.port))
+                one.setsockopt(socket.SOL_SOCKET, socket.SO_LINGER, struct.pack("ii", 1, 0))
+                one.sendall(b"GET / HTTP/1.1\r\nHost: x\r\n\r\n" * (1 + number % guards.MOST_AHEAD))
+                await asyncio.sleep(number % 3 / 1_000)
+                one.close()
+            self.assertEqual(await self.answers(1), 1)
 
 
 if __name__ == "__main__":

@@ -7,6 +7,7 @@ import functools
 import io
 import json
 import threading
+import unittest
 from types import SimpleNamespace
 from unittest import mock
 
@@ -84,8 +85,8 @@ class Closing(Office):
         again = self.gate()
         await again.run()
         request, served = SimpleNamespace(path=f"/days/{DAY}/results"), SimpleNamespace(gate_of=lambda request: again)
-        served.unstopped = functools.partial(web.Web.unstopped, served)
-        for answer in (web.Web.prices, web.Web.published):
+        served.unstopped_gate_of = functools.partial(web.Web.unstopped_gate_of, served)
+        for answer in (web.Web.answer_prices, web.Web.answer_published):
             with self.assertRaises(gate.Refused) as caught:
                 await answer(served, request)
             self.assertEqual(caught.exception.fault, "Unavailable")
@@ -154,7 +155,7 @@ class Closing(Office):
             ends.set()
             await task
         self.assertTrue(again.is_known.is_set())
-        self.assertEqual((again.fault, heads.line(again.ledger.head())), (None, given.files.read(folder.HEAD)))
+        self.assertEqual((again.fault, heads.line_of(again.ledger.head())), (None, given.files.read(folder.HEAD)))
         journal_file, kept = given.files.file(folder.JOURNAL), given.files.read(folder.JOURNAL)
         journal_file.write_bytes(kept.replace(b"GAS,A,", b"GAS,B,"))
         again = self.gate()

@@ -4,6 +4,7 @@ import asyncio
 import errno
 import io
 import os
+import unittest
 from unittest import mock
 
 from office_support import DAY, Disk, Office, commands, opener
@@ -50,7 +51,7 @@ class SignedHeads(Office):
         disk = Disk()
         path = await self.entered(disk)
         kept, before = path.read_bytes(), list(disk.records)
-        self.assertEqual(heads.parsed(kept, heads.head_read)[0].size, 3)
+        self.assertEqual(heads.parse(kept, heads.parse_head)[0].size, 3)
         other = [*before[:1], "cancel,GAS,OTHER,,,,,,", *before[2:]]
         for records, fault in (([], "LostEntries"), (before[:2], "LostEntries"), (other, "OtherEntries"), (before, None)):
             disk.records[:] = records
@@ -80,7 +81,7 @@ class SignedHeads(Office):
         kept, own = path.read_bytes(), self.key
         for name in (folder.SIGNED, folder.HEAD):
             path = path.replace(path.with_name(name))
-            self.key = signing.made()
+            self.key = signing.new_key()
             self.assertEqual(await self.started(disk), f"OtherKey: the head in {name} isn't signed by operator.pem, or was changed")
             self.assertEqual(path.read_bytes(), kept)
             self.key = own
@@ -90,7 +91,7 @@ class SignedHeads(Office):
             self.assertIsNone(await self.started(disk))
         path.unlink()
         path.with_name(folder.SIGNED).unlink()  # which the last start wrote
-        self.key = signing.made()
+        self.key = signing.new_key()
         self.assertIsNone(await self.started(disk))
 
     async def test_nothing_is_entered_while_the_newest_head_isnt_kept(self):

@@ -10,6 +10,9 @@ import json
 import os
 import re
 import subprocess
+import threading
+import tracemalloc
+import unittest
 from pathlib import Path
 from unittest import mock
 
@@ -21,11 +24,12 @@ from lib.tool import command, modules
 
 try:
     from lib.seal import signing
-    from lib.office import demo, folder, gate, guards, newest, observed, operate, setup, tokens, web
+    from lib.office import clearing, demo, desk, folder, gate, guards, newest, observed, operate, setup, tokens, web
     from lib.office import serve as serving
-    from lib.office.desk import how_ended
 except ImportError:  # without python3-aiohttp and the like, whose tests are skipped
     pass
+
+PAUSE = 0.3  # seconds that another thread gets to overtake this one, if nothing holds it
 
 
 def others(value):
@@ -82,6 +86,46 @@ class Setup(Office):
         self.assertEqual((status, [line[:5] for line in out.splitlines()[-1:]]), (command.DONE, [b"WIND."]))
         self.assertEqual(sorted(self.office.days()), ["2099-11-29", "2099-11-30"])
 
+    def test_two_at_once_make_one_office(self):
+        """The key that each prints is the stored one."""
+        made, printed = signing.new_key, []
+
+        def init():
+            setup.make_office(self.office)
+            printed.append(self.office.public_text(self.office.key()))
+
+        def overtaken():
+            if other.ident is None:
+                other.start()
+                other.join(PAUSE)
+            return made()
+
+        other = threading.Thread(target=init)
+        with mock.patch.object(signing, "new_key", overtaken):
+            init()
+            other.join()
+        self.assertEqual(printed, [self.office.file(folder.PUBLIC).read_text()] * 2)
+
+    def test_two_at_once_make_one_day(self):
+        """The other makes no token, which nobody would see."""
+        self.make()
+        terms, seen = folder.Terms("2026-11-30", 24, FUTURE, "UTC", {}), []
+
+        def make():
+            try:
+                with setup.new_day(self.office, terms):
+                    seen.append("a token")
+            except command.Stop as fault:
+                seen.append(str(fault))
+
+        other = threading.Thread(target=make)
+        with setup.new_day(self.office, terms):
+            other.start()
+            other.join(PAUSE)
+        other.join()
+        self.assertEqual(seen, ["there is a day 2026-11-30 already"])
+        self.assertEqual(sorted(os.listdir(self.office.file(folder.DAYS))), [DAY, "2026-11-30"])
+
     @property
     def table(self):
         return self.office.path.parent / "p.csv"
@@ -113,7 +157,7 @@ class Setup(Office):
         public = self.office.file(folder.PUBLIC)
         kept = public.read_bytes()
         self.participants("participant\nGAS\nWIND\n")
-        for other in (signing.public_text(signing.made()), b"", kept[:-30]):
+        for other in (signing.public_text(signing.new_key()), b"", kept[:-30]):
             public.write_bytes(other)
             with self.subTest(other=other):
                 with self.assertRaisesRegex(command.Stop, "operator.pem.pub isn't the public key of operator.pem"):
@@ -192,9 +236,9 @@ class Setup(Office):
             setup.participants_read(path)
 
     def test_a_workbook_of_participants_is_read(self):
-        if not modules.has("openpyxl"):
+        if not modules.has_module("openpyxl"):
             self.skipTest("python3-openpyxl is missing")
-        made, path = sheets.writer().Workbook(), self.office.path.parent / "p.xlsx"
+        made, path = sheets.workbook_writer().Workbook(), self.office.path.parent / "p.xlsx"
         for row in (["Participant", "commands"], ["A", 100], [], ["GAS"]):
             made.active.append(row)
         made.create_sheet("notes", 0).append(["x"])
@@ -277,6 +321,26 @@ class Setup(Office):
         self.assertEqual((made["revoked"], made["tokens"]), (["GAS"], {}))
         self.assertEqual(tool("office", "status", self.office.path, "--desk", "true")[0], 0)
 
+    def test_words_like_the_end_of_options(self):
+        """The first `--` ends the options, and each further one is a word: a day `--` isn't the only day, which could not be opened again."""
+        self.participants("participant\nGAS\n")
+        tool("office", "init", self.office.path, "--day", "2099-11-29", "--close", "12:00", "--participants", self.table)
+        (day,) = self.office.days().values()
+        for name in ("close", "publish"):
+            for words in ([self.office.path, "--", "--"], ["--", self.office.path, "--"]):
+                said = "office: there is no day --: there is 2099-11-29\n"
+                self.assertEqual(tool("office", name, *words), (command.NO_INPUT, b"", said), words)
+        for name in ("revoke", "renew"):
+            status, out, err = tool("office", name, self.office.path, "--", "--")
+            self.assertEqual((status, out), (command.COMMAND_LINE, b""))
+            self.assertIn("argument NAME: '--' should be 1 to 8 letters A to Z\n", err)
+        status, out, err = tool("office", "close", self.office.path, "--", "--", "--")
+        self.assertEqual((status, out, err.splitlines()[-1]), (command.COMMAND_LINE, b"", "office: error: unrecognized arguments: --"))
+        self.assertFalse(day.has(folder.CLOSE_NOW))
+        said = b"2099-11-29 will be closed once the office is served\n"
+        self.assertEqual(tool("office", "close", self.office.path, "--"), (command.DONE, said, ""))
+        self.assertTrue(day.has(folder.CLOSE_NOW))
+
     def test_the_members_of_each_record_are_described(self):
         (self.office.path.parent / "p.csv").write_text("participant\nGAS\n")
         words = ["--day", "2099-11-28", "--close", "12:00", "--participants", self.office.path.parent / "p.csv"]
@@ -347,7 +411,7 @@ class Setup(Office):
     def test_a_fault_of_a_write_names_the_file(self):
         full = OSError(errno.ENOSPC, "No space left on device")
         for fault in (full, OSError(errno.ENOSPC, full.strerror, ".dam-0123")):
-            with mock.patch.object(folder.replacing, "write", side_effect=fault), self.assertRaises(OSError) as caught:
+            with mock.patch.object(folder.replacing, "write_replacing", side_effect=fault), self.assertRaises(OSError) as caught:
                 self.make()
             self.assertRegex(caught.exception.filename, "operator.pem")
             self.assertEqual(command.status_and_message(caught.exception)[0], command.NO_INPUT)
@@ -458,13 +522,13 @@ class Setup(Office):
             answers = web.Web(served, False, False)
             task = asyncio.create_task(served.run())
             await self.until(lambda: DAY in served.gates and served.gates[DAY].is_ready.is_set() and served.is_healthy)
-            self.assertEqual(answers.participant(asked), "GAS")
+            self.assertEqual(answers.authorized_participant(asked), "GAS")
             for damage in (b"{", b"[1]", None):
                 path.unlink(missing_ok=True)
                 if damage is not None:
                     path.write_bytes(damage)
                 with self.subTest(damage=damage), self.assertRaises(gate.Refused) as caught:
-                    answers.participant(asked)
+                    answers.authorized_participant(asked)
                 self.assertEqual(caught.exception.fault, "Unavailable")
                 await self.until(lambda: not served.is_healthy)
                 said = json.loads(log.getvalue().splitlines()[-1])
@@ -472,7 +536,7 @@ class Setup(Office):
                 self.assertIn(str(path), said["fault"])
                 path.write_bytes(kept)
                 await self.until(lambda: served.is_healthy)
-                self.assertEqual(answers.participant(asked), "GAS")
+                self.assertEqual(answers.authorized_participant(asked), "GAS")
             task.cancel()
             await asyncio.gather(task, return_exceptions=True)
             await served.stop()
@@ -537,6 +601,7 @@ class Setup(Office):
             (f"#!/bin/sh\n{prints}; exit 4", "it ended with status 4"),
             ("#!/bin/sh\nkill -9 $$", "it was ended by signal 9"),
             ("#!/bin/sh\nexec sleep 60", "it took more than 0.2 s"),
+            ("#!/bin/sh\nexec head -c 3000000 /dev/zero", "it printed more than 1,048,576 bytes"),
             ("#!/nowhere/sh\n", "No such file or directory"),
         ):
             made.write_text(lines)
@@ -547,9 +612,27 @@ class Setup(Office):
         made.write_text(f"#!/bin/sh\n{prints}")
         self.assertEqual(serving.programs(made, "false"), (str(made), "false"))
 
+    def test_a_program_that_says_much(self):
+        """Of its standard error, the office takes no more than it logs."""
+        made = self.office.path.parent / "dam"
+        made.write_text("#!/bin/sh\necho begin >&2\nhead -c 30000000 /dev/zero | tr '\\0' x >&2\nexit 3\n")
+        made.chmod(0o755)
+        tracemalloc.start()
+        self.addCleanup(tracemalloc.stop)
+        for call in (clearing.output(str(made), "clear", data=b"x" * 300_000), desk.shown(str(made), "file")):
+            with self.assertRaises((clearing.Failed, desk.Ended)) as raised:
+                asyncio.run(call)
+            self.assertTrue(str(raised.exception).endswith("ended with status 3: begin\n" + "x" * (desk.MOST_FAULT - len("begin\n"))))
+        self.assertLess(tracemalloc.get_traced_memory()[1], 8 << 20)
+        made.write_text("#!/bin/sh\nexec head -c 3000000 /dev/zero\n")
+        with mock.patch.object(desk, "MOST_PRINTED", 2_000_000):
+            for call in (clearing.output(str(made), "clear"), desk.shown(str(made), "file")):
+                with self.assertRaisesRegex(OSError, f"it printed 2,000,000 bytes or more: '{made}'$"):
+                    asyncio.run(call)
+
     def test_how_a_program_ended(self):
-        self.assertEqual(how_ended(4), "ended with status 4")
-        self.assertEqual(how_ended(-9), "was ended by signal 9")
+        self.assertEqual(desk.how_ended(4), "ended with status 4")
+        self.assertEqual(desk.how_ended(-9), "was ended by signal 9")
 
     def test_the_proxy_of_the_examples_has_the_limits_of_the_office(self):
         """It is in front of the port of the unit, and limits addresses as an office without a proxy does."""

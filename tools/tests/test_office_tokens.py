@@ -1,6 +1,7 @@
 """The office: tokens, limits and what is refused."""
 
 import argparse
+import asyncio
 import io
 import json
 import logging
@@ -8,6 +9,7 @@ import os
 import re
 import stat
 import threading
+import unittest
 from unittest import mock
 
 from office_support import DAY, NAMES, Office
@@ -133,7 +135,7 @@ class Tokens(Office):
         asked = argparse.Namespace(headers=headers, match_info={"who": "GAS", "day": DAY}, content=content)
         asked.transport, asked.read = content, mock.AsyncMock(return_value=b"x")
         with mock.patch.object(reader, "read", read):
-            answer = await made.table(asked)
+            answer = await made.answer_table(asked)
         self.assertEqual(json.loads(answer.text)["notes"], [])
         self.assertLess(made.reads.left("GAS"), web.MOST_READS - web.READS_OF_TABLE - 150)
 
@@ -150,14 +152,45 @@ class Tokens(Office):
         found = []
         for number in range(web.MOST_GUESSES + 5):
             with self.assertRaises(gate.Refused) as caught:
-                made.participant(asked(number, {"who": "GAS"}))
+                made.authorized_participant(asked(number, {"who": "GAS"}))
             found.append(caught.exception.fault)
         self.assertEqual((found[0], found[-1]), ("Token", "TooFast"))
         made.looks = guards.Buckets(0.001, 3, lambda: 0.0)
         for number in range(3):
-            made.slow_down(asked(number, {}))
+            made.refuse_too_many(asked(number, {}))
         with self.assertRaises(gate.Refused):
-            made.slow_down(asked(4, {}))
+            made.refuse_too_many(asked(4, {}))
+
+    async def test_an_expectation_passes_no_limit(self):
+        """Also at a path or a method that the office doesn't know. It isn't repeated; a client that waits before its body is answered."""
+        self.make()
+        office = serving.Office(self.office, serving.Programs("dam", "dam-desk"), observed.Log(io.StringIO()))
+        made = web.Web(office)
+        made.looks = guards.Buckets(0.001, 4, lambda: 0.0)
+        runner = guards.Runner(made.application(), office.counts)
+        await runner.setup()
+        server = await asyncio.get_running_loop().create_server(runner.server, "127.0.0.1", 0)
+        waits = "100-Continue"
+        for method, path, odd, *statuses in (
+            ("GET", "/nothing", "zz", 404),
+            ("DELETE", "/days", "zz", 405),
+            ("GET", "/days", "zz", 200),
+            ("GET", "/days", waits, 100, 200),
+            ("GET", "/nothing", "zz", 429),
+        ):
+            reader, writer = await asyncio.open_connection(*server.sockets[0].getsockname())
+            writer.write(f"{method} {path} HTTP/1.1\r\nHost: x\r\nConnection: close\r\nExpect: {odd}\r\n\r\n".encode())
+            answer = await reader.read()
+            writer.close()
+            with self.subTest(method=method, path=path, odd=odd):
+                self.assertEqual(list(map(int, re.findall(rb"HTTP/1.1 (\d+) ", answer))), statuses)
+                self.assertNotIn(b"zz", answer)
+        server.close()
+        await runner.cleanup()
+        counted = {line for line in office.counts.text([]).splitlines() if "requests_total{" in line}
+        self.assertEqual(len(counted), 4)
+        for method, status, count in (("GET", 404, 1), ("other", 405, 1), ("GET", 200, 2), ("GET", 429, 1)):
+            self.assertIn(f'dam_office_requests_total{{method="{method}",status="{status}"}} {count}', counted)
 
     def test_guesses_are_slowed_down_and_others_are_not(self):
         now = [0.0]

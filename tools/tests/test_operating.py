@@ -1,6 +1,7 @@
 """The script of docs/OPERATING.md for each day, as an example of the package: whole results or none, and never two runs in a folder."""
 
 import os
+import random
 import re
 import signal
 import subprocess
@@ -19,6 +20,8 @@ FOLDER = TOP / "examples" / "operating"
 SCRIPT = FOLDER / "day.sh"
 FAKE = Path(__file__).with_name("fake_dam.py")
 SECONDS = 100  # that a run may take
+# Ctrl-C goes to the group of the script, which `timeout` isn't in; other signals to the script alone.
+SIGNALS = [(signal.SIGINT, os.killpg), (signal.SIGTERM, os.kill), (signal.SIGHUP, os.kill)]
 
 
 def kill(run):
@@ -138,7 +141,7 @@ class Day(unittest.TestCase):
             self.script(name, line)
             found = self.run_once()
             self.assertEqual(found[:2], (status, [last]))
-            (room,) = self.day.glob("new.*")
+            room = self.day / "new"
             self.assertEqual((self.names(), sorted(path.name for path in room.iterdir())), (["day.csv", room.name], kept))
             (self.bin / name).write_text(before)
 
@@ -156,13 +159,13 @@ class Day(unittest.TestCase):
         self.assertEqual((self.run_once()[0], self.names()), (0, ["day.csv", "replies.txt", "results.txt"]))
 
     def test_a_signal_ends_a_step_too(self):
-        """Ctrl-C goes to the group of the script, which `timeout` isn't in; other signals to the script alone. The lock is free at once."""
+        """The lock is free at once."""
         heed_interrupts(self)
         begun = self.bin / "begun"
         for name, line in (("dam", '[ "$1" = replay ] || '), ("dam-audit", "")):
             before = (self.bin / name).read_text()
             self.script(name, f'{line}{{ touch "{begun}"; exec sleep 60; }}')
-            for number, send in ((signal.SIGINT, os.killpg), (signal.SIGTERM, os.kill), (signal.SIGHUP, os.kill)):
+            for number, send in SIGNALS:
                 with self.subTest(name, number=number):
                     run = self.start(self.day)
                     self.addCleanup(kill, run)
@@ -175,6 +178,54 @@ class Day(unittest.TestCase):
                     self.assertNotIn("results.txt", self.names())
                 begun.unlink()
             (self.bin / name).write_text(before)
+
+    def test_a_signal_ends_a_desk_too(self):
+        """And any other step, also one that has just begun; the lock is free at once. Before there is a lock, the shell may end by itself."""
+        heed_interrupts(self)
+        begun, desk = self.bin / "begun", Path(self.day, "day.desk")
+        desk.write_bytes(AUCTION.read_bytes())
+        for name in ("lint", "audit"):
+            self.script(f"dam-{name}", "exec sleep 60")
+        for line, pauses in (
+            (f'touch "{begun}"; exec sleep 60', [0]),
+            ("exec sleep 60", [number / 3_000 for number in range(40)]),  # it may come at any moment of the beginning
+            ('cat "$2"', [number / 500 for number in range(12)]),
+        ):
+            self.script("dam-desk", line)
+            for pause in pauses:
+                number, send = random.choice(SIGNALS)
+                with self.subTest(line, pause=pause, number=number):
+                    self.signalled(number, send, pause, begun if "begun" in line else None)
+                    self.assertLessEqual({"results.txt", "replies.txt"} & set(self.names()), set())
+                begun.unlink(missing_ok=True)
+
+    def signalled(self, number, send, pause, begun=None):
+        """A run that gets a signal after a pause, and ends with the lock free."""
+        run = self.start(self.day)
+        self.addCleanup(kill, run)
+        while begun and not begun.exists():
+            time.sleep(0.01)
+        time.sleep(pause)
+        send(run.pid, number)
+        status = run.wait(timeout=SECONDS / 2)
+        self.assertIn(status, (10, *[-number] * (not begun)))
+        self.assertEqual(subprocess.run(["flock", "-n", self.day / "lock", "true"]).returncode, 0)
+        run.communicate()
+
+    def test_a_signal_leaves_a_whole_day_or_none(self):
+        """Old results are removed together, and new ones put there together."""
+        heed_interrupts(self)
+        whole, ends = ["day.csv", "replies.txt", "results.txt"], 'sleep 0.2; kill -{0} $PPID; kill -{0} 0; sleep 0.2'
+        for number, _ in SIGNALS:
+            self.assertEqual((self.run_once()[0], self.names()), (0, whole))
+            self.script("rm", f'/bin/rm -f results.txt; {ends.format(number)}; exec /bin/rm "$@"')
+            with self.subTest(number=number, step="rm"):
+                self.assertEqual((self.run_once()[0], self.names()), (10, ["day.csv"]))
+            (self.bin / "rm").unlink()
+            self.script("mv", f'/bin/mv "$@"; {ends.format(number)}')
+            with self.subTest(number=number, step="mv"):
+                self.assertEqual((self.run_once()[0], self.names()), (0, whole))
+            (self.bin / "mv").unlink()
 
     def test_a_folder_that_is_not_there(self):
         self.day = self.day / "none"

@@ -49,7 +49,7 @@ class Missing(unittest.TestCase):
         self.assertEqual(err, f"audit: it needs {self.words('numpy')}\n")
 
 
-@unittest.skipUnless(modules.has("matplotlib"), "matplotlib is missing (Debian's python3-matplotlib)")
+@unittest.skipUnless(modules.has_module("matplotlib"), "matplotlib is missing (Debian's python3-matplotlib)")
 class Pictures(unittest.TestCase):
     def test_days_with_little_in_them(self):
         from lib.pictures import canvas, pictures
@@ -111,7 +111,7 @@ class Pictures(unittest.TestCase):
             for day, number in ((auction, 19), (few, 8), (few, 19), (auction, 19), (auction, 3), (few, 19)):
                 for words_as_text in (True, False):
                     fresh = canvas.picture(pictures.period_picture(day, number, width), "svg", words_as_text)
-                    self.assertEqual(canvas.picture(sheet.drawn(day, number), "svg", words_as_text), fresh, (number, width))
+                    self.assertEqual(canvas.picture(sheet.draw(day, number), "svg", words_as_text), fresh, (number, width))
 
     def test_the_axes_of_small_volumes_and_of_no_orders(self):
         from lib.pictures import canvas, pictures
@@ -149,7 +149,7 @@ class Pictures(unittest.TestCase):
 
         for case in (AUCTION, QUARTERS):
             day = day_of(case.read_bytes(), support.printed(case))
-            bars = sum(volume > 0 for parts in trades.shares(day).values() for volume in parts.values())
+            bars = sum(volume > 0 for parts in trades.volume_shares(day).values() for volume in parts.values())
             bars *= day.problem.periods == 24
             self.assertEqual(len(pictures.prices_picture(day).axes[1].patches), bars)
             # Of each block one outline, since its periods follow one another.
@@ -203,7 +203,7 @@ class Pictures(unittest.TestCase):
             self.assertEqual((status, "has a journal instead of results" in err), (command.NO_INPUT, True))
 
 
-@unittest.skipUnless(modules.has("matplotlib"), "matplotlib is missing (Debian's python3-matplotlib)")
+@unittest.skipUnless(modules.has_module("matplotlib"), "matplotlib is missing (Debian's python3-matplotlib)")
 class Apart(unittest.TestCase):
     """matplotlib works in an empty folder of its own."""
 
@@ -211,7 +211,7 @@ class Apart(unittest.TestCase):
         from lib.pictures import drawing
 
         before = os.getcwd()
-        with drawing.apart():
+        with drawing.empty_settings():
             self.assertNotEqual(os.getcwd(), before)
             self.assertEqual((os.listdir("."), os.environ["MPLCONFIGDIR"]), ([], os.getcwd()))
         self.assertEqual(os.getcwd(), before)
@@ -228,7 +228,7 @@ class Apart(unittest.TestCase):
                 raise PermissionError
             return opened(path, *others, **more)
 
-        with mock.patch.object(drawing.os, "open", refused), drawing.apart():
+        with mock.patch.object(drawing.os, "open", refused), drawing.empty_settings():
             self.assertEqual(os.getcwd(), before)
             self.assertEqual(os.listdir(os.environ["MPLCONFIGDIR"]), [])
 

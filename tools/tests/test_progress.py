@@ -78,10 +78,10 @@ class Time(unittest.TestCase):
     def test_words_and_the_time_are_shown(self):
         with mock.patch("sys.stderr", Terminal()) as stream:
             progress = Progress("audit", 60)
-            progress.look("HiGHS is still searching")
+            progress.check_time("HiGHS is still searching")
         self.assertEqual(stream.getvalue(), "\raudit: HiGHS is still searching, 0 s")
         with self.assertRaisesRegex(TimeoutError, "^after 0 seconds, HiGHS is still searching: --seconds gives more time$"):
-            Progress("audit", 0).look("HiGHS is still searching")
+            Progress("audit", 0).check_time("HiGHS is still searching")
 
     def test_threads_end_when_it_is_over(self):
         progress, ended = Progress("audit", 60), []

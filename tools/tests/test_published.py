@@ -20,7 +20,7 @@ PAGE = (TOP / "docs" / "TABLES.md").read_text()
 
 
 def read(rows):
-    return list(csv.DictReader(io.StringIO(sheets.written(rows))))
+    return list(csv.DictReader(io.StringIO(sheets.table_text(rows))))
 
 
 def days():
@@ -36,7 +36,7 @@ class Curves(unittest.TestCase):
         points = 0
         for name, day in days():
             rows = read(published.curves(day))
-            for number in trades.traded(day):
+            for number in trades.traded_periods(day):
                 own = [row for row in rows if row["period"] == str(number)]
                 (point,) = [row for row in own if row["curve"] == "clearing"]
                 price, volume = Fraction(point["price_eur_mwh"]), Fraction(point["to_mw"])
@@ -105,7 +105,7 @@ class Figures(unittest.TestCase):
         for periods in rules.DAYS:
             peak = [number for number in range(1, periods + 1) if published.is_peak(periods, number)]
             self.assertEqual(len(peak) * rules.DAYS[periods], 12)
-            self.assertEqual(clock.begins(periods, peak[0]), "08:00")
+            self.assertEqual(clock.begin_time(periods, peak[0]), "08:00")
 
     def test_sums_are_those_of_the_tables(self):
         """Also of quarter-hours, whose energy and amounts are a fourth."""
@@ -153,15 +153,15 @@ class Times(unittest.TestCase):
         # In 2026 on 29 March and 25 October.
         for date, hours in (((2026, 3, 29), 23), ((2026, 10, 25), 25), ((2026, 11, 25), 24)):
             for periods in (hours, 4 * hours):
-                times = shapes.begins(datetime.date(*date), periods)
-                clocks = [clock.begins(periods, number) for number in range(1, periods + 1)]
+                times = shapes.begin_times(datetime.date(*date), periods)
+                clocks = [clock.begin_time(periods, number) for number in range(1, periods + 1)]
                 self.assertEqual([time.strftime("%H:%M") for time in times[:-1]], clocks)
                 self.assertEqual(len({time.timestamp() for time in times}), periods + 1)
                 self.assertEqual(times[-1].strftime("%H:%M"), "00:00")
             for wrong in set(rules.DAYS) - {hours, 4 * hours}:
                 with self.assertRaises(shapes.BadDate):
-                    shapes.begins(datetime.date(*date), wrong)
-        autumn = [time.isoformat() for time in shapes.begins(datetime.date(2026, 10, 25), 25)[2:4]]
+                    shapes.begin_times(datetime.date(*date), wrong)
+        autumn = [time.isoformat() for time in shapes.begin_times(datetime.date(2026, 10, 25), 25)[2:4]]
         self.assertEqual(autumn, ["2026-10-25T02:00:00+02:00", "2026-10-25T02:00:00+01:00"])
 
     @unittest.skipUnless(modules.has_zone(shapes.ZONE), "the time zones are missing (Debian's tzdata)")

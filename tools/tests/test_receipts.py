@@ -42,7 +42,7 @@ LONGEST = ",".join(
 @NEEDS_CRYPTOGRAPHY
 class Receipts(unittest.TestCase):
     def setUp(self):
-        self.key = signing.made()
+        self.key = signing.new_key()
         self.public = self.key.public_key()
 
     def test_each_entry_has_a_receipt_on_each_length_of_a_day(self):
@@ -60,7 +60,7 @@ class Receipts(unittest.TestCase):
         path = tuple(merkle.leaf_hash(b"%d" % level) for level in range(heads.LONGEST_PATH))
         head = heads.Head("D" * 32, 100, heads.MOST_ENTRIES, path[0], b"s" * heads.SIGNATURE_BYTES)
         reply = max(heads.REPLIES, key=len)
-        largest = heads.line(heads.Receipt(heads.MOST_ENTRIES, LONGEST, reply, path[0], path, head))
+        largest = heads.line_of(heads.Receipt(heads.MOST_ENTRIES, LONGEST, reply, path[0], path, head))
         self.assertLess(len(largest), heads.LONGEST_LINE)
         self.assertLessEqual(len(largest) - len(LONGEST), 1_100)
 
@@ -69,10 +69,10 @@ class Receipts(unittest.TestCase):
         seal = sealed_of(b"day,24,,,,,,,\n%sclose,,,,,,,,\n" % cancels, key=self.key)
         head = seal.head()
         for number in (1, 8_192, 8_193, heads.MOST_ENTRIES):
-            self.assertEqual(verdict_of(heads.line(seal.receipt(number, head)), head, self.public), receipts.RIGHT)
+            self.assertEqual(verdict_of(heads.line_of(seal.receipt(number, head)), head, self.public), receipts.RIGHT)
         self.assertEqual(len(seal.receipt(1, head).path), heads.LONGEST_PATH)
-        old = max(range(1, head.size), key=lambda size: len(seal.tree.consistency(size)))
-        found, _ = heads.parsed(heads.line(seal.extension(seal.head(old), head)), heads.extension_read)
+        old = max(range(1, head.size), key=lambda size: len(seal.tree.consistency_proof(size)))
+        found, _ = heads.parse(heads.line_of(seal.extension(seal.head(old), head)), heads.parse_extension)
         self.assertEqual((len(found.path), found.is_valid()), (heads.LONGEST_PROOF, True))
 
     def test_every_change_of_a_byte_is_found(self):
@@ -80,7 +80,7 @@ class Receipts(unittest.TestCase):
         chance = random.Random("changes")
         seal = sealed_of(AUCTION.read_bytes(), key=self.key)
         head, public = seal.head(), signing.public_text(self.key)
-        lines, written = lines_of(seal), heads.line(head)
+        lines, written = lines_of(seal), heads.line_of(head)
         for _ in range(CHANGES):
             line = chance.choice(lines)
             text, which = chance.choice([(line, "receipt")] * 3 + [(written, "head"), (public, "key")])
@@ -93,11 +93,11 @@ class Receipts(unittest.TestCase):
                     self.assertNotEqual(verdict_of(changed, head, self.public), receipts.RIGHT)
                 elif which == "head":
                     with contextlib.suppress(heads.BadRecord):
-                        other, is_written = heads.parsed(changed, heads.head_read)
+                        other, is_written = heads.parse(changed, heads.parse_head)
                         self.assertFalse(is_written and signing.is_signed(self.public, other))
                 else:
                     with contextlib.suppress(signing.BadKey):
-                        other = signing.public(changed)
+                        other = signing.parse_public(changed)
                         # Some bytes of PEM say nothing, such as a line end: then it is the same key.
                         self.assertTrue(raw_of(other) == raw_of(self.public) or not signing.is_signed(other, head))
 
@@ -114,24 +114,24 @@ class Receipts(unittest.TestCase):
             "head": foreign.head,
         }.items():
             with self.subTest(name):
-                line = heads.line(own._replace(**{name: value}))
+                line = heads.line_of(own._replace(**{name: value}))
                 self.assertIn(verdict_of(line, head, self.public), (receipts.WRONG, receipts.UNREAD))
         for name, value in {"day": "2026-11-29", "periods": 96, "size": head.size + 1, "root": foreign.salt}.items():
             with self.subTest(name):
                 self.assertFalse(signing.is_signed(self.public, head._replace(**{name: value})))
-                line = heads.line(own._replace(head=head._replace(**{name: value})))
+                line = heads.line_of(own._replace(head=head._replace(**{name: value})))
                 self.assertEqual(verdict_of(line, head, self.public), receipts.WRONG)
 
     def test_another_key_signed(self):
         other = sealed_of(AUCTION.read_bytes())
-        line = heads.line(other.receipt(1, other.head()))
+        line = heads.line_of(other.receipt(1, other.head()))
         head = sealed_of(AUCTION.read_bytes(), key=self.key).head()
         self.assertEqual(verdict_of(line, head, self.public), receipts.WRONG)
 
     def test_texts_that_are_no_receipts(self):
         seal = sealed_of(AUCTION.read_bytes(), key=self.key)
         head = seal.head()
-        line = heads.line(seal.receipt(1, head)).decode()
+        line = heads.line_of(seal.receipt(1, head)).decode()
         value = json.loads(line)
         wrong = [b"", b"\n", b"{}", b"[]", b"null", b"\xff", b"[" * 20_000, b"1" * 5_000, b"{" + b'"a":' * 5_000, b" " * 20_000 + b"\n"]
         wrong += [json.dumps({**value, name: None}).encode() for name in value]
@@ -160,42 +160,42 @@ class Receipts(unittest.TestCase):
         for made in changed:
             with self.subTest(made):
                 with self.assertRaises(heads.BadRecord) as caught:
-                    heads.parsed(json.dumps(made).encode(), heads.receipt_read)
+                    heads.parse(json.dumps(made).encode(), heads.parse_receipt)
                 self.assertNotIn(said[:21], str(caught.exception))
                 self.assertLess(len(str(caught.exception)), 150)
         with self.assertRaisesRegex(heads.BadRecord, "^a dam-receipt-1 has no member 'the published head c..' \\(107 characters\\)$"):
-            heads.parsed(json.dumps(with_member).encode(), heads.receipt_read)
+            heads.parse(json.dumps(with_member).encode(), heads.parse_receipt)
         with self.assertRaisesRegex(heads.BadRecord, "^it lacks the member salt$"):
-            heads.parsed(json.dumps({**without, said: 1}).encode(), heads.receipt_read)
+            heads.parse(json.dumps({**without, said: 1}).encode(), heads.parse_receipt)
 
     def test_a_record_stands_in_its_written_form(self):
         """Another writing of the same command would be another entry with the same meaning."""
         value = json.loads(lines_of(sealed_of(AUCTION.read_bytes(), key=self.key))[0])
         record = value["record"]
-        self.assertEqual(heads.parsed(json.dumps(value).encode(), heads.receipt_read)[0].record, record)
+        self.assertEqual(heads.parse(json.dumps(value).encode(), heads.parse_receipt)[0].record, record)
         quoted = '"submit"' + record.removeprefix("submit")
         for other in (quoted, f"{record}\n", f"{record}\r", f"\n{record}", f"{record}\n{record}", f"{record} ", ""):
             with self.subTest(other), self.assertRaisesRegex(heads.BadRecord, "isn't a record of a written journal$"):
-                heads.parsed(json.dumps({**value, "record": other}).encode(), heads.receipt_read)
+                heads.parse(json.dumps({**value, "record": other}).encode(), heads.parse_receipt)
 
     def test_each_base64(self):
         """With exactly its padding, on each Python: bits that say nothing are another writing of the same bytes."""
         for count in (heads.HASH_BYTES, heads.SIGNATURE_BYTES):
             data = bytes(range(count))
-            word = heads.packed(data)
+            word = heads.base64_of(data)
             last = word.rstrip("=")[-1]
             bits = word.replace(f"{last}=", f"{chr(ord(last) + 1)}=")
-            self.assertEqual([heads.bytes_read(one, count) for one in (word, bits)], [data, data])
+            self.assertEqual([heads.parse_base64(one, count) for one in (word, bits)], [data, data])
             self.assertNotEqual(word, bits)
             wrong = [f"{word}=", word[:-1], f" {word}", f"{word}\n", word.replace(word[4], "-"), word[:-4], f"{word[:-1]}A", None, 1, [word]]
             for other in wrong:
                 with self.subTest(other), self.assertRaises(heads.BadRecord):
-                    heads.bytes_read(other, count)
+                    heads.parse_base64(other, count)
 
     def test_another_writing_of_a_right_receipt(self):
         seal = sealed_of(AUCTION.read_bytes(), key=self.key)
         head = seal.head()
-        line = heads.line(seal.receipt(1, head))
+        line = heads.line_of(seal.receipt(1, head))
         value = json.loads(line)
         salt = value["salt"].encode()
         digits = b"ABCDEFGHIJKLMNOPQRSTUVWXYZabcdefghijklmnopqrstuvwxyz0123456789+/"
@@ -211,9 +211,9 @@ class Receipts(unittest.TestCase):
             with self.subTest(data):
                 self.assertEqual(verdict_of(data, head, self.public), receipts.UNREAD)
         # an empty line is white space of a head, which has a file of its own
-        for data in (heads.line(head) + b"\n", b"\n" + heads.line(head)):
+        for data in (heads.line_of(head) + b"\n", b"\n" + heads.line_of(head)):
             odd = []
-            self.assertEqual(receipts.head_of("head", data, self.public, odd), head)
+            self.assertEqual(receipts.parse_head("head", data, self.public, odd), head)
             self.assertEqual(receipts.verdict(odd), receipts.ENCODING)
 
     def test_the_first_of_several_statuses(self):
@@ -263,7 +263,7 @@ class Receipts(unittest.TestCase):
         self.assertFalse(leaves[0] & leaves[1])
         shown = b"".join(lines_of(seals[0])[:1])
         for number, entry in enumerate(seals[0].entries[1:], 2):
-            self.assertNotIn(heads.packed(seals[0].salt(number)).encode(), shown)
+            self.assertNotIn(heads.base64_of(seals[0].salt(number)).encode(), shown)
             self.assertNotIn(entry.record.encode(), shown)
 
     def test_a_growing_journal(self):
@@ -277,28 +277,28 @@ class Receipts(unittest.TestCase):
         with tempfile.TemporaryDirectory() as folder:
             for size in range(1, last.size):
                 path = Path(folder, "extension.json")
-                path.write_bytes(heads.line(seal.extension(published[size], last)))
-                line = heads.line(seal.receipt(size, published[size]))
+                path.write_bytes(heads.line_of(seal.extension(published[size], last)))
+                line = heads.line_of(seal.receipt(size, published[size]))
                 self.assertEqual(verdict_of(line, last, self.public), receipts.UNDECIDED)
                 self.assertEqual(verdict_of(line, last, self.public, receipts.Links([path], self.public, [])), receipts.RIGHT)
             # A published head that ends before an entry, and one that has it.
-            early = heads.line(seal.receipt(3, published[5]))
+            early = heads.line_of(seal.receipt(3, published[5]))
             links = receipts.Links([], self.public, [])
             self.assertEqual(verdict_of(early, published[2], self.public, links), receipts.WRONG)
             self.assertEqual(verdict_of(early, published[3], self.public, links), receipts.UNDECIDED)
-            path.write_bytes(heads.line(seal.extension(published[2], published[5])))
+            path.write_bytes(heads.line_of(seal.extension(published[2], published[5])))
             self.assertEqual(verdict_of(early, published[2], self.public, receipts.Links([path], self.public, [])), receipts.WRONG)
-            path.write_bytes(heads.line(seal.extension(published[3], published[5])))
+            path.write_bytes(heads.line_of(seal.extension(published[3], published[5])))
             self.assertEqual(verdict_of(early, published[3], self.public, receipts.Links([path], self.public, [])), receipts.RIGHT)
             steps = []
             for size in range(1, last.size):
                 steps.append(Path(folder, f"{size}.json"))
-                steps[-1].write_bytes(heads.line(seal.extension(published[size], published[size + 1])))
+                steps[-1].write_bytes(heads.line_of(seal.extension(published[size], published[size + 1])))
             links = receipts.Links(steps, self.public, [])
-            self.assertEqual(verdict_of(heads.line(seal.receipt(1, published[1])), last, self.public, links), receipts.RIGHT)
-            self.assertEqual(links.compared(published[0], last)[0], receipts.RIGHT)
+            self.assertEqual(verdict_of(heads.line_of(seal.receipt(1, published[1])), last, self.public, links), receipts.RIGHT)
+            self.assertEqual(links.verdict_on_two(published[0], last)[0], receipts.RIGHT)
             broken = receipts.Links(steps[1:], self.public, [])
-            self.assertEqual(verdict_of(heads.line(seal.receipt(1, published[1])), last, self.public, broken), receipts.UNDECIDED)
+            self.assertEqual(verdict_of(heads.line_of(seal.receipt(1, published[1])), last, self.public, broken), receipts.UNDECIDED)
 
     def test_a_fork_shows_nothing_of_its_other_end(self):
         """Two journals with one secret: an entry that differs has another salt."""
@@ -312,28 +312,28 @@ class Receipts(unittest.TestCase):
 
     def test_two_journals_of_one_day(self):
         heads_of = [sealed_of(data, key=self.key).head() for data in (FIRST, FIRST)]
-        self.assertEqual(receipts.Links([], self.public, []).compared(*heads_of)[0], receipts.WRONG)
+        self.assertEqual(receipts.Links([], self.public, []).verdict_on_two(*heads_of)[0], receipts.WRONG)
         days = [sealed_of(data, key=self.key).head() for data in (AUCTION.read_bytes(), QUARTERS.read_bytes())]
-        self.assertEqual(receipts.Links([], self.public, []).compared(*days)[0], receipts.WRONG)
+        self.assertEqual(receipts.Links([], self.public, []).verdict_on_two(*days)[0], receipts.WRONG)
 
     def test_the_example_of_the_formats(self):
         page = (TOP / "docs" / "FORMATS.md").read_text()
         line = re.search(r"```json\n(\{\"format\":\"dam-receipt-1.*?)```", page, re.DOTALL)[1].replace("\n", "").encode() + b"\n"
-        key = signing.public(re.search(r"-----BEGIN PUBLIC KEY-----.*?-----END PUBLIC KEY-----\n", page, re.DOTALL)[0].encode())
-        receipt, is_written = heads.parsed(line, heads.receipt_read)
+        key = signing.parse_public(re.search(r"-----BEGIN PUBLIC KEY-----.*?-----END PUBLIC KEY-----\n", page, re.DOTALL)[0].encode())
+        receipt, is_written = heads.parse(line, heads.parse_receipt)
         self.assertTrue(is_written)
         self.assertEqual(verdict_of(line, receipt.head, key), receipts.RIGHT)
         salts = heads.Salts(DAY, bytes(range(32, 64)))
         read = journal.read_journal(b"".join(FIRST.splitlines(keepends=True)[:4]))
         private = Ed25519PrivateKey.from_private_bytes(bytes(range(32)))
-        seal = sealing.sealed(read, book.run(read)[1], DAY, salts, private)
-        self.assertEqual(heads.line(seal.receipt(2, seal.head())), line)
+        seal = sealing.seal_of(read, book.run(read)[1], DAY, salts, private)
+        self.assertEqual(heads.line_of(seal.receipt(2, seal.head())), line)
         # The extension to it.
         words = "The path of the extension from two entries to three is the second hash above. The root and the signature of its `from` are"
         root, signature = re.search(rf"{words}\n\n```text\n(\S+)\n(\S+)\n```", page).groups()
         extension = seal.extension(seal.head(2), seal.head())
         self.assertTrue(extension.is_valid())
-        self.assertEqual((heads.packed(extension.old.root), heads.packed(extension.old.signature)), (root, signature))
+        self.assertEqual((heads.base64_of(extension.old.root), heads.base64_of(extension.old.signature)), (root, signature))
         self.assertEqual(extension.path, receipt.path[1:])
 
     def said_by_openssl(self, data, key=None):
@@ -354,14 +354,14 @@ class Receipts(unittest.TestCase):
         head = seal.head()
         for number in (1, 2, head.size // 2, head.size):
             made = seal.receipt(number, head)
-            self.assertEqual(self.said_by_openssl(heads.line(made)), f"right: {made.record}, {made.reply}\n")
+            self.assertEqual(self.said_by_openssl(heads.line_of(made)), f"right: {made.record}, {made.reply}\n")
             for other in (made._replace(record=made.record.replace(",", ",,", 1)), made._replace(number=number % head.size + 1)):
-                self.assertEqual(self.said_by_openssl(heads.line(other)), "wrong\n")
+                self.assertEqual(self.said_by_openssl(heads.line_of(other)), "wrong\n")
 
     def test_other_writings_by_openssl(self):
         """It takes the written form alone, as `verify` does for status 0."""
         seal = sealed_of(b"".join(FIRST.splitlines(keepends=True)[:4]), key=self.key)
-        line = heads.line(seal.receipt(2, seal.head()))
+        line = heads.line_of(seal.receipt(2, seal.head()))
         self.assertEqual(self.said_by_openssl(line), "right: submit,STAD,BASE-8,hour,buy,9500,8:300,,, done\n")
         salt = re.search(rb'"salt":"(.*?)"', line)[1]
         digits = b"ABCDEFGHIJKLMNOPQRSTUVWXYZabcdefghijklmnopqrstuvwxyz0123456789+/"
@@ -385,7 +385,7 @@ class Receipts(unittest.TestCase):
         def line_of(own, signed):
             own, root = {**entry, **own, "salt": bytes(32)}, {**head, **signed}
             root["root"] = heads.leaf_of(*own.values())
-            return heads.line(heads.Receipt(**own, path=(), head=signing.signed(self.key, heads.Head(**root))))
+            return heads.line_of(heads.Receipt(**own, path=(), head=signing.sign(self.key, heads.Head(**root))))
 
         self.assertEqual(self.said_by_openssl(line_of({}, {})), "right: cancel,A,B,,,,,,, done\n")
         own = [{"number": 0}, {"record": "I OWE YOU"}, {"record": "cancel,A,B"}, {"record": "day,24,,,,,,,"}, {"record": "cancel,A,B ,,,,,,"}]
@@ -405,10 +405,10 @@ class Receipts(unittest.TestCase):
                 key = Ed25519PublicKey.from_public_bytes(raw[:31] + bytes([raw[31] | sign]))
                 every = (seal.head()._replace(day=f"D{number}", signature=identity + bytes(32)) for number in range(1_000))
                 head = next(head for head in every if signing.is_signed(key, head))
-                line = heads.line(seal.receipt(1, seal.head())._replace(head=head))
+                line = heads.line_of(seal.receipt(1, seal.head())._replace(head=head))
                 text = key.public_bytes(serialization.Encoding.PEM, serialization.PublicFormat.SubjectPublicKeyInfo)
                 self.assertEqual(self.said_by_openssl(line, text), "wrong\n")
-        line = heads.line(seal.receipt(1, seal.head()))
+        line = heads.line_of(seal.receipt(1, seal.head()))
         self.assertEqual(self.said_by_openssl(line, signing.public_text(self.key) * 2), "wrong\n")
 
     def test_keys_that_sign_for_anyone(self):
@@ -418,9 +418,9 @@ class Receipts(unittest.TestCase):
                 key = Ed25519PublicKey.from_public_bytes(raw[:31] + bytes([raw[31] | sign]))
                 form = serialization.PublicFormat.SubjectPublicKeyInfo
                 with self.assertRaisesRegex(signing.BadKey, "its order is small"):
-                    signing.public(key.public_bytes(serialization.Encoding.PEM, form))
+                    signing.parse_public(key.public_bytes(serialization.Encoding.PEM, form))
         with self.assertRaises(signing.BadKey):
-            signing.public(signing.public_text(self.key) + signing.public_text(signing.made()))
+            signing.parse_public(signing.public_text(self.key) + signing.public_text(signing.new_key()))
 
     def test_which_check_of_a_signature(self):
         """The one without the cofactor, and with a scalar below the group's order: signatures that only other checks take are refused."""
@@ -439,7 +439,7 @@ class Receipts(unittest.TestCase):
             made = (scalar(nonce) + int.from_bytes(hashed, "little") * scalar(self.key)) % order + more
             return point + made.to_bytes(32, "little")
 
-        nonce = signing.made()
+        nonce = signing.new_key()
         point = raw_of(nonce.public_key())
         number = int.from_bytes(point, "little")
         height, sign = number % 2**255, number >> 255
@@ -447,34 +447,34 @@ class Receipts(unittest.TestCase):
         for made, is_right in ((signature(point), True), (signature(moved), False), (signature(point, order), False)):
             signed = head._replace(signature=made)
             self.assertEqual(signing.is_signed(self.public, signed), is_right)
-            said = self.said_by_openssl(heads.line(seal.receipt(1, head)._replace(head=signed)))
+            said = self.said_by_openssl(heads.line_of(seal.receipt(1, head)._replace(head=signed)))
             self.assertEqual(said, "right: cancel,A,B,,,,,,, refused,UnknownOrder\n" if is_right else "wrong\n")
 
     def test_the_head_of_no_entry(self):
         head = sealing.Seal(DAY, 24, sealing.new_salts(DAY), self.key).head()
-        self.assertEqual(heads.parsed(heads.line(head), heads.head_read)[0], head)
+        self.assertEqual(heads.parse(heads.line_of(head), heads.parse_head)[0], head)
         with self.assertRaises(heads.BadRecord):
-            heads.parsed(heads.line(head._replace(root=merkle.leaf_hash(b""))), heads.head_read)
+            heads.parse(heads.line_of(head._replace(root=merkle.leaf_hash(b""))), heads.parse_head)
 
     def test_extensions_that_connect_nothing(self):
         """One with another path, of other heads, or between two days or lengths of a day: anyone can make one of right heads, so it isn't a
         fault of the operator. A head of another key is wrong."""
         seal = sealed_of(AUCTION.read_bytes(), key=self.key)
         last, other = seal.head(), sealed_of(AUCTION.read_bytes())
-        early = signing.signed(self.key, heads.Head(DAY, 24, 5, seal.tree.root(5)))
+        early = signing.sign(self.key, heads.Head(DAY, 24, 5, seal.tree.root(5)))
         right = seal.extension(early, last)
         changes = [right._replace(path=(*right.path[:-1], merkle.leaf_hash(b""))), right._replace(path=())]
         for name, value in {"day": "2026-11-29", "periods": 25, "root": merkle.leaf_hash(b""), "size": 6}.items():
-            changes.append(right._replace(old=signing.signed(self.key, early._replace(**{name: value}))))
-            changes.append(right._replace(new=signing.signed(self.key, last._replace(**{name: value}))))
-        foreign = [right._replace(old=signing.signed(other.key, early)), right._replace(new=signing.signed(other.key, last))]
+            changes.append(right._replace(old=signing.sign(self.key, early._replace(**{name: value}))))
+            changes.append(right._replace(new=signing.sign(self.key, last._replace(**{name: value}))))
+        foreign = [right._replace(old=signing.sign(other.key, early)), right._replace(new=signing.sign(other.key, last))]
         with tempfile.TemporaryDirectory() as folder:
             path, findings = Path(folder, "extension.json"), []
-            path.write_bytes(heads.line(right))
+            path.write_bytes(heads.line_of(right))
             self.assertTrue(receipts.Links([path], self.public, findings).leads(early, last))
             self.assertEqual(findings, [])
             for changed in [*changes, *foreign]:
-                path.write_bytes(heads.line(changed))
+                path.write_bytes(heads.line_of(changed))
                 findings = []
                 links = receipts.Links([path], self.public, findings)
                 with self.subTest(changed):
@@ -487,9 +487,9 @@ class Receipts(unittest.TestCase):
     def test_the_empty_journal_is_the_beginning_of_those_of_its_day(self):
         empty = sealing.Seal(DAY, 24, sealing.new_salts(DAY), self.key).head()
         head, links = sealed_of(AUCTION.read_bytes(), key=self.key).head(), receipts.Links([], self.public, [])
-        self.assertEqual(links.compared(empty, head)[0], receipts.RIGHT)
-        self.assertEqual(links.compared(empty._replace(day="2026-11-29"), head)[0], receipts.UNREAD)
-        self.assertEqual(links.compared(empty._replace(periods=25), head)[0], receipts.WRONG)
+        self.assertEqual(links.verdict_on_two(empty, head)[0], receipts.RIGHT)
+        self.assertEqual(links.verdict_on_two(empty._replace(day="2026-11-29"), head)[0], receipts.UNREAD)
+        self.assertEqual(links.verdict_on_two(empty._replace(periods=25), head)[0], receipts.WRONG)
 
 
 def raw_of(public):
@@ -630,11 +630,11 @@ class Command(InFolder):
 
     def test_a_fork_between_other_heads(self):
         """Heads are compared by day, each with the next one."""
-        key = signing.private(Path("key.pem").read_bytes())
+        key = signing.parse_private(Path("key.pem").read_bytes())
         made = [sealed_of(AUCTION.read_bytes(), key=key), sealed_of(AUCTION.read_bytes(), key=key), sealed_of(FIRST, day="2026-11-29", key=key)]
         paths = [Path(f"{name}.json") for name in "abc"]
         for path, seal in zip(paths, made):
-            path.write_bytes(heads.line(seal.head()))
+            path.write_bytes(heads.line_of(seal.head()))
         for order in ((0, 2, 1), (2, 0, 1), (0, 1, 2), (0, 0, 2, 1, 0)):
             out = self.run_tool(1, "heads", *(paths[at] for at in order), "--key", "key.pem.pub")
             self.assertIn("the operator signed two trees of 2026-11-28 with 94 entries", out)
@@ -656,7 +656,7 @@ class Command(InFolder):
     def test_salts_of_another_day(self):
         self.seal()
         salts = Path("sealed/salts.json")
-        salts.write_bytes(heads.line(sealing.new_salts("2026-11-29")))
+        salts.write_bytes(heads.line_of(sealing.new_salts("2026-11-29")))
         self.run_tool(3, "extend", "sealed", "day.csv", "replies.txt", "--key", "key.pem", "-o", "later")
 
     def test_replies_that_are_not_the_books(self):

@@ -15,7 +15,7 @@ import unittest
 import unittest.mock
 from pathlib import Path
 
-from support import AUCTION, TOOLS, journal_of, new_folder, results_of, tool
+from support import AUCTION, TOOLS, doctored, journal_of, new_folder, results_of, tool
 
 from lib.base import rules, text
 from lib.journal import book, journal
@@ -162,13 +162,19 @@ class Tables(unittest.TestCase):
             self.assertLessEqual(len(str(fault.exception).splitlines()), changes.MOST_LINES + 1)
 
 
+def printed(outcome, surplus, price=None):
+    """Results of `HELD` as far as they are read, with the price at which the block has a surplus."""
+    periods = "".join(f"period,{number},{4_000 + surplus // 20 if price is None else price},0\n" for number in range(1, 25))
+    return f"day,24\nwelfare,0\n{periods}hour,CITY,TOWN,0\nblock,GEN,UNIT,{outcome},{surplus}\n".encode()
+
+
 class Distribution(unittest.TestCase):
     def test_what_is_counted(self):
         over = scenarios.Distribution(HELD, [("GEN", "UNIT")])
         for number in range(1, 21):
-            over.add(f"day,24\nblock,GEN,UNIT,accepted,{number * 1000}\n".encode())
+            over.add("S", printed("accepted", number * 1_000))
         for _ in range(20):
-            over.add(b"day,24\nblock,GEN,UNIT,rejected,999999\n")
+            over.add("S", printed("rejected", 999_980))
         _, row = over.table()
         self.assertEqual(row, ["GEN", "UNIT", "40.00", 40, 20, "0.5000", "5.25", "1.00", "5.00", "10.00", "15.00", "19.00"])
         self.assertEqual(list(scenarios.words(over)),
@@ -179,11 +185,20 @@ class Distribution(unittest.TestCase):
         self.assertEqual(list(quarters.table())[1][7:], ["0.25", "1.25", "2.50", "3.75", "4.75"])
         self.assertIn("the median of its surplus is then 2.50 EUR", list(scenarios.words(quarters))[0])
         none = scenarios.Distribution(HELD, [("GEN", "UNIT")])
-        none.add(b"day,24\nblock,GEN,UNIT,rejected,5\n")
+        none.add("S", printed("rejected", 20))
         self.assertEqual(list(none.table())[1][4:], [0, "0.0000", "0.00", "", "", "", "", ""])
 
+    def test_a_surplus_that_is_not_the_one_at_the_prices(self):
+        over = scenarios.Distribution(HELD, [("GEN", "UNIT")])
+        for outcome, surplus, price in (("accepted", 1_000, 4_051), ("accepted", 1_001, 4_050), ("rejected", -20, 4_000)):
+            right = 20 * (price - 4_000)
+            words = f"block GEN,UNIT: the surplus is {surplus}, and at the prices {right}"
+            with self.assertRaises(errors.Wrong) as fault:
+                over.add("scenario x", printed(outcome, surplus, price))
+            self.assertEqual(str(fault.exception), f"the program's results of scenario x break the rules ({words})")
+        self.assertEqual((over.surpluses, over.rejected), ({("GEN", "UNIT"): []}, {("GEN", "UNIT"): 0}))
 
-    @unittest.skipUnless(modules.has("matplotlib"), "matplotlib is missing (Debian's python3-matplotlib)")
+    @unittest.skipUnless(modules.has_module("matplotlib"), "matplotlib is missing (Debian's python3-matplotlib)")
     def test_the_median_of_a_picture(self):
         """Of quarter-hours it is a fourth."""
         from lib.pictures.drawing import pyplot
@@ -200,15 +215,20 @@ class Distribution(unittest.TestCase):
 
     def test_an_output_that_is_none(self):
         over = scenarios.Distribution(HELD, [("GEN", "UNIT")])
-        for printed in (b"accepted,x\n", b"accepted,\xff\n", b"rejected,\n", b"accepted\n", b"accepted,1"):
+        right = printed("accepted", 1_000)
+        begin = right.index(b"accepted")
+        for end in (b"accepted,x\n", b"accepted,\xff\n", b"rejected,\n", b"accepted\n", b"accepted,1000", b"Accepted,1000\n"):
             with self.assertRaisesRegex(errors.Fault, cleared.NO_RESULTS):
-                over.add(b"day,24\nblock,GEN,UNIT," + printed)
-        with self.assertRaisesRegex(errors.Fault, cleared.NO_RESULTS):
-            over.add(b"day,24\n")
+                over.add("S", right[:begin] + end)
+        for other in (b"day,24\n", right[: right.index(b"block")], right.replace(b"period,1,4050", b"period,1,x"), right[:40]):
+            with self.assertRaisesRegex(errors.Fault, cleared.NO_RESULTS):
+                over.add("S", other)
         self.assertEqual((over.surpluses, over.rejected), ({("GEN", "UNIT"): []}, {("GEN", "UNIT"): 0}))
+        over.add("S", right)
+        self.assertEqual(over.surpluses, {("GEN", "UNIT"): [1_000]})
 
 
-@unittest.skipUnless(modules.has("numpy"), "numpy is missing (Debian's python3-numpy)")
+@unittest.skipUnless(modules.has_module("numpy"), "numpy is missing (Debian's python3-numpy)")
 class Samples(unittest.TestCase):
     def setUp(self):
         self.held = changes.before_close(journal.read_journal(AUCTION.read_bytes()))
@@ -279,7 +299,43 @@ class Tool(unittest.TestCase):
         self.assertEqual((len(found), found[0]["price_eur_mwh"], found[24]["change_eur_mwh"]), (72, "50.00", "-20.00"))
         self.assertEqual(tool("whatif", "scenarios", *words, "--jobs", "1")[1], out)
 
-    @unittest.skipUnless(modules.has("openpyxl"), "openpyxl is missing (Debian's python3-openpyxl)")
+    @unittest.skipUnless(which.BUILT.exists(), "the program isn't built")
+    def test_results_that_break_the_rules(self):
+        """Of the day as it was, and of any scenario of a table. The first is named, with its place, and nothing is printed."""
+        whole = "the day as it was", "results line 2: the welfare is 120000 "
+        for mark, edit, name, place in (
+            ("UNIT", "s/^welfare,/welfare,1/", *whole),
+            ("MILL", "s/^welfare,/welfare,1/", "scenario mill", "results line 2: the welfare is 180000 "),
+            ("6000", "s/,rejected,/,accepted,/", "scenario high", "results line 28: block GEN,UNIT: it is accepted and loses "),
+        ):
+            words = "scenarios", self.journal, self.table, "--program", doctored(self.folder, which.BUILT, mark, edit)
+            for shown in scenarios.TABLES:
+                status, out, err = tool("whatif", *words, "--rows", shown)
+                self.assertEqual((status, out, len(err.splitlines())), (command.DIFFERS, b"", 1), err)
+                self.assertTrue(err.startswith(f"whatif: the program's results of {name} break the rules ({place}"), err)
+
+    @unittest.skipUnless(which.BUILT.exists() and modules.has_module("numpy"), "the program isn't built, or numpy is missing")
+    def test_random_scenarios_whose_results_break_the_rules(self):
+        """Each 16th is checked whole, from the first. In the others, the surpluses of the blocks are those at the prices."""
+        sampler, own = scenarios.Sampler(HELD, "GEN", "1", 300, 0.1), "the day as it was"
+        marks = [sampler.text(number).decode().partition("TOWN,")[2].partition("\n")[0] for number in range(1, 18)]
+        self.assertEqual(len({"hour,buy,5000,1:20,,", *marks}), 18)
+        welfare, price = "s/^welfare,/welfare,1/", r"s/^period,1,\([0-9]*\),/period,1,9\1,/"
+        for mark, edit, name, place in (
+            ("hour,buy,5000,1:20,,", welfare, own, "results line 2: the welfare is 1"),
+            (marks[0], welfare, "scenario 1", "results line 2: the welfare is 1"),
+            (marks[1], welfare, None, None),
+            (marks[1], price, "scenario 2", "block GEN,UNIT: the surplus is "),
+            (marks[15], price, "scenario 16", "block GEN,UNIT: the surplus is "),
+            (marks[16], welfare, "scenario 17", "results line 2: the welfare is 1"),
+        ):
+            program = doctored(self.folder, which.BUILT, mark, edit)
+            status, out, err = tool("whatif", "scenarios", "--sample", 17, "--participant", "GEN", self.journal, "--program", program)
+            self.assertEqual((status, out == b""), (command.DIFFERS, True) if name else (0, False), err)
+            if name:
+                self.assertTrue(err.startswith(f"whatif: the program's results of {name} break the rules ({place}"), err)
+
+    @unittest.skipUnless(modules.has_module("openpyxl"), "openpyxl is missing (Debian's python3-openpyxl)")
     def test_a_name_stays_as_it_is(self):
         """Also a long one, and one that a workbook would show as another."""
         names = ["x" * 200 + "1", "x" * 200 + "2", "a\u00a0b", "_x0041_", "_x005F_x0041_x0042_", "\U0001f469\u200d\U0001f527", "-1"]
@@ -318,7 +374,7 @@ class Tool(unittest.TestCase):
         self.assertEqual(found, (3, b"", f"{note}whatif: the day as it was: /bin/true printed no results of this journal\n"))
         self.assertNotIn("note", tool("whatif", "scenarios", "--quiet", "--program", "/bin/true", self.journal, self.table)[2])
 
-    @unittest.skipUnless(which.BUILT.exists() and modules.has("numpy"), "the program isn't built, or numpy is missing")
+    @unittest.skipUnless(which.BUILT.exists() and modules.has_module("numpy"), "the program isn't built, or numpy is missing")
     def test_a_sample(self):
         words = "--sample", 30, "--participant", "OLD", AUCTION, "--program", which.BUILT
         status, out, err = tool("whatif", "scenarios", *words)
@@ -330,7 +386,7 @@ class Tool(unittest.TestCase):
         orders = rows(tool("whatif", "scenarios", "--rows", "orders", "--order", "UNIT-7", *words)[1])
         accepted = [row for row in orders if row["outcome"] == "accepted"]
         self.assertEqual((len(orders), str(len(accepted))), (30, row["accepted"]))
-        if modules.has("matplotlib"):
+        if modules.has_module("matplotlib"):
             for name, begin in (("a.svg", b"<?xml"), ("a.png", b"\x89PNG")):
                 path = Path(self.folder, name)
                 self.assertEqual(tool("whatif", "scenarios", "--quiet", *words, "-o", path), (0, out, ""))
@@ -392,7 +448,7 @@ class Tool(unittest.TestCase):
         for option, word in (("--sample", "0"), ("--price-sd", "-1"), ("--volume-sd", "x"), ("--jobs", "0")):
             self.assertEqual(tool("whatif", "scenarios", *table, option, word)[0], 2)
 
-    @unittest.skipUnless(modules.has("distributed"), "dask is missing (Debian's python3-distributed)")
+    @unittest.skipUnless(modules.has_module("distributed"), "dask is missing (Debian's python3-distributed)")
     def test_a_cluster_that_is_not_there(self):
         for address, said in (
             ("here", "should be an address such as tcp://10.0.0.1:8786"),
@@ -410,7 +466,7 @@ class Tool(unittest.TestCase):
             dask = unittest.mock.Mock(Client=unittest.mock.Mock(side_effect=fault))
             for seconds, said in ((10, "it closed the connection"), (0, str(fault))):
                 with (
-                    unittest.mock.patch.dict("sys.modules", distributed=dask),
+                    unittest.mock.patch.object(cluster, "imported", return_value=dask),
                     unittest.mock.patch.object(cluster, "SECONDS", seconds or 1e-9),
                     unittest.mock.patch.object(cluster.socket, "create_connection"),
                     self.assertRaisesRegex(errors.Fault, f"the cluster {address} can't be reached: {said}$"),
@@ -429,7 +485,7 @@ class Hanging(unittest.TestCase):
         for clock in (110, 114):
             with self.assertRaisesRegex(errors.Lost, "^the worker tcp://a:1 of the cluster C doesn't answer any more$"):
                 self.look(made, clock, {"tcp://a:1": 1, "tcp://b:2": clock})
-        made.listen()
+        made.watch_workers()
         self.assertEqual(self.look(made, 115, {"tcp://a:1": 1, "tcp://b:2": 115}), 2)
         self.assertEqual(self.look(made, 120, {"tcp://a:1": 2, "tcp://b:2": 120}), 2)
         self.assertEqual(self.look(made, 129, {"tcp://a:1": 3, "tcp://b:2": 129}), 2)
@@ -448,7 +504,7 @@ class Hanging(unittest.TestCase):
         for answer in (None, [], {}, {"workers": None}, {"workers": [1]}, {"workers": {"a": None}}, {"workers": {"a": {"status": "running"}}}):
             made.client.sync.return_value = answer
             with self.assertRaisesRegex(errors.Lost, "^the cluster C doesn't answer any more$"):
-                made.workers()
+                made.count_workers()
 
     def test_no_worker(self):
         made = self.cluster()
@@ -463,7 +519,7 @@ class Hanging(unittest.TestCase):
         made = cluster.Cluster.__new__(cluster.Cluster)
         made.name, made.reports, made.client = "the cluster C", {}, unittest.mock.Mock()
         with unittest.mock.patch.object(cluster.time, "monotonic", return_value=100.0):
-            made.listen()
+            made.watch_workers()
         return made
 
     def look(self, made, now, seen):
@@ -471,7 +527,7 @@ class Hanging(unittest.TestCase):
         workers = {address: {"last_seen": when, "status": "running"} for address, when in seen.items()}
         made.client.sync.return_value = {"workers": workers}
         with unittest.mock.patch.object(cluster.time, "monotonic", return_value=now):
-            return made.workers()
+            return made.count_workers()
 
 
 if __name__ == "__main__":

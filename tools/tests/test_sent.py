@@ -186,7 +186,7 @@ class Worked(unittest.TestCase):
         said = "audit: sent isn't what A sent: its table has rows that aren't orders: line 2, column side: 'bye' should be buy or sell\n"
         self.assertEqual(audit(PUBLISHED, text_of([heads, *rows])), (command.NO_INPUT, "", said))
 
-    @unittest.skipUnless(modules.has("openpyxl"), "openpyxl is missing (Debian's python3-openpyxl)")
+    @unittest.skipUnless(modules.has_module("openpyxl"), "openpyxl is missing (Debian's python3-openpyxl)")
     def test_a_workbook(self):
         with tempfile.TemporaryDirectory() as folder:
             path = Path(folder, "orders.xlsx")
@@ -393,7 +393,7 @@ class InOrder(unittest.TestCase):
         rng = random.Random("in order")
         for _ in range(2_000):
             one, other = (rng.choices(range(rng.randint(1, 5)), k=rng.randint(0, 12)) for _ in range(2))
-            pairs = subsequence.in_order(one, other)
+            pairs = subsequence.longest_pairs(one, other)
             self.assertEqual(len(pairs), self.length(one, other), (one, other))
             self.assertTrue(all(one[at] == other[place] for at, place in pairs))
             self.assertTrue(all(a < c and b < d for (a, b), (c, d) in zip(pairs, pairs[1:])))
@@ -402,7 +402,7 @@ class InOrder(unittest.TestCase):
         rng = random.Random("long")
         for count in (59, 60, 61, 64, 65, 200, 700):
             one, other = (rng.choices(range(4), k=count) for _ in range(2))
-            self.assertEqual(len(subsequence.in_order(one, other)), self.length(one, other))
+            self.assertEqual(len(subsequence.longest_pairs(one, other)), self.length(one, other))
 
 
 if __name__ == "__main__":

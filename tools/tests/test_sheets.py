@@ -17,7 +17,7 @@ from lib.tool import command, modules
 
 HEADER = "participant,order,kind,side,price_eur_mwh,periods,volume_mw,parent,group"
 TEXTS = [AUCTION, AUCTION_RESULTS]
-WITH_EXCEL = unittest.skipUnless(modules.has("openpyxl"), "openpyxl is missing (Debian's python3-openpyxl)")
+WITH_EXCEL = unittest.skipUnless(modules.has_module("openpyxl"), "openpyxl is missing (Debian's python3-openpyxl)")
 
 
 def table(*rows, header=HEADER):
@@ -123,8 +123,8 @@ class Times(unittest.TestCase):
     def test_each_period_by_its_own_times(self):
         for periods in rules.DAYS:
             for number in range(1, periods + 1):
-                first, last = clock.span(periods, number).split(" to ")
-                times = [clock.begins(periods, at) for at in range(1, periods + 1)]
+                first, last = clock.time_span(periods, number).split(" to ")
+                times = [clock.begin_time(periods, at) for at in range(1, periods + 1)]
                 if times.count(first) == 1 and times.count(last) <= 1:
                     self.assertEqual(clock.periods_between(periods, first, last), [number], (periods, first, last))
 
@@ -173,7 +173,7 @@ class ForSpreadsheets(unittest.TestCase):
             ("a;b, -c; d", "a;b, -c; d"),
         ):
             for decimal_comma in (False, True):
-                out = sheets.written([["scenario", "period"], [name, 1]], decimal_comma)
+                out = sheets.table_text([["scenario", "period"], [name, 1]], decimal_comma)
                 rows = list(csv.reader(io.StringIO(out, newline=""), delimiter=";" if decimal_comma else ","))
                 self.assertEqual(rows[1], [shown, "1"])
             self.assertEqual(sheets.unescaped(shown), name)
@@ -261,7 +261,7 @@ class ForSpreadsheets(unittest.TestCase):
         import openpyxl
 
         rows = [HEADER.split(","), *(f"A,K,block,buy,1.00,1-2,{volumes},,".split(",") for volumes in ("5.0", "5.0;6.5"))]
-        sheet = openpyxl.load_workbook(io.BytesIO(sheets.workbook({"orders": rows})))["orders"]
+        sheet = openpyxl.load_workbook(io.BytesIO(sheets.workbook_bytes({"orders": rows})))["orders"]
         self.assertEqual([sheet.cell(line, 7).value for line in (2, 3)], [5.0, "5.0;6.5"])
 
     @WITH_EXCEL

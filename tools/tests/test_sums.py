@@ -50,7 +50,7 @@ class Sums(unittest.TestCase):
         self.assertEqual((said.welfare, said.surpluses), (485_000, [-5_000, 250_000]))
         self.assertEqual(sums.sums(day, said), (780_000, 780_000, 240_000, 245_000))
         line = "by adding: buyers pay 780.00 EUR, sellers receive 780.00 EUR; the surpluses add up to the welfare, and nobody loses"
-        self.assertEqual(sums.line(day, sums.sums(day, said)), line)
+        self.assertEqual(sums.payments_line(day, sums.sums(day, said)), line)
 
     def test_a_volume_that_differs(self):
         prices, volumes = read(FAMILY, ACCEPTED)[1][1:3]

@@ -27,7 +27,7 @@ PRICES = f"from {text.eur_per_mwh(rules.LOWEST_PRICE)} to {text.eur_per_mwh(rule
 
 def read(rows):
     """The rows of a written table as dictionaries."""
-    return list(csv.DictReader(io.StringIO(sheets.written(rows))))
+    return list(csv.DictReader(io.StringIO(sheets.table_text(rows))))
 
 
 def total(rows, column):
@@ -91,7 +91,7 @@ class Results(unittest.TestCase):
 
     def test_the_table_of_orders_makes_the_same_book(self):
         for day in self.days():
-            text = sheets.written(tables.orders(day)).encode()
+            text = sheets.table_text(tables.orders(day)).encode()
             again = order_table.read_orders(text, day.problem.periods, True)
             made, reasons = book.run(again)
             self.assertEqual(set(reasons), {None})
@@ -346,7 +346,7 @@ class CommandLine(unittest.TestCase):
         for date in ("9999-12-31", "0001-01-01"):
             said = f"--date {date} is the first or the last day of the calendar: it should be another\n"
             self.assertEqual(tool("table", *texts, "--date", date), (command.COMMAND_LINE, b"", f"table: {said}"))
-            if modules.has("matplotlib") and modules.has("jinja2"):
+            if modules.has_module("matplotlib") and modules.has_module("jinja2"):
                 self.assertEqual(tool("report", *texts, "-o", "-", "--date", date), (command.COMMAND_LINE, b"", f"report: {said}"))
 
     def test_more_cells_than_the_header_has(self):
@@ -389,7 +389,7 @@ class CommandLine(unittest.TestCase):
     def test_more_rows_than_a_sheet_has(self):
         most, said = sheets.MOST_LINES, "the table prices has 1,048,577 rows, but a sheet of an Excel workbook has at most 1,048,576"
         with self.assertRaisesRegex(command.Stop, f"^{said}: write it as .csv$"):
-            output.workbook({"few": [["hour"]], "prices": [["hour"]] * (most + 1)})
+            output.workbook_bytes({"few": [["hour"]], "prices": [["hour"]] * (most + 1)})
 
     def test_a_table_without_orders(self):
         status, out, err = tool("table", "--journal", "-", data=f"{HEADER}\n".encode())

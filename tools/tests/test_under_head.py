@@ -67,7 +67,7 @@ class Audit(Audited):
         path.write_bytes(b"{}\n" + right)
         self.audit(3, "day.csv", "--receipts", "sealed/receipts")
         # A receipt of the same key for another journal of the day.
-        other = sealed_of(SUNNY.read_bytes(), key=signing.private(Path("key.pem").read_bytes()))
+        other = sealed_of(SUNNY.read_bytes(), key=signing.parse_private(Path("key.pem").read_bytes()))
         path.write_bytes(b"".join(lines_of(other)[:1]))
         out = self.audit(1, "day.csv", "--receipts", path)
         self.assertRegex(out, r"the operator signed entry 1 as .*: the operator's fault, proved\n")
@@ -90,8 +90,8 @@ class Audit(Audited):
         out = self.audit(1, "day.csv", "--earlier", "a/head.json", "--earlier", "b/head.json")
         words = "the first 4 entries of the journal, with the book's replies and these salts, aren't the entries that the operator signed"
         self.assertIn(f"b/head.json: the head of 2026-11-28 with 4 entries: {words}: the operator's fault, proved\n", out)
-        key = signing.private(Path("key.pem").read_bytes())
-        Path("c.json").write_bytes(heads.line(signing.signed(key, heads.Head(DAY, 96, 4, bytes(heads.HASH_BYTES)))))
+        key = signing.parse_private(Path("key.pem").read_bytes())
+        Path("c.json").write_bytes(heads.line_of(signing.sign(key, heads.Head(DAY, 96, 4, bytes(heads.HASH_BYTES)))))
         said = "c.json: the head of 2026-11-28 with 4 entries: the journal's day has 24 periods, and the head's 96"
         self.assertIn(f"{said}: the operator's fault, proved\n", self.audit(1, "day.csv", "--earlier", "c.json"))
         # Of a copy of the journal that isn't the head's, nothing is proved.
@@ -142,7 +142,7 @@ class Audit(Audited):
         self.assertNotIn("proved", out)
         # A receipt under another head, of an entry with a number that the journal has: of two receipts of a command, it is the proof.
         number = lines.index(own[-1]) + 1
-        key = signing.private(Path("key.pem").read_bytes())
+        key = signing.parse_private(Path("key.pem").read_bytes())
         other = sealed_of(b"".join([first, own[-1], *lines[1:]]), key=key)
         with open("receipts.jsonl", "ab") as file:
             file.write(lines_of(other)[0])
@@ -159,7 +159,7 @@ class Audit(Audited):
         Path("other.csv").write_bytes(Path("day.csv").read_bytes().replace(b",30000,1:3600,", b",30000,1:3601,"))
         self.assertNotEqual(Path("other.csv").read_bytes(), Path("day.csv").read_bytes())
         right = Path("sealed/salts.json").read_bytes()
-        wrong = heads.line(heads.Salts(DAY, bytes(heads.HASH_BYTES)))
+        wrong = heads.line_of(heads.Salts(DAY, bytes(heads.HASH_BYTES)))
         words = "the first 94 entries of the journal, with the book's replies"
         receipt = ["--receipts", "sealed/receipts/STAD.jsonl"]
         place = "sealed/receipts/STAD.jsonl line 1"
@@ -174,7 +174,7 @@ class Audit(Audited):
                 out = self.audit(1, day, "--replies", *more)
                 self.assertIn(f"\nthe head of 2026-11-28 with 94 entries: {said}\n", out)
         # A receipt under another head doesn't decide: the operator may have sealed two journals, with two secrets.
-        other = sealed_of(AUCTION.read_bytes(), key=signing.private(Path("key.pem").read_bytes()))
+        other = sealed_of(AUCTION.read_bytes(), key=signing.parse_private(Path("key.pem").read_bytes()))
         self.receipt_of(other)
         Path("sealed/salts.json").write_bytes(wrong)
         self.assertIn("or the salts aren't this journal's\n", self.audit(1, "day.csv", "--replies", "--receipts", "receipt.jsonl"))
@@ -204,8 +204,8 @@ class Audit(Audited):
         self.audit(3, "day.csv", "--receipts", "sealed/receipts")
         Path("sealed/receipts/A.jsonl").unlink()
         Path("sealed/receipts/A.jsonl").write_bytes(b"x\n" * heads.MOST_ENTRIES)
-        with mock.patch.object(heads, "parsed", wraps=heads.parsed) as parsed, self.assertRaisesRegex(command.Stop, r"A\.jsonl line 1: "):
-            under_head.findings_of_folder("sealed/receipts", receipts.key_read("key.pem.pub"))
+        with mock.patch.object(heads, "parse", wraps=heads.parse) as parsed, self.assertRaisesRegex(command.Stop, r"A\.jsonl line 1: "):
+            under_head.read_and_judge_folder("sealed/receipts", receipts.read_key("key.pem.pub"))
         self.assertEqual(parsed.call_count, 1)
 
     def test_many_commands_that_the_journal_lacks(self):
@@ -221,31 +221,31 @@ class Audit(Audited):
 
     def test_the_audit_of_other_heads(self):
         """A journal that is longer than its head's, or of another length of a day; earlier heads of another key and another day."""
-        key = signing.private(Path("key.pem").read_bytes())
+        key = signing.parse_private(Path("key.pem").read_bytes())
         self.seal()
-        head, _ = heads.parsed(Path("sealed/head.json").read_bytes(), heads.head_read)
-        salts, _ = heads.parsed(Path("sealed/salts.json").read_bytes(), heads.salts_read)
+        head, _ = heads.parse(Path("sealed/head.json").read_bytes(), heads.parse_head)
+        salts, _ = heads.parse(Path("sealed/salts.json").read_bytes(), heads.parse_salts)
         seal = sealed_of(AUCTION.read_bytes(), key=key, salts=salts)
-        shorter = signing.signed(key, head._replace(size=head.size - 1, root=seal.tree.root(head.size - 1)))
+        shorter = signing.sign(key, head._replace(size=head.size - 1, root=seal.tree.root(head.size - 1)))
         for other, said in (
             (shorter, "the journal has 1 entry after the 93 that the operator signed"),
-            (signing.signed(key, head._replace(periods=25)), "the journal's day has 24 periods, and the head's 25"),
+            (signing.sign(key, head._replace(periods=25)), "the journal's day has 24 periods, and the head's 25"),
         ):
-            Path("sealed/head.json").write_bytes(heads.line(other))
+            Path("sealed/head.json").write_bytes(heads.line_of(other))
             self.assertIn(said, self.audit(1))
-        Path("sealed/head.json").write_bytes(heads.line(head))
+        Path("sealed/head.json").write_bytes(heads.line_of(head))
         for earlier, said in (
-            (signing.signed(signing.made(), shorter), "it isn't signed by this key"),
-            (signing.signed(key, shorter._replace(day="2026-11-29")), "it is of 2026-11-29"),
+            (signing.sign(signing.new_key(), shorter), "it isn't signed by this key"),
+            (signing.sign(key, shorter._replace(day="2026-11-29")), "it is of 2026-11-29"),
         ):
-            Path("earlier.json").write_bytes(heads.line(earlier))
+            Path("earlier.json").write_bytes(heads.line_of(earlier))
             out = self.audit(3, "day.csv", "--earlier", "earlier.json")
             self.assertIn(said, out)
             self.assertIn("\nas signed: the head of 2026-11-28 with 94 entries\n", out)
 
     def test_the_audit_of_receipts_of_other_days_and_forged_ones(self):
         """Neither is the operator's fault."""
-        key = signing.private(Path("key.pem").read_bytes())
+        key = signing.parse_private(Path("key.pem").read_bytes())
         lines = AUCTION.read_bytes().splitlines(keepends=True)
         place = next(at for at, line in enumerate(lines) if line.startswith(b"submit,STAD"))
         Path("day.csv").write_bytes(b"".join(lines[:place] + lines[place + 1 :]))
@@ -295,14 +295,14 @@ class Audit(Audited):
         head = Path("sealed/head.json")
         head.write_text(json.dumps(json.loads(head.read_text()), indent=1))
         self.assertIn("isn't in its written form", self.audit(6))
-        Path("sealed/salts.json").write_bytes(heads.line(sealing.new_salts("2026-11-29")))
+        Path("sealed/salts.json").write_bytes(heads.line_of(sealing.new_salts("2026-11-29")))
         self.audit(3)
 
     def test_files_whose_names_begin_with_a_dot(self):
         """They are read, or named."""
         self.seal()
         path = Path("sealed/receipts/.STAD.jsonl")
-        path.write_bytes(b"".join(lines_of(sealed_of(AUCTION.read_bytes(), key=signing.private(Path("key.pem").read_bytes())))[:1]))
+        path.write_bytes(b"".join(lines_of(sealed_of(AUCTION.read_bytes(), key=signing.parse_private(Path("key.pem").read_bytes())))[:1]))
         self.assertIn(f"{path} line 1: ", self.audit(1, "day.csv", "--receipts", "sealed/receipts"))
         path.rename("sealed/receipts/.STAD")
         self.assertEqual(self.audit(3, "day.csv", "--receipts", "sealed/receipts"), "")

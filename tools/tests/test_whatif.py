@@ -138,20 +138,13 @@ class Limits(unittest.TestCase):
         worsts = (None, least, least + 1, 0, 1, 3_999, 4_000, 4_001, 123_456, greatest - 1, greatest)
         for own, worst in itertools.product((least, 4_000), worsts):
             with self.subTest(own=own, worst=worst):
-                lines = SMALL[0], SMALL[1].replace("4000", str(own))
-                held, _ = book.run(journal.read_journal(journal_of(*lines)))
-                one = limits.Search(held, ("GEN", "UNIT"), None)
-                one.clear = lambda text: self.answered(text, worst)
+                # the block is accepted up to the buyer's limit, and never if the buyer buys less than it sells
+                buys = f"buy,{least if worst is None else worst},1:{10 if worst is None else 30}"
+                one = search(SMALL[0].replace("buy,5000,1:20", buys), SMALL[1].replace("4000", str(own)), key=("GEN", "UNIT"))
                 found = one.worst()
                 self.assertEqual(found.limit, worst)
                 needed.add(found.clearings)
         self.assertEqual(max(needed), limits.MOST_CLEARINGS)
-
-    def answered(self, text, worst):
-        price = int(text.decode().split("GEN,UNIT,block,sell,")[1].split(",")[0])
-        word = "accepted" if worst is not None and price <= worst else "rejected"
-        periods = "".join(f"period,{number},0,0\n" for number in range(1, 25))
-        return f"day,24\nwelfare,0\n{periods}hour,CITY,TOWN,0\nblock,GEN,UNIT,{word},0\n".encode()
 
     def test_a_fault_of_a_clearing_ends_the_search(self):
         held, _ = book.run(journal.read_journal(journal_of(*SMALL)))
@@ -198,20 +191,29 @@ class Page(unittest.TestCase):
         wrong = support.results_of(journal_of(*high), frozenset()).replace(b"welfare,0", b"welfare,1")
         other = support.results_of(journal_of(*SMALL), frozenset())
         words = "the limits that rejected blocks needed weren't computed: the program"
+        broken, unit = "the program's results break the rules", "the limit of GEN UNIT wasn't computed"
 
         def fails_later(text, running=None):
             return (4, "memory") if b"6000" not in text else Page.answer(text)
+
+        def breaks(mark):
+            """Results with another welfare, if the journal has a mark."""
+            return lambda text, running=None: (None, Page.answer(text)[1].replace(b"welfare,", b"welfare,1" if mark in text else b"welfare,"))
 
         for why, told, *given in (
             ("the program couldn't clear the day", f"{words} couldn't clear the day: memory", high, lambda text: (4, "memory")),
             ("a run of the program failed", "the limit of GEN UNIT wasn't computed: memory", high, fails_later),
             ("the program has other results", f"{words} has other results: see tools/audit --best", SMALL, Page.answer, other),
+            (broken, f"{words}'s results break the rules: the program's results of the day", high, breaks(b"6000")),
+            (broken, f"{unit}: the program's results of the day with a limit of 50.00 EUR/MWh", high, breaks(b"sell,5000,")),
+            (broken, f"{unit}: the program's results of the day with a limit of 50.01 EUR/MWh", high, breaks(b"sell,5001,")),
             ("the results break the rules", None, high, Page.answer, wrong),
             ("the page was made without limits", None, high, Page.answer, None, None, False),
         ):
             self.told = []
             self.assertEqual(self.said(*given), {0: f"Its limit wasn't computed: {why}."})
-            self.assertEqual(self.told, [told] * bool(told))
+            said = [line.partition(" break the rules (results line 2: the welfare is 1")[0] for line in self.told]
+            self.assertEqual(said, [told] * bool(told))
 
 
 class Day(unittest.TestCase):
@@ -525,6 +527,47 @@ class Tools(unittest.TestCase):
             for words in [*limit, "--all"], [*limit, "--order", "UNIT"], ["change", self.journal, "-"]:
                 self.assertEqual(self.whatif(*words, data=more), (3, b"", f"whatif: {said.format(self.program)}\n"))
 
+    def test_results_that_break_the_rules(self):
+        """The first fault is named, with the clearing and its place, and nothing is printed."""
+        more, real = self.file("more.csv", b"submit,WIND,MILL,hour,sell,1000,1:20,,\n"), self.program
+        welfare = "s/^welfare,/welfare,1/", "results line 2: the welfare is 1"
+        unit, town = (["--participant", who, "--order", name] for who, name in (("GEN", "UNIT"), ("CITY", "TOWN")))
+        cases = [
+            (["change", self.journal, more], mark, name, edit, place)
+            for mark, name in (("5000", "the day"), ("MILL", "the day with the changes"))
+            for edit, place in (
+                welfare,
+                ("s/^period,1,/period,1,1/", "results line 3: period 1: the price is 1"),
+                (r"s/^\(period,1,.*\),[0-9]*$/\1,7/", "results line 3: period 1: the volume is 7, "),
+                ("s/^hour,CITY,TOWN,.*/hour,CITY,TOWN,7/", "results line 27: hour CITY,TOWN: 7 is executed, "),
+                (r"s/^\(block,GEN,UNIT,.*\),.*/\1,7/", "results line 28: block GEN,UNIT: the surplus is 7, "),
+            )
+        ]
+        for words in (["limit", self.journal, *unit], ["limit", self.journal, *unit[:2], "--all"]):
+            cases += [(words, f"sell,{limit},", "the day" + more, *welfare) for limit, more in (
+                (4000, ""), (5000, " with a limit of 50.00 EUR/MWh"), (5001, " with a limit of 50.01 EUR/MWh"))]
+        sample = ["limit", self.journal, *town, "--from", "50", "--to", "50.01", "--step", "0.01"]
+        cases += [(sample, "buy,5001,", "the day with a limit of 50.01 EUR/MWh", *welfare)]
+        for words, mark, name, edit, place in cases:
+            self.program = support.doctored(self.folder, real, mark, edit)
+            with self.subTest(words=words, mark=mark, edit=edit):
+                status, out, err = self.whatif(*words)
+                self.assertEqual((status, out, len(err.splitlines())), (command.DIFFERS, b"", 1), err)
+                self.assertTrue(err.startswith(f"whatif: the program's results of {name} break the rules ({place}"), err)
+
+    def test_results_between_which_the_limit_is_sought(self):
+        """They aren't checked, since they don't matter: a wrong one ends the search at it, or has no effect."""
+        words = "limit", self.journal, "--participant", "GEN", "--order", "UNIT"
+        right, real = self.whatif(*words), self.program
+        middle = limits.limit_at("sell", (limits.place_of("sell", 4000) + 1 + limits.COUNT) // 2)
+        for edit, status, said in (
+            ("s/,rejected,/,accepted,/", command.DIFFERS, "results line 28: block GEN,UNIT: it is accepted and loses "),
+            ("s/^welfare,/welfare,1/", command.DONE, ""),
+        ):
+            self.program = support.doctored(self.folder, real, f"sell,{middle},", edit)
+            found = self.whatif(*words)
+            self.assertEqual((found[0], said in found[2], found[1] == right[1]), (status, True, not said), found)
+
     def test_a_program_that_hangs(self):
         """It's ended, and named; also others of the team, which began later."""
         late = f"mkdir {self.folder}/first 2> {os.devnull} || sleep 1"
@@ -569,7 +612,7 @@ class Tools(unittest.TestCase):
         self.assertEqual((status, len(self.rows(out))), (0, 2), err)
 
 
-@unittest.skipUnless(which.BUILT.exists() and modules.has("numpy") and modules.has("matplotlib"), "the program or a package is missing")
+@unittest.skipUnless(which.BUILT.exists() and all(map(modules.has_module, ("numpy", "matplotlib"))), "the program or a package is missing")
 class Examples(unittest.TestCase):
     """The page, and the section on many days: that the commands work, one after another, and print the quotes."""
 

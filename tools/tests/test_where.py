@@ -106,13 +106,13 @@ class Names(unittest.TestCase):
 
     def test_words_for_commands(self):
         words = "./dam clear < a; tools/audit a tools/../x other/tools/b ./damn"
-        self.assertEqual(place.as_here(words), words)
+        self.assertEqual(place.with_commands_of_here(words), words)
         with unittest.mock.patch.object(place, "IS_INSTALLED", True):
-            self.assertEqual(place.as_here(words), "dam clear < a; dam-audit a tools/../x other/tools/b ./damn")
+            self.assertEqual(place.with_commands_of_here(words), "dam clear < a; dam-audit a tools/../x other/tools/b ./damn")
             with contextlib.redirect_stderr(io.StringIO()) as said:
                 command.tell("table", "no such file")
             self.assertEqual(said.getvalue(), "dam-table: no such file\n")
-            self.assertEqual([place.command("audit"), place.command("dam-whatif limit")], ["dam-audit", "dam-whatif limit"])
+            self.assertEqual([place.command_name("audit"), place.command_name("dam-whatif limit")], ["dam-audit", "dam-whatif limit"])
 
 
 if __name__ == "__main__":

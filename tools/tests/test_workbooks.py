@@ -466,7 +466,10 @@ class Unlike(unittest.TestCase):
             ("90", "5"), (";;;", "5"), ("0&quot;-20&quot;", "5"), ("0&quot;;60&quot;", "5"), ("0[$1]", "5"), ("0\\,0", "5"),
             ("0;&quot;7&quot;", "-5"), ("0;-0;", "0"), ("[&gt;9]0;&quot;7&quot;", "5"), ("0;0;0,;@", "0"),
             ("-0", "5"), ("&quot;-&quot;0", "5"), ("(0)", "5"), ("\\-0", "5"), ("-General", "5"), ("0-0", "12"), ("0&quot;:&quot;0", "12"),
-            ("0\\:00", "12"), ("0&quot;\uff10&quot;", "5"), ("0&quot;\u00bd&quot;", "5"), ("0&quot;x&quot;0", "12"),
+            ("0\\:00", "12"), ("0&quot;\uff10&quot;", "5"), ("0&quot;\u00bd&quot;", "5"), ("0&quot;x&quot;0", "12"), ("\uff150", "5"),
+            ("0;0", "-5"), ("0.00;0.00", "-5"), ("0.00;[Red]0.00", "-5"), ("\uff0e0", "5"), ("&quot;\u066b&quot;0", "5"),
+            ("#", "0"), ("#,###.##", "0"), ("#&quot; EUR&quot;", "0"), ("0;0;#", "0"), ("&quot;\u202e&quot;0", "12"), ("#,###", None),
+            ("0).0", "5"), ("0&quot;x&quot;.0", "5"), ("0&quot; MW&quot;,", "5"), ("0*x,", "5"),
             ("0.00;[Red]0.00", None), ("0.00;(0.00)", None), ("0.00E-00", None), ("#\\ ##0.0", None), ("0.00&quot; EUR-MWh&quot;", None),
             ("#,##0.00", None), ("0.00;[Red]-0.00", None), ("0;-0;;@", None), ("0.0&quot; EUR/MWh&quot;", None), ("[$€-407] 0.00", None),
             ("_-* #,##0.00\\ &quot;kr.&quot;_-;-* #,##0.00\\ &quot;kr.&quot;_-;_-* &quot;-&quot;??_-;_-@_-", None), ("0.00E+00", None), ("# ?/?", None),
@@ -480,6 +483,58 @@ class Unlike(unittest.TestCase):
                 self.assertEqual((said, found is None), (f"line 2, column price_eur_mwh: {way}", True) if changed else (None, False))
         found, said = self.read(B="<c><v>-0.0</v></c>")
         self.assertEqual((found.name, said), ("0", None))
+
+    def shown(self, code, number, attributes="/>"):
+        """The order with a price of a format, or its fault."""
+        styles = f'<numFmts><numFmt numFmtId="164" formatCode="{code}"/></numFmts><cellXfs><xf/><xf numFmtId="164"{attributes}</cellXfs>'
+        styles = {"xl/styles.xml": f'<styleSheet xmlns="{made.MAIN[0]}">{styles}</styleSheet>'.encode()}
+        return self.read(styles, E=f'<c s="1"><v>{number}</v></c>')
+
+    def test_repeated_characters(self):
+        """One that fills a cell may be a digit, or look like a sign; and a cell may be filled with its number."""
+        for code in ("0*0", "*50", "[&gt;3]*50;0", "0*.", "*-0", "*\uff150"):
+            for number in (2, 5):
+                _, said = self.shown(code, number)
+                self.assertIn(f"'{number}' is a number that Excel shows in another way", said or "", code)
+        for code in ("* 0", "**0", "0*x", "_-* 0_-"):
+            self.assertEqual(self.shown(code, 5)[1], None, code)
+        said = "is a number that fills its cell again and again: give its cell another horizontal alignment"
+        for code in ("General", "0", "0.00", "0.00;0.00"):
+            for number in (20, -20, 0):
+                _, fault = self.shown(code, number, attributes='><alignment horizontal="fill"/></xf>')
+                self.assertEqual(fault, f"line 2, column price_eur_mwh: '{number}' {said}", code)
+        styles = f'<styleSheet xmlns="{made.MAIN[0]}"><cellXfs><xf/><xf><alignment horizontal="fill"/></xf></cellXfs></styleSheet>'
+        for letter in "BEFGHI":
+            _, fault = self.read({"xl/styles.xml": styles.encode()}, **{letter: '<c s="1"><v>7</v></c>'})
+            self.assertEqual(fault, f"line 2, column {self.COLUMNS[letter]}: '7' {said}")
+
+    def test_formats_that_show_another_sign(self):
+        """A positive number with a minus or brackets of any script, or a negative one without them."""
+        minuses = *"-\u2013\u2014\u2212\uff0d\ufe63\u207b\u2011\u00b1\u25b2", "\\-", "*-"
+        codes = [f"{minus if len(minus) > 1 else f'&quot;{minus}&quot;'}0" for minus in minuses]
+        codes += ["\uff080\uff09", "&quot;\uff08&quot;0&quot;\uff09&quot;", "\uff0d0", "\ufe590\ufe5a", "&quot;[&quot;0&quot;]&quot;", "0)"]
+        codes += [f"&quot;{words}&quot;0" for words in ("EUR -", "-EUR ", "- EUR ", "MAX -EUR ", "(EUR ", "()")]
+        codes += [f"0&quot;{words}&quot;" for words in (" -", "- EUR", " EUR-", " EUR)")]
+        for code in codes:
+            _, said = self.shown(code, 5)
+            self.assertIn("'5' is a number that Excel shows in another way", said or "", code)
+            self.assertEqual(self.shown(f"0;{code};0", 5)[1], None, code)
+            self.assertEqual(self.shown(f"0;{code};0", -5)[1], None, code)
+        plain = [f"&quot;{words}&quot;0" for words in ("(EUR) ", "A-B ", "A - B ", "+")]
+        plain += [f"0&quot;{words}&quot;" for words in ("", " (MW)", "-MW", " A - B")]
+        for code in plain:
+            self.assertEqual(self.shown(code, 5)[1], None, code)
+            self.assertEqual(self.shown(f"0.0;{code}", 5)[1], None, code)
+            for codes in (f"0.0;{code}", f"0.0;[Red]{code};0"):
+                _, said = self.shown(codes, -5)
+                self.assertIn("'-5' is a number that Excel shows in another way", said or "", codes)
+        for code in ("# ?/?", "General", "_-* #,##0_-;-* #,##0_-;_-* &quot;-&quot;??_-", "#;-#;0"):
+            self.assertEqual(self.shown(code, 0)[1], None, code)
+        for code in ("0", "0.00;(0.00)", "#,##0_);[Red]\\(#,##0\\)", "General;[Red]-General", "0.00&quot; EUR-MWh&quot;", "0;-* 0"):
+            self.assertEqual(self.shown(code, -5)[1], None, code)
+        for code, number in (("[&lt;0]0;0", -5), ("[&gt;9]0;0", -5), ("[&gt;9]0;-0", 5), ("[&gt;9]0;(0)", 0)):
+            _, said = self.shown(code, number)
+            self.assertIn(f"'{number}' is a number that Excel shows in another way", said or "", code)
 
     def test_names_of_many_digits(self):
         """Excel shows 123456789012 as 1.23457E+11, unless its format is 0."""
@@ -533,7 +588,7 @@ class Unlike(unittest.TestCase):
         _, said = self.read(parts, B=f'<c s=" {shown} " t="str"><v>K7</v></c>')
         self.assertIn("'K7' is a text with a format", said)
         _, said = self.read(parts, B=f'<c s="{len(codes) - 1}"><v>7</v></c>')
-        self.assertIn("'7' is a number with a format", said)
+        self.assertIn("'7' is a number that fills its cell again and again", said)
 
     def test_formats_that_cant_be_read(self):
         """Two formats of one number may be either, and Excel reads no other numbers than whole ones."""

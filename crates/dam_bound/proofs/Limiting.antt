@@ -215,14 +215,14 @@ least_more slacks k least x after e f is =
           ));
     }
 
-pub lowered_here : (held slacks : List ℤ) (k i : ℕ) (d z accepted : ℤ) → i ≡ k → k < length held → k < length slacks
-    → z ≡ get_or held k (pos 0) -ℤ accepted → get_or held k (pos 0) ≡ get_or slacks k (pos 0)
-    → get_or (slice_set held k z) i d ≡ get_or slacks i d -ℤ accepted
-lowered_here held slacks k i d z accepted same inside within is was =
+pub lowered_here : (held slacks : List ℤ) (k i : ℕ) (d z taken : ℤ) → i ≡ k → k < length held → k < length slacks
+    → z ≡ get_or held k (pos 0) -ℤ taken → get_or held k (pos 0) ≡ get_or slacks k (pos 0)
+    → get_or (slice_set held k z) i d ≡ get_or slacks i d -ℤ taken
+lowered_here held slacks k i d z taken same inside within is was =
     ap (λ (j : ℕ). get_or (slice_set held k z) j d) same
     ∙ get_or-set_same held k z d inside ∙ is
-    ∙ ap (λ (x : ℤ). x -ℤ accepted) (was ∙ get_or-any slacks k (pos 0) d within)
-    ∙ ap (λ (j : ℕ). get_or slacks j d -ℤ accepted) (sym same)
+    ∙ ap (λ (x : ℤ). x -ℤ taken) (was ∙ get_or-any slacks k (pos 0) d within)
+    ∙ ap (λ (j : ℕ). get_or slacks j d -ℤ taken) (sym same)
 
 -- the slacks after a decision
 pub record AreLowered (limits : List NetLimit) (accept : Bool) (place : ℕ) (slacks after : List ℤ) : Type 0 where
@@ -237,10 +237,10 @@ still_slacks problem limits accept place slacks after least are inside had lower
   many = lowered.many;
   small = λ k d l.
       (let is = lowered.each k d l in let was = had.small k d l in
-      let accepted = taken_within accept (get_or (limit_in limits k).nets place (pos 0)) ((are.each k l).small place (pos 0) inside) in
+      let taken = taken_within accept (get_or (limit_in limits k).nets place (pos 0)) ((are.each k l).small place (pos 0) inside) in
       let many = lowered.many in
       let own = under k l in let same = get_or-any after k d (pos 0) (omega (arith, many, l)) in
-      let high = was.at_most in let none = accepted.0 in
+      let high = was.at_most in let none = taken.0 in
       record { at_least = omega (arith, ints, own, same, some); at_most = omega (arith, ints, is, high, none) });
 }
 

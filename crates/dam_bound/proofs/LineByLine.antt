@@ -174,9 +174,9 @@ gains_within problem j base gains lines few blocks so_far =
     (let found = take_get (class_places problem) j i c there in
     one_gain (line_in lines c) (net_volume_of_block (c + 1) b.order) problem c (so_far.lines_are i c found.1 found.0)
     (net_small (c + 1) b.order order))) in
-    let accepted = few_taken (class_places problem) j in
+    let taken = few_taken (class_places problem) j in
     added_within (last_period * greatest_value) (length places * (last_period * greatest_value)) ((j + 1) * (last_period * greatest_value))
-    (day_value problem b.order) _ value sum (omega (arith, accepted))))
+    (day_value problem b.order) _ value sum (omega (arith, taken))))
 
 pub base_within : (problem : ProblemState) (j : ℕ) (base : ℤ) (gains : List ℤ) (lines : List Line)
     → IsLinedSoFar problem j base gains lines → IsWithin (j * (last_period * greatest_segment_surplus)) base
@@ -186,9 +186,9 @@ base_within problem j base gains lines so_far =
     (let found = take_get (class_places problem) j i c there in
     let small = (so_far.lines_are i c found.1 found.0).small in
     record { at_least = small.surplus_at_least; at_most = small.surplus_at_most })) in
-    let accepted = few_taken (class_places problem) j in let is = so_far.base_is in
+    let taken = few_taken (class_places problem) j in let is = so_far.base_is in
     let a = sum.at_least in let b = sum.at_most in
-    record { at_least = omega (arith, ints, a, is, accepted); at_most = omega (arith, ints, b, is, accepted) }
+    record { at_least = omega (arith, ints, a, is, taken); at_most = omega (arith, ints, b, is, taken) }
 
 -- ---- all lines
 pub all_lines : (problem : ProblemState) (curves : CurvesState) (classes : List Class) (j : ℕ) (pricing : Pricing)

@@ -102,7 +102,7 @@ lowered_more problem lines sel j c total after u at joint small e so_far =
     let number : suc j ≡ j + 1 = omega arith in
     let places = class_places problem in
     let own : worth (joint_of problem sel c) ≡ u = ap worth joint in
-    let accepted = over_next (λ d. worth (joint_of problem sel d)) places j c at in
+    let taken = over_next (λ d. worth (joint_of problem sel d)) places j c at in
     let count = ap (λ (n : ℕ). over_places (λ d. worth (joint_of problem sel d)) (take n places)) number in
     let left = over_from (lined problem lines sel) places j c at in
     let is = so_far.total_is in
@@ -116,7 +116,7 @@ lowered_more problem lines sel j c total after u at joint small e so_far =
             }))
         | inr apart ↦ so_far.each i d (omega (arith, l, apart)) there
       ];
-      total_is = omega (arith, ints, own, accepted, count, left, is, e);
+      total_is = omega (arith, ints, own, taken, count, left, is, e);
     }
   where
     one_place : {x y : ℕ} → Some x ≡ Some y → x ≡ y
@@ -155,10 +155,10 @@ pub all_lowered : (problem : ProblemState) (lines : List Line) (sel : List Bool)
     → IsLowered problem lines sel j total → selection_welfare problem sel ≡ Some total
 all_lowered problem lines sel j total past so_far =
     let places = class_places problem in
-    let accepted = ap (over_places (λ c. worth (joint_of problem sel c))) (take_all j places past) in
+    let taken = ap (over_places (λ c. worth (joint_of problem sel c))) (take_all j places past) in
     let left = ap (over_places (lined problem lines sel)) (drop_all j places past) in
     let is = so_far.total_is in
-    let same : whole_of problem sel ≡ total = omega (arith, ints, accepted, left, is) in
+    let same : whole_of problem sel ≡ total = omega (arith, ints, taken, left, is) in
     from_classes problem sel (λ i c at.
     (let index = slice_get_within places i c at in (worth (joint_of problem sel c), (so_far.each i c (omega (arith, index, past)) at).some)))
     ∙ ap Some same
@@ -207,13 +207,13 @@ lowered_within problem pricing sel j total few blocks few_blocks end is so_far =
     (record { at_least = omega (arith, ints, l); at_most = omega (arith, ints, h) }))) in
     let values = accepted_within (day_value problem) (last_period * greatest_value) (length problem.hours)
     (λ o order. value_small (length problem.hours) o few order) problem.blocks sel blocks in
-    let accepted = few_taken places j in let left = few_left places j in let all = few_places problem.blocks 0 (length problem.hours) in
+    let taken = few_taken places j in let left = few_left places j in let all = few_places problem.blocks 0 (length problem.hours) in
     let total_is = so_far.total_is in
     let a = worths.at_least in let b = worths.at_most in let c = lines.at_least in let d = lines.at_most in
     let e = values.at_least in let h = values.at_most in
     record {
-      at_least = omega (arith, ints, total_is, a, c, e, accepted, left, all, few, few_blocks, end);
-      at_most = omega (arith, ints, total_is, b, d, h, accepted, left, all, few, few_blocks, end);
+      at_least = omega (arith, ints, total_is, a, c, e, taken, left, all, few, few_blocks, end);
+      at_most = omega (arith, ints, total_is, b, d, h, taken, left, all, few, few_blocks, end);
     }
 
 -- a total that is lowered, as the code has it

@@ -5,7 +5,7 @@ use Rattle.sqlite_disk.specs.Disk.{MoreFaults}
 use Rattle.dam_store.specs.Faults.{is_failed_write}
 use Rattle.dam_store.specs.declared.fault.StoreFault.{StoreFault}
 use Rattle.dam_store.specs.declared.fault.StoreFault.TheVariants as store
-use Rattle.dam_desk.specs.Faults.{IsEndFault, IsWritingFault, fault_after, is_failed_sync as desk_failed_sync, is_read, of_store}
+use Rattle.dam_desk.specs.Faults.{IsEndFault, IsWritingFault, fault_after, is_failed_sync as desk_failed_sync, is_read, is_write, of_store}
 use Rattle.dam_desk.specs.declared.fault.DeskFault.{DeskFault}
 use Rattle.dam_desk.specs.declared.fault.DeskFault.TheVariants.{File, Store, NotAJournal, Respelled, Read, Write, Memory}
 
@@ -102,3 +102,12 @@ read_after printed Respelled = refl
 read_after printed Read = refl
 read_after printed (Write written) = refl
 read_after printed Memory = refl
+
+pub write_after : (printed : ℕ) (fault : DeskFault) → is_write (fault_after printed fault) ≡ is_write fault
+write_after printed (File why) = refl
+write_after printed (Store why) = refl
+write_after printed (NotAJournal why) = refl
+write_after printed Respelled = refl
+write_after printed Read = refl
+write_after printed (Write written) = refl
+write_after printed Memory = refl

@@ -7,6 +7,7 @@ mod Runs
 mod Steps
 mod Growth
 mod Ends
+mod Devices
 mod Room
 mod Desks
 mod Saying

@@ -3,6 +3,7 @@ pub mod InputLines
 pub mod Answers
 pub mod DeskJournal
 pub mod Faults
+pub mod Device
 pub mod Desk
 pub mod DeskRun
 pub mod inside

@@ -7,6 +7,7 @@ ghost use Rattle.dam_desk.specs.DeskJournal.{State, OpensTo, next};
 ghost use Rattle.dam_desk.specs.InputLines.{kept_bytes};
 ghost use Rattle.dam_desk.specs.Faults.{IsEndFault, SaysCount, is_failed_sync, is_read, is_write};
 
+use crate::device::Sink;
 use crate::fault::{DeskFault, InputLineFault};
 use crate::fault_line::write_fault;
 use crate::intake::Intake;
@@ -31,8 +32,9 @@ impl<D: Disk> Desk<D> {
     pub(crate) fn serve_batch<W: Write>(
         &mut self,
         bytes: &[u8],
-        writer: &mut W,
+        writer: &mut Sink<W>,
     ) -> Result<usize, DeskFault>
+        requires { writer.old.failed ≡ false }
         ensures ready { OnOk result (is_broken self.new.store ≡ false) }
         ensures no_fault { OnOk result (D.Disk.faults (disk_of self.new.store)
             ≡ D.Disk.faults (disk_of self.old.store)) }
@@ -45,6 +47,10 @@ impl<D: Disk> Desk<D> {
             → writer.new ≡ writer.old) }
         ensures answered { IfErr result (λ fault. is_write fault ≡ true
             → is_broken self.new.store ≡ false) }
+        // The writer failed exactly if the fault says so.
+        ensures device { MatchResult result
+            (λ _. writer.new.failed ≡ false)
+            (λ fault. writer.new.failed ≡ is_write fault) }
         // A crash at any moment leaves what was held, and maybe what the lines enter.
         ensures crash { is_broken self.old.store ≡ false
             → IsTrue (D.Disk.is_clean (disk_of self.new.store))
@@ -67,11 +73,11 @@ impl<D: Disk> Desk<D> {
         ensures served { (state : State) (begun : List ℕ) → IsDesk self.old state begun
             → IfOk result (λ printed.
             (done : DeskHasAnswered self.new state (begun ++ bytes.now) []
-            (W.contents writer.old) (W.contents writer.new)) × (printed ≡ length done.answers)) }
+            writer.old.taken writer.new.taken) × (printed ≡ length done.answers)) }
         ensures faulty { (state : State) (begun : List ℕ) → IsDesk self.old state begun
             → is_broken self.old.store ≡ false
             → IfErr result (λ fault. Served state (begun ++ bytes.now) [] fault
-            (W.contents writer.old) (W.contents writer.new) (MayLeave self.new)) }
+            writer.old.taken writer.new.taken (MayLeave self.new)) }
     {
         journals_grow();
         let _safe = self.store.is_broken(); // for the proof: what an open store has is safe
@@ -84,17 +90,21 @@ impl<D: Disk> Desk<D> {
     }
 
     /// If the input ended inside a line, writes this line's answer: the fault `CutShort`. The file isn't changed.
-    pub(crate) fn answer_cut_short<W: Write>(&self, writer: &mut W) -> Result<(), DeskFault>
+    pub(crate) fn answer_cut_short<W: Write>(&self, writer: &mut Sink<W>) -> Result<(), DeskFault>
+        requires { writer.old.failed ≡ false }
         ensures ok { (begun : List ℕ) → self.now.intake.line ≡ kept_bytes begun
-            → OnOk result (Appends (W.contents writer.old) (W.contents writer.new)
+            → OnOk result (Appends writer.old.taken writer.new.taken
             (end_answer (next self.now.intake.answered) begun)) }
         ensures no_read { IfErr result (λ fault. is_read fault ≡ false) }
+        ensures device { MatchResult result
+            (λ _. writer.new.failed ≡ false)
+            (λ fault. writer.new.failed ≡ is_write fault) }
         ensures no_sync { IfErr result (λ fault. is_failed_sync fault ≡ false) }
         ensures cause { (is_clean : Bool) (count : ℕ)
             → IfErr result (IsEndFault is_clean count count) }
         ensures err { (begun : List ℕ) → self.now.intake.line ≡ kept_bytes begun
             → IfErr result (λ fault. (count : ℕ)
-            × Appends (W.contents writer.old) (W.contents writer.new)
+            × Appends writer.old.taken writer.new.taken
             (take count (end_answer (next self.now.intake.answered) begun))
             × SaysCount count fault) }
     {

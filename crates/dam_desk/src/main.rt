@@ -9,6 +9,7 @@ mod answering;
 mod command_line;
 mod desk;
 mod desk_day;
+mod device;
 mod fault;
 mod fault_line;
 mod held;
@@ -26,6 +27,7 @@ mod text_lines;
 
 use command_line::{Job, USAGE, job_of, words};
 use dam_book::Seed;
+use device::{Sink, Source};
 use fault::{DeskFault, status};
 use held::{held_text, read_file_bytes};
 use output::write_text;
@@ -45,7 +47,7 @@ fn main(rt: HostRuntime) -> ExitCode {
     let done = match job_of(words.as_slice()) {
         Some(Job::Serve(path)) => serve_standard(&rt, path),
         Some(Job::Journal(path)) => print_journal(&rt, path),
-        Some(Job::Help) => write_text(&mut rt.stdout(), USAGE.as_bytes()),
+        Some(Job::Help) => write_text(&mut Sink::new(rt.stdout()), USAGE.as_bytes()),
         None => return refuse(&rt),
     };
     match done {
@@ -56,7 +58,8 @@ fn main(rt: HostRuntime) -> ExitCode {
 
 /// Serves the journal in a file, from standard input to standard output.
 fn serve_standard(rt: &HostRuntime, path: &str) -> Result<(), DeskFault> {
-    let ended = serve_file(rt, path, Wary, &mut rt.stdin(), &mut rt.stdout())?;
+    let (mut input, mut output) = (Source::new(rt.stdin()), Sink::new(rt.stdout()));
+    let ended = serve_file(rt, path, Wary, &mut input, &mut output)?;
     ended.done
 }
 
@@ -65,7 +68,7 @@ fn serve_standard(rt: &HostRuntime, path: &str) -> Result<(), DeskFault> {
 fn print_journal(rt: &HostRuntime, path: &str) -> Result<(), DeskFault> {
     let bytes = read_file_bytes(rt, path)?;
     let text = held_text(rt.alloc(), Seed::drawn(rt), bytes.as_slice())?;
-    write_text(&mut rt.stdout(), text.as_slice())
+    write_text(&mut Sink::new(rt.stdout()), text.as_slice())
 }
 
 /// Prints the fault's line, and gives its status.

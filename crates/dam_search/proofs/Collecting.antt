@@ -1,4 +1,4 @@
--- The collecting law.
+-- Conclusive answers give the result.
 use Rattle.std.proofs.Common.{◌≡◌, ℕ, ◌^◌, ◌-◌, ◌<◌, ◌≤◌, max, ◌⊎◌, inl, inr, ℤ, pos, ◌≤ℤ◌, Bool, true, Option, Some, None, List, [], ◌∷◌, ◌++◌}
 use Rattle.std.proofs.Common.{length, take, drop, ◌∙◌, ap, sym, subst, refl, arith}
 use Rattle.std.specs.List.{All, Contains}

@@ -11,7 +11,7 @@ use crate::conflicts::Conflicts;
 use crate::explorer::{ByPrices, Explorer, limit_can_bind};
 use crate::fault::SearchFault;
 use crate::first::first_selection;
-use crate::incumbent::{Incumbent, Private};
+use crate::incumbent::{Incumbent, OwnIncumbent};
 use crate::order::decision_order;
 use crate::prefix_walk::ByPrefixes;
 use crate::priced_problem::PricedProblem;
@@ -37,7 +37,7 @@ fn search_alone_with_explorer<E: Explorer>(
     ensures needed { IfOk result (λ best. LimitHasNeeded problem.now 0 nodes best.welfare) }
     ensures whole { (piece : ℕ) → ¬ (IsErrOf result (SearchFault.Collected piece)) }
 {
-    let mut incumbent = Private::new();
+    let mut incumbent = OwnIncumbent::new();
     incumbent.offer(first_welfare);
     let answer = explorer.explore(0, 0, nodes, &mut incumbent);
     collected(problem, 0, nodes, &[answer])

@@ -128,7 +128,7 @@ pub(crate) fn collected<A: Allocator>(
         → IsErrOf result (SearchFault.Unfinished piece visited)
         → IsUnfinished problem.now depth nodes piece visited }
 {
-    laws::collecting();
+    laws::conclusive_answers_give_result();
     use_invariant(problem);
     if let Some(piece) = first_faulty(answers, piece_count(depth)) {
         return Err(SearchFault::Collected { piece });

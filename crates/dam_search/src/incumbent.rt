@@ -39,7 +39,7 @@ pub trait Incumbent {
 
 /// The incumbent of one worker alone: it reads the greatest welfare offered to it, or 0 if none was.
 #[derive(Clone, Copy, PartialEq, Eq, Debug)]
-pub struct Private {
+pub struct OwnIncumbent {
     /// The greatest value read, in cents per MWh times tenths of a MW; 0 if none was.
     pub greatest_read: u64,
     /// The greatest welfare offered, in cents per MWh times tenths of a MW; 0 if none was.
@@ -47,28 +47,28 @@ pub struct Private {
     ghost known: { greatest_read ≤ greatest_offer },
 }
 
-impl Private {
+impl OwnIncumbent {
     /// An incumbent of which nothing was read and to which nothing was offered.
-    pub fn new() -> Private
+    pub fn new() -> OwnIncumbent
         ensures greatest_read { result.greatest_read ≡ 0 }
         ensures greatest_offer { result.greatest_offer ≡ 0 }
     {
-        Private {
+        OwnIncumbent {
             greatest_read: 0,
             greatest_offer: 0,
         }
     }
 }
 
-impl Default for Private {
+impl Default for OwnIncumbent {
     ghost is_default = { λ p. (p.greatest_read ≡ 0) × (p.greatest_offer ≡ 0) };
 
-    fn default() -> Private {
-        Private::new()
+    fn default() -> OwnIncumbent {
+        OwnIncumbent::new()
     }
 }
 
-impl Incumbent for Private {
+impl Incumbent for OwnIncumbent {
     ghost greatest_read = { λ p. p.greatest_read };
 
     ghost greatest_offer = { λ p. p.greatest_offer };

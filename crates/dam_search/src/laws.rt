@@ -28,13 +28,12 @@ pub fn limits()
     ensures nodes_is { most_nodes ≡ 67108864 }
 {}
 
-/// The collecting law: the highest selection that conclusive answers found is the result, and they
-/// found one.
+/// The highest selection that conclusive answers found is the result, and they found one.
 ///
 /// Sound answers about every piece, all of them done, are conclusive if no value read exceeds the greatest
 /// welfare that they found, or the welfare of another eligible selection, such as one that was offered to
 /// the workers before they started.
-pub fn collecting()
+pub fn conclusive_answers_give_result()
     ensures result { (problem : ProblemState) (depth : ℕ) (answers : List PieceAnswer)
         (b : Solution) → AreConclusive problem depth answers
         → IsHighest answers b → IsResult problem b.selection (pos b.welfare) }
@@ -56,10 +55,10 @@ pub fn collecting()
     dam_blocks::laws::choices_are_all_selections();
 }
 
-/// The closing law of the two words. If one seat has all seats joined into it, the claim word is the
+/// The two words at their closing: if one seat has all seats joined into it, the claim word is the
 /// number of its draws, which were every piece once if one of them was past the last piece; the
 /// incumbent word is its greatest offer, and it read no more than that.
-pub fn closing()
+pub fn closed_words_count_pieces()
     ensures { (pieces seat : ℕ) (state : State (Unit {0}) View) (v : View)
         → AreWords pieces state → get_elem? state.views seat ≡ some v
         → v.seats + v.seats_left ≡ most_seats → AreClosedWords pieces state.words v }

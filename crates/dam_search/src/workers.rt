@@ -1,30 +1,21 @@
-ghost use Rattle.std.specs.Prelude.{◌≡◌, ◌<◌, ◌≤◌, ◌-◌, ◌^◌, min, ℕ, pos, true, [], length};
-ghost use Rattle.std.specs.Prelude.{vec_len, All, IfOk, IsErrOf};
+//! The workers of a search, each at its seat.
+
+ghost use Rattle.std.specs.Prelude.{◌≡◌, ◌≤◌, ◌-◌, ◌^◌, true, [], length};
+ghost use Rattle.std.specs.Prelude.{vec_len, All, IfOk};
 ghost use Rattle.atomic_table.specs.Seated.{TableId};
-ghost use Rattle.dam_blocks.specs.Result.{IsResult};
-ghost use Rattle.dam_bound.specs.Relaxed.{without_rows};
 ghost use Rattle.dam_plan.specs.Limits.{most_workers, most_cut};
-ghost use Rattle.dam_search.specs.Answer.{IsReached};
-ghost use Rattle.dam_search.specs.Search.{IsUnfinished, LimitHasNeeded};
 ghost use Rattle.dam_search.specs.Words.{view_of};
 ghost use Rattle.dam_search.specs.inside.Seats.{IsNewSeat, IsWorkedSeat, AreJoined, AreAllAnswers};
 
 use crate::answer::PieceAnswer;
-use crate::collect::{collected, piece_count};
-use crate::conflicts::Conflicts;
-use crate::explorer::{ByPrices, Explorer, limit_can_bind};
-use crate::fault::SearchFault;
-use crate::first::first_selection;
+use crate::collect::piece_count;
+use crate::explorer::Explorer;
 use crate::incumbent::Incumbent;
-use crate::order::decision_order;
-use crate::prefix_walk::ByPrefixes;
-use crate::priced_problem::PricedProblem;
 use crate::words::{ClosedWords, close_words, new_words};
 use crate::worker::work;
 use crate::worker_seat::WorkerSeat;
-use dam_blocks::{Problem, Solution};
-use dam_bound::{ClassCurves, Relaxed};
-use dam_plan::{Nodes, Plan, Turnstile};
+use dam_blocks::Problem;
+use dam_plan::{Nodes, Turnstile};
 use std::alloc::{AllocError, Global};
 use std::thread;
 use std::thread::Threads;
@@ -201,130 +192,4 @@ pub(crate) fn explore_all<R: Threads + Sync, E: Explorer + Sync, T: Turnstile + 
     let seat = first.into_seat();
     let totals = close_words(words, seat);
     Ok(Explored { answers, totals })
-}
-
-/// The result of the explorer's problem, if this welfare is offered before any worker starts.
-fn search_with_explorer<R: Threads + Sync, E: Explorer + Sync, T: Turnstile + Sync>(
-    rt: &R,
-    alloc: Global,
-    problem: &Problem,
-    explorer: &E,
-    depth: usize,
-    plan: Plan,
-    first_welfare: u64,
-    turnstile: &T,
-) -> Result<Solution, SearchFault>
-    requires same { E.problem explorer.now ≡ problem.now }
-    requires depth { depth ≡ min plan.cut (length problem.now.blocks) }
-    requires suits { E.suits explorer.now depth plan.nodes ≡ true }
-    requires reached { IsReached problem.now first_welfare }
-    ensures ok { IfOk result (λ best. IsResult problem.now best.selection (pos best.welfare)) }
-    ensures unfinished { (piece visited : ℕ)
-        → IsErrOf result (SearchFault.Unfinished piece visited)
-        → IsUnfinished problem.now (min plan.cut (length problem.now.blocks))
-        plan.nodes piece visited }
-    ensures needed { IfOk result (λ best. LimitHasNeeded problem.now
-        (min plan.cut (length problem.now.blocks)) plan.nodes best.welfare) }
-    ensures whole { (piece : ℕ) → ¬ (IsErrOf result (SearchFault.Collected piece)) }
-{
-    let task = Task {
-        alloc,
-        problem,
-        explorer,
-        depth,
-        nodes: plan.nodes(),
-        workers: plan.workers(),
-        first_welfare,
-    };
-    let explored = explore_all(rt, &task, turnstile)?;
-    collected(problem, task.depth, task.nodes, &explored.answers)
-}
-
-/// The result of the problem, by the explorer that suits the plan.
-fn search_priced<R: Threads + Sync, P: PricedProblem + Sync, T: Turnstile + Sync>(
-    rt: &R,
-    alloc: Global,
-    problem: &Problem,
-    priced: &P,
-    plan: Plan,
-    turnstile: &T,
-) -> Result<Solution, SearchFault>
-    requires { P.problem priced.now ≡ without_rows problem.now }
-    ensures ok { IfOk result (λ best. IsResult problem.now best.selection (pos best.welfare)) }
-    ensures unfinished { (piece visited : ℕ)
-        → IsErrOf result (SearchFault.Unfinished piece visited)
-        → IsUnfinished problem.now (min plan.cut (length problem.now.blocks))
-        plan.nodes piece visited }
-    ensures needed { IfOk result (λ best. LimitHasNeeded problem.now
-        (min plan.cut (length problem.now.blocks)) plan.nodes best.welfare) }
-    ensures whole { (piece : ℕ) → ¬ (IsErrOf result (SearchFault.Collected piece)) }
-{
-    let first_welfare = first_selection(problem, priced).welfare;
-    let depth = plan.depth(problem.block_count());
-    if limit_can_bind(problem, depth, plan.nodes()) {
-        let relaxed = &Relaxed::build(alloc, problem)?;
-        let by_prefixes = &ByPrefixes { problem, relaxed };
-        return search_with_explorer(
-            rt,
-            alloc,
-            problem,
-            by_prefixes,
-            depth,
-            plan,
-            first_welfare,
-            turnstile,
-        );
-    }
-    let conflicts = &Conflicts::of(problem, priced);
-    let order = &decision_order(alloc, problem, depth)?;
-    let by_prices = &ByPrices {
-        problem,
-        priced,
-        conflicts,
-        depth,
-        order,
-    };
-    search_with_explorer(
-        rt,
-        alloc,
-        problem,
-        by_prices,
-        depth,
-        plan,
-        first_welfare,
-        turnstile,
-    )
-}
-
-/// The result of a problem (`IsResult`): the eligible selection that no eligible one ranks above. Ties go to the one
-/// that accepts the block at the first place where two differ. No plan and no order in which the workers happen to
-/// run changes it.
-///
-/// The search first finds a good selection, and offers its welfare before any worker starts. The cutting decides as
-/// many of the first blocks as the plan says, or all of them if there are fewer. The workers, each on a thread of its
-/// own, draw its pieces as they come free, and prune by the greatest welfare that any of them has found. If a thread
-/// can't be made, the calling one does its work. The fault `Memory` comes first, then `Collected`, and then
-/// `Unfinished`.
-pub fn search<R: Threads + Sync, T: Turnstile + Sync>(
-    rt: &R,
-    alloc: Global,
-    problem: &Problem,
-    plan: Plan,
-    turnstile: &T,
-) -> Result<Solution, SearchFault>
-    ensures ok { IfOk result (λ best. IsResult problem.now best.selection (pos best.welfare)) }
-    ensures unfinished { (piece visited : ℕ)
-        → IsErrOf result (SearchFault.Unfinished piece visited)
-        → IsUnfinished problem.now (min plan.cut (length problem.now.blocks))
-        plan.nodes piece visited }
-
-    // The limit is at least the number of nodes that each piece must visit: a lesser one gives no result.
-    ensures needed { IfOk result (λ best. LimitHasNeeded problem.now
-        (min plan.cut (length problem.now.blocks)) plan.nodes best.welfare) }
-
-    // It never ends in the fault of a piece that lacks its answer or has two.
-    ensures whole { (piece : ℕ) → ¬ (IsErrOf result (SearchFault.Collected piece)) }
-{
-    let curves = ClassCurves::of(alloc, problem)?;
-    search_priced(rt, alloc, problem, &curves, plan, turnstile)
 }

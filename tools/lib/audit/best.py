@@ -50,7 +50,7 @@ class Curve:
         part = taken - self.ends[at]
         return self.value - self.costs[at] - (part * self.limits[at] if part else 0)
 
-    def supporting(self, net):
+    def supporting_prices(self, net):
         """The ends of the supporting prices, if an execution balances."""
         taken = self.most - net
         low = self.limits[bisect_left(self.ends, taken) - 1] if taken else rules.LOWEST_PRICE
@@ -58,7 +58,7 @@ class Curve:
         return low, high
 
 
-def curves(problem):
+def welfare_curves(problem):
     return {number: Curve(orders) for number, orders in problem.orders.items()}
 
 
@@ -67,12 +67,12 @@ class Search:
 
     def __init__(self, problem, progress=None):
         self.problem, self.progress = problem, progress
-        self.curves = curves(problem)
+        self.curves = welfare_curves(problem)
         self.group_of = {place: key for key, members in problem.groups().items() for place in members}
         self.best = None
         self.tried = 0
 
-    def run(self):
+    def find_best(self):
         """The best selection."""
         net = dict.fromkeys(self.curves, 0)
         self.descend(0, frozenset(), {}, net, {number: curve.welfare(0) for number, curve in self.curves.items()}, 0)
@@ -82,25 +82,25 @@ class Search:
         """Tries the selections that accept these blocks before a place: `taken` are their numbers by group, `net` and `worth` the net
         volumes and welfares of the periods, `value` the welfare that the blocks themselves add."""
         if place == len(self.problem.blocks):
-            self.look(accepted, net, worth, value)
+            self.keep_if_better(accepted, net, worth, value)
             return
         order = self.problem.blocks[place].order
         parent, group = self.problem.parents[place], self.group_of.get(place)
         of_group = 0 if group is None else taken.get(group, 0)
         if (parent is None or parent in accepted) and of_group < rules.MOST_OF_GROUP:
             groups = taken if group is None else {**taken, group: of_group + 1}
-            self.descend(place + 1, accepted | {place}, groups, *self.with_block(order, net, worth, value))
+            self.descend(place + 1, accepted | {place}, groups, *self.sums_with_block(order, net, worth, value))
         self.descend(place + 1, accepted, taken, net, worth, value)
 
-    def with_block(self, order, net, worth, value):
+    def sums_with_block(self, order, net, worth, value):
         net, worth = dict(net), dict(worth)
-        for number, volume in selection.signed(order):
+        for number, volume in selection.net_volumes(order):
             net[number] += volume
             worth[number] = self.curves[number].welfare(net[number])
             value -= order.price * volume
         return net, worth, value
 
-    def look(self, accepted, net, worth, value):
+    def keep_if_better(self, accepted, net, worth, value):
         """Keeps a selection if it is eligible and of greater welfare than those before."""
         self.tried += 1
         if self.progress and self.tried % STEP == 1:
@@ -110,9 +110,9 @@ class Search:
         welfare = sum(worth.values()) + value
         if self.best is not None and welfare <= self.best.welfare:
             return
-        prices = {number: rules.price_between(*curve.supporting(net[number]))[0] for number, curve in self.curves.items()}
+        prices = {number: rules.price_between(*curve.supporting_prices(net[number]))[0] for number, curve in self.curves.items()}
         surpluses = [selection.surplus(block.order, prices) for block in self.problem.blocks]
-        if not selection.losing(self.problem, accepted, surpluses):
+        if not selection.losses_of(self.problem, accepted, surpluses):
             self.best = Found(accepted, welfare)
 
 
@@ -121,13 +121,13 @@ def enumerate_all(problem, progress=None):
     search = Search(problem, progress)
     if progress:
         progress.expect(2 ** len(problem.blocks))
-    best = search.run()
-    if selection.eligible(problem, best.accepted) != best.welfare:
+    best = search.find_best()
+    if selection.eligible_welfare(problem, best.accepted) != best.welfare:
         raise AssertionError(f"the selection {sorted(best.accepted)} is not eligible with the welfare that the search gave it")
-    return best, tried(len(problem.blocks), search.tried)
+    return best, tried_words(len(problem.blocks), search.tried)
 
 
-def tried(blocks, admitted, losing=0):
+def tried_words(blocks, admitted, losing=0):
     """How many selections were tried, and how many of them links and groups admit; and, if none is better, how many would be if none
     of their blocks lost."""
     if blocks == 0:

@@ -11,7 +11,7 @@ ENUMERATION, HIGHS = METHODS = ["enumeration", "highs"]
 FEW_BLOCKS = 10
 
 
-def look(problem, said, method, progress, jobs):
+def find_better(problem, said, method, progress, jobs):
     """A selection that ranks above the one of right results, or None; and how it was looked for. Ends the tool if the time is over, or
     if the search fails."""
     try:
@@ -24,7 +24,7 @@ def look(problem, said, method, progress, jobs):
 def enumerate_all(problem, said, progress, jobs, few=FEW_BLOCKS):
     """With numpy; without it if the blocks are few, or if it is missing and they aren't too many."""
     count = len(problem.blocks)
-    if count <= few or count <= best.ENUMERABLE and not modules.has("numpy"):
+    if count <= few or count <= best.ENUMERABLE and not modules.has_module("numpy"):
         try:
             found, how = best.enumerate_all(problem, progress)
         finally:
@@ -33,7 +33,7 @@ def enumerate_all(problem, said, progress, jobs, few=FEW_BLOCKS):
     modules.need("numpy")
     from . import enumeration
 
-    return enumeration.better(problem, frozenset(said.accepted), said.welfare, progress, jobs)
+    return enumeration.find_better(problem, frozenset(said.accepted), said.welfare, progress, jobs)
 
 
 def ask_highs(problem, said, progress, jobs):
@@ -46,28 +46,28 @@ def ask_highs(problem, said, progress, jobs):
         from . import solver
 
         try:
-            return solver.better(problem, frozenset(said.accepted), said.welfare, progress, tell)
+            return solver.find_better(problem, frozenset(said.accepted), said.welfare, progress, tell)
         except solver.GaveUp as fault:
             raise TimeoutError(f"HiGHS gave up (its status is {fault}): without --by highs every selection is tried") from None
 
-    return aside.answer(ask, progress, "HiGHS is still searching")
+    return aside.run_aside(ask, progress, "HiGHS is still searching")
 
 
-def named(problem, places):
+def block_names(problem, places):
     return " ".join(str(problem.blocks[place]) for place in sorted(places)) or "no block"
 
 
-def told(problem, said, found):
+def better_lines(problem, said, found):
     """The lines about a better selection: its blocks and welfare, its prices, and how it differs from the published one."""
     more = found.welfare - said.welfare
     if more:
         kind = f"it has a greater welfare, {problem.euros(found.welfare)} EUR, which is {problem.euros(more)} EUR more"
-        yield f"a better selection accepts {named(problem, found.accepted)}: {kind}"
+        yield f"a better selection accepts {block_names(problem, found.accepted)}: {kind}"
     else:
         first = problem.blocks[min(found.accepted ^ said.accepted)]
         yield f"an equally good selection takes precedence: it accepts {first}, which is earlier in the book"
     turned = [("accepts", found.accepted - said.accepted), ("rejects", said.accepted - found.accepted)]
-    yield "unlike the results it " + " and ".join(f"{does} {named(problem, places)}" for does, places in turned if places)
+    yield "unlike the results it " + " and ".join(f"{does} {block_names(problem, places)}" for does, places in turned if places)
     prices = [cleared.price for cleared in selection.outcome(problem, found.accepted).cleared.values()]
     changed = [(number, *pair) for number, pair in enumerate(zip(prices, said.prices), 1) if pair[0] != pair[1]]
     for number, price, published in changed:

@@ -85,7 +85,13 @@ def listed_pairs(path):
         rows = iter(sheets.text_rows(file_io.read_bytes(path)))
         heads = [cell.strip().lower() for cell in next(rows, (0, []))[1]]
         refuse_heads(path, heads)
-        pairs = [listed_pair(path.parent, dict(zip(heads, row)), extra_cells(line, row, heads)) for line, row in within(path, rows)]
+        pairs, lines = [], {}
+        for line, row in within(path, rows):
+            cells = {name: named_in(path.parent, cell) for name, cell in zip(heads, row)}
+            pairs.append(listed_pair(path.parent, cells, extra_cells(line, row, heads)))
+            if cells.get(NAME):
+                lines[len(pairs) - 1] = line
+        pairs = with_own_names(pairs, lines)
     except sheets.BadTable as fault:
         raise command.Stop(f"{command.shown(path)} isn't a table of days: {fault}") from None
     if not pairs:
@@ -120,12 +126,25 @@ def extra_cells(line, row, heads):
 
 def listed_pair(folder, cells, extra):
     """The pair of a row of a manifest."""
-    cells = {name: named_in(folder, cell) for name, cell in cells.items()}
     journal, published = (folder / cells.get(name, "") for name in COLUMNS)
     has_results = bool(cells.get("results"))
     missing = None if has_results else f"its row names no results, and {command.shown(journal)} has no line 'results'"
     unread = extra or unread_row(cells) or file_io.unread_file(journal) or (file_io.unread_file(published) if has_results else None)
     return Pair(cells.get(NAME) or journal.stem, journal, published if has_results else None, unread, missing)
+
+
+def with_own_names(pairs, lines):
+    """The pairs of a manifest, of which none is read whose row gives it another's name. `lines` has the line of each such row, by the place
+    of its pair."""
+    places = {}  # by name
+    for place in lines:
+        places.setdefault(pairs[place].name, []).append(place)
+    for name, (first, *others) in places.items():
+        for place in [first, *others] if others else []:
+            both = f"lines {lines[first]} and {lines[others[0] if place == first else place]}"
+            said = f"{both} of the table give two days the name {text.quoted(name)}: change one of them"
+            pairs[place] = pairs[place]._replace(unread=pairs[place].unread or said)
+    return pairs
 
 
 def named_in(folder, cell):
@@ -151,8 +170,8 @@ def options_of(args):
 
 
 def file_name(path):
-    """The name of a file on the command line of a day; `-` alone would be standard input, and argparse leaves out each `--`."""
-    return f"./{path}" if str(path) in ("-", "--") else str(path)
+    """The name of a file on the command line of a day; `-` alone would be standard input."""
+    return f"./{path}" if str(path) == "-" else str(path)
 
 
 def seconds_of(args):

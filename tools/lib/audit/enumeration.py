@@ -21,7 +21,7 @@ import numpy
 
 from ..base import rules
 from ..results import selection
-from .best import Curve, Found, tried
+from .best import Curve, Found, tried_words
 
 LOW_BITS = 14
 # The welfare of a period that doesn't balance. It is so low that a sum with it is under every welfare, and 100 of it are a number.
@@ -55,7 +55,7 @@ class Period:
         self.lock = threading.Lock()
         self.coded = None
 
-    def worths(self):
+    def welfares(self):
         """The welfare by the volume that is taken, from `least` to `most`."""
         table = numpy.full(self.most - self.least + 1, NEVER, dtype=numpy.int64)
         balanced = table[self.first - self.least : self.last - self.least + 1]
@@ -109,7 +109,7 @@ class Links:
             for places in itertools.combinations(members, too_many)
         ]
 
-    def within(self, bits, numbers):
+    def admitted_within(self, bits, numbers):
         """Those of these numbers, which have some of these bits alone, that no link or group among the bits forbids."""
         admitted = numpy.ones(len(numbers), dtype=bool)
         for child, parent in self.needs:
@@ -120,7 +120,7 @@ class Links:
                 admitted &= numbers & these != these
         return numbers[admitted]
 
-    def across(self, low_bits, numbers, high):
+    def are_admitted_across(self, low_bits, numbers, high):
         """Whether each number of low bits is admitted together with one of high bits."""
         admitted = numpy.ones(len(numbers), dtype=bool)
         for child, parent in self.needs:
@@ -139,11 +139,11 @@ class Floor:
     def __init__(self, welfare, number):
         self.welfare, self.number = welfare, number
 
-    def under(self, welfares, numbers):
+    def rank_above(self, welfares, numbers):
         """Which selections rank above it."""
         return (welfares > self.welfare) | ((welfares == self.welfare) & (numbers > self.number))
 
-    def lift(self, welfares, numbers):
+    def lift_to_best(self, welfares, numbers):
         """The best of these selections, which rank above it, takes its place."""
         if len(numbers):
             self.welfare = int(welfares.max())
@@ -160,17 +160,17 @@ class Selections:
         self.links = Links(problem)
         takes = {number: [0] * self.count for number in problem.orders}
         for place, block in enumerate(problem.blocks):
-            for number, net in selection.signed(block.order):
+            for number, net in selection.net_volumes(block.order):
                 takes[number][place] = -net
         self.periods = {number: Period(orders, takes[number], self.low_bits) for number, orders in problem.orders.items()}
         # By period and block the sold less the bought volume; and the worth of a block, but for the prices.
         self.volumes = -numpy.array([*takes.values()], dtype=numpy.int64).T
-        self.own = [-block.order.price * sum(net for _, net in selection.signed(block.order)) for block in problem.blocks]
+        self.own = [-block.order.price * sum(net for _, net in selection.net_volumes(block.order)) for block in problem.blocks]
         high_bits = self.count - self.low_bits
         self.high_own, self.low_own = subset_sums(self.own[:high_bits]), subset_sums(self.own[high_bits:])
         self.all_low = (1 << self.low_bits) - 1
-        self.lows = self.links.within(self.all_low, numpy.arange(1 << self.low_bits))
-        self.highs = self.links.within((1 << self.count) - 1 - self.all_low, numpy.arange(1 << high_bits) << self.low_bits)
+        self.lows = self.links.admitted_within(self.all_low, numpy.arange(1 << self.low_bits))
+        self.highs = self.links.admitted_within((1 << self.count) - 1 - self.all_low, numpy.arange(1 << high_bits) << self.low_bits)
         greatest = greatest_sum(problem)
         if greatest >= -NEVER or (len(self.periods) + 1) * -NEVER >= 2**63:
             raise AssertionError(f"sums up to {greatest} don't fit")
@@ -185,7 +185,7 @@ class Selections:
 
     def surplus(self, place, numbers):
         """The surplus of a block that follows from each of these selections."""
-        volumes = selection.signed(self.problem.blocks[place].order)
+        volumes = selection.net_volumes(self.problem.blocks[place].order)
         total = numpy.full(len(numbers), self.own[place], dtype=numpy.int64)
         for number, net in volumes:
             total += net * self.prices(number, numbers)
@@ -236,7 +236,7 @@ class Rows:
         # In which order blocks are looked at for a loss: those first that have lost most often, else from the last one.
         self.lost = dict.fromkeys(reversed(range(every.count)), 0)
 
-    def run(self):
+    def find_best(self):
         """The best of them that ranks above the floor, as a new floor."""
         welfares = self.welfares()
         waiting, held = [], 0
@@ -245,7 +245,7 @@ class Rows:
             waiting.append(found)
             held += len(found[0])
             if held >= BATCH or row == 0:
-                self.look(*map(numpy.concatenate, zip(*waiting)))
+                self.lift_floor(*map(numpy.concatenate, zip(*waiting)))
                 waiting, held = [], 0
         return self.floor
 
@@ -260,7 +260,7 @@ class Rows:
 
     def add(self, welfares, period, rows):
         """Adds the welfare of a period. Rows whose blocks take the same volume of it get the same welfare."""
-        table = period.worths()
+        table = period.welfares()
         places = period.low[self.every.lows] - period.low.min()
         starts = period.high[rows] - period.high.min()
         last = None
@@ -273,21 +273,21 @@ class Rows:
     def above(self, row, welfares):
         """The numbers and welfares of the selections of a row that rank above the floor."""
         every, high = self.every, int(self.highs[row])
-        admitted = every.links.across(every.all_low, every.lows, high)
+        admitted = every.links.are_admitted_across(every.all_low, every.lows, high)
         self.admitted += numpy.count_nonzero(admitted)
         places = numpy.flatnonzero(admitted & (welfares >= self.floor.welfare))
         numbers, welfares = every.lows[places] | high, welfares[places]
-        over = self.floor.under(welfares, numbers)
+        over = self.floor.rank_above(welfares, numbers)
         return numbers[over], welfares[over]
 
-    def look(self, numbers, welfares):
+    def lift_floor(self, numbers, welfares):
         """Checks some selections that rank above the floor for a loss. The best one without is the new floor."""
         for first in range(0, len(numbers), BATCH):
             part = slice(first, first + BATCH)
-            over = self.floor.under(welfares[part], numbers[part])
+            over = self.floor.rank_above(welfares[part], numbers[part])
             gaining = self.without_loss(numbers[part][over])
             lasting = numpy.isin(numbers[part], gaining)
-            self.floor.lift(welfares[part][lasting], numbers[part][lasting])
+            self.floor.lift_to_best(welfares[part][lasting], numbers[part][lasting])
 
     def without_loss(self, numbers):
         """Those of some selections of which no accepted block loses. As long as the block that has lost most often leaves out many,
@@ -313,7 +313,7 @@ class Rows:
         return numpy.concatenate(gaining)
 
 
-def better(problem, accepted, welfare, progress, jobs=1, low_bits=LOW_BITS):
+def find_better(problem, accepted, welfare, progress, jobs=1, low_bits=LOW_BITS):
     """The best selection, if it ranks above this eligible one, else None; and how that was found."""
     every = Selections(problem, low_bits)
     published = Floor(welfare, every.number(accepted))
@@ -321,14 +321,14 @@ def better(problem, accepted, welfare, progress, jobs=1, low_bits=LOW_BITS):
     progress.expect(len(every.highs) * len(every.periods))
     with ThreadPoolExecutor(jobs) as threads:
         try:
-            floors = [running.result() for running in [threads.submit(share.run) for share in shares]]
+            floors = [running.result() for running in [threads.submit(share.find_best) for share in shares]]
         finally:
             progress.end()
     best = max(floors, key=lambda floor: (floor.welfare, floor.number))
-    how = tried(len(problem.blocks), sum(share.admitted for share in shares), sum(share.looked for share in shares))
+    how = tried_words(len(problem.blocks), sum(share.admitted for share in shares), sum(share.looked for share in shares))
     if best.number == published.number:
         return None, how
     found = Found(every.accepted(best.number), best.welfare)
-    if selection.eligible(problem, found.accepted) != found.welfare:
+    if selection.eligible_welfare(problem, found.accepted) != found.welfare:
         raise AssertionError(f"the selection {sorted(found.accepted)} is not eligible with the welfare that the tables gave it")
     return found, how

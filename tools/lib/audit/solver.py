@@ -30,7 +30,7 @@ LIMIT, NO_SOLUTION = 1, 2  # statuses of scipy's
 
 
 @contextlib.contextmanager
-def quiet():
+def discarding_stdout():
     """Discards the output of HiGHS itself on standard output."""
     print(end="", flush=True)
     kept, nowhere = os.dup(1), os.open(os.devnull, os.O_WRONLY)
@@ -54,14 +54,14 @@ class Program:
         self.costs, self.lower, self.upper, self.whole = [], [], [], []
         self.at, self.rows = [], []
 
-    def column(self, cost=0.0, lower=0.0, upper=numpy.inf, whole=False):
+    def add_column(self, cost=0.0, lower=0.0, upper=numpy.inf, whole=False):
         self.costs.append(cost)
         self.lower.append(lower)
         self.upper.append(upper)
         self.whole.append(whole)
         return len(self.costs) - 1
 
-    def row(self, terms, lower=-numpy.inf, upper=numpy.inf):
+    def add_row(self, terms, lower=-numpy.inf, upper=numpy.inf):
         """Terms are pairs of a column and a factor. Answers the row's number."""
         self.at += [(len(self.rows), column, factor) for column, factor in terms]
         self.rows.append((lower, upper))
@@ -71,7 +71,7 @@ class Program:
         rows, columns, factors = zip(*self.at)
         matrix = sparse.csc_matrix((factors, (rows, columns)), shape=(len(self.rows), len(self.costs)))
         lower, upper = zip(*self.rows)
-        with quiet():
+        with discarding_stdout():
             return optimize.milp(
                 numpy.array(self.costs),
                 integrality=numpy.array(self.whole, dtype=int),
@@ -91,82 +91,82 @@ class Model:
     def __init__(self, problem):
         self.problem = problem
         self.program = Program()
-        curves = best.curves(problem)
-        self.accepted = [self.program.column(whole=True, upper=1) for _ in problem.blocks]
+        curves = best.welfare_curves(problem)
+        self.accepted = [self.program.add_column(whole=True, upper=1) for _ in problem.blocks]
         self.welfare, self.duality, self.value = [], [], 0
         self.size = 1.0  # of the greatest sum, by which the slack goes
-        self.prices = {number: self.period(number, curve) for number, curve in curves.items()}
-        gains = [self.gain(place, block.order) for place, block in enumerate(problem.blocks)]
+        self.prices = {number: self.add_period(number, curve) for number, curve in curves.items()}
+        gains = [self.add_gain(place, block.order) for place, block in enumerate(problem.blocks)]
         for place, gain in enumerate(gains):
             helping = [(gains[other], 1) for other in problem.rescuers[place]]
-            self.program.row([(gain, 1), *helping], lower=0)
-        self.links_and_groups()
+            self.program.add_row([(gain, 1), *helping], lower=0)
+        self.add_links_and_groups()
         self.slack = max(HALF, ROUNDING * self.size)
-        self.program.row(self.duality, upper=ROOM * self.slack)
-        self.least = self.program.row(self.welfare)
+        self.program.add_row(self.duality, upper=ROOM * self.slack)
+        self.least = self.program.add_row(self.welfare)
         for column, factor in self.welfare:
             self.program.costs[column] -= factor
 
-    def period(self, number, curve):
+    def add_period(self, number, curve):
         """The rows of a period; its price's column."""
         nets = [
             (place, volume)
             for place, block in enumerate(self.problem.blocks)
-            for at, volume in selection.signed(block.order)
+            for at, volume in selection.net_volumes(block.order)
             if at == number
         ]
         least = max(sum(min(volume, 0) for _, volume in nets), curve.least)
         most = min(sum(max(volume, 0) for _, volume in nets), curve.most)
         lower, upper = price_ends(curve, least, most)
         lower, upper = lower / EUR, upper / EUR
-        price = self.program.column(lower=lower, upper=upper)
+        price = self.program.add_column(lower=lower, upper=upper)
         taken = []
         for limit, volume in zip(curve.limits, curve.volumes):
             limit, volume = limit / EUR, volume / MW
-            take = self.program.column(upper=volume)
-            gain = self.program.column()
-            self.program.row([(gain, 1), (price, -volume)], lower=-limit * volume)
+            take = self.program.add_column(upper=volume)
+            gain = self.program.add_column()
+            self.program.add_row([(gain, 1), (price, -volume)], lower=-limit * volume)
             self.welfare.append((take, -limit))
             self.duality += [(take, limit), (gain, 1)]
             self.size += abs(limit * volume)
             taken.append((take, 1))
         balance = [(self.accepted[place], volume / MW) for place, volume in nets]
-        self.program.row(taken + balance, lower=curve.most / MW, upper=curve.most / MW)
+        self.program.add_row(taken + balance, lower=curve.most / MW, upper=curve.most / MW)
         self.duality.append((price, -curve.most / MW))
         self.value += curve.value / (EUR * MW)
         return price
 
-    def gain(self, place, order):
+    def add_gain(self, place, order):
         """The column of a block's gain: its surplus if it is accepted, else 0."""
         accepted, limit = self.accepted[place], order.price / EUR
-        volumes = [(number, volume / MW) for number, volume in selection.signed(order)]
+        volumes = [(number, volume / MW) for number, volume in selection.net_volumes(order)]
         ends = [
             [net * (bound[self.prices[number]] - limit) for bound in (self.program.lower, self.program.upper)]
             for number, net in volumes
         ]
         least, most = min(0, sum(map(min, ends))), max(0, sum(map(max, ends)))
-        gain = self.program.column(lower=least, upper=most)
-        self.program.row([(gain, 1), (accepted, -most)], upper=0)
-        self.program.row([(gain, 1), (accepted, -least)], lower=0)
+        gain = self.program.add_column(lower=least, upper=most)
+        self.program.add_row([(gain, 1), (accepted, -most)], upper=0)
+        self.program.add_row([(gain, 1), (accepted, -least)], lower=0)
         surplus = [(self.prices[number], -net) for number, net in volumes]
         total = sum(net for _, net in volumes)
         # At least the surplus at the price, if it is accepted.
-        self.program.row([(gain, 1), *surplus, (accepted, -most)], lower=-limit * total - most)
+        self.program.add_row([(gain, 1), *surplus, (accepted, -most)], lower=-limit * total - most)
         self.welfare.append((accepted, -limit * total))
         self.duality += [(gain, 1), (accepted, limit * total)]
         self.size += max(abs(limit * total), most, -least)
         return gain
 
-    def links_and_groups(self):
+    def add_links_and_groups(self):
         for place, parent in enumerate(self.problem.parents):
             if parent is not None:
-                self.program.row([(self.accepted[place], -1), (self.accepted[parent], 1)], lower=0)
+                self.program.add_row([(self.accepted[place], -1), (self.accepted[parent], 1)], lower=0)
         for members in self.problem.groups().values():
-            self.program.row([(self.accepted[place], 1) for place in members], upper=rules.MOST_OF_GROUP)
+            self.program.add_row([(self.accepted[place], 1) for place in members], upper=rules.MOST_OF_GROUP)
         for one, other in equal_blocks(self.problem):
-            self.program.row([(self.accepted[one], 1), (self.accepted[other], -1)], lower=0)
+            self.program.add_row([(self.accepted[one], 1), (self.accepted[other], -1)], lower=0)
 
-    def ask(self, welfare, fixed, room):
+    def restrict(self, welfare, fixed, room):
         """From now on solutions have at least a welfare, and accept or reject the blocks at the first places as in a list."""
         self.program.rows[self.least] = (welfare / (EUR * MW) - self.value - room * self.slack, numpy.inf)
         for place, column in enumerate(self.accepted):
@@ -175,9 +175,9 @@ class Model:
 
     def forbid(self, accepted):
         terms = [(column, -1 if place in accepted else 1) for place, column in enumerate(self.accepted)]
-        self.program.row(terms, lower=1 - len(accepted))
+        self.program.add_row(terms, lower=1 - len(accepted))
 
-    def next(self, seconds):
+    def solve_next(self, seconds):
         """A selection that isn't forbidden; None if there is none. Fails if HiGHS doesn't say.
 
         For books with equal prices HiGHS sometimes says wrongly that there is none, with its presolve or without; if it is
@@ -196,9 +196,9 @@ class Model:
 def price_ends(curve, least, most):
     """Between which prices the rule's price lies, for the net volumes from `least` to `most`: between supporting prices, and
     never beyond the limits of all orders but where no order or every one is taken."""
-    edges = [rules.price_between(*curve.supporting(net))[0] for net in (curve.least, curve.most)]
+    edges = [rules.price_between(*curve.supporting_prices(net))[0] for net in (curve.least, curve.most)]
     lower, upper = min(curve.limits[:1] + edges), max(curve.limits[-1:] + edges)
-    return max(lower, curve.supporting(most)[0]), min(upper, curve.supporting(least)[1])
+    return max(lower, curve.supporting_prices(most)[0]), min(upper, curve.supporting_prices(least)[1])
 
 
 def equal_blocks(problem):
@@ -225,22 +225,22 @@ def questions(accepted, welfare, blocks):
             yield welfare, flags[:place] + [1]
 
 
-def better(problem, accepted, welfare, progress, tell=lambda words: None):
+def find_better(problem, accepted, welfare, progress, tell=lambda words: None):
     """A selection that ranks above this eligible one, or None if HiGHS has none; and how that was found. `tell` gets in words how far
     the search is."""
     model = Model(problem)
     model.forbid(accepted)
     looked = 0
-    tell(offered(looked))
+    tell(progress_words(looked))
     for least, fixed in questions(accepted, welfare, len(problem.blocks)):
         for count in itertools.count():
-            model.ask(least, fixed, ROOM if count < TOO_MANY else 1)
-            other = asked(model, progress, looked)
+            model.restrict(least, fixed, ROOM if count < TOO_MANY else 1)
+            other = solve_in_time(model, progress, looked)
             if other is None:
                 break
             looked += 1
-            tell(offered(looked))
-            value = selection.eligible(problem, other)
+            tell(progress_words(looked))
+            value = selection.eligible_welfare(problem, other)
             if value is not None and selection.ranks_above(len(problem.blocks), value, other, welfare, accepted):
                 return best.Found(other, value), "found by HiGHS"
             model.forbid(other)
@@ -248,18 +248,18 @@ def better(problem, accepted, welfare, progress, tell=lambda words: None):
     return None, f"HiGHS offers {looked} other{'s' * (looked > 1)}, {kind}" if looked else "HiGHS found none better"
 
 
-def offered(looked):
+def progress_words(looked):
     """How far the search is, in words, as long as nothing better was offered."""
     found = f", and has offered {looked} other selection{'s' * (looked > 1)}" if looked else ""
     return f"HiGHS is still searching{found}"
 
 
-def asked(model, progress, looked):
+def solve_in_time(model, progress, looked):
     """The next selection that HiGHS offers, or None. Fails if no time is left."""
     left = progress.seconds_left()
     try:
         if left > 0:
-            return model.next(left)
+            return model.solve_next(left)
     except TimeoutError:
         pass
-    raise TimeoutError(progress.over(offered(looked)))
+    raise TimeoutError(progress.timeout_message(progress_words(looked)))

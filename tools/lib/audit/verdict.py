@@ -11,7 +11,7 @@ from ..results import check, results, selection, sums
 from ..sheets import kinds
 from ..tool import command, day_files, file_io
 from . import better
-from ..results.faults import Fault, matched
+from ..results.faults import Fault, matched_places
 from ..base.progress import Progress
 from ..base.record import ENCODING, FAILED, RIGHT, UNDECIDED, UNREAD, WRONG
 from ..base.rules import VERSION
@@ -34,7 +34,7 @@ NOT_CHECKED = "; whether another selection of blocks is better was not checked (
 HINTS = {
     kinds.REPLIES: "; --replies checks replies",
     kinds.DAY: "; give it as the only file",
-    kinds.ORDERS: place.as_here("; tools/table --journal makes a journal of it"),
+    kinds.ORDERS: place.with_commands_of_here("; tools/table --journal makes a journal of it"),
 }
 
 
@@ -61,7 +61,7 @@ class Audit:
     def run(self):
         """Makes the checks that the options ask for. Ends with `command.Stop` if that can't be done."""
         options = self.options
-        written, published = self.texts()
+        written, published = self.read_texts()
         read = self.read_journal(written)
         closed, reasons = book.run(read)
         self.day = {"periods": read.periods, "commands": len(reasons), "refused": sum(reason is not None for reason in reasons)}
@@ -102,26 +102,26 @@ class Audit:
         """How long a search, or a comparison of commands, may take."""
         return SECONDS if self.options.seconds is None else self.options.seconds
 
-    def read(self, role, path):
+    def read_input(self, role, path):
         told = {"role": role, "file": str(path), "bytes": None, "sha256": None}
         self.inputs.append(told)
         data = file_io.read_bytes(path)
         told.update(bytes=len(data), sha256=hashlib.sha256(data).hexdigest())
         return data
 
-    def texts(self):
+    def read_texts(self):
         """The bytes of the journal, and of the results or replies; None if there are none, which only --sent allows."""
         options = self.options
         if options.results is not None:
-            written, published = self.read("journal", options.journal), self.read("results", options.results)
-            day_files.refuse_kind(options.journal, written, kinds.JOURNAL, HINTS)
-            day_files.refuse_kind(options.results, published, kinds.REPLIES if options.replies else kinds.RESULTS, HINTS)
+            written, published = self.read_input("journal", options.journal), self.read_input("results", options.results)
+            day_files.refuse_other_kind(options.journal, written, kinds.JOURNAL, HINTS)
+            day_files.refuse_other_kind(options.results, published, kinds.REPLIES if options.replies else kinds.RESULTS, HINTS)
             return written, published
-        data = self.read("day", options.journal)
+        data = self.read_input("day", options.journal)
         written, published = results.split_day(data) or (data, None)
         if published is not None and data[len(written) :].startswith(b"results\r") and b"\r" not in published:
             self.odd.append(Fault("the line 'results' ends with CR LF instead of LF alone", "encoding"))
-        day_files.refuse_kind(options.journal, written, kinds.JOURNAL, HINTS)
+        day_files.refuse_other_kind(options.journal, written, kinds.JOURNAL, HINTS)
         if published is None:
             if options.sent is None or options.best:
                 raise command.Stop(day_files.no_results(options.journal))
@@ -137,7 +137,7 @@ class Audit:
 
     def check_replies(self, periods, reasons, published):
         self.checked.append("replies")
-        data, odd = results.plain(published)
+        data, odd = results.plain_text(published)
         self.odd += odd
         wrong = reply_faults(periods, reasons, data)
         self.wrong += wrong
@@ -147,7 +147,7 @@ class Audit:
 
     def check_results(self, closed, reasons, published):
         self.checked.append("results")
-        data, odd = results.plain(published)
+        data, odd = results.plain_text(published)
         self.odd += odd
         if not closed.closed:
             self.wrong.append(Fault("no command closes the book, so it has no results", "journal"))
@@ -156,26 +156,26 @@ class Audit:
         said, wrong = check.differences(problem, data)
         self.wrong += wrong
         self.checked += ["sums"] if said is not None else []
-        self.day.update(figures(problem, said))
+        self.day.update(day_figures(problem, said))
         if wrong:
-            self.last = last_line(said is not None, self.options.best)
+            self.last = unmade_checks_line(said is not None, self.options.best)
             return
-        how = self.look(problem, said) if self.options.best else None
+        how = self.look_for_better(problem, said) if self.options.best else None
         if self.search is None or self.search["better"] is None:
             others = f"; no selection is better: {how}" if how else NOT_CHECKED if problem.blocks else ""
             self.right.append(right_line(problem, said, reasons) + others)
-            self.right.append(sums.line(problem, sums.sums(problem, said)))
+            self.right.append(sums.payments_line(problem, sums.sums(problem, said)))
             if self.options.sent is not None:
                 self.right += own_lines(data, self.options.participant)
 
-    def look(self, problem, said):
+    def look_for_better(self, problem, said):
         """Looks for a better selection than the one of right results, and says how."""
         options = self.options
         by, whole = options.by or better.ENUMERATION, 2 ** len(problem.blocks)
         self.progress = Progress("audit", self.seconds, options.quiet, whole)
         self.search = {"by": by, "selections": whole, "tried": 0, "better": None, "how": None}
         try:
-            found, how = better.look(problem, said, by, self.progress, options.jobs or 1)
+            found, how = better.find_better(problem, said, by, self.progress, options.jobs or 1)
         finally:
             self.search["tried"] = None if by == better.HIGHS else self.progress.tried_count()
         self.checked.append("best selection")
@@ -183,7 +183,7 @@ class Audit:
         if by == better.ENUMERATION:
             self.search["tried"] = whole
         if found is not None:
-            words = list(better.told(problem, said, found))
+            words = list(better.better_lines(problem, said, found))
             self.wrong.append(Fault("\n".join(words), "better"))
             self.search["better"] = [str(problem.blocks[place]) for place in sorted(found.accepted)]
         return how
@@ -196,7 +196,7 @@ class Audit:
         published = sent.published_of(read, reasons, options.participant)
         has_none = bool(published) and all(who != options.participant for who, _ in closed.rows)
         try:
-            own = sent.read_sent(self.read("sent", options.sent), options.participant, read.periods, has_none)
+            own = sent.read_sent(self.read_input("sent", options.sent), options.participant, read.periods, has_none)
         except sent.BadSentText as fault:
             raise command.Stop(f"{command.shown(options.sent)} isn't what {options.participant} sent: {fault}") from None
         self.notes = [f"{command.shown(options.sent)}: {note}" for note in own.notes]
@@ -205,7 +205,7 @@ class Audit:
         self.progress = Progress("audit", self.seconds, options.quiet)
         words = f"the commands of {options.participant} aren't compared yet"
         try:
-            wrong, right = sent.compared(own, published, closed, options.participant, lambda: self.progress.look(words), proof)
+            wrong, right = sent.compare_sent(own, published, closed, options.participant, lambda: self.progress.check_time(words), proof)
         except TimeoutError as fault:
             raise command.Stop(str(fault), command.UNDECIDED) from None
         finally:
@@ -219,14 +219,15 @@ class Audit:
         from ..seal import heads
 
         options = self.options
-        key = receipts.key_of(options.key, self.read("key", options.key))
+        key = receipts.parse_key(options.key, self.read_input("key", options.key))
         odd = []
-        head = receipts.head_of(options.head, self.read("head", options.head), key, odd, options.day)
-        salts = receipts.value_of(options.salts, self.read("salts", options.salts), heads.salts_read, "the salts of a journal", odd)
+        head = receipts.parse_head(options.head, self.read_input("head", options.head), key, odd, options.day)
+        data = self.read_input("salts", options.salts)
+        salts = receipts.parse_value(options.salts, data, heads.parse_salts, "the salts of a journal", odd)
         if salts.day != head.day:
             raise command.Stop(f"{command.shown(options.salts)} has the salts of {salts.day}, and the head is of {head.day}")
-        read_receipts = functools.partial(self.read, "receipts")
-        found = under_head.findings_of_folder(options.receipts, key, read_receipts) if options.receipts is not None else []
+        read_receipts = functools.partial(self.read_input, "receipts")
+        found = under_head.read_and_judge_folder(options.receipts, key, read_receipts) if options.receipts is not None else []
         signed = under_head.UnderHead(key, head, salts, read, reasons, found)
         signed.odd += odd
         return signed
@@ -235,7 +236,7 @@ class Audit:
         """Compares the journal and its replies with the head that the operator signed, with earlier heads, and with receipts."""
         options = self.options
         self.checked += ["head", "receipts"] if options.receipts is not None else ["head"]
-        earlier = [fault for path in options.earlier for fault in signed.earlier_faults(path, self.read("earlier", path))]
+        earlier = [fault for path in options.earlier for fault in signed.earlier_faults(path, self.read_input("earlier", path))]
         wrong = [*signed.head_faults(), *earlier, *signed.receipt_faults()]
         right = f"as signed: {signed.head}"
         if signed.earlier:
@@ -287,7 +288,7 @@ def reply_faults(periods, reasons, data):
     (wanted, _), (found, more) = (results.lines_looked_at(part) for part in (book.replies_of(periods, reasons).encode(), data))
     numbers = [[line.split(b",")[0] for line in part] for part in (wanted, found)]
     wrong, last = more if data else [Fault("the replies are empty", "form")], 0
-    for at, place in matched(*numbers):
+    for at, place in matched_places(*numbers):
         last = last if place is None else place + 1
         if place is None:
             wrong.append(Fault(f"replies line {last + 1}: {text.quoted(wanted[at])} is missing", "missing", last + 1))
@@ -299,7 +300,7 @@ def reply_faults(periods, reasons, data):
     return wrong
 
 
-def figures(problem, said):
+def day_figures(problem, said):
     """The figures of a day, for a record; as the rules have it if the results can't be read."""
     made = {"hourly_orders": len(problem.rows) - len(problem.blocks), "blocks": len(problem.blocks)}
     if said is not None:
@@ -317,7 +318,7 @@ def own_lines(data, who):
             yield f"results line {number}: {line}"
 
 
-def last_line(is_compared, is_best):
+def unmade_checks_line(is_compared, is_best):
     """The lines after the faults of results about the checks that weren't made."""
     if not is_compared:
         return NEITHER if is_best else NOT_COMPARED

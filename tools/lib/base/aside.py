@@ -16,7 +16,7 @@ class Died(Exception):
 
 
 @contextlib.contextmanager
-def deaf():
+def blocking_interrupts():
     """Ctrl-C waits until the end of the block; processes that it starts keep it blocked, and the one that started them ends them."""
     before = signal.pthread_sigmask(signal.SIG_BLOCK, {signal.SIGINT})
     try:
@@ -25,23 +25,23 @@ def deaf():
         signal.pthread_sigmask(signal.SIG_SETMASK, before)
 
 
-def answer(call, progress, words):
+def run_aside(call, progress, words):
     """The result of a call, in a process of its own. The words say how far it is; the call gets a function that reports others."""
     context = multiprocessing.get_context("fork")
     ours, theirs = context.Pipe(duplex=False)
-    process = context.Process(target=work, args=(call, theirs), daemon=True)
-    with deaf():
+    process = context.Process(target=send_result, args=(call, theirs), daemon=True)
+    with blocking_interrupts():
         process.start()
     theirs.close()
     try:
-        return received(ours, progress, words)
+        return receive_result(ours, progress, words)
     finally:
         process.kill()
         process.join()
         progress.end()
 
 
-def work(call, pipe):
+def send_result(call, pipe):
     """Sends the call's reports, and then its result or its failure. What code in C says before it aborts isn't shown: the process that
     waits says that this one died."""
     if hasattr(system := ctypes.CDLL(None), "prctl"):
@@ -53,11 +53,11 @@ def work(call, pipe):
         pipe.send(("fault", fault))
 
 
-def received(pipe, progress, words):
+def receive_result(pipe, progress, words):
     """The answer that comes; the reports before it are shown."""
     while True:
         if not pipe.poll(PAUSE):
-            progress.look(words)
+            progress.check_time(words)
             continue
         try:
             kind, value = pipe.recv()
@@ -68,4 +68,4 @@ def received(pipe, progress, words):
         if kind == "fault":
             raise value
         words = value
-        progress.look(words)
+        progress.check_time(words)

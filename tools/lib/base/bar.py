@@ -8,7 +8,7 @@ WIDTH = 24  # characters of the bar
 EACH = 0.2  # seconds between two lines
 
 
-def minutes(seconds):
+def minutes_text(seconds):
     """Returns a time in words."""
     seconds = max(int(seconds), 0)
     return f"{seconds // 60} min {seconds % 60} s" if seconds >= 60 else f"{seconds} s"
@@ -29,14 +29,14 @@ class ShareBar:
         now = time.time()
         if not self.is_shown or now < self.last + EACH:
             return
-        self.last, taken = now, minutes(now - self.began)
+        self.last, taken = now, minutes_text(now - self.began)
         if share is not None:
             self.most = max(self.most, min(share, 1.0))
         full = round(self.most * WIDTH)
         drawn = "" if share is None else f" [{'#' * full}{'.' * (WIDTH - full)}] {self.most:.0%}"
-        self.write("\r\033[K" + self.fitting(f"dam: {self.name}{drawn} {taken}{', ' if words else ''}{words}"))
+        self.write("\r\033[K" + self.fitted(f"dam: {self.name}{drawn} {taken}{', ' if words else ''}{words}"))
 
-    def fitting(self, line):
+    def fitted(self, line):
         """Returns the line as far as the terminal is wide: a longer one would leave its first part behind."""
         try:
             # a terminal without a size says 0
@@ -53,7 +53,7 @@ class ShareBar:
         except OSError:
             self.is_shown = False
 
-    def say(self, line):
+    def print_above(self, line):
         """Prints a line for good, above the bar."""
         self.write(f"\r\033[K{line}\n" if self.is_shown else f"{line}\n")
         self.last = 0

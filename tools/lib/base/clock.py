@@ -7,7 +7,7 @@ USUAL = 24 * 60  # minutes of a day on which the clocks don't change
 SPRING, AUTUMN = 2 * 60, 3 * 60
 
 
-def minutes(periods, number):
+def begin_minutes(periods, number):
     """When a period begins on a day of `periods` of them, in minutes of the clock; the one after the last begins at the day's end."""
     passed = int((number - 1) * rules.DAYS[periods] * 60)
     gained = int(periods * rules.DAYS[periods] * 60) - USUAL
@@ -16,30 +16,30 @@ def minutes(periods, number):
     return passed
 
 
-def begins(periods, number):
+def begin_time(periods, number):
     """The same as a text, such as `17:45`; a day ends at `24:00`."""
-    hours, rest = divmod(minutes(periods, number), 60)
+    hours, rest = divmod(begin_minutes(periods, number), 60)
     return f"{hours:02}:{rest:02}"
 
 
-def span(periods, number):
+def time_span(periods, number):
     """From when to when a period goes, by the clock at its beginning."""
-    end = minutes(periods, number) + int(rules.DAYS[periods] * 60)
-    return f"{begins(periods, number)} to {end // 60:02}:{end % 60:02}"
+    end = begin_minutes(periods, number) + int(rules.DAYS[periods] * 60)
+    return f"{begin_time(periods, number)} to {end // 60:02}:{end % 60:02}"
 
 
-def ends(periods, number):
+def end_time(periods, number):
     """When a period ends: as the next one begins, and by the clock at its own beginning."""
-    return begins(periods, number + 1), span(periods, number).rpartition(" ")[2]
+    return begin_time(periods, number + 1), time_span(periods, number).rpartition(" ")[2]
 
 
 def periods_between(periods, first, last):
     """The periods of a day from one clock time to another, such as `07:00` and `09:00`. A ValueError names the fault of a time."""
     numbers = range(1, periods + 1)
-    starts = [number for number in numbers if begins(periods, number) == first]
+    starts = [number for number in numbers if begin_time(periods, number) == first]
     last = "24:00" if last == "00:00" else last
-    stops = [number for number in numbers if ends(periods, number)[0] == last]
-    stops = stops or [number for number in numbers if ends(periods, number)[1] == last]
+    stops = [number for number in numbers if end_time(periods, number)[0] == last]
+    stops = stops or [number for number in numbers if end_time(periods, number)[1] == last]
     for found, time, does in (starts, first, "begins"), (stops, last, "ends"):
         if not found:
             raise ValueError(f"no period of the day {does} at {time}")

@@ -3,7 +3,7 @@ is no verdict. With DAM_DEBUG=1 in the environment Python's traceback comes befo
 
 A tool calls `watch` before it imports anything else of this folder, since an import may fail too, and Ctrl-C may come in the midst of it. The
 launcher's call `guard`, for which Python 3.8 is enough.
-From `heed` on, signals are exceptions: so the tool's processes are ended, and its temporary files removed."""
+From `raise_signals` on, signals are exceptions: so the tool's processes are ended, and its temporary files removed."""
 
 import atexit
 import contextlib
@@ -43,49 +43,49 @@ class Ended(KeyboardInterrupt):
         self.number = number
 
 
-def is_memory(fault):
+def is_lack_of_memory(fault):
     """Whether a failure says that memory ran out."""
     return isinstance(fault, MemoryError) or any(words in str(fault).lower() for words in NO_MEMORY)
 
 
-def is_files(fault):
+def is_lack_of_files(fault):
     """Whether a failure says that the process may open no more files."""
     return any(words in str(fault).lower() for words in NO_FILES)
 
 
 def words(fault):
     """The message about a failure."""
-    if is_memory(fault):
+    if is_lack_of_memory(fault):
         return "out of memory"
-    if is_files(fault):
+    if is_lack_of_files(fault):
         return "too many open files: raise their limit (ulimit -n)"
     first = ascii(str(fault))[1:-1][:200]
     return f"a defect of this tool, please report it: {type(fault).__name__}: {first} (DAM_DEBUG=1 shows where)"
 
 
-def interrupted(fault):
+def interruption_status(fault):
     """The status with which Ctrl-C or a signal ends a tool, and the message."""
     if isinstance(fault, Ended):
         return OF_SIGNALS + fault.number, f"ended by {signal.Signals(fault.number).name}"
     return INTERRUPTED, "interrupted"
 
 
-def fail(tool, fault):
+def exit_by_failure(tool, fault):
     """Ends the process at once."""
     status, said = of_failures[0], None
     try:
         if isinstance(fault, KeyboardInterrupt):
-            status, said = interrupted(fault)
+            status, said = interruption_status(fault)
         else:
             said = words(fault)
             if os.environ.get("DAM_DEBUG") == "1":
                 sys.__excepthook__(type(fault), fault, fault.__traceback__)
-        os.write(2, f"{place.command(tool)}: {said}\n".encode(errors="backslashreplace"))
+        os.write(2, f"{place.command_name(tool)}: {said}\n".encode(errors="backslashreplace"))
     finally:
-        leave(status, said)
+        exit_now(status, said)
 
 
-def leave(status, said):
+def exit_now(status, said):
     """Ends the process at once, after its last duties."""
     try:
         for duty in last_duties:
@@ -110,28 +110,28 @@ def guard(tool, failed=FAILED):
     """From now on any exception that nothing handles ends the tool in this way, with the status `failed`, and Ctrl-C at once, and the tool is
     apart from the working folder."""
     watched[:], of_failures[:] = [tool], [failed]
-    surroundings.keep_apart()
-    sys.excepthook = lambda _, fault, trace: fail(tool, fault.with_traceback(trace))
+    surroundings.isolate_environment()
+    sys.excepthook = lambda _, fault, trace: exit_by_failure(tool, fault.with_traceback(trace))
     if signal.getsignal(signal.SIGINT) != signal.SIG_IGN:
-        signal.signal(signal.SIGINT, stop)
+        signal.signal(signal.SIGINT, exit_by_interrupt)
 
 
-def stop(*_):
+def exit_by_interrupt(*_):
     """Ctrl-C while modules are imported, of which some would take the exception for a fault of their own."""
-    fail(watched[0], KeyboardInterrupt())
+    exit_by_failure(watched[0], KeyboardInterrupt())
 
 
-def heed():
+def raise_signals():
     """From now on Ctrl-C and the signals that end a process are exceptions, unless the one that started it ignores them."""
-    if signal.getsignal(signal.SIGINT) == stop:
-        signal.signal(signal.SIGINT, end)
+    if signal.getsignal(signal.SIGINT) == exit_by_interrupt:
+        signal.signal(signal.SIGINT, raise_signal)
     for number in ENDING:
         if signal.getsignal(number) == signal.SIG_DFL:
-            signal.signal(number, end)
-    sys.unraisablehook = unraised
+            signal.signal(number, raise_signal)
+    sys.unraisablehook = raise_ignored
 
 
-def unraised(ignored):
+def raise_ignored(ignored):
     """Python ignores an exception of a call for an object that goes away. A signal that came in the midst of it is raised again."""
     if not issubclass(ignored.exc_type, KeyboardInterrupt):
         sys.__unraisablehook__(ignored)
@@ -146,7 +146,7 @@ def raise_lost(*_):
     raise lost[0]
 
 
-def end(number, _):
+def raise_signal(number, _):
     """Ctrl-C or a signal that ends the tool came."""
     now = time.monotonic()
     if not heeded or now - heeded[0] >= PAUSE:
@@ -154,27 +154,27 @@ def end(number, _):
         raise KeyboardInterrupt if number == signal.SIGINT else Ended(number)
 
 
-def forget():
+def restore_signals():
     """A copy of this process ends at once by a signal, as the one that made it expects."""
     for number in ENDING:
-        if signal.getsignal(number) == end:
+        if signal.getsignal(number) == raise_signal:
             signal.signal(number, signal.SIG_DFL)
 
 
-os.register_at_fork(after_in_child=forget)
+os.register_at_fork(after_in_child=restore_signals)
 
 
 @contextlib.contextmanager
-def at_once():
+def exiting_at_signals():
     """In the main thread, the signals besides Ctrl-C end the process at once in this block: a call of a library, which would keep Python from
     seeing them until it returns, and which leaves no process and no file."""
     heeding = []
     if threading.current_thread() is threading.main_thread():
-        heeding = [number for number in ENDING if signal.getsignal(number) == end]
+        heeding = [number for number in ENDING if signal.getsignal(number) == raise_signal]
     for number in heeding:
         signal.signal(number, signal.SIG_DFL)
     try:
         yield
     finally:
         for number in heeding:
-            signal.signal(number, end)
+            signal.signal(number, raise_signal)

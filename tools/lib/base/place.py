@@ -11,12 +11,12 @@ IS_INSTALLED = FOLDER.name == "dam_tools"
 CLONED = re.compile(r"(?<![\w./-])(?:\./dam\b|tools/(?=[a-z]))")
 
 
-def command(tool):
+def command_name(tool):
     """The name of a tool as a command: `audit` in a clone, where its file is named, and `dam-audit` if it is installed."""
     return f"dam-{tool.removeprefix('dam-')}" if IS_INSTALLED else tool
 
 
-def as_here(words):
+def with_commands_of_here(words):
     """Words that name commands as in a clone, such as `./dam clear` and `tools/audit`, with the names that these have here."""
     return CLONED.sub(lambda found: "dam" if found[0] == "./dam" else "dam-", words) if IS_INSTALLED else words
 

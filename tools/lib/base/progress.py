@@ -47,16 +47,16 @@ class Progress(Line):
         """How many of the selections have been tried; of several steps for each it is a share of all."""
         return min(self.whole, self.whole * self.done // max(self.steps, 1))
 
-    def tried(self):
+    def tried_words(self):
         """The same in words."""
         tried = self.tried_count()
         return f"{'about ' if tried and self.steps != self.whole else ''}{tried:,} of {self.whole:,} selections have been tried"
 
-    def look(self, words):
+    def check_time(self, words):
         """Shows words and the time. Fails if no time is left."""
         took = time.monotonic() - self.begun
         if took >= self.seconds:
-            raise TimeoutError(self.over(words))
+            raise TimeoutError(self.timeout_message(words))
         if self.told:
             self.show(f"{self.tool}: {words}, {took:.0f} s")
 
@@ -64,7 +64,7 @@ class Progress(Line):
         """How many seconds are left."""
         return self.begun + self.seconds - time.monotonic()
 
-    def over(self, words):
+    def timeout_message(self, words):
         """The message when no time is left."""
         return f"after {self.seconds:g} seconds, {words}: --seconds gives more time"
 
@@ -73,7 +73,7 @@ class Progress(Line):
         took = time.monotonic() - self.begun
         if self.stopped or took >= self.seconds:
             self.stopped = True
-            raise TimeoutError(self.over(self.tried()))
+            raise TimeoutError(self.timeout_message(self.tried_words()))
         with self.lock:
             self.done += done
             if self.told:

@@ -28,7 +28,7 @@ def of_days(status, records=(), message=None):
     return {"status": status, "message": message, "version": VERSION, "counts": counts(records), "days": list(records)}
 
 
-def without_verdict(words, status, message):
+def undecided_record(words, status, message):
     """The record that a command line asks for, if there is no verdict."""
     if any(word.partition("=")[0] == "--days" for word in words):
         return of_days(status, message=message)
@@ -41,7 +41,7 @@ def print_last(status, message):
         return
     words = sys.argv[1 : sys.argv.index("--")] if "--" in sys.argv else sys.argv[1:]
     if "--json" in words and status == ending.FAILED:
-        os.write(1, f"{json.dumps(without_verdict(words, status, message), indent=1)}\n".encode())
+        os.write(1, f"{json.dumps(undecided_record(words, status, message), indent=1)}\n".encode())
 
 
 ending.last_duties.append(print_last)

@@ -1,4 +1,4 @@
-"""A written file takes the place of an old one only once it is whole: if the disk is full, the old file stays."""
+"""A written file gets its name only once it is whole: if the disk is full, an old file stays. A new file takes no name of another."""
 
 import contextlib
 import errno
@@ -14,13 +14,13 @@ FULL = (errno.ENOSPC, errno.EDQUOT, errno.EFBIG)
 MOST_LINKS = 40  # that Linux follows
 
 
-def write(path, data):
+def write_replacing(path, data):
     """Writes a file. A device, a pipe, and a file that can't be replaced are written in place."""
     with contextlib.ExitStack() as cleanups:
-        prepare(path, data, cleanups)()
+        prepare_write(path, data, cleanups)()
 
 
-def prepare(path, data, cleanups):
+def prepare_write(path, data, cleanups):
     """The call that puts a file in its place. Unless it's to be written in place, it's written before, next to that, and `cleanups` removes it
     if it isn't put."""
     target = link_target(str(Path(path)))
@@ -34,20 +34,46 @@ def prepare(path, data, cleanups):
         os.close(os.open(target, os.O_WRONLY))  # a file that can't be written isn't replaced
     in_place = functools.partial(write_in_place, target, data)
     try:
-        rename = replace(target, old, data, cleanups)
+        rename = prepare_replacement(target, old, data, cleanups)
     except OSError as fault:
-        return or_else(in_place, old, fault)
+        return or_in_place(in_place, old, fault)
 
     def put():
         try:
             rename()
         except OSError as fault:
-            or_else(in_place, old, fault)()
+            or_in_place(in_place, old, fault)()
 
     return put
 
 
-def or_else(in_place, old, fault):
+def prepare_new(path, data, cleanups):
+    """The call that puts a new file in its place, and ends with FileExistsError if there is one by then, or a link. The file is written
+    before, next to its place; `cleanups` removes it if it isn't put."""
+    path = str(Path(path))
+    made = beside(path)
+    create(made, data, cleanups)
+
+    def put():
+        try:
+            os.link(made, path)
+        except FileExistsError:
+            raise
+        except OSError:  # a file system without links
+            create_whole(path, data)
+        remove(made)
+
+    return put
+
+
+def create_whole(path, data):
+    """Writes a file that isn't there yet, and removes it if it can't be written."""
+    with contextlib.ExitStack() as undo:
+        create(path, data, undo)
+        undo.pop_all()
+
+
+def or_in_place(in_place, old, fault):
     """The call that writes over an old file, if it is the one that can't be replaced."""
     if old is None or fault.errno not in FIXED:
         raise fault
@@ -89,18 +115,28 @@ def stat_of(path):
         return None
 
 
-def replace(target, old, data, cleanups):
+def prepare_replacement(target, old, data, cleanups):
     """Writes a new file next to the target. The call that gives it the target's name; `cleanups` removes it if that isn't called."""
-    made = os.path.join(os.path.dirname(target), f".dam-{secrets.token_hex(8)}")
-    number = os.open(made, os.O_WRONLY | os.O_CREAT | os.O_EXCL | os.O_CLOEXEC, 0o666)
-    cleanups.callback(remove, made)
+    made = beside(target)
+    create(made, data, cleanups, None if old is None else functools.partial(copy_rights, target=target, old=old))
+    return functools.partial(os.rename, made, target)
+
+
+def beside(path):
+    """A name for a file in the same folder."""
+    return os.path.join(os.path.dirname(path), f".dam-{secrets.token_hex(8)}")
+
+
+def create(path, data, cleanups, prepared=None):
+    """Writes a file that isn't there yet, and that `cleanups` removes. Before, a call may give it rights, by its number."""
+    number = os.open(path, os.O_WRONLY | os.O_CREAT | os.O_EXCL | os.O_CLOEXEC, 0o666)
+    cleanups.callback(remove, path)
     with open(number, "wb") as file:
-        if old is not None:
-            take_rights(number, target, old)
+        if prepared:
+            prepared(number)
         file.write(data)
         file.flush()
         os.fsync(number)
-    return functools.partial(os.rename, made, target)
 
 
 def remove(path):
@@ -108,7 +144,7 @@ def remove(path):
         os.unlink(path)
 
 
-def take_rights(number, target, old):
+def copy_rights(number, target, old):
     """Gives an open file the owner, the rights and the attributes of the old one."""
     new = os.fstat(number)
     if (new.st_uid, new.st_gid) != (old.st_uid, old.st_gid):

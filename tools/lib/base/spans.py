@@ -11,7 +11,7 @@ def dashed(words):
     return "-".join(part.strip() for part in DASH.split(words))
 
 
-def read(words, greatest, separators=";", periods=None):
+def parse_periods(words, greatest, separators=";", periods=None):
     """The periods of a text, in its order; a ValueError says the right form of the text, for a day of this number of periods if they are
     known."""
     numbers = []
@@ -37,10 +37,10 @@ def runs(numbers):
     return found
 
 
-def written(numbers, to="-", between=";"):
+def spans_text(numbers, to="-", between=";"):
     return between.join(str(first) if first == last else f"{first}{to}{last}" for first, last in runs(numbers))
 
 
-def in_words(numbers):
+def spans_words(numbers):
     """As `8 to 20` or `1, 3 to 5`."""
-    return written(numbers, " to ", ", ")
+    return spans_text(numbers, " to ", ", ")

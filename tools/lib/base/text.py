@@ -32,14 +32,14 @@ def placed_records(text, comma=b","):
     quote isn't closed goes to the end of the text; the text after a closing quote belongs to the field. Of a long line with far too many
     fields, separated by commas, only the first ones are read."""
     begin, taken = 0, []
-    for fields in csv.reader(noted(csv_lines(text), taken), delimiter=comma.decode()):
+    for fields in csv.reader(note_lengths(csv_lines(text), taken), delimiter=comma.decode()):
         if fields:
             yield begin, [field.replace(NO_NUL, "\0").encode("latin-1") for field in fields]
         begin += sum(taken)
         taken.clear()
 
 
-def noted(texts, taken):
+def note_lengths(texts, taken):
     """The texts, of which the length is noted as soon as one is taken. A long one that begins a record is cut."""
     for text in texts:
         is_first = not taken
@@ -82,7 +82,7 @@ def open_quote(text, comma=b","):
     return None
 
 
-def number(text, least, greatest):
+def parse_number(text, least, greatest):
     """The number that a text is: decimal, without leading zeros, with a `-` if it is below zero. None for any other text."""
     if not NUMBER.fullmatch(text):
         return None
@@ -90,30 +90,30 @@ def number(text, least, greatest):
     return value if least <= value <= greatest else None
 
 
-def price(text):
-    return number(text, rules.LOWEST_PRICE, rules.HIGHEST_PRICE)
+def parse_price(text):
+    return parse_number(text, rules.LOWEST_PRICE, rules.HIGHEST_PRICE)
 
 
-def volume(text):
-    return number(text, 1, rules.GREATEST_VOLUME)
+def parse_volume(text):
+    return parse_number(text, 1, rules.GREATEST_VOLUME)
 
 
-def volumes(text):
+def parse_volumes(text):
     """Pairs `period:volume`, separated by `;`, by increasing period. None for any other text."""
     pairs = []
     if text.count(b";") >= rules.GREATEST_PERIOD:
         return None
     for pair in text.split(b";"):
         period, colon, quantity = pair.partition(b":")
-        period = number(period, 1, rules.GREATEST_PERIOD)
-        quantity = volume(quantity)
+        period = parse_number(period, 1, rules.GREATEST_PERIOD)
+        quantity = parse_volume(quantity)
         if not colon or period is None or quantity is None or pairs and period <= pairs[-1][0]:
             return None
         pairs.append((period, quantity))
     return tuple(pairs)
 
 
-def participant(text):
+def parse_participant(text):
     return text.decode() if PARTICIPANT.fullmatch(text) else None
 
 
@@ -146,7 +146,7 @@ def escaped(words):
     return words if words.isprintable() else "".join(map(shown, words))
 
 
-def cut(words, most):
+def shortened(words, most):
     """The beginning of a stranger's text or bytes, as it may be printed, and how long the whole is if that is longer."""
     words = words.decode(errors="surrogateescape") if isinstance(words, bytes) else words
     return escaped(words[:most]), f" ({len(words):,} characters)" if len(words) > most else ""
@@ -154,13 +154,13 @@ def cut(words, most):
 
 def safe(words, most=MOST_SHOWN):
     """A stranger's text or bytes in a message: on one line, with nothing that a terminal would obey, and cut, with its length said."""
-    shown, length = cut(words, most)
+    shown, length = shortened(words, most)
     return f"{shown}..{length}" if length else shown
 
 
 def quoted(words, most=MOST_SHOWN):
     """The same in quotes."""
-    shown, length = cut(words, most)
+    shown, length = shortened(words, most)
     return f"'{shown}..'{length}" if length else f"'{shown}'"
 
 
@@ -169,7 +169,7 @@ def counted(count, one, several=None):
     return f"{count} {one if count == 1 else several or one + 's'}"
 
 
-def fixed(value, digits, thousands=""):
+def fixed_point(value, digits, thousands=""):
     """A number with this many digits after the point, which it must not exceed."""
     whole, rest = divmod(abs(value) * 10**digits, 10**digits)
     if rest != int(rest):
@@ -194,18 +194,18 @@ def grouped(number):
 
 def eur_per_mwh(price, thousands=""):
     """A price in EUR/MWh."""
-    return fixed(Fraction(price, 100), 2, thousands)
+    return fixed_point(Fraction(price, 100), 2, thousands)
 
 
 def mw(volume, thousands=""):
     """A volume in MW."""
-    return fixed(Fraction(volume, 10), 1, thousands)
+    return fixed_point(Fraction(volume, 10), 1, thousands)
 
 
 def eur(amount, hours, thousands=","):
     """An amount in cents per MWh times tenths of a MW, over periods of this many hours, in EUR: with as many digits as it may
     have."""
-    return fixed(Fraction(amount) * hours / 1_000, 3 if hours == 1 else 5, thousands)
+    return fixed_point(Fraction(amount) * hours / 1_000, 3 if hours == 1 else 5, thousands)
 
 
 def exact_eur(amount, hours):
@@ -222,7 +222,7 @@ def shown(value, digits, thousands=THOUSANDS):
     scaled = int(abs(value) * 10**digits + Fraction(1, 2))
     if value and not scaled:
         return shown(value, digits + 1, thousands)
-    return fixed(Fraction(scaled if value > 0 else -scaled, 10**digits), digits, thousands)
+    return fixed_point(Fraction(scaled if value > 0 else -scaled, 10**digits), digits, thousands)
 
 
 def shown_price(cents):
@@ -242,4 +242,4 @@ def amount(value, hours, thousands=THOUSANDS):
 
 def energy(tenths, hours, thousands=","):
     """A sum of tenths of a MW, over periods of this many hours, in MWh: with as many digits as it may have."""
-    return fixed(Fraction(tenths) * hours / 10, 1 if hours == 1 else 3, thousands)
+    return fixed_point(Fraction(tenths) * hours / 10, 1 if hours == 1 else 3, thousands)

@@ -4,7 +4,7 @@ import os
 import shutil
 
 
-def listed(text, with_kinds=False):
+def parse_crates(text, with_kinds=False):
     """The libraries that each crate of such a list uses, by its name, in the order of the list. A crate that comes twice uses what both
     lines say. `#` begins a comment. The kind of a library may come after its name; it is kept in the name if that is asked for."""
     found = {}
@@ -16,16 +16,16 @@ def listed(text, with_kinds=False):
     return found
 
 
-def listed_in(top, *others, with_kinds=False):
+def read_crates(top, *others, with_kinds=False):
     """The same of a repository's crates.txt, and of other lists."""
     texts = []
     for path in (f"{top}/crates.txt", *others):
         with open(path, encoding="utf-8") as text:
             texts.append(text.read())
-    return listed("\n".join(texts), with_kinds)
+    return parse_crates("\n".join(texts), with_kinds)
 
 
-def own(crates):
+def without_foreign(crates):
     """The same crates, each with those libraries alone that are in the list too."""
     return {name: [library for library in below if library in crates] for name, below in crates.items()}
 
@@ -39,7 +39,7 @@ def all_below(crates, name):
     return found
 
 
-def linked(source, target):
+def link_or_copy(source, target):
     """Makes a hard link, or a copy if the file system has none. For the files of a built library, which no one changes in place."""
     try:
         os.link(source, target)

@@ -30,42 +30,42 @@ LIBRARY = "dam_c"
 IN_C = ("build", "dam.h", "exports.map", "heap.c")
 
 
-def listed():
+def read_own_crates():
     """Returns each crate of crates.txt with those of its libraries that belong to this repository."""
-    return crates.own(crates.listed_in(TOP))
+    return crates.without_foreign(crates.read_crates(TOP))
 
 
-def files_of(name):
+def source_files_of(name):
     folders = [f"{TOP}/crates/{name}/{part}" for part in PARTS]
     return [f"{at}/{it}" for folder in folders for at, _, names in os.walk(folder) for it in names]
 
 
-def sum_of_file(path):
+def file_sum(path):
     """Returns the SHA-256 of a file."""
     with open(path, "rb") as file:
         return hashlib.sha256(file.read()).hexdigest()
 
 
-def sum_of(folder, files, *words):
+def sum_of_files(folder, files, *words):
     """Returns the SHA-256 of some words and of files with their names."""
-    rows = [f"{sum_of_file(path)}  {os.path.relpath(path, folder)}" for path in sorted(files)]
+    rows = [f"{file_sum(path)}  {os.path.relpath(path, folder)}" for path in sorted(files)]
     return hashlib.sha256("\n".join([*words, *rows]).encode("utf-8", "surrogateescape")).hexdigest()
 
 
-def sums(crate):
+def source_sums(crate):
     """Returns the sum of the sources of a crate, and of each crate below it."""
-    below = crates.listed_in(TOP)
+    below = crates.read_crates(TOP)
     # a repository without threads has no file HANDLES
-    handles = sum_of_file(f"{TOP}/HANDLES") if os.path.exists(f"{TOP}/HANDLES") else ""
+    handles = file_sum(f"{TOP}/HANDLES") if os.path.exists(f"{TOP}/HANDLES") else ""
     found = {}
     for name in sorted({crate, *crates.all_below(below, crate)}):
-        found[name] = sum_of(f"{TOP}/crates/{name}", files_of(name), handles, *below[name])
+        found[name] = sum_of_files(f"{TOP}/crates/{name}", source_files_of(name), handles, *below[name])
     if crate == LIBRARY:
-        found["library"] = sum_of(f"{TOP}/library", [f"{TOP}/library/{it}" for it in IN_C])
+        found["library"] = sum_of_files(f"{TOP}/library", [f"{TOP}/library/{it}" for it in IN_C])
     return found
 
 
-def first_line(command):
+def run_for_first_line(command):
     """Returns the first line that a command prints, or 'unknown'."""
     try:
         ran = subprocess.run(command, cwd=TOP, stdin=subprocess.DEVNULL, stdout=subprocess.PIPE, stderr=subprocess.DEVNULL,
@@ -75,63 +75,63 @@ def first_line(command):
     return (ran.stdout.splitlines() or ["unknown"])[0]
 
 
-def kit():
+def run_for_kit():
     """Returns the name and the logic of the kit, as `rt version` prints them."""
-    return first_line(["rt", "version"])
+    return run_for_first_line(["rt", "version"])
 
 
-def record_of(path):
+def record_path(path):
     return f"{path}.json"
 
 
-def record(crate, before, *paths):
+def write_record(crate, before, *paths):
     """Records that files were built of a crate, if its sources are still those whose sums were taken before. Otherwise it removes what
     was recorded of these files."""
-    is_same = sums(crate) == before
+    is_same = source_sums(crate) == before
     for path in paths:
         if not is_same:
-            if os.path.exists(record_of(path)):
-                os.remove(record_of(path))
+            if os.path.exists(record_path(path)):
+                os.remove(record_path(path))
             continue
-        told = {"sha256": sum_of_file(path), "kit": kit(), "sources": before}
+        told = {"sha256": file_sum(path), "kit": run_for_kit(), "sources": before}
         if crate == LIBRARY:
-            told["compiler"] = first_line([*os.environ.get("CC", "cc").split(), "--version"])
-        with open(record_of(path), "w", encoding="utf-8") as file:
+            told["compiler"] = run_for_first_line([*os.environ.get("CC", "cc").split(), "--version"])
+        with open(record_path(path), "w", encoding="utf-8") as file:
             json.dump(told, file, indent=2, sort_keys=True)
             file.write("\n")
     return is_same
 
 
-def recorded(path):
+def read_record(path):
     """Returns the record of a file that was built, or None."""
     try:
-        with open(record_of(path), encoding="utf-8") as file:
+        with open(record_path(path), encoding="utf-8") as file:
             told = json.load(file)
     except (OSError, ValueError):
         return None
     return told if isinstance(told, dict) and {"sha256", "kit", "sources"} <= told.keys() else None
 
 
-def fault(path, crate):
+def build_fault(path, crate):
     """Returns why a file was not built of the present sources, or None if it is."""
     name = os.path.relpath(path, TOP)
     if not os.path.isfile(path):
         return f"{name} is missing"
-    told = recorded(path)
+    told = read_record(path)
     if not told:
         return f"{name} has no record of the sources that it was built of"
-    if told["sha256"] != sum_of_file(path):
+    if told["sha256"] != file_sum(path):
         return f"{name} is not the file that was built: another one took its place"
-    present = sums(crate)
+    present = source_sums(crate)
     others = sorted(it for it in {*present, *told["sources"]} if present.get(it) != told["sources"].get(it))
     return f"{name} was built of other sources: {', '.join(others)} changed since" if others else None
 
 
-def told_fault(path, crate):
+def print_build_fault(path, crate):
     """Prints why a file was not built of the present sources, and returns 1. Otherwise gives the file the date before they were read, so
     that it is newer than its sources, and returns 0."""
     began = time.time_ns()
-    found = fault(path, crate)
+    found = build_fault(path, crate)
     if found:
         print(found)
         return 1
@@ -145,13 +145,13 @@ def told_fault(path, crate):
 
 def main(words):
     if len(words) == 1:
-        print(json.dumps(sums(words[0])))
+        print(json.dumps(source_sums(words[0])))
         return 0
     crate, before, *paths = words
     if before == "--fault":
-        return told_fault(paths[0], crate)
+        return print_build_fault(paths[0], crate)
     with open(before, encoding="utf-8") as file:
-        return 0 if record(crate, json.load(file), *paths) else 1
+        return 0 if write_record(crate, json.load(file), *paths) else 1
 
 
 if __name__ == "__main__":

@@ -36,7 +36,7 @@ class Repository:
 
     def __init__(self, top):
         self.top = top
-        self.crates = list(crates.listed(file_io.read_bytes(top / "crates.txt").decode()))
+        self.crates = list(crates.parse_crates(file_io.read_bytes(top / "crates.txt").decode()))
         self.texts = {}
         self.modules = {}
 

@@ -53,12 +53,12 @@ def read_name(allowed, reader):
     return read
 
 
-read_participant = read_name(f"1 to {rules.LONGEST_PARTICIPANT} capitals A to Z", text.participant)
+read_participant = read_name(f"1 to {rules.LONGEST_PARTICIPANT} capitals A to Z", text.parse_participant)
 read_order = read_name(text.A_NAME, text.name)
 
 
 def read_price(found):
-    if found.isascii() and text.price(found.encode()) is not None:
+    if found.isascii() and text.parse_price(found.encode()) is not None:
         return int(found), None
     allowed = f"it should be whole cents per MWh from {rules.LOWEST_PRICE} to {rules.HIGHEST_PRICE}"
     return suggested(found, allowed, 100, "EUR/MWh", rules.LOWEST_PRICE, rules.HIGHEST_PRICE)
@@ -86,9 +86,9 @@ def read_pair(pair):
         return None, f"{text.quoted(pair)} should be period:volume, such as 8:450"
     if re.fullmatch(r"[0-9]+-[0-9]+", number):
         return None, f"{text.quoted(pair)} has a range of periods: write a pair for each, such as 8:450;9:450"
-    if text.number(number.encode(), 1, rules.GREATEST_PERIOD) is None:
+    if text.parse_number(number.encode(), 1, rules.GREATEST_PERIOD) is None:
         return None, f"{text.quoted(number)} in {text.quoted(pair)} should be a period from 1 to {rules.GREATEST_PERIOD}"
-    if volume.isascii() and text.volume(volume.encode()) is not None:
+    if volume.isascii() and text.parse_volume(volume.encode()) is not None:
         pair_now = int(number), int(volume)
         return pair_now, None if pair == f"{number}:{volume}" else f"{text.quoted(pair)} has a space: write {number}:{volume}"
     allowed = f"{text.quoted(volume)} in {text.quoted(pair)} should be whole tenths of a MW from 1 to {rules.GREATEST_VOLUME}"
@@ -98,8 +98,8 @@ def read_pair(pair):
 
 def read_volumes(found):
     """Pairs by increasing period: all that is wrong with them."""
-    if found.isascii() and text.volumes(found.encode()) is not None:
-        return text.volumes(found.encode()), None
+    if found.isascii() and text.parse_volumes(found.encode()) is not None:
+        return text.parse_volumes(found.encode()), None
     if not found:
         return None, "it should be period:volume, such as 8:450, or several, such as 8:450;9:450"
     if (count := found.count(";") + 1) > rules.GREATEST_PERIOD:

@@ -86,17 +86,17 @@ def optional_name(field):
     return "" if field == b"" else text.name(field)
 
 
-def word(*words):
+def word_reader(*words):
     """The reader of one of these words."""
     return lambda field: field.decode() if field.decode() in words else None
 
 
 def one_volume(field):
-    pairs = text.volumes(field)
+    pairs = text.parse_volumes(field)
     return pairs if pairs and len(pairs) == 1 else None
 
 
-def take(fields, *readers):
+def read_fields(fields, *readers):
     """The values that the readers make of the fields after the first, one each; an empty field after the last reader's. The first
     that breaks its rule is the record's fault."""
     values = []
@@ -110,7 +110,7 @@ def take(fields, *readers):
 
 
 def read_day(fields):
-    (periods,) = take(fields, word(*map(str, rules.DAYS)))
+    (periods,) = read_fields(fields, word_reader(*map(str, rules.DAYS)))
     return int(periods)
 
 
@@ -119,18 +119,19 @@ def read_command(fields):
     if kind == b"submit":
         # The fields up to the fourth say how the ones after it are read.
         hourly = fields[3] == b"hour"
-        behind = (one_volume, empty, empty) if hourly else (text.volumes, optional_name, optional_name)
-        who, name, *order = take(
-            fields, text.participant, text.name, word("hour", "block"), word("buy", "sell"), text.price, *behind
+        behind = (one_volume, empty, empty) if hourly else (text.parse_volumes, optional_name, optional_name)
+        who, name, *order = read_fields(
+            fields, text.parse_participant, text.name, word_reader("hour", "block"), word_reader("buy", "sell"), text.parse_price, *behind
         )
         return Submit(who, name, Order(*order))
     if kind == b"amend":
-        who, name, _, _, price, volumes = take(fields, text.participant, text.name, empty, empty, text.price, text.volumes)
+        readers = text.parse_participant, text.name, empty, empty, text.parse_price, text.parse_volumes
+        who, name, _, _, price, volumes = read_fields(fields, *readers)
         return Amend(who, name, price, volumes)
     if kind == b"cancel":
-        return Cancel(*take(fields, text.participant, text.name))
+        return Cancel(*read_fields(fields, text.parse_participant, text.name))
     if kind == b"close":
-        take(fields)
+        read_fields(fields)
         return Close()
     raise BadField(1)
 
@@ -154,7 +155,12 @@ def command_line(command):
     return ",".join(fields)
 
 
+def day_line(periods):
+    """The record of a day in the written journal."""
+    return f"day,{periods},,,,,,,"
+
+
 def journal_text(journal):
     """The written journal."""
-    lines = [f"day,{journal.periods},,,,,,,"] + [command_line(command) for command in journal.commands]
+    lines = [day_line(journal.periods)] + [command_line(command) for command in journal.commands]
     return "".join(f"{line}\n" for line in lines)

@@ -18,7 +18,7 @@ MOST_LINES = 20  # of those with characters that aren't ASCII
 FEW = 5  # faults that other tools report
 MOST_QUOTES = 20  # that aren't closed and are reported
 SEPARATORS = {";": "semicolons", "\t": "tabs"}  # that stand in place of commas
-AUDIT, LINT, TABLE = map(place.as_here, ("tools/audit", "tools/lint", "tools/table"))
+AUDIT, LINT, TABLE = map(place.with_commands_of_here, ("tools/audit", "tools/lint", "tools/table"))
 # The tool for a text of another kind.
 OTHERS = {
     kinds.ORDERS: f"this seems to be a table of orders: {TABLE} --journal makes a journal of it",
@@ -64,19 +64,19 @@ class Lint:
         self.data = data
         self.has_semicolons = False  # between the fields of all lines
 
-    def tell(self, line, words, field="", refusal=""):
+    def add_finding(self, line, words, field="", refusal=""):
         self.found.append(Found(line, field, words, refusal))
 
     def run(self):
         other = OTHERS.get(kinds.kind_of(self.data))
         if other:
-            self.tell(1, other)
+            self.add_finding(1, other)
             return self.found
         if len(self.data) > rules.MOST_BYTES:
             remedy = f"remove empty lines; the day and {rules.MOST_RECORDS - 1} commands take less"
-            self.tell(1, f"the text has {len(self.data):,} bytes, but a journal has at most {rules.MOST_BYTES:,}: {remedy}")
+            self.add_finding(1, f"the text has {len(self.data):,} bytes, but a journal has at most {rules.MOST_BYTES:,}: {remedy}")
             return self.found
-        data, comma = self.readable(self.data)
+        data, comma = self.readable_text(self.data)
         self.has_semicolons = comma == b";"
         if self.periods and first_word(data, comma) != "day":
             self.held = book.Book(self.periods)
@@ -87,30 +87,30 @@ class Lint:
                 self.bar.step(at - behind)
             behind = at
             if number > rules.MOST_RECORDS:
-                self.tell(line, f"a journal has at most {rules.MOST_RECORDS - 1} commands: remove the rest")
+                self.add_finding(line, f"a journal has at most {rules.MOST_RECORDS - 1} commands: remove the rest")
                 self.is_cut = True
                 break
             if record in RESULTS or record[0] == b"welfare":
                 whole = "the results of a day begin here" if record in RESULTS else "these are results"
-                self.tell(line, f"{whole}, which aren't part of a journal: {AUDIT} reads both")
+                self.add_finding(line, f"{whole}, which aren't part of a journal: {AUDIT} reads both")
                 break
-            self.record(line, [field.decode(errors="replace") for field in record])
-        self.end(line, number)
+            self.check_record(line, [field.decode(errors="replace") for field in record])
+        self.check_close(line, number)
         return sorted(self.found, key=lambda found: (bool(found.refusal), found.line))
 
-    def readable(self, data):
+    def readable_text(self, data):
         """The text with the faults put right that concern all of it, and the separator of its fields."""
         for mark, encoding in BYTE_ORDER_MARKS.items():
             if data.startswith(mark):
                 name, tool = "a byte order mark", ""
                 if encoding == "utf-16":
                     name, tool = "a byte order mark, and the text is in UTF-16", ", or convert it: iconv -f UTF-16 -t UTF-8 FILE"
-                self.tell(1, f"the text begins with {name}: save it as plain CSV, in ASCII or UTF-8 without the mark{tool}")
+                self.add_finding(1, f"the text begins with {name}: save it as plain CSV, in ASCII or UTF-8 without the mark{tool}")
                 data = data.decode(encoding, errors="replace").encode()
                 break
         data = self.short_lines(self.first_lines(data))
-        self.characters(data)
-        comma = self.comma(data)
+        self.report_other_characters(data)
+        comma = self.separator_of(data)
         return self.closed_quotes(data, comma), comma
 
     def first_lines(self, data):
@@ -123,16 +123,16 @@ class Lint:
         places = [found.span() for found in LINE.finditer(data) if found.end() - found.start() > text.LONG_LINE]
         for begin, end in reversed(places):
             line = text.count_lines(data, 0, begin) + 1
-            self.tell(line, f"the line has {end - begin:,} bytes, far more than a command has: remove it")
+            self.add_finding(line, f"the line has {end - begin:,} bytes, far more than a command has: remove it")
             data = data[:begin] + data[end:]
         return data
 
-    def comma(self, data):
+    def separator_of(self, data):
         """The separator of the fields, by the first line."""
         first = re.split(rb"[\r\n]", data.lstrip(b"\r\n"), maxsplit=1)[0]
         for mark, name in SEPARATORS.items():
             if first.count(mark.encode()) > first.count(b",") != len(fields.NAMES) - 1:
-                self.tell(1, f"the fields are separated by {name}: separate them by commas")
+                self.add_finding(1, f"the fields are separated by {name}: separate them by commas")
                 return mark.encode()
         return b","
 
@@ -144,11 +144,11 @@ class Lint:
             if at is None or not number and is_journal(data):
                 break
             line = text.count_lines(data, 0, at) + 1
-            self.tell(line, "a quote begins a field and isn't closed on its line: remove it, or close it")
+            self.add_finding(line, "a quote begins a field and isn't closed on its line: remove it, or close it")
             data = data[:at] + data[at + 1 :]
         return data
 
-    def characters(self, data):
+    def report_other_characters(self, data):
         """Reports the first character of each line that isn't ASCII, and if there are many such lines, how many."""
         lines, line, behind = {}, 1, 0
         for found in re.finditer(rb"([\x80-\xff]+)[^\r\n]*", data):
@@ -157,21 +157,21 @@ class Lint:
             lines[line] = found[1].decode(errors="replace")
         allowed = "a journal has no accented letters, and no long dashes or special spaces"
         for at in list(lines)[:MOST_LINES]:
-            self.tell(at, f"{text.quoted(lines[at])} isn't ASCII: {allowed}")
+            self.add_finding(at, f"{text.quoted(lines[at])} isn't ASCII: {allowed}")
         if len(lines) > MOST_LINES:
             at = list(lines)[MOST_LINES]
-            self.tell(at, f"{len(lines) - MOST_LINES} lines from here on aren't ASCII either: save the file as plain CSV, in ASCII")
+            self.add_finding(at, f"{len(lines) - MOST_LINES} lines from here on aren't ASCII either: save the file as plain CSV, in ASCII")
 
     def separated(self, line, record):
         """The fields of a record, also if it alone has something other than commas between them."""
         for mark, name in SEPARATORS.items():
             parts = record[0].split(mark)
             if len(record) == 1 and len(parts) > 1 and parts[0].strip().lower() in {"day", *fields.USED}:
-                self.tell(line, f"the fields of this line are separated by {name}: separate them by commas")
+                self.add_finding(line, f"the fields of this line are separated by {name}: separate them by commas")
                 return parts if len(parts) == len(fields.NAMES) else None
         return record
 
-    def record(self, line, record):
+    def check_record(self, line, record):
         record = self.separated(line, record)
         if record is None:
             return
@@ -180,15 +180,15 @@ class Lint:
             return
         word = record[0].strip().lower()
         if self.held is None:
-            self.day(line, record, word)
+            self.check_day(line, record, word)
         elif word == "day":
-            self.tell(line, "the day appears twice: a journal has one, as its first line")
+            self.add_finding(line, "the day appears twice: a journal has one, as its first line")
         elif record[0].lstrip().startswith("#"):
-            self.tell(line, "a journal has no comments: remove the line")
+            self.add_finding(line, "a journal has no comments: remove the line")
         elif not any(field.strip() for field in record):
-            self.tell(line, "there is nothing in the line but commas: remove it")
+            self.add_finding(line, "there is nothing in the line but commas: remove it")
         else:
-            self.entry(line, self.padded(line, record, CLOSE if word == "close" else None))
+            self.check_entry(line, self.padded(line, record, CLOSE if word == "close" else None))
 
     def padded(self, line, record, whole=None):
         """The nine fields of a record that may have more or fewer."""
@@ -197,45 +197,46 @@ class Lint:
         if missing > 0:
             commas = "a comma is missing" if missing == 1 else f"{missing} commas are missing"
             do = f"write {whole}" if whole else "complete it at its end"
-            self.tell(line, f"it has {count} field{'s' * (count > 1)} and should have {most}, so {commas}: {do}")
+            self.add_finding(line, f"it has {count} field{'s' * (count > 1)} and should have {most}, so {commas}: {do}")
         elif missing < 0:
             do = "a field can't contain a comma"
             if not any(record[most:]):
                 do = f"remove {-missing} comma{'s' * (missing < -1)} at its end"
-            self.tell(line, f"it has {count} fields and should have {most}: {do}")
+            self.add_finding(line, f"it has {count} fields and should have {most}: {do}")
         return (record + [""] * most)[:most]
 
-    def day(self, line, record, word):
+    def check_day(self, line, record, word):
         """The first record, which should be the day."""
         if word != "day":
             if set(map(str.lower, record)) & {*fields.NAMES, "who", "name", "limit", "volume"}:
-                self.tell(line, f"this is a header, and a journal has none: begin with the day, such as {DAY}")
+                self.add_finding(line, f"this is a header, and a journal has none: begin with the day, such as {DAY}")
                 return
             if word.startswith("#"):
-                self.tell(line, f"a journal has no comments: remove the line, and begin with the day, such as {DAY}")
+                self.add_finding(line, f"a journal has no comments: remove the line, and begin with the day, such as {DAY}")
                 return
-            self.tell(line, f"the first line should be the day, such as {DAY}, but is {text.quoted(','.join(record))}")
+            self.add_finding(line, f"the first line should be the day, such as {DAY}, but is {text.quoted(','.join(record))}")
             self.held = book.Book(rules.GREATEST_PERIOD)
             if word in fields.USED:
-                self.record(line, record)
+                self.check_record(line, record)
             return
         found = record[1].strip() if len(record) > 1 else ""
         periods, wrong = fields.read_day(found)
-        whole = f"day,{periods or 24},,,,,,,"
+        whole = journal.day_line(periods or 24)
         record = self.padded(line, record, whole)
         if record[0] != "day":
-            self.tell(line, f"{text.quoted(record[0])} should be day: write {whole}", "command")
+            self.add_finding(line, f"{text.quoted(record[0])} should be day: write {whole}", "command")
         if wrong or record[1] != found:
-            self.tell(line, f"{text.quoted(record[1])}: {wrong or f'there is a space around it: write {text.safe(found)}'}", "periods")
+            why = wrong or f"there is a space around it: write {text.safe(found)}"
+            self.add_finding(line, f"{text.quoted(record[1])}: {why}", "periods")
         for place in range(2, 9):
             if record[place]:
-                self.tell(line, f"{text.quoted(record[place])} should be empty: write {whole}", fields.NAMES[place])
+                self.add_finding(line, f"{text.quoted(record[place])} should be empty: write {whole}", fields.NAMES[place])
         self.held = book.Book(periods or rules.GREATEST_PERIOD)
 
-    def entry(self, line, record):
+    def check_entry(self, line, record):
         kind, wrong = fields.read_word(["submit", "amend", "cancel", "close"])(record[0].strip(" \t\u00a0"))
         if wrong or kind != record[0]:
-            self.tell(line, f"{text.quoted(record[0])}: {wrong or f'there is a space around it: write {kind}'}", "command")
+            self.add_finding(line, f"{text.quoted(record[0])}: {wrong or f'there is a space around it: write {kind}'}", "command")
         if kind is None:
             return
         values, is_whole = {}, True
@@ -245,7 +246,7 @@ class Lint:
             if name not in fields.USED[kind] or hourly and name in ("parent", "group"):
                 if found:
                     of = "an hourly order" if hourly and kind == "submit" else f"{'an' if kind == 'amend' else 'a'} {kind}"
-                    self.tell(line, f"{text.quoted(found)} should be empty in {of}", name)
+                    self.add_finding(line, f"{text.quoted(found)} should be empty in {of}", name)
                 values[name] = ""
             elif not found and name in ("parent", "group"):
                 values[name] = ""
@@ -254,17 +255,17 @@ class Lint:
                 if name == "volumes" and hourly and values[name] and len(values[name]) != 1:
                     wrong = f"an hourly order has one pair, such as 8:450, not {len(values[name])}" + (f"; {wrong}" if wrong else "")
                 if wrong:
-                    self.tell(line, f"{text.quoted(found)}: {wrong}" if found else f"it is empty: {wrong}", name)
+                    self.add_finding(line, f"{text.quoted(found)}: {wrong}" if found else f"it is empty: {wrong}", name)
                 is_whole = is_whole and values[name] is not None
         if kind == "submit" and hourly and values["volumes"] and len(values["volumes"]) != 1:
             is_whole = False
-        self.apply(line, kind, values, is_whole)
+        self.apply_command(line, kind, values, is_whole)
 
-    def apply(self, line, kind, values, is_whole):
+    def apply_command(self, line, kind, values, is_whole):
         who, name = values.get("participant"), values.get("order")
         if kind == "close":
             if self.command == "day":
-                self.tell(line, "a journal for `dam day` has no close: remove the line")
+                self.add_finding(line, "a journal for `dam day` has no close: remove the line")
                 return
             command = journal.Close()
         else:
@@ -272,12 +273,12 @@ class Lint:
             if not is_whole:
                 self.unclear |= {(who, name)} if kind == "submit" else set()
                 return
-            command = {"submit": self.submit, "amend": journal.Amend, "cancel": journal.Cancel}[kind](
+            command = {"submit": self.submit_of, "amend": journal.Amend, "cancel": journal.Cancel}[kind](
                 *[values[field] for field in fields.USED[kind]]
             )
-        self.settle(line, kind, values, self.held.apply(command))
+        self.keep_or_report(line, kind, values, self.held.apply(command))
 
-    def settle(self, line, kind, values, reason):
+    def keep_or_report(self, line, kind, values, reason):
         """Keeps the facts by which later commands are judged, or reports why the book refuses the command."""
         who, name = values.get("participant"), values.get("order")
         if reason is None:
@@ -290,9 +291,9 @@ class Lint:
         if reason == "UnknownOrder" and (who, name) in self.unclear or reason == "UnknownParent" and parent in self.unclear:
             return
         field, words = self.refusal(reason, who, name, values)
-        self.tell(line, f"{words} (the book refuses it: {reason})", field, reason)
+        self.add_finding(line, f"{words} (the book refuses it: {reason})", field, reason)
 
-    def submit(self, who, name, kind, side, price, volumes, parent, group):
+    def submit_of(self, who, name, kind, side, price, volumes, parent, group):
         return journal.Submit(who, name, journal.Order(kind, side, price, volumes, parent, group))
 
     def refusal(self, reason, who, name, values):
@@ -323,19 +324,19 @@ class Lint:
             "BlocksFull": ("", f"a book holds at most {rules.MOST_BLOCKS} blocks: cancel others first"),
         }.get(reason, ("", book.REASONS[reason].words))
 
-    def end(self, line, records):
+    def check_close(self, line, records):
         if not records:
-            self.tell(1, f"the journal is empty: begin with the day, such as {DAY}")
+            self.add_finding(1, f"the journal is empty: begin with the day, such as {DAY}")
         elif self.held is None:
-            self.tell(line, f"there is no day: begin with it, such as {DAY}")
+            self.add_finding(line, f"there is no day: begin with it, such as {DAY}")
         if self.command == "clear" and self.closed is None and records and not self.is_cut:
-            self.tell(line, f"no command closes the book, so there are no results: end with {CLOSE}")
+            self.add_finding(line, f"no command closes the book, so there are no results: end with {CLOSE}")
         if self.command == "day":
             if records > rules.MOST_DAY_COMMANDS + 1:
-                self.tell(line, f"`dam day` takes at most {rules.MOST_DAY_COMMANDS} commands")
+                self.add_finding(line, f"`dam day` takes at most {rules.MOST_DAY_COMMANDS} commands")
             count = len(self.others - {None})
             if count > rules.MOST_DAY_PARTICIPANTS:
-                self.tell(line, f"`dam day` takes at most {rules.MOST_DAY_PARTICIPANTS} participants, but there are {count}")
+                self.add_finding(line, f"`dam day` takes at most {rules.MOST_DAY_PARTICIPANTS} participants, but there are {count}")
 
 
 def first_word(data, comma=b","):

@@ -82,7 +82,7 @@ def read_sent(data, who, periods, has_none):
 
 
 def read_records(data, periods):
-    own = data if lint.first_word(data) == "day" else b"day,%d,,,,,,,\n" % periods + data
+    own = data if lint.first_word(data) == "day" else f"{journal.day_line(periods)}\n".encode() + data
     try:
         read = journal.read_journal(own)
     except journal.Fault:
@@ -135,7 +135,7 @@ def no_proof(_):
     return ""
 
 
-def compared(own, published, closed, who, look, proof=no_proof):
+def compare_sent(own, published, closed, who, look, proof=no_proof):
     """The faults of a participant's commands in a journal, and lines about the right ones. A table of orders may have the commands, or
     the orders at the end: of both, the one with fewer differences is meant. `look` is called now and then, and may end the comparison. Of a
     command that isn't in the journal as it was sent, `proof` says whether the operator had it."""
@@ -168,7 +168,7 @@ def held_of(closed, who):
 
 def differences(sent, published, where=JOURNAL, look=lambda: None, proof=no_proof):
     """The faults of the published commands, or of the book's, a line each, by their records."""
-    pairs = subsequence.in_order(*([entry.command for entry in entries] for entries in (sent, published)), look)
+    pairs = subsequence.longest_pairs(*([entry.command for entry in entries] for entries in (sent, published)), look)
     there, here = ({place[side] for place in pairs} for side in (0, 1))
     left = [entry for at, entry in enumerate(sent) if at not in there]
     more = [entry for at, entry in enumerate(published) if at not in here]
@@ -183,7 +183,7 @@ def differences(sent, published, where=JOURNAL, look=lambda: None, proof=no_proo
     return [line for _, line in sorted(lines, key=lambda line: line[0])]
 
 
-def about(entry):
+def subject_of(entry):
     """The subject of a fault of a command."""
     return f"order {entry.command.who},{entry.command.name}"
 
@@ -191,28 +191,28 @@ def about(entry):
 def moved_line(one, other):
     shown = journal.command_line(one.command)
     words = f"sent record {one.record} is moved: {other.place} is out of its order: {shown}"
-    return Fault(words, "moved", other.line, about(one))
+    return Fault(words, "moved", other.line, subject_of(one))
 
 
 def changed_line(one, other, proof):
     was, now = journal.command_line(one.command), journal.command_line(other.command)
     words = f"sent record {one.record} is changed: it was '{was}', and {other.place} is '{now}'{proof}"
-    return Fault(words, "changed", other.line, about(one))
+    return Fault(words, "changed", other.line, subject_of(one))
 
 
 def missing_line(one, where, proof):
     words = f"sent record {one.record} is missing in {where}: {journal.command_line(one.command)}{proof}"
-    return Fault(words, "missing", None, about(one))
+    return Fault(words, "missing", None, subject_of(one))
 
 
 def more_line(other, times):
     """The message about a record that wasn't sent; its command was sent `count` times."""
     shown = journal.command_line(other.command)
     if not times:
-        return Fault(f"{other.place} was not sent: {shown}", "unsent", other.line, about(other))
+        return Fault(f"{other.place} was not sent: {shown}", "unsent", other.line, subject_of(other))
     count = "once" if times == 1 else f"{times} times"
     words = f"{other.place} repeats what was sent {count}: {shown}"
-    return Fault(words, "repeated", other.line, about(other))
+    return Fault(words, "repeated", other.line, subject_of(other))
 
 
 def place_of(one, found):

@@ -15,7 +15,7 @@ from ..base import place, replacing
 from ..results import decisions
 from ..seal import heads
 from . import folder
-from .desk import how_ended
+from .desk import exchange, how_ended
 from .ledger import Contradiction
 
 FIRST_PAUSE, LONGEST_PAUSE = 1.0, 60.0  # seconds before a step that failed is tried again
@@ -33,7 +33,6 @@ HIDDEN = {
 }
 TOLD = (decisions.GROUP, decisions.PARENT)  # the codes among these that tell nothing of others
 MOST_TEXTS = 16  # of statements that are kept as they are sent
-MOST_FAULT = 1_000  # bytes of what it says of a fault
 # Of all participants' orders. From these, one could compute the limits of another.
 SUMS = ("welfare_eur", "hourly_surplus_eur", "block_surplus_eur")
 
@@ -126,7 +125,7 @@ def load(files, ledger):
         head = files.read(folder.HEAD)
     except (FileNotFoundError, ValueError, Contradiction):
         raise Contradiction(f"{folder.JOURNAL}, {folder.REPLIES} or {folder.HEAD} is missing or damaged") from None
-    if heads.line(ledger.head()) != head:
+    if heads.line_of(ledger.head()) != head:
         raise Contradiction("the published head isn't of the journal next to it, or isn't of this key")
     check_sums(files)
     return ledger
@@ -172,8 +171,8 @@ async def sign(gate):
     """The head of the whole journal, which no later one follows, with the journal and its replies."""
     for name, data in ((folder.JOURNAL, gate.ledger.journal_text()), (folder.REPLIES, gate.ledger.replies_text())):
         with folder.named(gate.files.file(name)):
-            replacing.write(gate.files.file(name), data)
-    folder.put(gate.files.file(folder.HEAD), heads.line(gate.ledger.head()))
+            replacing.write_replacing(gate.files.file(name), data)
+    folder.put(gate.files.file(folder.HEAD), heads.line_of(gate.ledger.head()))
 
 
 async def clear(gate):
@@ -198,7 +197,7 @@ async def output(*words, data=b"", seconds=MOST_SECONDS):
     pipes = {name: asyncio.subprocess.PIPE for name in ("stdin", "stdout", "stderr")}
     process = await asyncio.create_subprocess_exec(*words, start_new_session=True, **pipes)
     try:
-        out, err = await asyncio.wait_for(process.communicate(data), seconds)
+        out, err = await asyncio.wait_for(exchange(process, words[0], data), seconds)
     except asyncio.TimeoutError:
         raise Failed(f"{os.path.basename(words[0])} took more than {seconds} s") from None
     finally:
@@ -206,6 +205,6 @@ async def output(*words, data=b"", seconds=MOST_SECONDS):
             process.kill()
             await process.wait()
     if process.returncode:
-        said = err[:MOST_FAULT].decode(errors="replace").strip()
+        said = err.decode(errors="replace").strip()
         raise Failed(f"{os.path.basename(words[0])} {how_ended(process.returncode)}: {said}")
     return out

@@ -76,7 +76,7 @@ async def run(args, programs):
         async def started(port):
             await enter_orders(served.gates[day.day])
             page = f"http://{args.host}:{port}/"
-            file_io.say([f"the page: {page}", f"the day {day.day} closes in {args.seconds} s; Ctrl-C ends the demo"])
+            file_io.print_lines([f"the page: {page}", f"the day {day.day} closes in {args.seconds} s; Ctrl-C ends the demo"])
             if not args.no_browser:
                 with contextlib.suppress(webbrowser.Error):
                     await asyncio.to_thread(webbrowser.open, page)

@@ -2,6 +2,8 @@
 replay`."""
 
 import asyncio
+import contextlib
+import errno
 import re
 
 import async_timeout
@@ -11,6 +13,8 @@ END_SECONDS = 10  # that a desk may take to end
 ANSWER_SECONDS = 60  # and to answer a batch
 REPLY = re.compile(r"([1-9][0-9]*),(.*)")
 MOST_FAULT = 1_000  # bytes of a fault line
+MOST_PRINTED = 1 << 27  # bytes of an output: no journal, results or statement of a day have as many
+PART = 1 << 16  # bytes that are read at once
 LOCKED = b"another process has it"
 # The desk is given the day, which it may have already, and an empty line. It first prints what it has, and then this to the empty line.
 OPENED = b"fault,2,NotOneRecord\n"
@@ -25,12 +29,40 @@ class Locked(Ended):
     """Another desk has the file."""
 
 
+async def exchange(process, program, data=b""):
+    """Gives the process of a program its input, and returns its output and the beginning of its standard error once it has ended. However
+    much it prints, it takes little memory."""
+    parts = beginning(process.stdout, MOST_PRINTED), beginning(process.stderr, MOST_FAULT), give(process.stdin, data)
+    out, err, _ = await asyncio.gather(*parts)
+    await process.wait()
+    if len(out) == MOST_PRINTED:
+        raise OSError(errno.EFBIG, f"it printed {MOST_PRINTED:,} bytes or more", program)
+    return out, err
+
+
+async def beginning(stream, most):
+    """The first bytes of a stream, which is read to its end."""
+    found = bytearray()
+    while part := await stream.read(PART):
+        found += part[: most - len(found)]
+    return bytes(found)
+
+
+async def give(stream, data):
+    """Writes the input of a process, which may not read it."""
+    with contextlib.suppress(BrokenPipeError, ConnectionResetError):
+        stream.write(data)
+        await stream.drain()
+    stream.close()
+    with contextlib.suppress(BrokenPipeError, ConnectionResetError):
+        await stream.wait_closed()
+
+
 async def shown(program, path):
     """The records of the journal in a desk's file, the day first; none if it has none yet."""
-    process = await asyncio.create_subprocess_exec(
-        program, "--journal", path, stdout=asyncio.subprocess.PIPE, stderr=asyncio.subprocess.PIPE
-    )
-    out, err = await process.communicate()
+    pipes = {name: asyncio.subprocess.PIPE for name in ("stdin", "stdout", "stderr")}
+    process = await asyncio.create_subprocess_exec(program, "--journal", path, **pipes)
+    out, err = await exchange(process, program)
     if process.returncode:
         raise Ended(f"the desk can't show its journal: it {how_ended(process.returncode)}: {said(err)}")
     return out.decode("ascii").splitlines()
@@ -42,7 +74,7 @@ def how_ended(status):
 
 
 def said(err):
-    return err[:MOST_FAULT].decode(errors="replace").strip() or "no fault line"
+    return err.decode(errors="replace").strip() or "no fault line"
 
 
 class Desk:

@@ -57,14 +57,14 @@ def is_name(form, word):
 
 def is_by_participant(value, is_right):
     """Whether a value that was read has a right value for each participant, by its name."""
-    names = isinstance(value, dict) and all(text.participant(name.encode(errors="replace")) for name in value)
+    names = isinstance(value, dict) and all(text.parse_participant(name.encode(errors="replace")) for name in value)
     return names and all(map(is_right, value.values()))
 
 
 def put(path, data):
     """Writes a file that is whole, and on the disk, or not there."""
     with named(path):
-        replacing.write(path, data)
+        replacing.write_replacing(path, data)
     sync(Path(path).parent)
 
 
@@ -82,6 +82,18 @@ def sync(folder):
     try:
         with named(folder):
             os.fsync(number)
+    finally:
+        os.close(number)
+
+
+@contextlib.contextmanager
+def alone(path):
+    """Holds a folder: others that hold it wait until the end of the block. A process that ends lets go of it."""
+    number = os.open(path, os.O_RDONLY | os.O_DIRECTORY | os.O_CLOEXEC)
+    try:
+        with named(path):
+            fcntl.flock(number, fcntl.LOCK_EX)
+        yield
     finally:
         os.close(number)
 
@@ -138,7 +150,7 @@ class DayFolder:
 
     def salts(self):
         with sound(self.file(SALTS), "the salts of a day"):
-            return heads.parsed(self.read(SALTS), heads.salts_read)[0]
+            return heads.parse(self.read(SALTS), heads.parse_salts)[0]
 
 
 class Folder:
@@ -155,7 +167,8 @@ class Folder:
         if self.file(KEY).is_file() and not self.file(PARTICIPANTS).is_file():
             raise command.Stop(f"{command.shown(self.file(PARTICIPANTS))} is missing: put it back")
         if not self.file(PARTICIPANTS).is_file():
-            raise command.Stop(f"{command.shown(self.path)} isn't the folder of an office: {place.as_here('tools/office init')} makes one")
+            init = place.with_commands_of_here("tools/office init")
+            raise command.Stop(f"{command.shown(self.path)} isn't the folder of an office: {init} makes one")
         for name in (KEY, PARTICIPANTS):
             if self.file(name).stat().st_mode & PRIVATE:
                 raise command.Stop(f"{command.shown(self.file(name))} can be read by others: chmod 600")
@@ -164,7 +177,7 @@ class Folder:
         from ..receipts import receipts
         from ..seal import signing
 
-        return receipts.key_read(self.file(KEY), signing.private)
+        return receipts.read_key(self.file(KEY), signing.parse_private)
 
     def public_text(self, key):
         """The public half of the office's key, as its file has it. Ends the tool if the file is of another key."""

@@ -6,6 +6,7 @@ import ipaddress
 import re
 
 from aiohttp import web, web_protocol
+from multidict import CIMultiDict, CIMultiDictProxy
 
 MOST_CONNECTIONS = 1_000
 IDLE_SECONDS = 15  # for the head of a request to come whole
@@ -20,6 +21,7 @@ HEAD_END = re.compile(rb"\n(?:\n|\r.)", re.DOTALL)  # of its last line, and an e
 MOST_LINE = 1 << 12  # bytes of a line of a head
 MOST_BUCKETS = 10_000
 NETWORK = 64  # bits of an IPv6 address that all addresses of one connection to the network have
+WAITS = "100-continue"  # the expectation of a client that waits for an answer before it sends the body
 TEXTS = {"Content-Type": "text/plain", "X-Content-Type-Options": "nosniff", "Cache-Control": "no-store", "Server": "dam-office"}
 
 
@@ -60,6 +62,18 @@ def length_of(message):
     """The number of bytes of a request's body; 0 if it isn't known."""
     word = message.headers.get("Content-Length", "") if hasattr(message, "headers") else ""
     return int(word) if word.isascii() and word.isdigit() else 0
+
+
+def plain(message):
+    """A request as the office answers it. The name of an office is left out: there is one, and to decode another may take seconds. So is an
+    expectation, but for that of a client that waits: aiohttp would refuse others before any limit, and repeat them."""
+    if message.url.is_absolute():
+        message = message._replace(url=message.url.relative())
+    if message.headers.get("Expect", WAITS).lower() != WAITS:
+        headers = CIMultiDict(message.headers)
+        del headers["Expect"]
+        message = message._replace(headers=CIMultiDictProxy(headers))
+    return message
 
 
 class Handler(web_protocol.RequestHandler):
@@ -120,13 +134,18 @@ class Handler(web_protocol.RequestHandler):
             odd = getattr(message, "chunked", False) or getattr(message, "upgrade", False) or getattr(message, "method", "") == "CONNECT"
             self.is_deaf = self.is_deaf or odd or self.head_tail != b""
             self.head_bytes, self.length = 0, length_of(message)
-            if hasattr(message, "url") and message.url.is_absolute():  # the office has one name: to decode another may take seconds
-                self._messages[place] = message._replace(url=message.url.relative()), self.payload
+            if hasattr(message, "url"):
+                self._messages[place] = plain(message), self.payload
         if self.payload is not None and self.payload.is_eof() == (self.body_left > 0):
             self.is_deaf = True  # an odd header hides the length of the body, and so the start of the next head
         self._message_tail = b""  # what comes after a request for another protocol
         if len(self._messages) > MOST_AHEAD:
             self.transport.abort()
+
+    async def _handle_request(self, request, *words):
+        if self.transport is None:  # the connection was lost when the request's turn had just come
+            raise ConnectionError("the connection is lost")
+        return await super()._handle_request(request, *words)
 
     async def finish_response(self, request, response, began):
         if isinstance(response, web.HTTPException):  # of aiohttp itself, which says the request's words again

@@ -46,7 +46,7 @@ class Ledger:
         held = [(entry.record, entry.reply) for entry in self.seal.entries]
         if list(zip(records, replies, strict=True))[: len(held)] != held:
             raise Contradiction(f"the desk's journal doesn't begin with the {len(held)} entries that it has answered")
-        text = "".join(f"{record}\n" for record in [f"day,{self.seal.periods},,,,,,,", *records])
+        text = "".join(f"{record}\n" for record in [journal.day_line(self.seal.periods), *records])
         try:
             commands = journal.read_journal(text.encode("ascii")).commands
         except (journal.Fault, UnicodeEncodeError) as fault:
@@ -86,7 +86,7 @@ class Ledger:
 
     def sign(self, heads_found):
         """Signs heads. It touches nothing else here, and so may run in a thread of its own."""
-        return [signing.signed(self.seal.key, head) for head in heads_found]
+        return [signing.sign(self.seal.key, head) for head in heads_found]
 
     async def sign_ahead(self, begin, end):
         """Signs the heads of the entries after `begin` up to `end`, while the next ones are entered."""
@@ -106,7 +106,7 @@ class Ledger:
         return self.seal.receipt(entry, self.head(entry))
 
     def journal_text(self):
-        lines = [f"day,{self.seal.periods},,,,,,,", *(entry.record for entry in self.seal.entries)]
+        lines = [journal.day_line(self.seal.periods), *(entry.record for entry in self.seal.entries)]
         return "".join(f"{line}\n" for line in lines).encode()
 
     def replies_text(self):

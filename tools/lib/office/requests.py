@@ -19,7 +19,7 @@ MOST_LINTED, MOST_LINES = 1 << 12, 20  # bytes and lines of a body of which all 
 WITH_DAY = re.compile(rb'[\r\n]*"?day"?,')  # at the beginning of a body
 RECORD = re.compile("record ([0-9]+)")
 CODE = re.compile(rf" \((?:{'|'.join(book.REASONS)})\)$", re.MULTILINE)  # of the book, behind its words in a table's fault
-DAY = b"day,%d,,,,,,,\n" % rules.GREATEST_PERIOD  # before records; the desk's book knows the day's periods
+DAY = f"{journal.day_line(rules.GREATEST_PERIOD)}\n".encode()  # before records; the desk's book knows the day's periods
 
 
 class BadRequest(Exception):

@@ -17,7 +17,7 @@ from typing import NamedTuple
 
 from aiohttp import web
 
-from ..runs import by_program, which
+from ..runs import by_program, errors, which
 from ..tool import command
 from . import folder, guards, observed, tokens
 from .desk import how_ended
@@ -64,7 +64,7 @@ def runnable(path, name, option):
 def dam_program(named=None, may_compile=False):
     """The program dam: the one that is named, or else the package's, the clone's or the system's; or, if it may be compiled, the clone's
     without proofs."""
-    found = which.built()
+    found = which.find_program()
     path = named or os.environ.get("DAM") or (found.path if found else None) or (compiled("dam_cli") if may_compile else None)
     return runnable(path, "dam", "--dam")
 
@@ -79,15 +79,22 @@ def desk_program(named=None, may_compile=False):
 def try_dam(path):
     """Clears an empty day: a program that can't, or is another one, ends the office now, not at the close."""
     try:
-        ran = subprocess.run([path, "clear"], input=EMPTY_DAY, stdout=subprocess.PIPE, timeout=TRIAL_SECONDS)
+        with subprocess.Popen([path, "clear"], stdin=subprocess.PIPE, stdout=subprocess.PIPE) as process:
+            try:
+                out, _ = by_program.exchange(process, EMPTY_DAY, TRIAL_SECONDS, "it")
+            except BaseException:
+                process.kill()
+                raise
     except OSError as wrong:
         fault = wrong.strerror
     except subprocess.TimeoutExpired:
         fault = f"it took more than {TRIAL_SECONDS} s"
+    except errors.Fault as wrong:
+        fault = str(wrong)
     else:
-        if not ran.returncode and by_program.RESULTS.match(ran.stdout):
+        if not process.returncode and by_program.has_results(out):
             return
-        fault = f"it {how_ended(ran.returncode)}" if ran.returncode else "it printed no results"
+        fault = f"it {how_ended(process.returncode)}" if process.returncode else "it printed no results"
     raise command.Stop(f"the program dam didn't clear an empty day: {command.shown(path)}: {fault}", command.FAILED)
 
 

@@ -28,7 +28,7 @@ def day_of(words):
 
 
 def zone_of(words):
-    modules.need_zone(shapes.ZONE)
+    modules.refuse_missing_zone(shapes.ZONE)
     try:
         return zoneinfo.ZoneInfo(words)
     except (zoneinfo.ZoneInfoNotFoundError, ValueError):
@@ -58,7 +58,7 @@ def terms_of(args, shares, now=None):
     if args.periods not in rules.DAYS:
         raise command.Stop(f"--periods should be one of {', '.join(map(str, sorted(rules.DAYS)))}", command.COMMAND_LINE)
     try:
-        shapes.begins(date, args.periods, args.zone)
+        shapes.begin_times(date, args.periods, args.zone)
     except shapes.BadDate as fault:
         raise command.Stop(f"--periods: {fault}", command.COMMAND_LINE) from None
     closes = close_of(args.close, date, zone)
@@ -141,18 +141,23 @@ def shares_of(given):
 
 
 def make_office(office):
-    """Makes the folder with its key, without participants."""
+    """Makes the folder with its key, without participants. Of several processes at once, one makes it, and the others find it."""
     os.makedirs(office.path, mode=0o700, exist_ok=True)
-    if not office.file(folder.KEY).exists():
-        if any(os.scandir(office.path)):
-            raise command.Stop(f"{command.shown(office.path)} isn't empty, and isn't the folder of an office")
-        key = signing.made()
-        folder.put(office.file(folder.PUBLIC), signing.public_text(key))
-        folder.put(office.file(folder.KEY), signing.private_text(key))
-    office.public_text(office.key())
-    if not office.file(folder.PARTICIPANTS).exists():
-        folder.put(office.file(folder.PARTICIPANTS), folder.as_json({}))
-    os.makedirs(office.file(folder.DAYS), exist_ok=True)
+    with folder.alone(office.path):
+        if not office.file(folder.KEY).exists():
+            make_key(office)
+        office.public_text(office.key())
+        if not office.file(folder.PARTICIPANTS).exists():
+            folder.put(office.file(folder.PARTICIPANTS), folder.as_json({}))
+        os.makedirs(office.file(folder.DAYS), exist_ok=True)
+
+
+def make_key(office):
+    if any(os.scandir(office.path)):
+        raise command.Stop(f"{command.shown(office.path)} isn't empty, and isn't the folder of an office")
+    key = signing.new_key()
+    folder.put(office.file(folder.PUBLIC), signing.public_text(key))
+    folder.put(office.file(folder.KEY), signing.private_text(key))
 
 
 def make_day(office, terms):
@@ -162,14 +167,23 @@ def make_day(office, terms):
 
 @contextlib.contextmanager
 def new_day(office, terms):
-    """Makes the folder of a day, whole or not at all: it is there once the block has ended."""
+    """Makes the folder of a day, whole or not at all: it is there once the block has ended. Another process that makes a day waits until
+    then, so that the block of a day that is there already never begins."""
+    with folder.alone(office.path):
+        if (office.file(folder.DAYS) / terms.day).exists():
+            raise command.Stop(f"there is a day {terms.day} already")
+        with folder_of_day(office, terms):
+            yield
+
+
+@contextlib.contextmanager
+def folder_of_day(office, terms):
+    """Makes the folder of a day next to its place, in which it is once the block has ended."""
     days = office.file(folder.DAYS)
-    if (days / terms.day).exists():
-        raise command.Stop(f"there is a day {terms.day} already")
     made = tempfile.mkdtemp(prefix=".new-", dir=days)
     try:
         files = folder.DayFolder(made)
-        folder.put(files.file(folder.SALTS), heads.line(sealing.new_salts(terms.day)))
+        folder.put(files.file(folder.SALTS), heads.line_of(sealing.new_salts(terms.day)))
         folder.put(files.file(folder.TERMS), folder.as_json(terms.value()))
         for path in (files.file(folder.SALTS), files.file(folder.TERMS), made):
             folder.give(path, office.path)

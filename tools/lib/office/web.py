@@ -2,7 +2,6 @@
 the participant's own data, nothing of another's."""
 
 import asyncio
-import functools
 import json
 import os
 import time
@@ -115,40 +114,34 @@ class Web:
         made = {name: Markup(json.dumps(value)) for name, value in known.items()}
         made["most_blocks"] = rules.MOST_BLOCKS
         made["most_of_group"] = "one" if rules.MOST_OF_GROUP == 1 else rules.MOST_OF_GROUP
-        return style.style(name) if name.endswith(".css") else style.TEMPLATES.get_template(name).render(**made)
+        return style.read_style(name) if name.endswith(".css") else style.TEMPLATES.get_template(name).render(**made)
 
     def application(self):
         app = web.Application(middlewares=[self.around], client_max_size=MOST_BODY)
         app.on_response_prepare.append(self.prepare)
-        router = app.router
-        get, put, post = (functools.partial(add, expect_handler=self.expected) for add in (router.add_get, router.add_put, router.add_post))
-        put(f"{DAY}/commands{OWN}{NUMBER}", self.put)  # first, since routes are tried in turn
-        get(f"{DAY}/commands{OWN}{NUMBER}", self.receipt)
+        get, put, post = app.router.add_get, app.router.add_put, app.router.add_post
+        put(f"{DAY}/commands{OWN}{NUMBER}", self.answer_commands)  # first, since routes are tried in turn
+        get(f"{DAY}/commands{OWN}{NUMBER}", self.answer_receipt)
         for path in self.files:
-            get(path, self.file)
-        get("/favicon.ico", self.no_icon)
-        get("/healthz", self.health)
-        get("/metrics", self.metrics)
-        get("/days", self.days)
-        get(DAY, self.day)
-        get(f"{DAY}/head", self.head)
-        get(f"{DAY}/prices", self.prices)
+            get(path, self.answer_file)
+        get("/favicon.ico", self.answer_no_icon)
+        get("/healthz", self.answer_health)
+        get("/metrics", self.answer_metrics)
+        get("/days", self.answer_days)
+        get(DAY, self.answer_day)
+        get(f"{DAY}/head", self.answer_head)
+        get(f"{DAY}/prices", self.answer_prices)
         for name in ("results", "journal", "replies"):
-            get(f"{DAY}/{name}", self.published)
-        get(f"{DAY}/commands{OWN}", self.own_commands)
-        get(f"{DAY}/orders{OWN}", self.own_orders)
-        get(f"{DAY}/receipts{OWN}", self.own_receipts)
-        get(f"{DAY}/statement{OWN}", self.statement)
-        post(f"{DAY}/tables{OWN}", self.table)
+            get(f"{DAY}/{name}", self.answer_published)
+        get(f"{DAY}/commands{OWN}", self.answer_own_commands)
+        get(f"{DAY}/orders{OWN}", self.answer_own_orders)
+        get(f"{DAY}/receipts{OWN}", self.answer_own_receipts)
+        get(f"{DAY}/statement{OWN}", self.answer_statement)
+        post(f"{DAY}/tables{OWN}", self.answer_table)
         if self.demo:
-            get("/demo", self.demo_tokens)
-            post(f"{DAY}/close", self.demo_close)
+            get("/demo", self.answer_demo_tokens)
+            post(f"{DAY}/close", self.close_demo_day)
         return app
-
-    async def expected(self, request):
-        """Tells a client that waits for it to send its body. Other expectations are ignored: aiohttp would say them again in its answer."""
-        if request.headers["Expect"].lower() == "100-continue":
-            await request.writer.write(b"HTTP/1.1 100 Continue\r\n\r\n")
 
     async def prepare(self, request, response):
         response.headers.update(self.headers)
@@ -158,7 +151,7 @@ class Web:
         """Answers each request: a fault as JSON, with fixed words."""
         request.protocol.begin()
         try:
-            self.slow_down(request)
+            self.refuse_too_many(request)
             response = await handler(request)
         except Refused as refused:
             response = fault(refused.fault, str(refused), **refused.more)
@@ -195,7 +188,7 @@ class Web:
         self.reads.charge(who, len(text) // BYTES_OF_READ)
         return web.Response(text=text, content_type="application/json")
 
-    def slow_down(self, request):
+    def refuse_too_many(self, request):
         """Limits how often an address asks for what all may see; other requests are limited by participant."""
         if self.behind_proxy or "who" in request.match_info:
             return
@@ -209,7 +202,7 @@ class Web:
             raise Refused("NotFound", "there is no such day")
         return gate
 
-    def participant(self, request):
+    def authorized_participant(self, request):
         """The participant whose token the request has, and whose name its path has; all others are refused alike."""
         who = request.match_info["who"]
         try:
@@ -230,9 +223,9 @@ class Web:
         known = self.office.register.knows(request.match_info["who"], token)
         return known and scheme.lower() == "bearer"
 
-    def asked(self, request, buckets=None, count=1):
+    def admitted(self, request, buckets=None, count=1):
         """The day and the participant of a request of its own data."""
-        who = self.participant(request)
+        who = self.authorized_participant(request)
         if seconds := (buckets or self.reads).take(who, count):
             raise Refused("TooFast", "too many requests", seconds=seconds)
         gate = self.gate_of(request)
@@ -267,11 +260,11 @@ class Web:
 
     # --- commands
 
-    async def put(self, request):
-        gate, who = self.asked(request, self.commands)
+    async def answer_commands(self, request):
+        gate, who = self.admitted(request, self.commands)
         self.commands.charge(who, self.length(request) // BYTES_OF_COMMAND)  # before it is read, so that not many are at once
         body = await self.body(request)
-        self.participant(request)  # again: the token may have been revoked
+        self.authorized_participant(request)  # again: the token may have been revoked
         began = time.monotonic()
         first = int(request.match_info["number"])
         commands = await self.read(body, kind_of(request), who, first)
@@ -298,36 +291,36 @@ class Web:
     async def receipts(self, gate, entries, head=None):
         made = []
         for place, entry in enumerate(entries, 1):
-            made.append(heads.line(gate.ledger.seal.receipt(entry, head) if head else gate.ledger.receipt(entry)))
+            made.append(heads.line_of(gate.ledger.seal.receipt(entry, head) if head else gate.ledger.receipt(entry)))
             if place % RECEIPTS_AT_ONCE == 0:
                 await asyncio.sleep(0)
         return jsonl(made)
 
-    async def receipt(self, request):
-        gate, who = self.asked(request)
+    async def answer_receipt(self, request):
+        gate, who = self.admitted(request)
         number, count = int(request.match_info["number"]), gate.ledger.count(who)
         if number > count:
             raise Refused("NotFound", "there is no such command", next=count + 1)
         return await self.receipts(gate, [gate.ledger.entry(who, number)[0]])
 
-    async def own_receipts(self, request):
+    async def answer_own_receipts(self, request):
         """All receipts of a participant, under the newest head."""
-        gate, who = self.asked(request)
+        gate, who = self.admitted(request)
         self.reads.charge(who, gate.ledger.count(who) // RECEIPTS_OF_READ)
         answer = await self.receipts(gate, list(gate.ledger.own.get(who, ())), gate.ledger.head())
         self.reads.charge(who, len(answer.body) // BYTES_OF_READ)
         return answer
 
-    async def own_commands(self, request):
-        gate, who = self.asked(request)
+    async def answer_own_commands(self, request):
+        gate, who = self.admitted(request)
         since = query_number(request, "since")
         self.reads.charge(who, max(0, gate.ledger.count(who) - since) // COMMANDS_OF_READ)
         names = ("number", "entry", "record", "reply")
         found = [dict(zip(names, one)) for one in gate.ledger.entries(who, since)]
         return self.text(who, json.dumps({"next": gate.ledger.count(who) + 1, "share": gate.ledger.share(who), "commands": found}))
 
-    async def own_orders(self, request):
-        gate, who = self.asked(request)
+    async def answer_own_orders(self, request):
+        gate, who = self.admitted(request)
         self.reads.charge(who, gate.ledger.count(who) // ORDERS_OF_READ)
         found = []
         for place, (name, order) in enumerate(gate.ledger.orders(who), 1):
@@ -336,9 +329,9 @@ class Web:
                 await asyncio.sleep(0)
         return self.text(who, f'{{"orders": [{", ".join(found)}]}}')
 
-    async def table(self, request):
+    async def answer_table(self, request):
         """The records that a table makes. They aren't entered: the participant sees them first."""
-        gate, who = self.asked(request, count=READS_OF_TABLE)
+        gate, who = self.admitted(request, count=READS_OF_TABLE)
         self.length(request)
         if who in self.reading:
             raise Refused("TooFast", "your table before this one is still being read", seconds=TABLE_SECONDS)
@@ -354,8 +347,8 @@ class Web:
             self.reading.discard(who)
         return self.text(who, json.dumps({"records": records, "notes": notes}))
 
-    async def statement(self, request):
-        gate, who = self.asked(request)
+    async def answer_statement(self, request):
+        gate, who = self.admitted(request)
         found = await asyncio.to_thread(gate.published.statement_text, who)
         if found is None:
             raise Refused("NotFound", "there is no statement yet")
@@ -363,14 +356,14 @@ class Web:
 
     # --- what all may see
 
-    async def file(self, request):
+    async def answer_file(self, request):
         text, kind = self.files[request.path]
         return web.Response(text=text, content_type=kind)
 
-    async def no_icon(self, request):
+    async def answer_no_icon(self, request):
         return web.Response(status=204)
 
-    def shown(self, gate):
+    def day_record(self, gate):
         terms, now = gate.terms, gate.clock.now()
         closes = terms.closes.timestamp()
         state = gate.state
@@ -386,16 +379,17 @@ class Web:
             "has_journal": gate.published.has_journal,
         }
 
-    async def days(self, request):
+    async def answer_days(self, request):
         self.charge_days(request)
-        return web.json_response({"days": [self.shown(gate) for gate in self.office.gates.values()], "demo": bool(self.demo)})
+        return web.json_response({"days": [self.day_record(gate) for gate in self.office.gates.values()], "demo": bool(self.demo)})
 
-    async def day(self, request):
+    async def answer_day(self, request):
         gate = self.gate_of(request)
         periods = gate.terms.periods
-        return web.json_response({**self.shown(gate), "begins": [clock.begins(periods, number) for number in range(1, periods + 1)]})
+        begins = [clock.begin_time(periods, number) for number in range(1, periods + 1)]
+        return web.json_response({**self.day_record(gate), "begins": begins})
 
-    def unstopped(self, request):
+    def unstopped_gate_of(self, request):
         """The day of a request. A stopped day shows nothing: its journal may differ from the one that earlier heads sign, or a file may
         have changed."""
         gate = self.gate_of(request)
@@ -403,36 +397,36 @@ class Web:
             raise Refused("Unavailable", STOPPED_WORDS)
         return gate
 
-    async def head(self, request):
+    async def answer_head(self, request):
         """The newest head; with `since` the proof that it goes on from the head of this number of entries."""
-        gate = self.unstopped(request)
+        gate = self.unstopped_gate_of(request)
         self.need_known(gate)
         ledger = gate.ledger
         if "since" not in request.query:
-            return jsonl([heads.line(ledger.head())])
+            return jsonl([heads.line_of(ledger.head())])
         since = query_number(request, "since")
         if since > ledger.size:
             raise Refused("NotFound", "there is no such head yet")
-        return jsonl([heads.line(ledger.seal.extension(ledger.head(since), ledger.head()))])
+        return jsonl([heads.line_of(ledger.seal.extension(ledger.head(since), ledger.head()))])
 
-    async def prices(self, request):
+    async def answer_prices(self, request):
         """The results without the orders and the welfare: the day, and each period's price and volume."""
-        gate = self.unstopped(request)
+        gate = self.unstopped_gate_of(request)
         if not gate.published.has_results:
             raise Refused("NotFound", "there are no results yet")
         return web.Response(text=gate.published.prices(gate.terms.periods), content_type="text/plain")
 
-    async def published(self, request):
+    async def answer_published(self, request):
         """The texts that have the orders of all: only if the operator publishes the journal."""
-        gate, name = self.unstopped(request), request.path.rpartition("/")[2]
+        gate, name = self.unstopped_gate_of(request), request.path.rpartition("/")[2]
         if not gate.published.has_results:
             raise Refused("NotFound", "there are no results yet")
         if not gate.published.has_journal:
             raise Refused("NotFound", "the operator hasn't published the day; its prices are under prices")
         files = {"results": folder.RESULTS, "journal": folder.JOURNAL, "replies": folder.REPLIES}
-        return await self.sent(request, gate.files.file(files[name]))
+        return await self.send_file(request, gate.files.file(files[name]))
 
-    async def sent(self, request, path):
+    async def send_file(self, request, path):
         """A file, in pieces: over TLS, aiohttp's own way keeps a megabyte of it for each reader that is slow."""
         response = web.StreamResponse(headers={"Content-Type": "text/plain; charset=utf-8"})
         with path.open("rb") as file:
@@ -443,11 +437,11 @@ class Web:
         await response.write_eof()
         return response
 
-    async def health(self, request):
+    async def answer_health(self, request):
         is_healthy = self.office.is_healthy
         return web.json_response({"status": "ok" if is_healthy else "unavailable"}, status=200 if is_healthy else 503)
 
-    async def metrics(self, request):
+    async def answer_metrics(self, request):
         self.charge_days(request)
         gauges = [("right", int(self.office.is_healthy))]
         for name, gate in self.office.gates.items():
@@ -458,17 +452,17 @@ class Web:
 
     # --- the demo
 
-    async def demo_tokens(self, request):
+    async def answer_demo_tokens(self, request):
         """The made-up participants of a demo, with their tokens: they guard nothing."""
         return web.json_response({"participants": self.demo})
 
-    async def demo_close(self, request):
+    async def close_demo_day(self, request):
         gate = self.gate_of(request)
-        self.participant_of_demo(request)
+        self.refuse_stranger_to_demo(request)
         gate.close()
-        return web.json_response(self.shown(gate))
+        return web.json_response(self.day_record(gate))
 
-    def participant_of_demo(self, request):
+    def refuse_stranger_to_demo(self, request):
         token = request.headers.get("Authorization", "").partition(" ")[2]
         if not self.office.register.knows(token.partition(".")[0], token):
             raise Refused("Token", "the token isn't of a participant")

@@ -3,7 +3,7 @@
 from ..base import spans, text
 from ..results import decisions
 from .drawing import Patch, Polygon
-from .canvas import BROAD, COLOURS, add_hover, heading, is_narrow, legend
+from .canvas import BROAD, COLOURS, add_hover, add_heading, is_narrow, add_legend
 
 LOOKS = {
     decisions.ACCEPTED: {"facecolor": COLOURS["accepted"]},
@@ -28,7 +28,7 @@ def draw_blocks(axes, day):
         label_block(axes, row, block, text.amount(day.said.surpluses[row], day.problem.hours))
     draw_links(axes, day)
     draw_groups(axes, day)
-    words = [block_words(day, row, decision) for row, decision in enumerate(found)]
+    words = [decision_line(day, row, decision) for row, decision in enumerate(found)]
     ends = [(row - 0.4, row + 0.4) for row in range(len(blocks))]
     add_hover(axes, "blocks", [[(0.5, top), (right, top), (right, bottom), (0.5, bottom)] for top, bottom in ends], words)
     axes.set_ylim(len(blocks) - 0.45, -0.55)
@@ -36,11 +36,11 @@ def draw_blocks(axes, day):
     axes.grid(visible=False)
     present = [kind for kind in LOOKS if any(decision.kind == kind for decision in found)]
     key = [Patch(edgecolor=COLOURS["ink"], linewidth=0.7, **LOOKS[kind]) for kind in present]
-    legend(axes, key, present, columns=3, right=0.88)
-    heading(axes, "Blocks")
+    add_legend(axes, key, present, columns=3, right=0.88)
+    add_heading(axes, "Blocks")
 
 
-def block_words(day, row, decision):
+def decision_line(day, row, decision):
     """A block's decision in a line."""
     block = day.problem.blocks[row]
     return f"{block.who} {block.name}: {decision.kind}; {decision.why}"

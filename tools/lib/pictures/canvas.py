@@ -52,7 +52,7 @@ def is_narrow(axes):
     return axes.figure.get_figwidth() < BROAD
 
 
-def legend(axes, *entries, columns, below=False, right=1):
+def add_legend(axes, *entries, columns, below=False, right=1):
     """A legend above the panel: right of its heading, up to this share of its width, or under it if the figure is narrow; or then below the
     panel."""
     if is_narrow(axes) and below:
@@ -121,12 +121,12 @@ def digits_up_to(most):
     return 0 if most >= 5 else 1
 
 
-def thousands(axis, digits=0):
+def format_numbers(axis, digits=0):
     """Numbers along an axis in the same form as everywhere."""
     axis.set_major_formatter(lambda value, _: text.shown(Fraction(value).limit_denominator(10_000), digits))
 
 
-def panels(heights, width):
+def new_panels(heights, width):
     """A figure of panels under one another."""
     figure, axes = pyplot.subplots(
         len(heights), 1, figsize=(width, sum(heights)), sharex=True, height_ratios=heights, squeeze=False
@@ -134,7 +134,7 @@ def panels(heights, width):
     return figure, [row[0] for row in axes]
 
 
-def heading(axes, words):
+def add_heading(axes, words):
     # The place is given, since to find one takes as long as to draw the rest.
     look = {"fontweight": "bold", "fontsize": 10, "color": COLOURS["ink"]}
     axes.set_title(words, loc="left", y=1, pad=20 if is_narrow(axes) else 6, **look)

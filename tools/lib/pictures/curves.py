@@ -5,8 +5,8 @@ from fractions import Fraction
 from ..base import clock, rules, text
 from ..results import selection, trades
 from .drawing import AutoLocator, Rectangle, matplotlib
-from .canvas import BROAD, COLOURS, STYLE, add_hover, digits_up_to, eur, heading, is_narrow, legend, mw, panels
-from .canvas import set_label_places, set_margins, thousands
+from .canvas import BROAD, COLOURS, STYLE, add_hover, digits_up_to, eur, add_heading, is_narrow, add_legend, mw, new_panels
+from .canvas import set_label_places, set_margins, format_numbers
 
 # Of the curves of a period, the steps within this share of the traded volume are shown, and those no further from the price than this, in
 # EUR/MWh; but not a limit that is this many times further from it than the one before.
@@ -20,7 +20,7 @@ class CurveSheet:
 
     def __init__(self, width=BROAD):
         with matplotlib.rc_context(STYLE):
-            self.figure, (self.axes,) = panels([4.6 if width == BROAD else 4], width)
+            self.figure, (self.axes,) = new_panels([4.6 if width == BROAD else 4], width)
         set_margins(self.figure, *CURVE_MARGINS["broad" if width == BROAD else "narrow"])
         set_label_places(self.axes, 0.234, 0.47)
 
@@ -33,7 +33,7 @@ class CurveSheet:
             axis.set_major_locator(AutoLocator())
         self.figure.hover = {}
 
-    def drawn(self, day, number):
+    def draw(self, day, number):
         """The figure with a period's curves in place of the last ones."""
         self.clear()
         with matplotlib.rc_context(STYLE):
@@ -58,7 +58,7 @@ def net_volume(day, number):
     """The sold volume of the accepted blocks in a period, and their bought volume."""
     sold = bought = 0
     for place in day.said.accepted:
-        for at, volume in selection.signed(day.problem.blocks[place].order):
+        for at, volume in selection.net_volumes(day.problem.blocks[place].order):
             if at == number:
                 sold, bought = sold + max(volume, 0), bought + max(-volume, 0)
     return sold, bought
@@ -137,21 +137,21 @@ def draw_curves(axes, day, number):
         draw_clearing(axes, day, number, net)
     axes.set_xlim(0, most * 1.03)
     axes.set_ylim(bottom, top)
-    thousands(axes.xaxis, digits_up_to(most))
-    thousands(axes.yaxis)
+    format_numbers(axes.xaxis, digits_up_to(most))
+    format_numbers(axes.yaxis)
     if not orders and not traded:
-        without_orders(axes)
+        draw_without_orders(axes)
     hover_steps(axes, demand, "demand", "demand", bottom, top)
     hover_steps(axes, supply, "supply", "supply", bottom, top)
     mark_tails(axes, day, number, bottom, top)
     axes.set_xlabel("volume, MW")
     axes.set_ylabel("limit price, EUR/MWh")
     if axes.get_legend_handles_labels()[0]:
-        legend(axes, columns=1 if is_narrow(axes) else 2, below=True)
-    heading(axes, f"Period {number}, {clock.span(day.problem.periods, number)}" + ("" if traded else ": no trade"))
+        add_legend(axes, columns=1 if is_narrow(axes) else 2, below=True)
+    add_heading(axes, f"Period {number}, {clock.time_span(day.problem.periods, number)}" + ("" if traded else ": no trade"))
 
 
-def without_orders(axes):
+def draw_without_orders(axes):
     """Says that a period has no curves, and draws no numbers along the axes."""
     axes.set_xticks([])
     axes.set_yticks([])

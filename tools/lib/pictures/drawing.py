@@ -10,7 +10,7 @@ SETTINGS = ("MATPLOTLIBRC", "MPLCONFIGDIR")
 
 
 @contextlib.contextmanager
-def inside(folder):
+def working_in(folder):
     """A working folder for a while. One that the user may not search stays: no file of it can be read."""
     try:
         here = os.open(".", os.O_PATH)
@@ -26,11 +26,11 @@ def inside(folder):
 
 
 @contextlib.contextmanager
-def apart():
+def empty_settings():
     """An empty folder of our own, as the working folder and as matplotlib's folder of settings."""
     kept = {name: os.environ.pop(name, "") for name in SETTINGS}
     try:
-        with tempfile.TemporaryDirectory(prefix="dam-") as folder, inside(folder):
+        with tempfile.TemporaryDirectory(prefix="dam-") as folder, working_in(folder):
             os.environ["MPLCONFIGDIR"] = folder
             yield
     finally:
@@ -40,7 +40,7 @@ def apart():
 
 os.environ["MPLBACKEND"] = "Agg"
 logging.getLogger("matplotlib").setLevel(logging.ERROR)  # it warns if the user has no folder for its cache
-with apart():
+with empty_settings():
     import matplotlib
 
 from matplotlib import pyplot

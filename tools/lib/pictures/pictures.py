@@ -3,41 +3,41 @@
 from .blocks import blocks_height, draw_blocks
 from .curves import CurveSheet
 from .drawing import matplotlib
-from .canvas import BROAD, STYLE, panels
-from .prices import draw_prices, draw_volumes, period_axis
+from .canvas import BROAD, STYLE, new_panels
+from .prices import draw_prices, draw_volumes, set_period_axis
 
 
 def day_picture(day):
     """Prices, volumes and blocks under one another."""
     with matplotlib.rc_context(STYLE):
-        figure, axes = panels([2.3, 2.5] + ([blocks_height(day)] if day.problem.blocks else []), BROAD)
+        figure, axes = new_panels([2.3, 2.5] + ([blocks_height(day)] if day.problem.blocks else []), BROAD)
         draw_prices(axes[0], day)
         draw_volumes(axes[1], day)
         if day.problem.blocks:
             draw_blocks(axes[2], day)
-        period_axis(axes[-1], day)
+        set_period_axis(axes[-1], day)
         figure.tight_layout(h_pad=1.2)
         return figure
 
 
 def prices_picture(day, width=BROAD):
     with matplotlib.rc_context(STYLE):
-        figure, axes = panels([2.5, 2.6], width)
+        figure, axes = new_panels([2.5, 2.6], width)
         draw_prices(axes[0], day)
         draw_volumes(axes[1], day)
-        period_axis(axes[1], day)
+        set_period_axis(axes[1], day)
         figure.tight_layout(h_pad=1.2)
         return figure
 
 
 def blocks_picture(day, width=BROAD):
     with matplotlib.rc_context(STYLE):
-        figure, axes = panels([max(blocks_height(day, width), 1.2)], width)
+        figure, axes = new_panels([max(blocks_height(day, width), 1.2)], width)
         draw_blocks(axes[0], day)
-        period_axis(axes[0], day)
+        set_period_axis(axes[0], day)
         figure.tight_layout()
         return figure
 
 
 def period_picture(day, number, width=BROAD):
-    return CurveSheet(width).drawn(day, number)
+    return CurveSheet(width).draw(day, number)

@@ -5,18 +5,18 @@ import math
 from ..base import clock, spans, text
 from ..results import trades
 from .drawing import Patch
-from .canvas import COLOURS, add_hover, digits_up_to, eur, heading, is_narrow, legend, mw, thousands
+from .canvas import COLOURS, add_hover, digits_up_to, eur, add_heading, is_narrow, add_legend, mw, format_numbers
 
 # Up to this many periods each bar has an outline.
 MOST_OUTLINED = 25
 
 
-def period_axis(axes, day):
+def set_period_axis(axes, day):
     """Periods along the bottom: the number of the first one of each hour, or of three, and under it when it begins."""
     periods = day.problem.periods
     numbers = range(1, periods + 1, int((3 if is_narrow(axes) else 1) / day.problem.hours))
     axes.set_xlim(0.5, periods + 0.5)
-    axes.set_xticks(numbers, [f"{number}\n{clock.begins(periods, number)}" for number in numbers], fontsize=6.5)
+    axes.set_xticks(numbers, [f"{number}\n{clock.begin_time(periods, number)}" for number in numbers], fontsize=6.5)
     axes.set_xlabel("period of the day, and when it begins")
 
 
@@ -31,7 +31,7 @@ def edges(values):
 
 def draw_prices(axes, day):
     """The price of each period in which something is traded, and the prices that support it; others are left out."""
-    traded = trades.traded(day)
+    traded = trades.traded_periods(day)
     prices = {number: eur(day.said.prices[number - 1]) for number in traded}
     cleared = {number: day.outcome.cleared[number] for number in traded}
     ends = {number: (eur(found.low), eur(found.high)) if found else [prices[number]] * 2 for number, found in cleared.items()}
@@ -42,20 +42,20 @@ def draw_prices(axes, day):
     axes.plot(*edges(levels), color=COLOURS["ink"], linewidth=1.8, solid_joinstyle="miter", label="price")
     if traded:
         axes.set_ylim(*price_bounds(list(prices.values()), list(ends.values())))
-        legend(axes, columns=2)
+        add_legend(axes, columns=2)
     else:
         axes.set_yticks([])
-    without_trade(axes, [number for number in day.problem.orders if number not in prices], day.problem.periods)
+    mark_without_trade(axes, [number for number in day.problem.orders if number not in prices], day.problem.periods)
     axes.set_ylabel("price, EUR/MWh")
     axes.grid(axis="x", visible=False)
-    thousands(axes.yaxis)
+    format_numbers(axes.yaxis)
     hover_periods(axes, day, "prices")
-    heading(axes, "Prices")
+    add_heading(axes, "Prices")
 
 
 def period_words(day, number):
     """A period in a line: when it is, its price and its volume."""
-    words = f"period {number}, {clock.span(day.problem.periods, number)}"
+    words = f"period {number}, {clock.time_span(day.problem.periods, number)}"
     if not trades.is_traded(day, number):
         return f"{words}: no trade"
     price, volume = day.said.prices[number - 1], day.said.volumes[number - 1]
@@ -70,7 +70,7 @@ def hover_periods(axes, day, name):
     add_hover(axes, name, areas, [period_words(day, number) for number in numbers])
 
 
-def without_trade(axes, numbers, periods):
+def mark_without_trade(axes, numbers, periods):
     """Marks each run of periods in which nothing is traded."""
     for first, last in spans.runs(numbers):
         upright = (last - first + 1) / periods < 0.07
@@ -89,9 +89,9 @@ def price_bounds(prices, ends):
     return least - room, most + room
 
 
-def shares(day, side):
+def shares_of_side(day, side):
     """The traded volume of a side in each period, in MW: by hourly orders, and by accepted blocks."""
-    found = trades.shares(day).values()
+    found = trades.volume_shares(day).values()
     return [[mw(parts[kind, side]) for parts in found] for kind in ("hour", "block")]
 
 
@@ -99,7 +99,7 @@ def draw_volumes(axes, day):
     """The bought volume above the line, the sold volume below it; the blocks' shares are hatched."""
     most = 1
     for side, sign in (("buy", 1), ("sell", -1)):
-        hourly, blocks = shares(day, side)
+        hourly, blocks = shares_of_side(day, side)
         ends = [one + other for one, other in zip(hourly, blocks)]
         most = max(most, *ends)
         draw_share(axes, [0] * len(ends), [sign * end for end in hourly], {"facecolor": COLOURS[side]})
@@ -115,9 +115,9 @@ def draw_volumes(axes, day):
     words = ["bought by hourly orders", "sold by hourly orders", "by accepted blocks"]
     if is_narrow(axes):
         words = ["hourly buys (above)", "hourly sells (below)", "blocks"]
-    legend(axes, key, words, columns=3)
+    add_legend(axes, key, words, columns=3)
     hover_periods(axes, day, "volumes")
-    heading(axes, "Volumes")
+    add_heading(axes, "Volumes")
 
 
 def draw_share(axes, begins, ends, look):

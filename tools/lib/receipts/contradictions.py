@@ -49,11 +49,11 @@ class Signed:
         self.by_key.add((head, key))
         first, where = self.of_day.setdefault((head.day, key), (head, place))
         if first.periods != head.periods:
-            self.tell(place, f"{periods_differ(head, first)}, in {where}")
+            self.add_finding(place, f"{periods_differ(head, first)}, in {where}")
         same, where = self.of_size.setdefault((head.day, key, head.size), (head, place))
         if same.root != head.root:
             self.told.add((head.day, key))
-            self.tell(place, f"{roots_differ(head)}; the other one is in {where}")
+            self.add_finding(place, f"{roots_differ(head)}; the other one is in {where}")
         if head.size:
             self.add_hashes(head.day, {(0, head.size): head.root}, place, key)
 
@@ -64,7 +64,7 @@ class Signed:
             keys[key] = place
             first, where = next(iter(keys.items()))
             if key != first:
-                self.tell(place, f"two keys signed {day}: {command.shown(key)}, and {command.shown(first)} in {where}")
+                self.add_finding(place, f"two keys signed {day}: {command.shown(key)}, and {command.shown(first)} in {where}")
 
     def add_entry(self, receipt, place, key):
         """Adds the entry of a receipt that is right under a head that the operator signed."""
@@ -77,7 +77,7 @@ class Signed:
         first, where = self.entries.setdefault(entry, (receipt, place))
         if first is not receipt:
             self.told.add((day, key))
-            self.tell(place, f"{entries_differ(receipt, first)}, in {where}: {TWICE}")
+            self.add_finding(place, f"{entries_differ(receipt, first)}, in {where}: {TWICE}")
 
     def add_extension(self, extension, place, key):
         """Adds the hashes that an extension of two heads of a day shows, both signed with a key."""
@@ -92,7 +92,7 @@ class Signed:
             if all(one.hash != hashed for one in found):
                 found.append(Hashed(hashed, (place,)))
 
-    def tell(self, place, words):
+    def add_finding(self, place, words):
         self.findings.append(Finding(*place, WRONG, words, about=CONTRADICTION))
 
     def contradictions(self):
@@ -105,7 +105,7 @@ class Signed:
         """All heads, by day and size."""
         return sorted(self.places, key=lambda head: (head.day, head.size))
 
-    def later(self, head):
+    def later_head(self, head):
         """The last head of the same day, if it is later; or None."""
         last = max((one for one in self.places if one.day == head.day), key=lambda one: one.size)
         return last if last.size > head.size else None
@@ -116,7 +116,7 @@ def two_hashes(subtrees):
     also have the hash that their parts make, wherever these are shown."""
     for part in sorted(subtrees, key=lambda part: (part[1] - part[0], part)):
         found = subtrees[part]
-        made = made_of_parts(subtrees, *part)
+        made = hash_of_parts(subtrees, *part)
         if made is not None and made.hash != found[0].hash:
             found = [*found, made]
         if len(found) > 1:
@@ -124,16 +124,16 @@ def two_hashes(subtrees):
     return None
 
 
-def made_of_parts(subtrees, begin, end):
+def hash_of_parts(subtrees, begin, end):
     """The hash that the parts of an incomplete subtree make; None if one isn't known. What the parts of a complete one make is shown wherever
     its second half is."""
     count = end - begin
     if count & (count - 1) == 0:
         return None
-    middle = begin + merkle.split(count)
+    middle = begin + merkle.left_half(count)
     left, *_ = subtrees.get((begin, middle)) or [None]
     right, *_ = subtrees.get((middle, end)) or [None]
-    right = right or made_of_parts(subtrees, middle, end)
+    right = right or hash_of_parts(subtrees, middle, end)
     if left is None or right is None:
         return None
     return Hashed(merkle.node_hash(left.hash, right.hash), tuple(dict.fromkeys(left.places + right.places)))

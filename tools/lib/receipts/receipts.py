@@ -37,11 +37,11 @@ class Received(NamedTuple):
     line = None  # it is no line of a journal
 
 
-def key_read(path, read=signing.public):
-    return key_of(path, file_io.read_bytes(path), read)
+def read_key(path, read=signing.parse_public):
+    return parse_key(path, file_io.read_bytes(path), read)
 
 
-def key_of(path, data, read=signing.public):
+def parse_key(path, data, read=signing.parse_public):
     """The key in the bytes of a file."""
     try:
         return read(data)
@@ -49,15 +49,15 @@ def key_of(path, data, read=signing.public):
         raise command.Stop(f"{command.shown(path)} can't be used: {fault}") from None
 
 
-def read_one(path, read, name, odd):
+def read_value(path, read, name, odd):
     """The value in a file of one line. If the file isn't in its written form, `odd` gets a finding."""
-    return value_of(path, file_io.read_bytes(path), read, name, odd)
+    return parse_value(path, file_io.read_bytes(path), read, name, odd)
 
 
-def value_of(path, data, read, name, odd):
+def parse_value(path, data, read, name, odd):
     """The same from the bytes of the file."""
     try:
-        value, is_written = heads.parsed(data, read)
+        value, is_written = heads.parse(data, read)
     except heads.BadRecord as fault:
         raise command.Stop(f"{command.shown(path)} isn't {name}: {fault}") from None
     if not is_written:
@@ -65,14 +65,14 @@ def value_of(path, data, read, name, odd):
     return value
 
 
-def head_read(path, key, odd, day=None):
+def read_head(path, key, odd, day=None):
     """The head in a file, which has to be signed by the key, and of a day if one is named."""
-    return head_of(path, file_io.read_bytes(path), key, odd, day)
+    return parse_head(path, file_io.read_bytes(path), key, odd, day)
 
 
-def head_of(path, data, key, odd, day=None):
+def parse_head(path, data, key, odd, day=None):
     """The same from the bytes of the file."""
-    head = value_of(path, data, heads.head_read, "a head", odd)
+    head = parse_value(path, data, heads.parse_head, "a head", odd)
     if not signing.is_signed(key, head):
         raise command.Stop(f"{command.shown(path)} {NOT_SIGNED}", command.DIFFERS)
     if day not in (None, head.day):
@@ -80,7 +80,7 @@ def head_of(path, data, key, odd, day=None):
     return head
 
 
-def unread(path, fault):
+def unread_finding(path, fault):
     """The finding on a file that can't be read, or isn't of its kind."""
     return Finding(path, None, UNREAD, f"it {str(fault).removeprefix(command.shown(path)).strip()}")
 
@@ -93,7 +93,7 @@ class Links:
         self.key, self.signed = key, Signed()
         later = defaultdict(set)  # of each head, those that begin with it
         for path in paths:
-            if (extension := self.read(path, heads.extension_read, "an extension", findings)) is None:
+            if (extension := self.read_value(path, heads.parse_extension, "an extension", findings)) is None:
                 continue
             if not all([self.add_head(path, end, findings, EXTENSION) for end in (extension.old, extension.new)]):
                 continue
@@ -101,20 +101,20 @@ class Links:
                 findings.append(Finding(path, None, UNDECIDED, f"it doesn't connect its heads: {fault}", about=EXTENSION))
             else:
                 later[unsigned(extension.old)].add(unsigned(extension.new))
-        self.earlier = longest(later)
+        self.earlier = longest_beginnings(later)
 
-    def read(self, path, read, name, findings):
+    def read_value(self, path, read, name, findings):
         """The value in a file of one line. If there is none, `findings` gets that, and the other files are judged."""
         try:
-            return read_one(path, read, name, findings)
+            return read_value(path, read, name, findings)
         except command.Stop as fault:
-            findings.append(unread(path, fault))
+            findings.append(unread_finding(path, fault))
             return None
 
     def heads_fault(self, extension):
         """Why no extension connects two signed heads; None if one may."""
         old, new = extension.old, extension.new
-        one, other = (signing.signer(self.key, end) for end in (old, new))
+        one, other = (signing.signer_name(self.key, end) for end in (old, new))
         if one != other:
             return f"they are signed with two keys, {command.shown(one)} and {command.shown(other)}"
         if old.day != new.day:
@@ -127,19 +127,19 @@ class Links:
 
     def path_fault(self, path, extension):
         """Why the path of an extension doesn't connect its heads; None if it does. Anyone can make another path, so it is nobody's fault."""
-        self.signed.add_extension(extension, Place(path), signing.signer(self.key, extension.old))
+        self.signed.add_extension(extension, Place(path), signing.signer_name(self.key, extension.old))
         return None if extension.is_valid() else "its path doesn't lead from the earlier one to the later one"
 
     def add_head(self, path, head, findings, about=HEAD):
         """Whether a key signed a head. If none did, `findings` gets that."""
-        key = signing.signer(self.key, head)
+        key = signing.signer_name(self.key, head)
         if key is not None:
             self.signed.add_head(head, Place(path), key)
             return True
         findings.append(Finding(path, None, WRONG, f"{'it' if about == HEAD else head} {NOT_SIGNED}", about=about))
         return False
 
-    def compared(self, one, other):
+    def verdict_on_two(self, one, other):
         """The verdict on two heads of one operator, and the words for it."""
         one, other = sorted(map(unsigned, (one, other)), key=lambda head: head.size)
         if one.day != other.day:
@@ -161,11 +161,11 @@ class Links:
             other = self.earlier.get(other)
         return other == one or one.size == 0
 
-    def gaps(self):
+    def findings_on_gaps(self):
         """The findings on the heads of a day, each compared with the next one. Contradictions are told elsewhere."""
         signed = self.signed.heads()
         for one, other in zip(signed, signed[1:]):
-            found, words = self.compared(one, other)
+            found, words = self.verdict_on_two(one, other)
             if found in (RIGHT, UNDECIDED):
                 yield Finding(*self.signed.places[other], found, words, about=HEAD)
 
@@ -181,7 +181,7 @@ class Links:
         return f"{text.counted(len(signed), 'head')} of {text.counted(len({head.day for head in signed}), 'day')}"
 
 
-def longest(later):
+def longest_beginnings(later):
     """Of each head, the longest of the earlier ones with which its journal begins. Of two that it begins with, the longer one begins with
     the shorter one, so that this one need not be kept."""
     earlier = defaultdict(set)
@@ -203,7 +203,7 @@ def by_size(head):
 def judge(receipt, head, key, links, place=Place("the receipt")):
     """The verdict on a receipt, compared with a head that was published if one is given, and the words for it. The links get what the
     operator signed."""
-    entry, signer = f"entry {receipt.number} of {receipt.head}", signing.signer(key, receipt.head)
+    entry, signer = f"entry {receipt.number} of {receipt.head}", signing.signer_name(key, receipt.head)
     if signer is None:
         return WRONG, f"its head {NOT_SIGNED}"
     links.signed.add_head(receipt.head, place, signer)
@@ -216,7 +216,7 @@ def judge(receipt, head, key, links, place=Place("the receipt")):
         return RIGHT, shown
     if fault := reply_fault(receipt):
         return IMPOSSIBLE, f"{shown}; {fault}"
-    found, words = links.compared(receipt.head, head)
+    found, words = links.verdict_on_two(receipt.head, head)
     if found == WRONG:
         return CONTRARY, f"{shown}; the published head contradicts it: {words}"
     if found in (RIGHT, UNDECIDED) and receipt.number > head.size:
@@ -233,18 +233,18 @@ def reply_fault(receipt):
     return None
 
 
-def judged(path, head, key, links, who=None):
+def read_and_judge(path, head, key, links, who=None):
     """The findings on the receipts of a file, one in each line. A line that is none is named, and so is a file that can't be read. If a
     participant is named, all are its own."""
     try:
         data = file_io.read_bytes(path)
     except command.Stop as fault:
-        yield unread(path, fault)
+        yield unread_finding(path, fault)
         return
-    yield from judged_bytes(path, data, head, key, links, who)
+    yield from judge_bytes(path, data, head, key, links, who)
 
 
-def judged_bytes(path, data, head, key, links, who=None):
+def judge_bytes(path, data, head, key, links, who=None):
     """The same from the bytes of the file."""
     try:
         lines = heads.lines_of(data)
@@ -255,7 +255,7 @@ def judged_bytes(path, data, head, key, links, who=None):
         yield Finding(path, None, UNREAD, EMPTY)
     for number, data in enumerate(lines, 1):
         try:
-            receipt, is_written = heads.parsed(data, heads.receipt_read)
+            receipt, is_written = heads.parse(data, heads.parse_receipt)
         except heads.BadRecord as fault:
             yield Finding(path, number, UNREAD, f"it isn't a receipt: {fault}", about=LINE)
             continue
@@ -267,7 +267,7 @@ def judged_bytes(path, data, head, key, links, who=None):
         yield Finding(path, number, found, words, receipt)
 
 
-def told(findings):
+def finding_lines(findings):
     """A line about each finding that isn't right. Of the lines of a file that are no receipts, the first ones are named."""
     unread = Counter()
     for finding in findings:
@@ -279,7 +279,7 @@ def told(findings):
             yield f"{command.shown(path)}: {text.counted(count - MOST_UNREAD, 'more line')} without a receipt"
 
 
-def received(findings, who, verdicts):
+def received_commands(findings, who, verdicts):
     """The commands of a participant of which there are receipts with one of some verdicts, in the order of the journal."""
     kept = [finding.receipt for finding in findings if finding.receipt and finding.verdict in verdicts and finding.receipt.who == who]
     every = {(receipt.number, receipt.record): heads.command_of(receipt.record) for receipt in kept}
@@ -297,7 +297,7 @@ def differences(path, commands, findings, who):
     of the comparisons with the ones, the others and both, the one with the fewest differences is meant."""
     own, others = (RIGHT, ENCODING, UNDECIDED), (CONTRARY, IMPOSSIBLE)
     is_contrary = any(finding.verdict in others for finding in findings)
-    each = [received(findings, who, verdicts) for verdicts in ((own, others, own + others) if is_contrary else (own,))]
+    each = [received_commands(findings, who, verdicts) for verdicts in ((own, others, own + others) if is_contrary else (own,))]
     found = min((sent.differences(commands, one, "the receipts") for one in each), key=len)
     return [Finding(path, None, WRONG, str(fault)) for fault in found]
 

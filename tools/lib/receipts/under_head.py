@@ -109,7 +109,7 @@ class UnderHead:
     def earlier_faults(self, path, data):
         """The differences of the journal's beginning from an earlier head, by the bytes of its file."""
         odd = []
-        head = receipts.value_of(path, data, heads.head_read, "a head", odd)
+        head = receipts.parse_value(path, data, heads.parse_head, "a head", odd)
         is_own, name = signing.is_signed(self.key, head), command.shown(path)
         if not is_own or head.day != self.head.day:
             words = self.of_another_day(head) if is_own else f"{NOT_OWN}: it {receipts.NOT_SIGNED}"
@@ -150,7 +150,7 @@ class UnderHead:
                 yield Fault(f"{name}: {head}: {fault}", "head")
 
 
-def files_of(folder):
+def receipt_files(folder):
     """The files of receipts of a folder, or the one that is given. A folder has no others."""
     if not os.path.isdir(folder):
         return [folder]
@@ -165,12 +165,12 @@ def files_of(folder):
     return paths
 
 
-def findings_of_folder(folder, key, read=file_io.read_bytes):
+def read_and_judge_folder(folder, key, read=file_io.read_bytes):
     """The findings on the receipts of a folder, or of one file, whose bytes `read` gives: whether the operator signed each. All have to be
     receipts."""
     links, findings = receipts.Links([], key, []), []
-    for path in files_of(folder):
-        for finding in receipts.judged_bytes(str(path), read(path), None, key, links):
+    for path in receipt_files(folder):
+        for finding in receipts.judge_bytes(str(path), read(path), None, key, links):
             if finding.verdict == receipts.UNREAD:
                 raise command.Stop(str(finding))
             findings.append(finding)

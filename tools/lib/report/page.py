@@ -71,7 +71,7 @@ def with_hover(drawn, hover):
     return drawn
 
 
-def inline(figure, name, kind, words):
+def inlined_picture(figure, name, kind, words):
     """A picture within the page: its colours are the page's, and its identifiers its own."""
     hover = canvas.hover_of(figure)
     drawn = with_hover(canvas.picture(figure, "svg", words_as_text=True).decode(), hover)
@@ -87,9 +87,9 @@ def inline(figure, name, kind, words):
     return Markup(drawn)
 
 
-def drawn(draw, name, words):
+def draw_picture(draw, name, words):
     """A picture, for broad screens and for narrow ones."""
-    broad, narrow = (inline(draw(width), name, kind, words) for kind, width in canvas.WIDTHS.items())
+    broad, narrow = (inlined_picture(draw(width), name, kind, words) for kind, width in canvas.WIDTHS.items())
     return Picture(words, broad, narrow)
 
 
@@ -111,7 +111,7 @@ def figures(day, found):
     kinds = [decision.kind for decision in found]
     yield "welfare", euros(day, day.said.welfare), "EUR"
     yield "energy traded", energy(day, sum(day.said.volumes)), "MWh"
-    every = len(trades.traded(day)) == day.problem.periods
+    every = len(trades.traded_periods(day)) == day.problem.periods
     names = {
         "base": "mean price of the periods" if every else "mean price of the traded periods",
         "peak": "mean price, 8:00 to 20:00",
@@ -127,7 +127,7 @@ def figures(day, found):
         yield f"blocks {kind}", kinds.count(kind), f"of {len(kinds)}"
 
 
-def supporting(found):
+def supporting_words(found):
     """The supporting prices of a period in words."""
     if found is None:
         return "none"
@@ -136,19 +136,19 @@ def supporting(found):
 
 
 def period_table(day):
-    rows, shares = [], trades.shares(day)
+    rows, shares = [], trades.volume_shares(day)
     for number, found in day.outcome.cleared.items():
         parts = map(text.shown_volume, shares[number].values())
-        begins = clock.begins(day.problem.periods, number)
+        begins = clock.begin_time(day.problem.periods, number)
         cents = text.shown_price(day.said.prices[number - 1]) if trades.is_traded(day, number) else "no trade"
-        rows.append([number, begins, cents, supporting(found), text.shown_volume(day.said.volumes[number - 1]), *parts])
+        rows.append([number, begins, cents, supporting_words(found), text.shown_volume(day.said.volumes[number - 1]), *parts])
     words = ["hourly buys, MW", "block buys, MW", "hourly sells, MW", "block sells, MW"]
     columns = heads("#period", "#begins", "price, EUR/MWh", "#supporting prices", "volume, MW", *words)
     return Table("The price of each period, the prices that support it, and the bought and sold volumes", columns, rows)
 
 
 def periods_of(order):
-    return spans.in_words(number for number, _ in order.volumes)
+    return spans.spans_words(number for number, _ in order.volumes)
 
 
 def block_table(day, found, needed):
@@ -171,7 +171,7 @@ def order_row(day, row, made, found):
     order = row.order
     done = sum(trade.volume for trade in made)
     offered = sum(tenths for _, tenths in order.volumes)
-    outcome = trades.how_far(order, done) if order.kind == "hour" else found[row.who, row.name].kind
+    outcome = trades.execution_words(order, done) if order.kind == "hour" else found[row.who, row.name].kind
     amount = euros(day, sum(trade.amount() for trade in made))
     energies = energy(day, offered), energy(day, done)
     return [name_cell(row.name), order.kind, order.side, text.shown_price(order.price), periods_of(order), *energies, outcome, amount]
@@ -213,7 +213,7 @@ def refusals(day):
 
 def prices_words(day):
     """The picture of prices and volumes in words."""
-    traded = trades.traded(day)
+    traded = trades.traded_periods(day)
     if not traded:
         return "Price and volume of each period: nothing is traded."
     prices = {day.said.prices[number - 1] for number in traded}
@@ -243,37 +243,37 @@ def sheet(width):
     return curves.CurveSheet(width)
 
 
-def curve(day, number, folded):
+def draw_curves(day, number, folded):
     """The curves of a period, under a line that opens them if there are many: then one at a time is open."""
-    picture = drawn(lambda width: sheet(width).drawn(day, number), f"period{number}", curve_words(day, number))
+    picture = draw_picture(lambda width: sheet(width).draw(day, number), f"period{number}", curve_words(day, number))
     if not folded:
         return picture
     said, words = day.said, "no trade"
     if trades.is_traded(day, number):
         words = f"{text.shown_price(said.prices[number - 1])} EUR/MWh, {text.shown_volume(said.volumes[number - 1])} MW"
     summary = Markup('<b>Period {}</b> {}: <span class="soft">{}</span>')
-    return picture._replace(summary=summary.format(number, clock.span(day.problem.periods, number), words))
+    return picture._replace(summary=summary.format(number, clock.time_span(day.problem.periods, number), words))
 
 
-def folded_curve(number):
+def draw_folded_curves(number):
     """The same in a process of its own, which has the day from the one that started it."""
-    return curve(curves_of.day, number, True)
+    return draw_curves(draw_all_curves.day, number, True)
 
 
 @contextlib.contextmanager
-def curves_of(day, numbers):
+def draw_all_curves(day, numbers):
     """A source of the curves of some periods, in their order. Many are drawn by several processes, which begin at once, so that the rest of
     the page can be made in the meantime; a line says how far they are."""
     jobs = min(len(os.sched_getaffinity(0)), len(numbers))
     if len(numbers) <= FEW_CURVES or jobs == 1:
-        yield (curve(day, number, len(numbers) > MOST_SHOWN) for number in numbers)
+        yield (draw_curves(day, number, len(numbers) > MOST_SHOWN) for number in numbers)
         return
-    curves_of.day, bar = day, StepBar("report", len(numbers), "curves")
-    with aside.deaf():
+    draw_all_curves.day, bar = day, StepBar("report", len(numbers), "curves")
+    with aside.blocking_interrupts():
         made = multiprocessing.get_context("fork").Pool(jobs)
     with made as pool:
         try:
-            yield with_steps(pool.imap(folded_curve, numbers), bar)
+            yield with_steps(pool.imap(draw_folded_curves, numbers), bar)
         finally:
             bar.end()
 
@@ -286,10 +286,10 @@ def with_steps(made, bar):
 
 
 def sections(day, found, needed, curves):
-    parts = [drawn(lambda width: pictures.prices_picture(day, width), "prices", prices_words(day))]
+    parts = [draw_picture(lambda width: pictures.prices_picture(day, width), "prices", prices_words(day))]
     yield Section("prices", "Prices and volumes", parts)
     if found:
-        picture = drawn(lambda width: pictures.blocks_picture(day, width), "blocks", block_words(found))
+        picture = draw_picture(lambda width: pictures.blocks_picture(day, width), "blocks", block_words(found))
         yield Section("blocks", "Blocks", [picture, block_table(day, found, needed)])
     yield Section("periods", "Periods", [period_table(day)])
     if made := list(curves):
@@ -330,7 +330,7 @@ def own_periods(day, who):
     rows = []
     for owner, number, *sums in list(published.long_participants(day))[1:]:
         if owner == who:
-            price, begins = text.shown_price(day.said.prices[number - 1]), clock.begins(day.problem.periods, number)
+            price, begins = text.shown_price(day.said.prices[number - 1]), clock.begin_time(day.problem.periods, number)
             rows.append([number, begins, price, *(text.shown(Fraction(value), digits) for value, digits in zip(sums, (1, 1, 2, 2)))])
     columns = heads("#period", "#begins", "price, EUR/MWh", "bought, MW", "sold, MW", "pays, EUR", "is paid, EUR")
     return Table(f"What {who} trades in each period", columns, rows)
@@ -340,7 +340,8 @@ def own_sections(day, who, needed, curves):
     """The page of a participant: its statement, its periods, and the parts that everybody may see."""
     yield Section("statement", f"Orders of {who}", [statement_table(day, who, needed)])
     yield Section("periods", "Periods", [own_periods(day, who)])
-    yield Section("prices", "Prices and volumes", [drawn(lambda width: pictures.prices_picture(day, width), "prices", prices_words(day))])
+    prices = draw_picture(lambda width: pictures.prices_picture(day, width), "prices", prices_words(day))
+    yield Section("prices", "Prices and volumes", [prices])
     if made := list(curves):
         yield Section("curves", "Supply and demand", made)
 
@@ -362,16 +363,16 @@ def own_figures(day, who):
         yield words, value, unit
 
 
-def page(day, title, curves, date=None, who=None, with_limits=True):
+def day_page(day, title, curves, date=None, who=None, with_limits=True):
     """The page of a day, or of a participant's part of it, with the curves of some periods, and the date of delivery if it is known; with
     the limits that rejected blocks needed, or without them."""
     found = decisions.decisions(day.problem, day.said.accepted, day.outcome)
     needed = limits.of_rejected(day, who, with_limits)  # before the curves, whose processes are copies of this one
-    with curves_of(day, curves) as drawn_curves:
+    with draw_all_curves(day, curves) as drawn_curves:
         parts = list(own_sections(day, who, needed, drawn_curves) if who else sections(day, found, needed, drawn_curves))
     return style.TEMPLATES.get_template("page.html").render(
         title=title,
-        style=style.style(),
+        style=style.read_style(),
         script=Markup(style.TEMPLATES.get_template("page.js").render()),
         date=f"{date:%A}, {date.day} {date:%B} {date.year}" if date else None,
         periods=day.problem.periods,
@@ -384,9 +385,9 @@ def page(day, title, curves, date=None, who=None, with_limits=True):
     )
 
 
-def notable(day):
+def notable_periods(day):
     """The periods whose curves are worth a look if none are asked for: the cheapest and the most expensive one with a volume."""
-    traded = trades.traded(day)
+    traded = trades.traded_periods(day)
     if not traded:
         return []
     ends = [of(traded, key=lambda number: day.said.prices[number - 1]) for of in (min, max)]

@@ -12,7 +12,7 @@ TEMPLATES = jinja2.Environment(
 )
 
 
-def style(name="page.css"):
+def read_style(name="page.css"):
     """A style sheet, with the colours in it."""
     variables = {mode: " ".join(f"--{name}: {colour};" for name, colour in of.items()) for mode, of in colours.PAGES.items()}
     return Markup(TEMPLATES.get_template(name).render({mode: Markup(words) for mode, words in variables.items()}))

@@ -30,10 +30,10 @@ def differences(problem, data):
     wrong += period_differences(problem, said, follows)
     wrong += hourly_differences(problem, said, follows)
     wrong += surplus_differences(problem, said, follows)
-    return said, [*foreign(said, wrong, most), *wrong, *sums.differences(problem, said)]
+    return said, [*foreign_fault(said, wrong, most), *wrong, *sums.differences(problem, said)]
 
 
-def foreign(said, wrong, most):
+def foreign_fault(said, wrong, most):
     """Says so if more than this part of the lines is wrong."""
     lines = {line.partition(": ")[0] for line in wrong}
     if len(lines) <= most * len(said.lines):
@@ -41,7 +41,7 @@ def foreign(said, wrong, most):
     return [Fault(f"{results.ANOTHER}: {len(lines)} of their {len(said.lines)} lines are wrong", "journal")]
 
 
-def fault(said, kind, about, words):
+def line_fault(said, kind, about, words):
     """The fault of the line about something."""
     return of_line(kind, said.lines[about], about, words)
 
@@ -49,25 +49,25 @@ def fault(said, kind, about, words):
 def selection_faults(problem, said, follows):
     """Why the selection isn't eligible."""
     for place, kind, words in selection.link_faults(problem, said.accepted):
-        yield fault(said, kind, f"block {problem.blocks[place]}", words)
-    for place, loss in selection.losing(problem, said.accepted, follows.surpluses).items():
+        yield line_fault(said, kind, f"block {problem.blocks[place]}", words)
+    for place, loss in selection.losses_of(problem, said.accepted, follows.surpluses).items():
         block = f"block {problem.blocks[place]}"
         family = " together with its accepted descendants" if selection.helping(problem, said.accepted, place) else ""
-        yield fault(said, "loss", block, f"{block}: it is accepted and loses {loss}{family}")
+        yield line_fault(said, "loss", block, f"{block}: it is accepted and loses {loss}{family}")
     for number, found in follows.cleared.items():
         if found is None:
             words = f"period {number}: no execution balances the accepted blocks"
-            yield fault(said, "balance", f"period {number}", words)
+            yield line_fault(said, "balance", f"period {number}", words)
 
 
 def welfare_difference(problem, said, follows):
     if follows.welfare is not None and said.welfare != follows.welfare:
         published, right = (f"{welfare} ({problem.euros(welfare)} EUR)" for welfare in (said.welfare, follows.welfare))
         words = f"the welfare is {published}, and of these executions it is {right}"
-        yield fault(said, "welfare", "the welfare", words)
+        yield line_fault(said, "welfare", "the welfare", words)
 
 
-def right_price(found):
+def right_price_words(found):
     """Which price a period has, and why."""
     if found.low == found.high:
         return f"the only supporting price is {found.price} (cents)"
@@ -81,10 +81,10 @@ def period_differences(problem, said, follows):
         about = f"period {number}"
         price, volume = said.prices[number - 1], said.volumes[number - 1]
         if price != found.price:
-            yield fault(said, "price", about, f"{about}: the price is {price}; {right_price(found)}")
+            yield line_fault(said, "price", about, f"{about}: the price is {price}; {right_price_words(found)}")
         if volume != follows.bought[number]:
             words = f"{about}: the volume is {volume}, and the executed buys make {follows.bought[number]}"
-            yield fault(said, "volume", about, words)
+            yield line_fault(said, "volume", about, words)
 
 
 def hourly_differences(problem, said, follows):
@@ -95,11 +95,11 @@ def hourly_differences(problem, said, follows):
         if wanted is not None and executed != wanted:
             price = follows.cleared[row.order.volumes[0][0]].price
             gives = f"the rule gives {wanted} ({better_word(row, price)})"
-            yield fault(said, "executed", f"hour {row}", f"hour {row}: {executed} is executed, and {gives}")
+            yield line_fault(said, "executed", f"hour {row}", f"hour {row}: {executed} is executed, and {gives}")
 
 
 def surplus_differences(problem, said, follows):
     for place, (block, surplus) in enumerate(zip(problem.blocks, follows.surpluses)):
         if surplus is not None and said.surpluses[place] != surplus:
             about = f"block {block}"
-            yield fault(said, "surplus", about, f"{about}: the surplus is {said.surpluses[place]}, and at the prices {surplus}")
+            yield line_fault(said, "surplus", about, f"{about}: the surplus is {said.surpluses[place]}, and at the prices {surplus}")

@@ -60,7 +60,7 @@ class Judge:
     def decision(self, place):
         if place in self.accepted:
             return Decision(ACCEPTED, self.accepted_why(place), self.accepted_code(place))
-        conflict = families.never(self.problem, place)
+        conflict = families.never_together(self.problem, place)
         if conflict:
             return Decision(REJECTED, self.never_why(place, conflict), NEVER)
         family = families.best_family(self.problem, self.accepted, self.surpluses, place)
@@ -79,7 +79,7 @@ class Judge:
             return NO_PRICE
         if surplus >= 0:
             return GAINS
-        return COVERED if selection.answers_for(self.problem, self.accepted, place, self.surpluses) >= 0 else LOSES
+        return COVERED if selection.gain_with_helpers(self.problem, self.accepted, place, self.surpluses) >= 0 else LOSES
 
     def rejected_code(self, place, family, other):
         if family.rivals:
@@ -104,7 +104,8 @@ class Judge:
         order = self.problem.blocks[place].order
         for other in sorted(self.accepted):
             same = self.problem.blocks[other].order[:4] == order[:4]
-            if other < place and same and selection.eligible(self.problem, self.accepted - {other} | {place}) == self.outcome.welfare:
+            swapped = self.accepted - {other} | {place}
+            if other < place and same and selection.eligible_welfare(self.problem, swapped) == self.outcome.welfare:
                 return other
         return None
 
@@ -120,7 +121,7 @@ class Judge:
         why = "gains nothing" if not surplus else f"{'gains' if surplus > 0 else 'loses'} at the prices"
         helping = selection.helping(self.problem, self.accepted, place)
         if surplus < 0 and helping:
-            together = selection.answers_for(self.problem, self.accepted, place, self.surpluses)
+            together = selection.gain_with_helpers(self.problem, self.accepted, place, self.surpluses)
             does = "loses" if together < 0 else "gains"
             why += f" by itself, and with {self.names(helping)} it {does} {self.eur(abs(together))}"
         return why + (f", and its parent {self.name(parent)} is accepted" if parent is not None else "")
@@ -144,7 +145,7 @@ class Judge:
         accepted = self.accepted - family.removed | family.members
         then = selection.outcome(self.problem, accepted)
         unbalanced = next((number for number, found in then.cleared.items() if found is None), None)
-        losers = selection.losing(self.problem, accepted, then.surpluses) if unbalanced is None else {}
+        losers = selection.losses_of(self.problem, accepted, then.surpluses) if unbalanced is None else {}
         return Other(accepted, unbalanced, then.welfare, losers)
 
     def rejected_why(self, place, family, other):
@@ -209,7 +210,7 @@ class Judge:
         """The volume of the accepted blocks that the period's hourly orders of the other side can't match."""
         number, net = other.unbalanced, 0
         for place in other.accepted:
-            net += dict(selection.signed(self.problem.blocks[place].order)).get(number, 0)
+            net += dict(selection.net_volumes(self.problem.blocks[place].order)).get(number, 0)
         side, word = ("buy", "buyer") if net > 0 else ("sell", "seller")
         volume = abs(net) - sum(quantity for one, _, quantity in self.problem.orders[number] if one == side)
         return f"{text.mw(volume)} MW would have no {word}"

@@ -38,7 +38,7 @@ def group_of(problem, place):
     return (block.who, block.order.group) if block.order.group else None
 
 
-def never(problem, place):
+def never_together(problem, place):
     """Blocks of one group, too many to be accepted together, from which a block descends or of which it is one, the topmost first. So it
     can never be accepted. None if there are none."""
     seen = {}
@@ -93,7 +93,7 @@ def admitted(problem, tree, path, staying):
         yield {*path, *alone, *itertools.chain(*choices)}
 
 
-def grown(problem, surpluses, tree, path, allowed):
+def grown_family(problem, surpluses, tree, path, allowed):
     """The members and gains of the family that has the needed blocks, and of the allowed ones each that adds to the gain."""
     gains = {place: surpluses[place] for place in tree if place in allowed}
     for place in reversed(tree):
@@ -116,7 +116,7 @@ def best_family(problem, accepted, surpluses, place):
     out = rivals(problem, accepted, path, surpluses)
     removed = {other for rival in out for other in [rival, *problem.rescuers[rival]] if other in accepted}
     tree = [member for member in below(problem, accepted, path[0]) if surpluses[member] is not None]
-    found = (grown(problem, surpluses, tree, path, allowed) for allowed in admitted(problem, tree, path, accepted - removed))
+    found = (grown_family(problem, surpluses, tree, path, allowed) for allowed in admitted(problem, tree, path, accepted - removed))
 
     def rank(family):
         members, gains = family

@@ -49,22 +49,22 @@ def of_line(kind, line, about, words):
     return Fault(f"results line {line}: {words}", kind, line, about)
 
 
-def moved(wanted, found, pairs):
-    """The lines of `matched` that stand in the place of none and are missing in another: from the place found to the one wanted."""
+def moved_pairs(wanted, found, pairs):
+    """The lines of `matched_places` that stand in the place of none and are missing in another: from the place found to the one wanted."""
     apart = [(at, place) for at, place in pairs if at is None or place is None or wanted[at] != found[place]]
     missing = {wanted[at]: at for at, _ in apart if at is not None}
     strays = {found[place]: place for _, place in reversed(apart) if place is not None}
     return {place: missing[line] for line, place in strays.items() if line in missing}
 
 
-def matched(wanted, found):
+def matched_places(wanted, found):
     """The places of the lines that are wanted and of those found, in their order, as pairs; None stands for the other place of a
     line that is missing, or that is found and not wanted. Lines are given by what they are about, so that a stray line is one pair."""
     if wanted == found:  # the usual case, and far quicker to see
         return [(at, at) for at in range(len(wanted))]
     near = found[: 2 * len(wanted)]
     pairs, first, begin = [], 0, 0
-    for last, end in [*subsequence.in_order(wanted, near), (len(wanted), len(near))]:
+    for last, end in [*subsequence.longest_pairs(wanted, near), (len(wanted), len(near))]:
         both = min(last - first, end - begin)
         pairs += [(first + step, begin + step) for step in range(both)]
         pairs += [(at, None) for at in range(first + both, last)] + [(None, at) for at in range(begin + both, end)]

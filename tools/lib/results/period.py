@@ -33,7 +33,7 @@ def sells_too_much(orders, net, price):
     return demanded + net > volume(orders, "buy", lambda limit: limit >= price)
 
 
-def first(least, greatest, holds):
+def first_where(least, greatest, holds):
     """The first number from `least` to `greatest` for which something holds, if it then holds for all that follow; else the
     one after `greatest`."""
     greatest += 1
@@ -53,17 +53,17 @@ def supporting(orders, net):
     its demanded and its admitted volume can be had. As the price grows it only ever sells more and buys less, so that a price
     is supporting from where it no longer sells too little to where it doesn't sell too much yet."""
     bounds = rules.LOWEST_PRICE, rules.HIGHEST_PRICE
-    low = first(*bounds, lambda price: not sells_too_little(orders, net, price))
-    high = first(*bounds, lambda price: sells_too_much(orders, net, price)) - 1
+    low = first_where(*bounds, lambda price: not sells_too_little(orders, net, price))
+    high = first_where(*bounds, lambda price: sells_too_much(orders, net, price)) - 1
     return (low, high) if low <= high else None
 
 
-def better(order, price):
+def is_better(order, price):
     side, limit, _ = order
     return limit > price if side == "buy" else limit < price
 
 
-def fill(orders, side, price, total):
+def filled(orders, side, price, total):
     """Gives a total volume to the orders of a side at the price, in book order: pairs of a place and a volume."""
     for place, (of, limit, quantity) in enumerate(orders):
         if of == side and limit == price:
@@ -76,7 +76,7 @@ def execution(orders, net, price):
 
     Each execution that the price supports has the greatest welfare. Of these the one that buys most lets the orders at the
     price buy all that may be sold, and the earlier order comes before the later one."""
-    executed = [order[2] if better(order, price) else 0 for order in orders]
+    executed = [order[2] if is_better(order, price) else 0 for order in orders]
     bought = volume(orders, "buy", lambda limit: limit > price)
     sold = volume(orders, "sell", lambda limit: limit < price)
     buying = volume(orders, "buy", lambda limit: limit == price)
@@ -84,7 +84,7 @@ def execution(orders, net, price):
     buying = min(buying, sold + selling + net - bought)
     selling = bought + buying - net - sold
     for side, total in (("buy", buying), ("sell", selling)):
-        for place, quantity in fill(orders, side, price, total):
+        for place, quantity in filled(orders, side, price, total):
             executed[place] = quantity
     return tuple(executed)
 

@@ -46,7 +46,7 @@ def curves(day):
 
 
 def is_peak(periods, number):
-    return PEAK[0] <= clock.minutes(periods, number) < PEAK[1]
+    return PEAK[0] <= clock.begin_minutes(periods, number) < PEAK[1]
 
 
 def mean(prices):
@@ -61,7 +61,7 @@ def round_half_up(value):
 
 def mean_prices(day):
     """The mean prices of a day by their names, in cents, over the periods in which something is traded."""
-    prices = {number: day.said.prices[number - 1] for number in trades.traded(day)}
+    prices = {number: day.said.prices[number - 1] for number in trades.traded_periods(day)}
     volumes = {number: day.said.volumes[number - 1] for number in prices}
     periods = day.problem.periods
     weighted = sum(price * volumes[number] for number, price in prices.items())
@@ -80,7 +80,7 @@ def figures(day):
     yield ["figure", "unit", "value"]
     yield ["welfare", "EUR", text.eur(day.said.welfare, day.problem.hours, "")]
     yield ["energy", "MWh", text.energy(sum(day.said.volumes), day.problem.hours, "")]
-    yield ["traded_periods", "", len(trades.traded(day))]
+    yield ["traded_periods", "", len(trades.traded_periods(day))]
     for name, price in mean_prices(day).items():
         yield [f"{name}_price", "EUR/MWh", "" if price is None else text.eur_per_mwh(price)]
     for name, amount in sums.sums(day.problem, day.said)._asdict().items():

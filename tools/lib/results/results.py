@@ -4,7 +4,7 @@ import re
 from typing import NamedTuple
 
 from ..base import text
-from .faults import Fault, matched, moved, of_line
+from .faults import Fault, matched_places, moved_pairs, of_line
 
 ANOTHER = "these seem to be the results of another journal"
 
@@ -31,8 +31,8 @@ def split_day(data):
 OTHER_NUMBER = re.compile(rb"[+-]?[0-9]{1,16}")
 
 
-def number(field):
-    return text.number(field, -LARGE, LARGE)
+def parse_number(field):
+    return text.parse_number(field, -LARGE, LARGE)
 
 
 def expected_lines(problem):
@@ -58,7 +58,7 @@ def line_values(line, known, behind):
         if kind == "a":
             value = {b"accepted": True, b"rejected": False}.get(field)
         else:
-            value = number(field)
+            value = parse_number(field)
         if value is None:
             return None
         values.append(value)
@@ -79,7 +79,7 @@ MARKS[b"\xfe\xff"] = MARKS[b"\xff\xfe"]
 UTF_32 = b"\xff\xfe\0\0"  # its mark begins as the mark of UTF-16
 
 
-def plain(data):
+def plain_text(data):
     """The text as `dam` writes it, if other programs have changed only how it is encoded; and the changes."""
     odd = []
     for mark, (encoding, words) in MARKS.items():
@@ -120,7 +120,7 @@ def is_text(data, encoding):
         return False
 
 
-def foreign(wanted, beginnings):
+def foreign_fault(wanted, beginnings):
     """Says so if most lines of orders are of none of this journal's."""
     orders = [begin for begin in beginnings if begin[0] in (b"hour", b"block")]
     others = len(orders) - sum(map(set(wanted).__contains__, orders))
@@ -129,7 +129,7 @@ def foreign(wanted, beginnings):
     return [Fault(f"{ANOTHER}: {others} of their {len(orders)} lines of orders are of orders that this journal doesn't have", "journal")]
 
 
-def none_belongs(line, wanted):
+def foreign_message(line, wanted):
     """The message about results of which no line is one of this journal's."""
     for comma, name in ((b";", "semicolons"), (b"\t", "tabs")):
         if comma in line and beginning(line.replace(comma, b",")) in wanted:
@@ -150,9 +150,9 @@ def read_results(problem, data):
     wanted = [tuple(field.encode() for field in known) for _, known, _ in expected]
     beginnings = [beginning(line) for line in found]
     if set(wanted).isdisjoint(beginnings):
-        return None, [none_belongs(found[0], wanted) if data else Fault("the results are empty", "form")]
-    pairs = matched(wanted, beginnings)
-    away = moved(wanted, beginnings, pairs)
+        return None, [foreign_message(found[0], wanted) if data else Fault("the results are empty", "form")]
+    pairs = matched_places(wanted, beginnings)
+    away = moved_pairs(wanted, beginnings, pairs)
     elsewhere = set(away.values())
     for at, place in pairs:
         last = last if place is None else place + 1
@@ -172,8 +172,8 @@ def read_results(problem, data):
             wrong.append(of_line("form", last, about, form_words(about, found[place], known, behind)))
         values.append(read)
     if wrong:
-        return None, foreign(wanted, beginnings) + wrong
-    return gather(problem, values, lines), wrong
+        return None, foreign_fault(wanted, beginnings) + wrong
+    return results_of_values(problem, values, lines), wrong
 
 
 def lines_looked_at(data):
@@ -197,7 +197,7 @@ def form_words(about, line, known, behind):
     fields = line.split(b",")
     if len(fields) == len(known) + len(behind):
         for field, kind in zip(fields[len(known) :], behind):
-            if kind == "n" and number(field) is None and OTHER_NUMBER.fullmatch(field):
+            if kind == "n" and parse_number(field) is None and OTHER_NUMBER.fullmatch(field):
                 return f"{about}: {text.quoted(field)} isn't a number as dam writes it: no +, no leading zeros, no -0"
     form = ",".join(known + [{"n": "<number>", "a": "accepted|rejected"}[kind] for kind in behind])
     return f"{about} should be '{form}' and is {text.quoted(line)}"
@@ -213,7 +213,7 @@ def stray_line(line):
     return f"{text.quoted(line)} doesn't belong here" if line else "the line is empty, and should not be there"
 
 
-def gather(problem, values, lines):
+def results_of_values(problem, values, lines):
     (_, (welfare,), *rest) = values
     periods, rows = rest[: problem.periods], rest[problem.periods :]
     kinds = list(zip(problem.rows, rows))

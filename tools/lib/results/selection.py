@@ -62,7 +62,7 @@ class Outcome(NamedTuple):
     welfare: object
 
 
-def signed(order):
+def net_volumes(order):
     """The volumes of a block as net volumes: its sold volumes, less its bought volumes."""
     return [(number, volume if order.side == "sell" else -volume) for number, volume in order.volumes]
 
@@ -84,7 +84,7 @@ def link_faults(problem, accepted):
 def surplus(order, prices):
     """The gain of a block at the prices; None if it has a volume in a period without a price."""
     total = 0
-    for number, net in signed(order):
+    for number, net in net_volumes(order):
         if prices[number] is None:
             return None
         total += net * (prices[number] - order.price)
@@ -98,7 +98,7 @@ def outcome(problem, accepted):
     value = 0
     for place in accepted:
         order = problem.blocks[place].order
-        for number, volume in signed(order):
+        for number, volume in net_volumes(order):
             net[number] += volume
             bought[number] += max(-volume, 0)
             value -= order.price * volume
@@ -135,24 +135,24 @@ def helping(problem, accepted, place):
     return [other for other in problem.rescuers[place] if other in accepted]
 
 
-def answers_for(problem, accepted, place, surpluses):
+def gain_with_helpers(problem, accepted, place, surpluses):
     """The gain of an accepted block, with the accepted blocks that make up for its loss; None if a surplus isn't known."""
     gains = [surpluses[other] for other in [place, *helping(problem, accepted, place)]]
     return None if None in gains else sum(gains)
 
 
-def losing(problem, accepted, surpluses):
+def losses_of(problem, accepted, surpluses):
     """The accepted places that lose, each with its loss, as far as that is known."""
-    gains = {place: answers_for(problem, accepted, place, surpluses) for place in sorted(accepted)}
+    gains = {place: gain_with_helpers(problem, accepted, place, surpluses) for place in sorted(accepted)}
     return {place: -gain for place, gain in gains.items() if gain is not None and gain < 0}
 
 
-def eligible(problem, accepted):
+def eligible_welfare(problem, accepted):
     """The welfare of an eligible selection; None for any other."""
     if any(link_faults(problem, accepted)):
         return None
     found = outcome(problem, accepted)
-    if found.welfare is None or losing(problem, accepted, found.surpluses):
+    if found.welfare is None or losses_of(problem, accepted, found.surpluses):
         return None
     return found.welfare
 

@@ -19,32 +19,32 @@ class Published(NamedTuple):
 def differences(problem, said):
     """Each sum that isn't as the laws say, as a line with its place."""
     day = Published(problem, said)
-    gains = list(trades.gains(day))
+    gains = list(trades.surpluses_of_rows(day))
     yield from volume_differences(day)
     yield from losing_hourly_orders(day, gains)
     yield from losing_participants(day, gains)
     yield from welfare_difference(day, gains)
 
 
-def fault(day, kind, about, words):
+def sum_fault(day, kind, about, words):
     return of_line(kind, day.said.lines[about], about, words)
 
 
 def volume_differences(day):
     """In each period, the bought volume is the sold one, and the period's volume; so at its one price payments are receipts."""
-    for number, parts in trades.shares(day).items():
+    for number, parts in trades.volume_shares(day).items():
         bought, sold = (sum(parts[kind, side] for kind in ("hour", "block")) for side in ("buy", "sell"))
         volume = day.said.volumes[number - 1]
         if not bought == sold == volume:
             words = f"period {number}: the orders buy {bought} and sell {sold}, and the volume is {volume}"
-            yield fault(day, "money", f"period {number}", words)
+            yield sum_fault(day, "money", f"period {number}", words)
 
 
 def losing_hourly_orders(day, gains):
     for row, gain in gains:
         if row.order.kind == "hour" and gain < 0:
             about = f"hour {row}"
-            yield fault(day, "loss", about, f"{about}: at the price it loses {-gain} with its executed volume")
+            yield sum_fault(day, "loss", about, f"{about}: at the price it loses {-gain} with its executed volume")
 
 
 def losing_participants(day, gains):
@@ -57,13 +57,13 @@ def losing_participants(day, gains):
         if total < 0:
             _, row = min(pairs, key=lambda pair: pair[0])
             about = f"{row.order.kind} {row}"
-            yield fault(day, "loss", about, f"{about}: {who} loses {-total} with all its orders, and most with this one")
+            yield sum_fault(day, "loss", about, f"{about}: {who} loses {-total} with all its orders, and most with this one")
 
 
 def welfare_difference(day, gains):
     total = sum(gain for _, gain in gains)
     if day.said.welfare != total:
-        yield fault(day, "sum", "the welfare", f"the welfare is {day.said.welfare}, and the surpluses add up to {total}")
+        yield sum_fault(day, "sum", "the welfare", f"the welfare is {day.said.welfare}, and the surpluses add up to {total}")
 
 
 class Sums(NamedTuple):
@@ -79,12 +79,12 @@ def sums(problem, said):
     day = Published(problem, said)
     totals = trades.totals(day).values()
     surpluses = {"hour": 0, "block": 0}
-    for row, gain in trades.gains(day):
+    for row, gain in trades.surpluses_of_rows(day):
         surpluses[row.order.kind] += gain
     return Sums(sum(total.paid for total in totals), sum(total.received for total in totals), surpluses["hour"], surpluses["block"])
 
 
-def line(problem, found):
+def payments_line(problem, found):
     """The payments of buyers and to sellers, in words, of right results."""
     paid, received = problem.euros(found.paid), problem.euros(found.received)
     return f"by adding: buyers pay {paid} EUR, sellers receive {received} EUR; the surpluses add up to the welfare, and nobody loses"

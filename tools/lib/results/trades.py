@@ -40,7 +40,7 @@ def is_traded(day, number):
     return day.said.volumes[number - 1] > 0
 
 
-def traded(day):
+def traded_periods(day):
     """The periods in which something is traded."""
     return [number for number in range(1, day.problem.periods + 1) if is_traded(day, number)]
 
@@ -62,7 +62,7 @@ def row_trades(day):
         ]
 
 
-def gains(day):
+def surpluses_of_rows(day):
     """Each row of the book with its surplus as far as it is executed: an hourly order's by its executed volume, and the published one of an
     accepted block; the surplus of a rejected block is 0."""
     blocks = iter(enumerate(day.said.surpluses))
@@ -74,12 +74,12 @@ def gains(day):
             yield row, surplus if place in day.said.accepted else 0
 
 
-def how_far(order, executed):
+def execution_words(order, executed):
     """How far an hourly order is executed, in words."""
     return "in full" if executed == order.volumes[0][1] else "in part" if executed else "not"
 
 
-def shares(day):
+def volume_shares(day):
     """The bought and sold volumes in each period, by hourly orders and by blocks: tenths of a MW by `SHARES`."""
     found = {number: dict.fromkeys(SHARES, 0) for number in day.problem.orders}
     for row, made in row_trades(day):
@@ -91,7 +91,7 @@ def shares(day):
 def totals(day):
     """The total of each participant of the book, by name."""
     found = {}
-    for (row, made), (_, gain) in zip(row_trades(day), gains(day)):
+    for (row, made), (_, gain) in zip(row_trades(day), surpluses_of_rows(day)):
         sums = found.setdefault(row.who, [0, 0, 0, 0, 0])
         for trade in made:
             buys = trade.side == "buy"

@@ -42,7 +42,7 @@ buffers = Buffers()
 def call_library(path, text, nodes=MOST_NODES):
     """The status and the text that the library prints for a text; names are hashed with random bytes. Other threads run in the meantime."""
     secret, buffer = os.urandom(16), buffers.own
-    with ending.at_once():
+    with ending.exiting_at_signals():
         answer = clear_call(path)(secret, len(secret), text, len(text), nodes, buffer, MOST_ANSWER)
     return answer.status, ctypes.string_at(buffer, min(answer.length, MOST_ANSWER))
 

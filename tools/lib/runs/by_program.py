@@ -3,9 +3,12 @@
 import contextlib
 import os
 import re
+import select
+import selectors
 import subprocess
 import sys
 import threading
+import time
 
 from ..base import children
 from . import which
@@ -14,6 +17,10 @@ from .errors import Fault, TimedOut, Unstarted
 ONE_WORKER = ("clear", "--workers=1", "--cut=0")  # as the library searches: many days share the processors
 RESULTS = re.compile(rb"day,[0-9]+\nwelfare,-?[0-9]+\n")  # the beginning of the results of a day
 RELAYED = set()  # lines of runs that were passed on
+MOST_RELAYED = 200  # of them, after which no other is
+MOST_PRINTED = 1 << 20  # bytes of a run's output: no results and no replies have as many
+MOST_SAID = 1 << 16  # bytes that are kept of a run's standard error, the last ones
+PART = 1 << 16  # bytes that are read at once
 PIPES = {name: subprocess.PIPE for name in ("stdin", "stdout", "stderr")}  # of a run
 RUN_SECONDS = 3_600  # that a run may take if no timeout is named: of one that hangs, the others would wait for ever
 START_SECONDS = 10  # that programs may take to start, if they are no longer wanted
@@ -23,7 +30,7 @@ def program_of(program=None):
     if program == "":
         raise Unstarted("a program with an empty name can't be run")
     named = program or os.environ.get("DAM")
-    found = None if named else which.built()
+    found = None if named else which.find_program()
     if not named and not found:
         raise Unstarted("no program was found: build it, or name it as `program` or in the environment variable DAM")
     return os.fspath(named or found.path)
@@ -40,7 +47,7 @@ def run_program(words, text, timeout=None, running=None):
             raise Unstarted(f"{words[0]} can't be run: {fault.strerror}") from None
         ends.enter_context(process)
         try:
-            out, said = process.communicate(text, timeout=timeout)
+            out, said = exchange(process, text, timeout, words[0])
         except subprocess.TimeoutExpired:
             process.kill()
             raise TimedOut(f"{words[0]} took longer than {timeout:g} seconds") from None
@@ -48,20 +55,92 @@ def run_program(words, text, timeout=None, running=None):
             process.kill()
             raise
     if not process.returncode:
-        relay(said)
+        print_once(said)
     return process.returncode, out, said
 
 
-def relay(said):
-    """Passes on the lines of a run that succeeded, such as that it isn't proved; each once."""
+def exchange(process, text, timeout, name):
+    """Gives a process its input, and returns its output and the last part of its standard error, if that is a pipe, once it has ended. A
+    process that prints without an end takes little memory: its output is a fault, with its name."""
+    until = None if timeout is None else time.monotonic() + timeout
+    streams = {process.stdout: Printed(name), process.stderr: Said()}
+    left = memoryview(text)
+    with selectors.DefaultSelector() as waiting:
+        waiting.register(process.stdin, selectors.EVENT_WRITE)
+        for stream in filter(None, streams):
+            waiting.register(stream, selectors.EVENT_READ)
+        while waiting.get_map():
+            ready = waiting.select(None if until is None else max(until - time.monotonic(), 0))
+            if until is not None and time.monotonic() > until:
+                raise subprocess.TimeoutExpired(process.args, timeout)
+            for stream in (key.fileobj for key, _ in ready):
+                if stream is process.stdin:
+                    left = left[written(stream, left[: select.PIPE_BUF]) :]
+                    is_over = not left
+                else:
+                    is_over = not streams[stream].take(os.read(stream.fileno(), PART))
+                if is_over:
+                    waiting.unregister(stream)
+                    stream.close()
+    process.wait(None if until is None else max(until - time.monotonic(), 0))
+    return tuple(kept.whole() for kept in streams.values())
+
+
+def written(stream, data):
+    """How many bytes a process has taken; all of them if it doesn't read any more."""
+    try:
+        return os.write(stream.fileno(), data)
+    except BrokenPipeError:
+        return sys.maxsize
+
+
+class Printed:
+    """The output of a run, which is a fault if it is longer than any."""
+
+    def __init__(self, name):
+        self.name, self.kept = name, bytearray()
+
+    def take(self, data):
+        """Takes further bytes, and returns how many there were."""
+        self.kept += data
+        if len(self.kept) > MOST_PRINTED:
+            raise Fault(f"{self.name} printed more than {MOST_PRINTED:,} bytes")
+        return len(data)
+
+    def whole(self):
+        return bytes(self.kept)
+
+
+class Said:
+    """The last part of a run's standard error, and how many bytes came before it."""
+
+    def __init__(self):
+        self.kept, self.lost = bytearray(), 0
+
+    def take(self, data):
+        self.kept += data
+        more = max(len(self.kept) - MOST_SAID, 0)
+        del self.kept[:more]
+        self.lost += more
+        return len(data)
+
+    def whole(self):
+        """The last part, after a line that says how much is left out."""
+        begin = f"[the first {self.lost:,} bytes of its standard error are left out]\n".encode() if self.lost else b""
+        return begin + self.kept
+
+
+def print_once(said):
+    """Passes on the lines of a run that succeeded, such as that it isn't proved; each once, and not too many."""
     for line in said.decode(errors="replace").splitlines():
-        if line not in RELAYED and sys.stderr:
+        if line not in RELAYED and len(RELAYED) <= MOST_RELAYED and sys.stderr:
             RELAYED.add(line)
+            shown = line if len(RELAYED) <= MOST_RELAYED else "further lines of the program aren't shown"
             with contextlib.suppress(OSError):
-                print(line, file=sys.stderr, flush=True)
+                print(shown, file=sys.stderr, flush=True)
 
 
-def output_of(words, text, timeout=None):
+def run_for_output(words, text, timeout=None):
     """The output of a run of a program."""
     status, out, said = run_program(words, text, timeout)
     if status:

@@ -1,12 +1,22 @@
-"""A cleared day as comparisons take it: the orders of its book by participant and name, and the outcome of each. Nothing is checked; it is
-made of the output of a run of the program, or of results that were checked."""
+"""A cleared day as comparisons take it: the orders of its book by participant and name, and the outcome of each. It is made of the output of
+a run of the program, which is checked here, or of results that were checked."""
+
+from typing import NamedTuple
 
 from ..base import rules
 from ..journal import journal
-from ..results import trades
-from .errors import Fault
+from ..results import check, results, selection, trades
+from .errors import Fault, Wrong
 
 NO_RESULTS = "the program printed no results of this journal"
+THE_DAY = "the day"
+
+
+class Held(NamedTuple):
+    """The part of a book that its clearing needs."""
+
+    rows: dict
+    periods: int
 
 
 class Cleared:
@@ -18,14 +28,15 @@ class Cleared:
         self.welfare, self.prices, self.volumes, self.orders = welfare, prices, volumes, orders
 
     @classmethod
-    def of_text(cls, rows, periods, printed):
-        """The same from the output of `dam clear` for a book; a fault if it isn't of this book."""
+    def of_text(cls, rows, periods, printed, name=THE_DAY):
+        """The same from the output of `dam clear` for a book. If it isn't of this book, or breaks the rules, that is a fault."""
         try:
-            welfare, prices, volumes, orders = parts(printed.decode())
+            welfare, prices, volumes, orders = parse_printed(printed.decode())
         except (ValueError, IndexError):
             raise Fault(NO_RESULTS) from None
         if welfare is None or len(prices) != periods or orders.keys() != rows.keys():
             raise Fault(NO_RESULTS)
+        refuse_wrong(Held(rows, periods), orders, printed, name)
         return cls(rows, periods, welfare, prices, volumes, orders)
 
     @classmethod
@@ -78,10 +89,10 @@ class Cleared:
             return ""
         if order.kind == "block":
             return "accepted" if self.orders[key] else "rejected"
-        return trades.how_far(order, self.orders[key])
+        return trades.execution_words(order, self.orders[key])
 
 
-def parts(printed):
+def parse_printed(printed):
     """The welfare, the prices, the volumes and the orders of an output of `dam clear`."""
     welfare, prices, volumes, orders = None, [], [], {}
     for line in printed.splitlines():
@@ -96,6 +107,26 @@ def parts(printed):
         elif kind == "block":
             orders[fields[0], fields[1]] = fields[2] == "accepted"
     return welfare, prices, volumes, orders
+
+
+def refuse_wrong(held, orders, printed, name):
+    """A fault if results break the rules. They may be right, and another selection of blocks better: this isn't looked at."""
+    problem = selection.Problem(held)
+    accepted = {place for place, block in enumerate(problem.blocks) if orders[block.who, block.name]}
+    if printed == following(problem, accepted):  # the usual case, and far quicker to see
+        return
+    said, wrong = check.differences(problem, printed)
+    if said is None:
+        raise Fault(f"{NO_RESULTS}: {wrong[0]}")
+    raise Wrong(f"the program's results of {name} break the rules ({wrong[0]})")
+
+
+def following(problem, accepted):
+    """The results of the selection that accepts these places; None if it isn't eligible."""
+    outcome = selection.outcome(problem, accepted)
+    if any(selection.link_faults(problem, accepted)) or outcome.welfare is None:
+        return None
+    return None if selection.losses_of(problem, accepted, outcome.surpluses) else results.results_text(problem, accepted, outcome).encode()
 
 
 def book_text(rows, periods):

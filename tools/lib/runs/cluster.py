@@ -4,21 +4,56 @@ at once: dask itself would wait for them."""
 import concurrent.futures
 import contextlib
 import logging
+import os
 import re
 import socket
 import time
 import warnings
 
-from ..base import text
+from ..base import surroundings, text
 from ..tool import modules
 from .errors import Fault, Lost
 
 SECONDS = 10  # that a cluster may take to answer, or be without workers
 PAUSE = 1  # seconds from one look at a cluster to the next
+ADDRESS = re.compile(r"(?:tcp|tls)://(?P<host>.+):(?P<port>[0-9]{1,5})")
+SETTINGS = "/etc/dask", "~/.config/dask"  # the folders with the settings of dask
+TLS = "distributed.comm.tls"  # those of them that are taken
 
 
 def first_line(fault):
     return getattr(fault, "strerror", None) or text.safe(str(fault).split("\n")[0]) or type(fault).__name__
+
+
+@contextlib.contextmanager
+def without_settings():
+    """In this block dask finds no folder with settings."""
+    before = dict(os.environ)
+    os.environ.update(HOME=surroundings.NO_HOME, DASK_ROOT_CONFIG=surroundings.NO_HOME)
+    try:
+        yield
+    finally:
+        os.environ.clear()
+        os.environ.update(before)
+
+
+def imported():
+    """dask's part for clusters, with the settings that dask itself has: others may name code to run, or keep dask from being imported."""
+    with without_settings():
+        import dask.config
+
+        dask.config.refresh(paths=[], env={})  # also without those of Python's own folder
+        import distributed
+    return distributed
+
+
+def take_certificates(address):
+    """Takes the settings of TLS, which are no code, if the address needs them."""
+    if address.startswith("tls:"):
+        import dask.config
+
+        found = dask.config.get(TLS, {}, dask.config.collect(paths=list(SETTINGS), env={}))
+        dask.config.update(dask.config.config, {"distributed": {"comm": {"tls": found}}})
 
 
 class Cluster:
@@ -26,63 +61,63 @@ class Cluster:
 
     def __init__(self, address):
         self.name, self.reports = f"the cluster {text.safe(address)}", {}
-        self.client = self.reached(address)
-        self.listen()
-        while not self.workers():
+        self.client = self.connect(address)
+        self.watch_workers()
+        while not self.count_workers():
             time.sleep(PAUSE)
         self.executor = self.client.get_executor()
 
-    def reached(self, address):
+    def connect(self, address):
         """The client of the scheduler. What dask reports of lost connections isn't shown."""
-        import distributed
-
+        found = ADDRESS.fullmatch(address)
+        if not found:
+            raise Fault(f"{self.name} should be an address such as tcp://10.0.0.1:8786")
+        distributed = imported()
         logging.disable(logging.CRITICAL)
         warnings.simplefilter("ignore")
         began = time.monotonic()
         try:
-            host, port = re.fullmatch(r"(?:tcp|tls)://(.+):([0-9]{1,5})", address).groups()
-            socket.create_connection((host.strip("[]"), int(port)), SECONDS).close()
+            take_certificates(address)
+            socket.create_connection((found["host"].strip("[]"), int(found["port"])), SECONDS).close()
             return distributed.Client(address, timeout=SECONDS, set_as_default=False)
-        except AttributeError:
-            raise Fault(f"{self.name} should be an address such as tcp://10.0.0.1:8786") from None
         except Exception as fault:
             # dask says that its time is over also if the other side closes the connection
             is_late = time.monotonic() - began >= SECONDS or "timed out" not in str(fault).lower()
             words = first_line(fault) if is_late else "it closed the connection"
             raise Fault(f"{self.name} can't be reached: {words}") from None
 
-    def listen(self):
+    def watch_workers(self):
         """From now on each worker has to report in time, and there has to be one."""
         self.heard, self.had = {}, time.monotonic()
 
-    def workers(self):
+    def count_workers(self):
         """How many workers the cluster has. A fault if it doesn't answer or has none, or if one of them hasn't reported for long: its
         scenarios would never come."""
         try:
             found = self.client.sync(self.client.scheduler.identity, callback_timeout=SECONDS)["workers"]
             reports = {str(address): worker["last_seen"] for address, worker in found.items() if worker["status"] == "running"}
         except Exception:  # also of an answer that isn't a scheduler's
-            raise self.lost() from None
+            raise self.lost_fault() from None
         now = time.monotonic()
         self.heard = {address: self.heard.get(address, now) if self.reports.get(address) == seen else now for address, seen in reports.items()}
         self.reports, self.had = reports, now if reports else self.had
         if now - self.had >= SECONDS:
             raise Lost(f"{self.name} has no workers")
-        if said := hanging(self.heard, now, self.name):
+        if said := hanging_words(self.heard, now, self.name):
             raise Lost(said)
         return len(reports)
 
-    def lost(self):
+    def lost_fault(self):
         return Lost(f"{self.name} doesn't answer any more")
 
     def submit(self, call, *words):
         try:
             return Awaited(self, self.executor.submit(call, *words))
         except Exception:  # of a client that is closed
-            raise self.lost() from None
+            raise self.lost_fault() from None
 
 
-def hanging(heard, now, name):
+def hanging_words(heard, now, name):
     """The words on a cluster's workers that haven't reported for long, by when each was heard last: if one was heard lately, on the others.
     Nothing if it isn't clear yet."""
     silent = [address for address, last in heard.items() if now - last >= SECONDS]
@@ -100,16 +135,16 @@ class Awaited:
         self.cluster, self.future = cluster, future
 
     def result(self):
-        self.cluster.listen()
+        self.cluster.watch_workers()
         while True:
             try:
                 return self.future.result(PAUSE)
             except concurrent.futures.CancelledError:
-                raise self.cluster.lost() from None
+                raise self.cluster.lost_fault() from None
             except concurrent.futures.TimeoutError:
                 if self.future.done():
                     return self.future.result()
-                self.cluster.workers()
+                self.cluster.count_workers()
 
     def cancel(self):
         """Nothing: the cluster drops the jobs of a client that leaves it."""

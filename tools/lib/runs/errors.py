@@ -23,5 +23,9 @@ class Unstarted(Fault):
     """A run of the program that didn't begin: it is missing or can't be run, or memory or open files ran out. Or a library like that."""
 
 
+class Wrong(Fault):
+    """Results of a run of the program that break the rules of the market."""
+
+
 class Lost(Fault):
     """The executor of all journals has gone away, so that no other has an answer either."""

@@ -65,10 +65,10 @@ def where():
             return Where("library", of, os.fspath(path))
     if not os.access(BUILT, os.X_OK) and is_installed(LIBRARY.name):
         return Where("library", "system", LIBRARY.name)
-    return built()
+    return find_program()
 
 
-def built():
+def find_program():
     """The program that belongs to this module, or that the system finds; None if there is none."""
     cloned = BUILT if os.access(BUILT, os.X_OK) else None
     for of, path in ("package", packaged("bin", "dam")), ("clone", cloned), ("system", shutil.which("dam")):

@@ -43,7 +43,7 @@ class Head(NamedTuple):
 
     def signed_text(self):
         """The bytes that the signature is of."""
-        return "".join(f"{part}\n" for part in (HEAD, self.day, self.periods, self.size, packed(self.root))).encode()
+        return "".join(f"{part}\n" for part in (HEAD, self.day, self.periods, self.size, base64_of(self.root))).encode()
 
     def value(self):
         return {
@@ -51,8 +51,8 @@ class Head(NamedTuple):
             "day": self.day,
             "periods": self.periods,
             "size": self.size,
-            "root": packed(self.root),
-            "signature": packed(self.signature),
+            "root": base64_of(self.root),
+            "signature": base64_of(self.signature),
         }
 
     def __str__(self):
@@ -81,8 +81,8 @@ class Receipt(NamedTuple):
             "number": self.number,
             "record": self.record,
             "reply": self.reply,
-            "salt": packed(self.salt),
-            "path": [packed(hashed) for hashed in self.path],
+            "salt": base64_of(self.salt),
+            "path": [base64_of(hashed) for hashed in self.path],
             "head": self.head.value(),
         }
 
@@ -93,7 +93,7 @@ class Extension(NamedTuple):
     path: tuple
 
     def value(self):
-        return {"format": EXTENSION, "from": self.old.value(), "to": self.new.value(), "path": [packed(hashed) for hashed in self.path]}
+        return {"format": EXTENSION, "from": self.old.value(), "to": self.new.value(), "path": [base64_of(hashed) for hashed in self.path]}
 
     def is_valid(self):
         """Whether the proof shows that the new head's tree begins with the old head's, of the same day."""
@@ -112,7 +112,7 @@ class Salts(NamedTuple):
         return hmac.digest(self.secret, entry_text(number, record, reply), "sha256")
 
     def value(self):
-        return {"format": SALTS, "day": self.day, "secret": packed(self.secret)}
+        return {"format": SALTS, "day": self.day, "secret": base64_of(self.secret)}
 
 
 def entry_text(number, record, reply):
@@ -124,11 +124,11 @@ def leaf_of(number, record, reply, salt):
     return merkle.leaf_hash(salt + entry_text(number, record, reply))
 
 
-def packed(data):
+def base64_of(data):
     return base64.b64encode(data).decode()
 
 
-def line(value):
+def line_of(value):
     """The written form of a head, a receipt, an extension or salts."""
     return json.dumps(value.value(), separators=(",", ":")).encode() + b"\n"
 
@@ -136,7 +136,7 @@ def line(value):
 def command_of(record):
     """The command of a record in its written form; None for any other text."""
     try:
-        read = journal.read_journal(b"day,%d,,,,,,,\n" % rules.GREATEST_PERIOD + record.encode("ascii"))
+        read = journal.read_journal(f"{journal.day_line(rules.GREATEST_PERIOD)}\n{record}".encode("ascii"))
     except (journal.Fault, UnicodeEncodeError):
         return None
     if len(read.commands) != 1 or journal.command_line(read.commands[0]) != record:
@@ -144,24 +144,24 @@ def command_of(record):
     return read.commands[0]
 
 
-def bytes_read(word, count):
+def parse_base64(word, count):
     """The bytes that a word is in base64, with its padding."""
     digits = -(-count * 8 // 6)
     if isinstance(word, str) and re.fullmatch(f"[A-Za-z0-9+/]{{{digits}}}={{{-digits % 4}}}", word):
         return base64.b64decode(word)
-    raise BadRecord(f"{said(word)} should be {count} bytes in base64")
+    raise BadRecord(f"{shown_value(word)} should be {count} bytes in base64")
 
 
-def said(value):
+def shown_value(value):
     """A value of a stranger in a message: too short to pass for a message of its own."""
     if isinstance(value, str):
         return text.quoted(value, MOST_SAID)
     return text.safe(json.dumps(value), MOST_SAID) if value is None or isinstance(value, (int, float)) else f"a {type(value).__name__}"
 
 
-def number_read(value, least, most, name):
+def parse_number(value, least, most, name):
     if type(value) is not int or not least <= value <= most:
-        raise BadRecord(f"{name} {said(value)} should be a number from {least} to {most}")
+        raise BadRecord(f"{name} {shown_value(value)} should be a number from {least} to {most}")
     return value
 
 
@@ -172,51 +172,51 @@ def members(value, kind, names):
     found = [name for name in value if name != "format"]
     if sorted(found) != sorted(names):
         lacking, others = ([name for name in one if name not in other] for one, other in ((names, found), (found, names)))
-        raise BadRecord(f"it lacks the member {lacking[0]}" if lacking else f"a {kind} has no member {said(others[0])}")
+        raise BadRecord(f"it lacks the member {lacking[0]}" if lacking else f"a {kind} has no member {shown_value(others[0])}")
     return [value[name] for name in names]
 
 
-def head_read(value):
+def parse_head(value):
     day, periods, size, root, signature = members(value, HEAD, ("day", "periods", "size", "root", "signature"))
     if not isinstance(day, str) or not DAY.fullmatch(day):
-        raise BadRecord(f"the day {said(day)} should be {A_DAY}")
+        raise BadRecord(f"the day {shown_value(day)} should be {A_DAY}")
     if type(periods) is not int or periods not in rules.DAYS:
-        raise BadRecord(f"the periods {said(periods)} should be one of {', '.join(map(str, sorted(rules.DAYS)))}")
-    size, root = number_read(size, 0, MOST_ENTRIES, "the size"), bytes_read(root, HASH_BYTES)
+        raise BadRecord(f"the periods {shown_value(periods)} should be one of {', '.join(map(str, sorted(rules.DAYS)))}")
+    size, root = parse_number(size, 0, MOST_ENTRIES, "the size"), parse_base64(root, HASH_BYTES)
     if size == 0 and root != merkle.EMPTY:
-        raise BadRecord(f"the root of no entry is {packed(merkle.EMPTY)}")
-    return Head(day, periods, size, root, bytes_read(signature, SIGNATURE_BYTES))
+        raise BadRecord(f"the root of no entry is {base64_of(merkle.EMPTY)}")
+    return Head(day, periods, size, root, parse_base64(signature, SIGNATURE_BYTES))
 
 
-def path_read(value, most):
+def parse_path(value, most):
     if not isinstance(value, list) or len(value) > most:
         raise BadRecord(f"the path should be a list of at most {most} hashes")
-    return tuple(bytes_read(word, HASH_BYTES) for word in value)
+    return tuple(parse_base64(word, HASH_BYTES) for word in value)
 
 
-def receipt_read(value):
+def parse_receipt(value):
     number, record, reply, salt, path, head = members(value, RECEIPT, ("number", "record", "reply", "salt", "path", "head"))
-    number = number_read(number, 1, MOST_ENTRIES, "the number")
+    number = parse_number(number, 1, MOST_ENTRIES, "the number")
     if not isinstance(record, str) or command_of(record) is None:
-        raise BadRecord(f"the record {said(record)} isn't a record of a written journal")
+        raise BadRecord(f"the record {shown_value(record)} isn't a record of a written journal")
     if not isinstance(reply, str) or reply not in REPLIES:
-        raise BadRecord(f"the reply {said(reply)} isn't one of the book's")
-    return Receipt(number, record, reply, bytes_read(salt, HASH_BYTES), path_read(path, LONGEST_PATH), head_read(head))
+        raise BadRecord(f"the reply {shown_value(reply)} isn't one of the book's")
+    return Receipt(number, record, reply, parse_base64(salt, HASH_BYTES), parse_path(path, LONGEST_PATH), parse_head(head))
 
 
-def extension_read(value):
+def parse_extension(value):
     old, new, path = members(value, EXTENSION, ("from", "to", "path"))
-    return Extension(head_read(old), head_read(new), path_read(path, LONGEST_PROOF))
+    return Extension(parse_head(old), parse_head(new), parse_path(path, LONGEST_PROOF))
 
 
-def salts_read(value):
+def parse_salts(value):
     day, secret = members(value, SALTS, ("day", "secret"))
     if not isinstance(day, str) or not DAY.fullmatch(day):
-        raise BadRecord(f"the day {said(day)} should be {A_DAY}")
-    return Salts(day, bytes_read(secret, HASH_BYTES))
+        raise BadRecord(f"the day {shown_value(day)} should be {A_DAY}")
+    return Salts(day, parse_base64(secret, HASH_BYTES))
 
 
-def once(pairs):
+def unrepeated(pairs):
     """The object of these members, none of which comes twice."""
     made = dict(pairs)
     if len(made) != len(pairs):
@@ -224,15 +224,15 @@ def once(pairs):
     return made
 
 
-def parsed(data, read):
+def parse(data, read):
     """The value that the text of a head, a receipt, an extension or salts has, and whether the text is its written form."""
     if len(data) > LONGEST_LINE:
         raise BadRecord(f"it has {len(data):,} bytes, and none has more than {LONGEST_LINE:,}")
     try:
-        value = read(json.loads(data.decode("ascii"), object_pairs_hook=once))
+        value = read(json.loads(data.decode("ascii"), object_pairs_hook=unrepeated))
     except (ValueError, RecursionError):
         raise BadRecord("it isn't JSON in ASCII") from None
-    return value, line(value) == data
+    return value, line_of(value) == data
 
 
 def lines_of(data):

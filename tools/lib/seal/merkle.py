@@ -20,7 +20,7 @@ def node_hash(left, right):
 EMPTY = sha256(b"")  # the root of a tree without leaves
 
 
-def split(count):
+def left_half(count):
     """The greatest power of two below a number of leaves: how many of them are in the left half."""
     return 1 << (count - 1).bit_length() - 1
 
@@ -58,15 +58,15 @@ class Tree:
         if count & (count - 1) == 0:
             return self.levels[count.bit_length() - 1][begin // count]
         if (begin, end) not in self.incomplete:
-            middle = begin + split(count)
+            middle = begin + left_half(count)
             self.incomplete[begin, end] = node_hash(self.hashed(begin, middle), self.hashed(middle, end))
         return self.incomplete[begin, end]
 
-    def inclusion(self, place, size=None):
+    def inclusion_proof(self, place, size=None):
         """The inclusion proof of the leaf at a place, from 0, in the tree of the first `size` leaves."""
         return [self.hashed(*part) for part in inclusion_parts(place, len(self) if size is None else size)]
 
-    def consistency(self, old, size=None):
+    def consistency_proof(self, old, size=None):
         """The proof that the tree of the first `size` leaves begins with the tree of the first `old` ones."""
         size = len(self) if size is None else size
         if not 0 < old < size:
@@ -79,7 +79,7 @@ def inclusion_parts(place, size):
     """The subtrees whose hashes an inclusion proof has, each from its first leaf to the one after its last."""
     begin, end, parts = 0, size, []
     while end - begin > 1:
-        middle = begin + split(end - begin)
+        middle = begin + left_half(end - begin)
         if place < middle:
             parts.append((middle, end))
             end = middle
@@ -93,7 +93,7 @@ def consistency_parts(old, size):
     """The subtrees whose hashes a consistency proof has. The first one is of both trees: if it is the whole old tree, the proof omits it."""
     begin, end, parts = 0, size, []
     while old < end:
-        middle = begin + split(end - begin)
+        middle = begin + left_half(end - begin)
         if old <= middle:
             parts.append((middle, end))
             end = middle
@@ -148,7 +148,7 @@ def is_consistent(old, old_root, size, root, path):
     return last == 0 and before == old_root and after == root
 
 
-def joined(first, hashed, parts):
+def joined_hashes(first, hashed, parts):
     """The hashes of subtrees, each with its first leaf and the one after its last: of one, of its neighbours from below, and of all that
     they make. The last one is of the whole tree."""
     (begin, end), shown = first, {first: hashed}
@@ -162,7 +162,7 @@ def joined(first, hashed, parts):
 
 def shown_by_inclusion(leaf, place, size, path):
     """The hashes of subtrees that a right inclusion proof shows, from the leaf to the root."""
-    return joined((place, place + 1), leaf, zip(inclusion_parts(place, size), path))
+    return joined_hashes((place, place + 1), leaf, zip(inclusion_parts(place, size), path))
 
 
 def shown_by_consistency(old, old_root, size, root, path):
@@ -175,8 +175,8 @@ def shown_by_consistency(old, old_root, size, root, path):
     if len(path) != 1 + len(others):
         return {}
     parts = list(zip(others, path[1:]))
-    before = joined(first, path[0], [(part, hashed) for part, hashed in parts if part[0] < first[0]])
-    after = joined(first, path[0], parts)
+    before = joined_hashes(first, path[0], [(part, hashed) for part, hashed in parts if part[0] < first[0]])
+    after = joined_hashes(first, path[0], parts)
     if after[0, size] == root:
         return {**before, **after}
     return before if before[0, old] == old_root else {}

@@ -40,11 +40,11 @@ class Seal:
     def head(self, size=None):
         """A head of the first `size` entries, or of all."""
         size = len(self.entries) if size is None else size
-        return signing.signed(self.key, Head(self.day, self.periods, size, self.tree.root(size)))
+        return signing.sign(self.key, Head(self.day, self.periods, size, self.tree.root(size)))
 
     def receipt(self, number, head):
         entry = self.entries[number - 1]
-        path = tuple(self.tree.inclusion(number - 1, head.size))
+        path = tuple(self.tree.inclusion_proof(number - 1, head.size))
         return Receipt(number, entry.record, entry.reply, self.salt(number), path, head)
 
     def extension(self, old, head):
@@ -55,7 +55,7 @@ class Seal:
             raise Differs(f"the earlier head has {old.size} entries, and this journal {head.size}")
         if self.tree.root(old.size) != old.root:
             raise Differs(f"the first {old.size} entries of this journal aren't the entries of the earlier head")
-        return Extension(old, head, tuple(self.tree.consistency(old.size, head.size)))
+        return Extension(old, head, tuple(self.tree.consistency_proof(old.size, head.size)))
 
 
 def new_salts(day):
@@ -67,7 +67,7 @@ def reply_of(reason):
     return heads.DONE if reason is None else f"refused,{reason}"
 
 
-def sealed(read, reasons, day, salts, key):
+def seal_of(read, reasons, day, salts, key):
     """A journal with its replies under a seal. Each reply is given by the book's reason for a refusal or None."""
     seal = Seal(day, read.periods, salts, key)
     for command, reason in zip(read.commands, reasons):

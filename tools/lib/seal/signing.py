@@ -31,14 +31,14 @@ class Keys:
         return next((name for name, key in self.keys.items() if is_signed(key, head)), None)
 
 
-def signer(key, head):
+def signer_name(key, head):
     """The name of the key, or of one of the keys, that signed a head; None if none did. A key by itself has an empty name."""
     if isinstance(key, Keys):
         return key.signer(head)
     return "" if is_signed(key, head) else None
 
 
-def made():
+def new_key():
     """A new private key."""
     return Ed25519PrivateKey.generate()
 
@@ -52,19 +52,19 @@ def public_text(key):
     return key.public_key().public_bytes(serialization.Encoding.PEM, serialization.PublicFormat.SubjectPublicKeyInfo)
 
 
-def private(data):
-    return read(data, lambda data: serialization.load_pem_private_key(data, None), Ed25519PrivateKey, "a private key")
+def parse_private(data):
+    return parse_key(data, lambda data: serialization.load_pem_private_key(data, None), Ed25519PrivateKey, "a private key")
 
 
-def public(data):
-    key = read(data, serialization.load_pem_public_key, Ed25519PublicKey, "a public key")
+def parse_public(data):
+    key = parse_key(data, serialization.load_pem_public_key, Ed25519PublicKey, "a public key")
     raw = key.public_bytes(serialization.Encoding.Raw, serialization.PublicFormat.Raw)
     if raw[:31] + bytes([raw[31] & 127]) in SMALL:
         raise BadKey("its order is small: anyone can sign for it")
     return key
 
 
-def read(data, load, kind, name):
+def parse_key(data, load, kind, name):
     try:
         key = load(data)
     except (ValueError, TypeError, UnsupportedAlgorithm):
@@ -74,7 +74,7 @@ def read(data, load, kind, name):
     return key
 
 
-def signed(key, head):
+def sign(key, head):
     """The head with its signature."""
     return head._replace(signature=key.sign(head.signed_text()))
 

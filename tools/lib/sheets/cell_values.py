@@ -29,7 +29,7 @@ class BadOrders(Exception):
         self.more = more
 
 
-def unlike(cell):
+def unlike_words(cell):
     """The words on a cell of a workbook that isn't what Excel shows."""
     return f"{text.quoted(cell)} is {cell.kind}: {cell.remedy}"
 
@@ -38,11 +38,11 @@ def refuse_unlike(cell, is_name):
     """Refuses a cell of a workbook that isn't what Excel shows: a formula without its value, another number or text, or in a column of
     names also a date."""
     if isinstance(cell, (Uncomputed, Percentage, Changed, Styled)) or is_name and isinstance(cell, Unlike):
-        raise BadOrders(unlike(cell))
+        raise BadOrders(unlike_words(cell))
 
 
 @functools.lru_cache(MOST_KEPT)
-def scaled(cell, factor, least, greatest, unit, decimal_comma):
+def parse_scaled(cell, factor, least, greatest, unit, decimal_comma):
     """A decimal number times a factor, which must be whole and in a range. Further digits are refused even if they are zeros: 2.000 may be
     meant for two thousand."""
     if not cell:
@@ -57,7 +57,7 @@ def scaled(cell, factor, least, greatest, unit, decimal_comma):
         raise BadOrders(f"{text.quoted(cell)} has more than {digits} digit{'s' * (digits > 1)} after the decimal point{hint}")
     value = int(f"{sign}{whole}{(rest or '').ljust(digits, '0')}")
     if not least <= value <= greatest:
-        ends = [text.fixed(Fraction(end) / factor, digits) for end in (least, greatest)]
+        ends = [text.fixed_point(Fraction(end) / factor, digits) for end in (least, greatest)]
         raise BadOrders(f"{text.quoted(cell)} should be from {ends[0]} to {ends[1]} {unit}")
     return int(value)
 
@@ -117,7 +117,7 @@ def refuse_many(found, cell):
 def read_numbers(cell, periods):
     refuse_many(parts(cell), cell)
     try:
-        return spans.read(cell, rules.GREATEST_PERIOD, periods=periods)
+        return spans.parse_periods(cell, rules.GREATEST_PERIOD, periods=periods)
     except ValueError as fault:
         hint = ": a spreadsheet has taken it for a date, so make the cell one of text" if DATE.fullmatch(cell) else ""
         raise BadOrders(f"{text.quoted(cell)} should be {fault}{hint}") from None
@@ -161,7 +161,7 @@ def read_volumes(cell, numbers, decimal_comma):
     refuse_empty(cell)
     refuse_thousands(cell)
     found = parts(cell)
-    values = [scaled(part, 10, 1, rules.GREATEST_VOLUME, "MW", decimal_comma) for part in found[: rules.GREATEST_PERIOD]]
+    values = [parse_scaled(part, 10, 1, rules.GREATEST_VOLUME, "MW", decimal_comma) for part in found[: rules.GREATEST_PERIOD]]
     if len(found) == 1:
         values *= len(numbers)
     elif len(found) != len(numbers):
@@ -169,7 +169,7 @@ def read_volumes(cell, numbers, decimal_comma):
     return tuple(zip(numbers, values))
 
 
-def read_word(*words):
+def word_reader(*words):
     def read(cell):
         if cell.lower() not in words:
             raise BadOrders(f"{text.quoted(cell)} should be {' or '.join(words)}")
@@ -178,7 +178,7 @@ def read_word(*words):
     return read
 
 
-def read_field(name):
+def field_reader(name):
     """A name, as a field of a journal; for one that breaks its rule the message says the right form."""
 
     @functools.lru_cache(MOST_KEPT)
@@ -191,8 +191,8 @@ def read_field(name):
     return read
 
 
-read_participant, read_name = read_field("participant"), read_field("order")
+read_participant, read_name = field_reader("participant"), field_reader("order")
 
 
 def read_price(cell, decimal_comma):
-    return scaled(cell, 100, rules.LOWEST_PRICE, rules.HIGHEST_PRICE, "EUR/MWh", decimal_comma)
+    return parse_scaled(cell, 100, rules.LOWEST_PRICE, rules.HIGHEST_PRICE, "EUR/MWh", decimal_comma)

@@ -46,7 +46,7 @@ class Columns:
     def read(self, cells, periods):
         """The command that a row adds to a day, None if it adds none; and the faults of the row."""
         row, what = order_table.Row(cells, self.table, periods), self.cell(cells, WHAT).lower()
-        refuse_others(row, what)
+        add_other_faults(row, what)
         return None if self.is_empty(cells) else read_command(row, what), row.wrong
 
 
@@ -60,7 +60,7 @@ def is_command_table(found):
     return WHAT in header_of(found)
 
 
-def refuse_others(row, what):
+def add_other_faults(row, what):
     """Adds to a row's faults its cells that the command doesn't have."""
     for name in order_table.ORDER if what in NEEDED else []:
         if name not in NEEDED[what] and (cell := row.cell(name)):
@@ -77,7 +77,7 @@ def read_command(row, what):
         price = row.read("price_eur_mwh", lambda cell: cell_values.read_price(cell, row.decimal_comma))
         numbers = row.read("periods", lambda cell: cell_values.kept_periods(cell, row.periods))
         volumes = row.read(
-            "volume_mw", lambda cell: cell_values.read_volumes(cell, numbers or row.many(cell), row.decimal_comma)
+            "volume_mw", lambda cell: cell_values.read_volumes(cell, numbers or row.periods_of_volumes(cell), row.decimal_comma)
         )
         return journal.Amend(who, name, price, volumes)
     if what in ("", "submit"):

@@ -23,10 +23,10 @@ FILES = {*SIGNATURES.values(), LOCKED, OPEN, ZIP, WEB_PAGE}  # the kinds of whol
 PACKED = {COMPRESSED, ZIP}
 # The command that reads or converts a file of a kind that is given in place of a text.
 ADVICE = {
-    EXCEL: place.as_here("tools/table --journal FILE makes a journal of it, if it is a table of orders"),
-    OLD_EXCEL: place.as_here("save it as .xlsx, from which tools/table --journal FILE makes a journal, or as plain CSV"),
+    EXCEL: place.with_commands_of_here("tools/table --journal FILE makes a journal of it, if it is a table of orders"),
+    OLD_EXCEL: place.with_commands_of_here("save it as .xlsx, from which tools/table --journal FILE makes a journal, or as plain CSV"),
     LOCKED: "save it without the password",
-    OPEN: place.as_here("save it as .xlsx, from which tools/table --journal FILE makes a journal, or as plain CSV"),
+    OPEN: place.with_commands_of_here("save it as .xlsx, from which tools/table --journal FILE makes a journal, or as plain CSV"),
     PDF: "pdftotext -layout FILE shows its text",
     COMPRESSED: "gunzip FILE unpacks it",
     ZIP: "unzip FILE unpacks it",

@@ -31,7 +31,7 @@ FULL = {
 DAYS = [str(periods) for periods in rules.DAYS]
 
 
-def columns_of(line, header, needed, further):
+def find_columns(line, header, needed, further):
     """Where each column stands, and notes on those that aren't used; if not, all that is wrong with the columns, a line each. Those that
     are needed have to be there; the further ones are used, and read by others."""
     names = [cell.strip().lower() for cell in header]
@@ -41,7 +41,7 @@ def columns_of(line, header, needed, further):
         if name in places or name in further and names.index(name) < at - 1:
             wrong.append(f"line {line}, column {at}: the column {text.quoted(name)} appears twice")
         elif isinstance(cell, Uncomputed):
-            wrong.append(f"line {line}, column {at}: {cell_values.unlike(cell)}")
+            wrong.append(f"line {line}, column {at}: {cell_values.unlike_words(cell)}")
         elif name in ORDER + RESULT:
             places[name] = at - 1
         elif name in further or WHAT in further and name in REPLY:
@@ -73,21 +73,21 @@ class Row:
         self.wrong = table.strays(cells)
         self.raised = {}  # these names, by their text
 
-    def given(self, name):
+    def given_cell(self, name):
         """A cell as the table has it."""
         at = self.table.places.get(name)
         return self.cells[at] if at is not None and at < len(self.cells) else ""
 
     def cell(self, name):
-        return sheets.unescaped(self.given(name).strip())
+        return sheets.unescaped(self.given_cell(name).strip())
 
     def read(self, name, reader):
         """The value that a reader makes of a cell; None if it is wrong."""
         cell = self.cell(name)
-        if self.raises and name in NAMES and cell.isascii() and cell != cell.upper() == self.meant(name):
+        if self.raises and name in NAMES and cell.isascii() and cell != cell.upper() == self.probable_name(name):
             self.raised[cell] = cell = cell.upper()
         try:
-            cell_values.refuse_unlike(self.given(name), name in NAMES)
+            cell_values.refuse_unlike(self.given_cell(name), name in NAMES)
             return reader(cell)
         except BadOrders as fault:
             self.wrong.append(f"column {name}: {fault}")
@@ -99,24 +99,25 @@ class Row:
             return None
         return self.read(name, lambda cell: cell and cell_values.read_name(cell))
 
-    def many(self, cell):
+    def periods_of_volumes(self, cell):
         """As many periods as there are volumes, if the periods can't be read."""
         return range(1, 1 + max(len(cell_values.parts(cell)), 1))
 
-    def meant(self, name):
+    def probable_name(self, name):
         """A name, or the one that was probably meant if it breaks its rule, so that other lines that name it aren't wrong too."""
         return fields.read(name, self.cell(name))[0]
 
     def command(self):
         """The submit that the row is; of no use if something is wrong."""
         who, name = self.read("participant", cell_values.read_participant), self.read("order", cell_values.read_name)
-        kind = self.read("kind", cell_values.read_word("hour", "block"))
-        side = self.read("side", cell_values.read_word("buy", "sell"))
+        kind = self.read("kind", cell_values.word_reader("hour", "block"))
+        side = self.read("side", cell_values.word_reader("buy", "sell"))
         price = self.read("price_eur_mwh", lambda cell: cell_values.read_price(cell, self.decimal_comma))
         numbers = self.read("periods", lambda cell: cell_values.kept_periods(cell, self.periods))
         if kind == "hour" and numbers and len(numbers) != 1:
             self.wrong.append(f"column periods: an hourly order has one period, not {len(numbers)}")
-        volumes = self.read("volume_mw", lambda cell: cell_values.read_volumes(cell, numbers or self.many(cell), self.decimal_comma))
+        of_volumes = lambda cell: cell_values.read_volumes(cell, numbers or self.periods_of_volumes(cell), self.decimal_comma)
+        volumes = self.read("volume_mw", of_volumes)
         parent, group = (self.read_link(name, kind) for name in OPTIONAL)
         return journal.Submit(who, name, journal.Order(kind, side, price, volumes, parent, group))
 
@@ -134,7 +135,7 @@ class Entered:
 
     def enter(self, line, row, command):
         """Adds to the faults of a row why the book would refuse it."""
-        who, name, parent = row.meant("participant"), row.meant("order"), command.order.parent
+        who, name, parent = row.probable_name("participant"), row.probable_name("order"), command.order.parent
         if who and name and (who, name) in self.lines:
             row.wrong.append(f"column order: {who} has an order {name} in {self.lines[who, name][0]} (NameTaken)")
         if who and parent:
@@ -242,7 +243,7 @@ def table_of(name, found, needed=NEEDED, further=()):
     if WHAT not in further:
         refuse_commands(header, found.rest())
     try:
-        places, notes = columns_of(line, header, needed, further)
+        places, notes = find_columns(line, header, needed, further)
         refuse_unnamed(header, found.rest())
     except BadOrders as fault:
         raise BadOrders("\n".join([str(fault), *read])) from None
@@ -326,7 +327,7 @@ def read_tables(sources, periods, who=None, raises=False, held=None):
         for line, cells in table.rows:
             row = Row(cells, table, periods, raises)
             number += 1
-            if who and row.meant("participant") != who:
+            if who and row.probable_name("participant") != who:
                 row.read("participant", cell_values.read_participant)
                 others += 1
             else:
@@ -336,14 +337,14 @@ def read_tables(sources, periods, who=None, raises=False, held=None):
                 raised.update(row.raised)
             for words in row.wrong:
                 wrong.add(table.told(of_line(line, words)))
-        notes += [table.told(in_capitals(raised))] if raised else []
+        notes += [table.told(capitals_note(raised))] if raised else []
     if wrong.count:
         read = [table.told(note) for table in tables for note in table.read]
         raise wrong.wrong(read)
     return Orders(submits, notes, others)
 
 
-def in_capitals(raised):
+def capitals_note(raised):
     """The note on names that were put into capitals, with the first of them."""
     (cell, value), *more = raised.items()
     others = f", and {text.counted(len(more), 'other name')}" if more else ""

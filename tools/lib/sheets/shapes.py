@@ -38,7 +38,7 @@ def as_date(date):
         raise BadDate(f"{text.safe(repr(date))}: it should be a datetime.date, or a text such as 2026-11-25") from None
 
 
-def begins(date, periods, zone=ZONE):
+def begin_times(date, periods, zone=ZONE):
     """When each period of a delivery day begins, and when the last one ends, in a time zone, such as Central European Time."""
     zone, utc = zoneinfo.ZoneInfo(zone), datetime.timezone.utc
     try:
@@ -56,7 +56,7 @@ def begins(date, periods, zone=ZONE):
 
 def with_times(rows, date, periods):
     """A table with a column of when each period begins, if it has one of periods."""
-    times = begins(date, periods)
+    times = begin_times(date, periods)
     rows = iter(rows)
     heads = next(rows)
     at = heads.index("period") + 1 if "period" in heads else None
@@ -65,7 +65,7 @@ def with_times(rows, date, periods):
         yield row if at is None else [*row[:at], times[row[at - 1] - 1].isoformat(), *row[at:]]
 
 
-def of_periods(rows, numbers):
+def rows_of_periods(rows, numbers):
     """The rows of some periods."""
     rows = iter(rows)
     heads = next(rows)
@@ -74,7 +74,7 @@ def of_periods(rows, numbers):
     yield from (row for row in rows if row[at] in numbers)
 
 
-def of_participant(rows, who):
+def rows_of_participant(rows, who):
     """The rows of a participant."""
     rows = iter(rows)
     heads = next(rows)
@@ -88,11 +88,11 @@ def day_of_periods(periods, date=None):
     return {"date": date.isoformat() if date else None, "periods": periods, "hours_per_period": float(rules.DAYS[periods])}
 
 
-def unit(column):
+def unit_of(column):
     return next((unit for end, unit in UNITS.items() if column.endswith(end)), None)
 
 
-def column(name, heads):
+def column_type(name, heads):
     """The type of a column."""
     if LISTS <= set(heads) and name in LISTS:
         kind = "array"
@@ -101,16 +101,16 @@ def column(name, heads):
     elif name == "traded":
         kind = "boolean"
     else:
-        kind = "number" if unit(name) or name in NUMBERS else "string"
-    return {"name": name, "type": kind, "unit": unit(name)}
+        kind = "number" if unit_of(name) or name in NUMBERS else "string"
+    return {"name": name, "type": kind, "unit": unit_of(name)}
 
 
-def typed(kind, name, cell, row):
+def typed_value(kind, name, cell, row):
     """A cell as a value: None if it is empty."""
     if cell == "":
         return [] if kind == "array" else None
     if kind == "array":
-        numbers = spans.read(row["periods"], rules.GREATEST_PERIOD)
+        numbers = spans.parse_periods(row["periods"], rules.GREATEST_PERIOD)
         if name == "periods":
             return numbers
         volumes = [float(part) for part in cell.split(";")]
@@ -126,18 +126,18 @@ def records(rows, flat=False):
     """The rows of a table as dictionaries with numbers, lists and None instead of texts. If they are to be flat, lists stay texts."""
     rows = iter(rows)
     heads = next(rows)
-    kinds = [column(name, heads)["type"] for name in heads]
+    kinds = [column_type(name, heads)["type"] for name in heads]
     if flat:
         kinds = ["string" if kind == "array" else kind for kind in kinds]
     for row in rows:
         named = dict(zip(heads, row))
-        yield {name: typed(kind, name, cell, named) for kind, (name, cell) in zip(kinds, named.items())}
+        yield {name: typed_value(kind, name, cell, named) for kind, (name, cell) in zip(kinds, named.items())}
 
 
 def as_json(name, rows, day):
     """The text of a table as JSON; `day` says of which day it is."""
     rows = list(rows)
-    columns = [column(head, rows[0]) for head in rows[0]]
+    columns = [column_type(head, rows[0]) for head in rows[0]]
     lines = [json.dumps(record, ensure_ascii=False) for record in records(rows)]
     parts = [f'"{key}": {json.dumps(value)}' for key, value in (("table", name), ("day", day), ("columns", columns))]
     return "{" + ",\n ".join(parts) + ',\n "rows": [\n  ' + ",\n  ".join(lines) + "\n ]}\n"

@@ -139,16 +139,16 @@ class Text:
         self.has_decimal_comma = self.delimiter != ","
         self.is_counted = False  # once it was read to its end, it keeps to the limits
 
-    def file(self):
+    def text_stream(self):
         return io.TextIOWrapper(io.BytesIO(self.data), self.encoding, "replace" if self.encoding == "utf-16" else "strict", newline="")
 
     def first_line(self):
         """The header: the first line that isn't empty."""
-        lines = iter(functools.partial(self.file().readline, LONGEST_ROW), "")
+        lines = iter(functools.partial(self.text_stream().readline, LONGEST_ROW), "")
         return next(filter(WORD.search, itertools.islice(lines, MOST_LINES)), "")
 
     def __iter__(self):
-        lines, found, count = Lines(self.file(), self.delimiter), 0, Count(self.times)
+        lines, found, count = Lines(self.text_stream(), self.delimiter), 0, Count(self.times)
         width = None  # of the header, with its empty cells
         try:
             for whole in csv.reader(lines, delimiter=self.delimiter, strict=True):
@@ -173,21 +173,21 @@ def text_rows(data):
     return Text(data, [], None, MANY)
 
 
-def written(rows, decimal_comma=False):
+def table_text(rows, decimal_comma=False):
     """The text of a table. No part of a cell of words can be taken for a formula: an apostrophe stands before it. With a decimal comma the
     cells are separated by semicolons."""
     rows = iter(rows)
     heads = next(rows)
-    kinds = [shapes.column(name, heads)["type"] for name in heads]
+    kinds = [shapes.column_type(name, heads)["type"] for name in heads]
     out = io.StringIO()
     writer = csv.writer(out, lineterminator="\n", delimiter=";" if decimal_comma else ",")
     writer.writerow(heads)
     for row in rows:
-        writer.writerow([cell(kind, value, decimal_comma) for kind, value in zip(kinds, row)])
+        writer.writerow([cell_text(kind, value, decimal_comma) for kind, value in zip(kinds, row)])
     return out.getvalue()
 
 
-def cell(kind, value, decimal_comma):
+def cell_text(kind, value, decimal_comma):
     if kind == "string":
         return UNESCAPED.sub(r"\1'", str(value))
     return str(value).replace(".", ",") if decimal_comma and kind in ("number", "array") else value
@@ -195,7 +195,7 @@ def cell(kind, value, decimal_comma):
 
 def fits(words):
     """Whether words, as they are written in a text or a workbook, aren't longer than a cell may be."""
-    return max(len(cell("string", words, False)), len(escaped(words))) <= limits.LONGEST_CELL
+    return max(len(cell_text("string", words, False)), len(escaped(words))) <= limits.LONGEST_CELL
 
 
 def unescaped(cell):
@@ -203,7 +203,7 @@ def unescaped(cell):
     return ESCAPED.sub(r"\1", cell) if "'" in cell else cell
 
 
-def writer():
+def workbook_writer():
     """The package that writes workbooks. Each sheet is first a temporary file; lxml wouldn't say why one can't be written."""
     os.environ["OPENPYXL_LXML"] = "False"
     import openpyxl
@@ -211,12 +211,12 @@ def writer():
     return openpyxl
 
 
-def workbook(tables):
+def workbook_bytes(tables):
     """The bytes of a workbook with a sheet for each table, by name: numbers are numbers, and words are never formulas."""
     for name, rows in tables.items():
         if len(rows) > limits.LAST_ROW:
             raise BadTable(f"the table {name} has {len(rows):,} rows, but a sheet of an Excel workbook has at most {limits.LAST_ROW:,}")
-    openpyxl = writer()
+    openpyxl = workbook_writer()
     from openpyxl.styles import Font
     from openpyxl.utils import get_column_letter
 
@@ -225,10 +225,10 @@ def workbook(tables):
     for name, rows in tables.items():
         sheet = book.create_sheet(name)
         heads, *rows = rows
-        kinds = [shapes.column(head, heads)["type"] for head in heads]
+        kinds = [shapes.column_type(head, heads)["type"] for head in heads]
         for at, values in enumerate([heads, *rows], 1):
             for place, (head, kind, value) in enumerate(zip(heads, kinds, values), 1):
-                fill(sheet.cell(at, place), "string" if at == 1 else cell_kind(head, kind, value), value)
+                fill_cell(sheet.cell(at, place), "string" if at == 1 else cell_kind(head, kind, value), value)
         for place, column in enumerate(zip(heads, *rows), 1):
             sheet.cell(1, place).font = Font(bold=True)
             sheet.column_dimensions[get_column_letter(place)].width = 2 + min(60, max(len(str(value)) for value in column))
@@ -244,7 +244,7 @@ def cell_kind(head, kind, value):
     return "number" if head == "volume_mw" and ";" not in str(value) else kind
 
 
-def fill(cell, kind, value):
+def fill_cell(cell, kind, value):
     """Puts a value into a cell of a workbook."""
     if value == "":
         return

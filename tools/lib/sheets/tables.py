@@ -29,7 +29,7 @@ def energy(day, tenths):
 def periods(day):
     heads = ["period", "hours", "price_eur_mwh", "volume_mw", "traded", "low_eur_mwh", "high_eur_mwh"]
     yield heads + [f"{'hourly' if kind == 'hour' else kind}_{side}s_mw" for kind, side in trades.SHARES]
-    for number, parts in trades.shares(day).items():
+    for number, parts in trades.volume_shares(day).items():
         found = day.outcome.cleared[number]
         ends = ["", ""] if found is None else [text.eur_per_mwh(found.low), text.eur_per_mwh(found.high)]
         price_and_volume = [text.eur_per_mwh(day.said.prices[number - 1]), text.mw(day.said.volumes[number - 1])]
@@ -42,7 +42,7 @@ def order_cells(row):
     order = row.order
     volumes = [text.mw(tenths) for _, tenths in order.volumes]
     each = volumes[0] if len(set(volumes)) == 1 else ";".join(volumes)
-    numbers = spans.written(number for number, _ in order.volumes)
+    numbers = spans.spans_text(number for number, _ in order.volumes)
     return [row.who, row.name, order.kind, order.side, text.eur_per_mwh(order.price), numbers, each, order.parent, order.group]
 
 
@@ -52,7 +52,7 @@ def outcomes(day):
     executed = iter(day.said.executed)
     for row in day.problem.rows:
         if row.order.kind == "hour":
-            yield trades.how_far(row.order, next(executed)), ""
+            yield trades.execution_words(row.order, next(executed)), ""
         else:
             decision, surplus = next(found)
             yield decision.kind, euros(day, surplus)
@@ -135,7 +135,7 @@ def results_by_row(day):
         sums = energy(day, sum(trade.volume for trade in trades_made)), euros(day, amount)
         if row.order.kind == "hour":
             done = next(executed)
-            made[row.who, row.name] = Result(trades.how_far(row.order, done), "", *sums, *decisions.hourly(day, row, done))
+            made[row.who, row.name] = Result(trades.execution_words(row.order, done), "", *sums, *decisions.hourly(day, row, done))
         else:
             decision, surplus = next(found)
             made[row.who, row.name] = Result(decision.kind, euros(day, surplus), *sums, decision.code, decision.why)
@@ -177,7 +177,7 @@ def later_why(day, number):
     return f"command {number} {does} it"
 
 
-def refused(read, reasons):
+def refused_words(read, reasons):
     """How many commands of a journal were refused, and whose, in words; None if none was."""
     refusals = [command for command, reason in zip(read.commands, reasons) if reason]
     if not refusals:

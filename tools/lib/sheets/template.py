@@ -31,20 +31,20 @@ ROWS = [
 ]
 
 
-def workbook():
+def template_bytes():
     """The bytes of the workbook."""
-    book = sheets.writer().Workbook()
+    book = sheets.workbook_writer().Workbook()
     sheet = book.active
     sheet.title = ORDERS
-    fill(sheet, [])
+    fill_sheet(sheet, [])
     add_rules(sheet)
-    fill(book.create_sheet(EXAMPLES), ROWS)
+    fill_sheet(book.create_sheet(EXAMPLES), ROWS)
     out = io.BytesIO()
     book.save(out)
     return out.getvalue()
 
 
-def fill(sheet, rows):
+def fill_sheet(sheet, rows):
     """Puts the columns and some rows into a sheet."""
     from openpyxl.comments import Comment
     from openpyxl.styles import Font

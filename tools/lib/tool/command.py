@@ -25,11 +25,11 @@ def run(name, main):
     """Runs a tool's `main`, and ends with its status. A fault, Ctrl-C or another signal is one line on standard error."""
     hold_streams()
     children.heed()
-    ending.heed()
+    ending.raise_signals()
     try:
         sys.exit(main())
     except BrokenPipeError:
-        discard(sys.stdout)
+        discard_stream(sys.stdout)
         sys.exit(NO_INPUT)
     except (Stop, KeyboardInterrupt, OSError) as fault:
         status, said = status_and_message(fault)
@@ -44,14 +44,14 @@ def status_and_message(fault):
     if isinstance(fault, Stop):
         return fault.status, str(fault)
     if isinstance(fault, KeyboardInterrupt):
-        return ending.interrupted(fault)
-    if isinstance(fault, OSError) and not ending.is_memory(fault) and not ending.is_files(fault):
+        return ending.interruption_status(fault)
+    if isinstance(fault, OSError) and not ending.is_lack_of_memory(fault) and not ending.is_lack_of_files(fault):
         where = "a device failed" if fault.filename is None else f"{shown(os.fsdecode(fault.filename))} can't be used"
         return NO_INPUT, f"{where}: {fault.strerror}"
     return FAILED, ending.words(fault)
 
 
-def on_lines(words):
+def without_controls(words):
     """Words for a terminal, which obeys nothing in them but line ends."""
     return "\n".join(map(text.escaped, str(words).split("\n")))
 
@@ -59,9 +59,9 @@ def on_lines(words):
 def tell(tool, words):
     """Says something on standard error; if that can't be written, the status alone says it."""
     try:
-        print(f"{place.command(tool)}: {on_lines(words)}", file=sys.stderr, flush=True)
+        print(f"{place.command_name(tool)}: {without_controls(words)}", file=sys.stderr, flush=True)
     except OSError:
-        discard(sys.stderr)
+        discard_stream(sys.stderr)
 
 
 def hold_streams():
@@ -73,7 +73,7 @@ def hold_streams():
     sys.stderr = sys.stderr or open(os.devnull, "w")
 
 
-def discard(stream):
+def discard_stream(stream):
     """Discards the text that couldn't be written, so that Python doesn't try again at its end."""
     os.dup2(os.open(os.devnull, os.O_WRONLY), stream.fileno())
 

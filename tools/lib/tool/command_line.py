@@ -10,12 +10,12 @@ from . import file_io
 
 def participant(word):
     """A participant's name on the command line."""
-    if text.participant(word.encode(errors="surrogateescape")) is None:
+    if text.parse_participant(word.encode(errors="surrogateescape")) is None:
         raise argparse.ArgumentTypeError(f"{text.quoted(word)} should be {text.A_PARTICIPANT}")
     return word
 
 
-def day(word):
+def parse_day(word):
     """The name of a day on the command line, as in a head."""
     from ..seal import heads
 
@@ -24,13 +24,22 @@ def day(word):
     return word
 
 
+class Dashes(str):
+    """A word `--` after the one that ends the options. argparse would leave it out."""
+
+    def __eq__(self, other):
+        return self is other
+
+    __hash__ = str.__hash__
+
+
 class Parser(argparse.ArgumentParser):
     """A tool's command line, with no shortened options. Its help is written as all output is."""
 
     def __init__(self, prog, description, epilog):
         description = description or place.docstring(place.FOLDER / prog)
-        form, prog = argparse.RawDescriptionHelpFormatter, place.command(prog)
-        description, epilog = place.as_here(description), place.as_here(epilog)
+        form, prog = argparse.RawDescriptionHelpFormatter, place.command_name(prog)
+        description, epilog = place.with_commands_of_here(description), place.with_commands_of_here(epilog)
         super().__init__(prog=prog, description=description, epilog=epilog, formatter_class=form, allow_abbrev=False)
         self.add_argument("--version", action="version", version=f"{prog} {VERSION}", help="print the version")
 
@@ -40,11 +49,18 @@ class Parser(argparse.ArgumentParser):
         words = "the results of that journal; omit them for the output of `dam day`"
         self.add_argument("results", metavar="RESULTS", nargs="?", help=words)
 
+    def parse_known_args(self, args=None, namespace=None):
+        words = list(sys.argv[1:] if args is None else args)
+        end = words.index("--") + 1 if "--" in words else len(words)
+        return super().parse_known_args(words[:end] + [Dashes(word) if word == "--" else word for word in words[end:]], namespace)
+
     def _get_value(self, action, word):
         """The value of a word. An empty one, as of a variable of the shell that isn't set, is never taken for a word that is left out."""
-        if not word and action.nargs != argparse.PARSER:  # the words of a command are read by its own parser
+        if action.nargs == argparse.PARSER:  # the words of a command are read by its own parser
+            return super()._get_value(action, word)
+        if not word:
             raise argparse.ArgumentError(action, "it is empty")
-        return super()._get_value(action, word)
+        return super()._get_value(action, str(word))
 
     def _get_values(self, action, words):
         """The value of the words of an option or an argument. argparse takes `--` for no word also if it is the value of an option."""
@@ -58,10 +74,10 @@ class Parser(argparse.ArgumentParser):
         super().error(text.escaped(message))
 
     def print_help(self, file=None):
-        file_io.write_output(self.format_help().encode())
+        file_io.write_stdout(self.format_help().encode())
 
     def _print_message(self, message, file=None):
         if file is sys.stdout:  # the version
-            file_io.write_output(message.encode())
+            file_io.write_stdout(message.encode())
         else:
             super()._print_message(message, file)

@@ -7,7 +7,7 @@ from ..results import results, selection
 from ..sheets import kinds
 from . import command, file_io
 
-SEE_AUDIT = place.as_here("see tools/audit")
+SEE_AUDIT = place.with_commands_of_here("see tools/audit")
 
 
 def read_texts(path, results_path):
@@ -17,7 +17,7 @@ def read_texts(path, results_path):
         return data, file_io.read_bytes(results_path)
     texts = results.split_day(data)
     if texts is None and kinds.kind_of(data) in kinds.FILES:
-        refuse_kind(path, data, kinds.JOURNAL)
+        refuse_other_kind(path, data, kinds.JOURNAL)
     if texts is None:
         raise command.Stop(no_results(path))
     return texts
@@ -28,7 +28,7 @@ def no_results(path):
     return f"{command.shown(path)} has no line 'results': give the results file after the journal"
 
 
-def refuse_kind(path, data, right, hints=()):
+def refuse_other_kind(path, data, right, hints=()):
     """Ends the tool if a text looks like one of another kind. Hints give advice on some kinds."""
     kind = kinds.kind_of(data)
     if kind not in (None, right):
@@ -52,7 +52,7 @@ class Day:
         journal_data, results_data = read_texts(path, results_path)
         read = parse_journal(path, journal_data)
         if results_path is not None:
-            refuse_kind(results_path, results_data, kinds.RESULTS)
+            refuse_other_kind(results_path, results_data, kinds.RESULTS)
         self.read(read, results_data, path, results_path or path)
 
     def __repr__(self):
@@ -77,7 +77,7 @@ class Day:
         if not self.book.closed:
             raise command.Stop(f"no command of {command.shown(path)} closes the book, so it has no results")
         self.problem = selection.Problem(self.book)
-        data, self.odd = results.plain(results_data)
+        data, self.odd = results.plain_text(results_data)
         self.said, self.wrong = check.differences(self.problem, data)
         if self.said is None:
             raise command.Stop(f"{command.shown(results_path)} has no results of this journal: {self.wrong[0]}")
@@ -93,7 +93,7 @@ class Day:
         return command.DIFFERS if self.wrong else command.DONE
 
 
-def need_participant(who, read):
+def refuse_unknown_participant(who, read):
     """Ends the tool if a participant is asked for that has no command in a journal, such as one whose name is misspelt."""
     if who and who not in {getattr(entry, "who", None) for entry in read.commands}:
         raise command.Stop(f"{who} has no command in the journal")

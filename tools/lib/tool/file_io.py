@@ -13,7 +13,7 @@ MOST_BYTES, PART = 64 << 20, 1 << 20  # of a file that a tool reads, and of thos
 NAMED_BY_OUT = ": name it by --out to replace it"
 
 
-def bytes_of(stream):
+def binary_stream(stream):
     """The bytes of standard input or output, which Python has as None if it is closed."""
     if stream is None:
         raise OSError(errno.EBADF, os.strerror(errno.EBADF))
@@ -23,22 +23,22 @@ def bytes_of(stream):
 def read_bytes(path):
     """The bytes of a file; `-` is standard input. A file that has more than any text of a day may have no end, and isn't read on."""
     try:
-        with contextlib.nullcontext(bytes_of(sys.stdin)) if path == "-" else open(path, "rb", opener=without_waiting) as file:
-            data = first_bytes(file, MOST_BYTES + 1)
+        with contextlib.nullcontext(binary_stream(sys.stdin)) if path == "-" else open(path, "rb", opener=open_without_waiting) as file:
+            data = read_first_bytes(file, MOST_BYTES + 1)
     except (OSError, ValueError) as fault:
-        raise command.Stop(cannot_be_read(path, fault)) from None
+        raise command.Stop(unread_message(path, fault)) from None
     if len(data) > MOST_BYTES:
         raise command.Stop(f"{command.shown(path)} has more than {MOST_BYTES:,} bytes")
     return data
 
 
-def cannot_be_read(path, fault):
+def unread_message(path, fault):
     """The message about a file that can't be read. Python has a ValueError for a name that no file can have."""
     why = fault.strerror if isinstance(fault, OSError) else "its name has a NUL, or a character that this locale lacks"
     return f"{command.shown(path)} can't be read: {why}"
 
 
-def without_waiting(path, flags):
+def open_without_waiting(path, flags):
     """Opens a file so that no read of it waits: of the files of the system, such as /proc/kmsg, some never end. A pipe may wait."""
     return os.open(path, flags | (os.O_NONBLOCK if stat.S_ISREG(os.stat(path).st_mode) else 0))
 
@@ -50,13 +50,13 @@ def unread_file(path):
     except FileNotFoundError:
         return f"{command.shown(path)} is a link to a file that is missing" if os.path.islink(path) else f"{command.shown(path)} is missing"
     except (OSError, ValueError) as fault:
-        return cannot_be_read(path, fault)
+        return unread_message(path, fault)
     if stat.S_ISDIR(mode):
         return f"{command.shown(path)} can't be read: {os.strerror(errno.EISDIR)}"
     return None if stat.S_ISREG(mode) else f"{command.shown(path)} is a device or a pipe, and should be a file"
 
 
-def first_bytes(file, most):
+def read_first_bytes(file, most):
     """At most this many bytes of an open file. Memory is taken as they come. A file that would wait for more is a fault."""
     parts = []
     while most > 0 and (part := file.read(min(most, PART))) != b"":
@@ -67,47 +67,51 @@ def first_bytes(file, most):
     return b"".join(parts)
 
 
-def write_output(data):
+def write_stdout(data):
     """Writes to standard output."""
     try:
-        bytes_of(sys.stdout).write(data)
+        binary_stream(sys.stdout).write(data)
         sys.stdout.flush()
     except BrokenPipeError:
         raise
     except OSError as fault:
         if sys.stdout is not None:
-            command.discard(sys.stdout)
+            command.discard_stream(sys.stdout)
         raise command.Stop(f"standard output can't be written: {fault.strerror}") from None
 
 
-def say(lines):
+def print_lines(lines):
     """Prints lines on standard output."""
-    write_output("".join(f"{command.on_lines(line)}\n" for line in lines).encode())
+    write_stdout("".join(f"{command.without_controls(line)}\n" for line in lines).encode())
 
 
-def write_bytes(tool, path, data):
+def write_bytes(tool, path, data, advice=None):
     """Writes a file that is whole, and at a terminal says so; or standard output if the path is `-`."""
     if path == "-":
-        write_output(data)
+        write_stdout(data)
     else:
-        write_files(tool, {path: data})
+        write_files(tool, {path: data}, advice)
 
 
-def write_files(tool, files):
-    """Writes files by their paths. None is put in its place before each is whole."""
+def write_files(tool, files, advice=None):
+    """Writes files by their paths. None is put in its place before each is whole. With advice, none replaces a file that is there by then:
+    the tool ends as by `refuse_to_replace`."""
+    prepare = replacing.prepare_new if advice else replacing.prepare_write
     with contextlib.ExitStack() as cleanups:
-        puts = {path: to_write(path, replacing.prepare, path, data, cleanups) for path, data in files.items()}
+        puts = {path: call_for_output(path, prepare, path, data, cleanups) for path, data in files.items()}
         for path, put in puts.items():
-            to_write(path, put)
+            call_for_output(path, put, advice=advice)
             if sys.stderr.isatty():
                 command.tell(tool, f"{command.shown(path)} was written")
 
 
-def to_write(path, call, *words):
+def call_for_output(path, call, *words, advice=None):
     """The result of a call for a file that is written."""
     try:
         return call(*words)
     except OSError as fault:
+        if advice and isinstance(fault, FileExistsError):
+            raise there_already(path, advice) from None
         raise command.Stop(f"{command.shown(path)} can't be written: {fault.strerror}") from None
 
 
@@ -122,7 +126,12 @@ def is_same(path, other):
 def refuse_to_replace(path, advice):
     """Ends the tool if there is a file that nobody asked to replace."""
     if os.path.lexists(path):
-        raise command.Stop(f"{command.shown(path)} is there already{advice}", command.COMMAND_LINE)
+        raise there_already(path, advice)
+
+
+def there_already(path, advice):
+    """The fault of a file that nobody asked to replace."""
+    return command.Stop(f"{command.shown(path)} is there already{advice}", command.COMMAND_LINE)
 
 
 def refuse_inputs(path, *inputs):

@@ -26,7 +26,7 @@ PACKAGES = {
 }
 
 
-def has(module):
+def has_module(module):
     return importlib.util.find_spec(module) is not None
 
 
@@ -40,7 +40,7 @@ def this_python():
     return [sys.executable, *(["-I"] if sys.flags.isolated else [])]
 
 
-def elsewhere(*modules):
+def debian_has(*modules):
     """Whether Debian's Python is a different one and has the modules. With -c alone it would also find those of the working folder."""
     if is_debians():
         return False
@@ -48,14 +48,14 @@ def elsewhere(*modules):
     try:
         return subprocess.run([*ISOLATED, "-c", find, *modules], stderr=subprocess.DEVNULL).returncode == 0
     except OSError as fault:
-        if ending.is_memory(fault) or ending.is_files(fault):
+        if ending.is_lack_of_memory(fault) or ending.is_lack_of_files(fault):
             raise
         return False
 
 
-def python_with(*modules):
+def restart_with(*modules):
     """Starts the tool again with Debian's Python, if that has the modules and this one lacks some."""
-    if not all(map(has, modules)) and elsewhere(*modules):
+    if not all(map(has_module, modules)) and debian_has(*modules):
         # without -S, nothing would find Debian's packages for a program that ending.watch doesn't guard
         late = ["-S"] if sys.flags.no_site else []
         os.execv(DEBIAN_PYTHON, [*ISOLATED, *late, sys.modules["__main__"].__file__, *sys.argv[1:]])
@@ -70,13 +70,13 @@ def has_zone(name):
     return True
 
 
-def need_zone(name):
+def refuse_missing_zone(name):
     """Ends the tool if a time zone is missing."""
     if not has_zone(name):
         raise Stop("it needs the world's time zones, which Debian has in the package tzdata: apt-get install tzdata", FAILED)
 
 
-def missing(*modules):
+def missing_message(*modules):
     """The message that modules are missing."""
     packages = [PACKAGES[module] for module in modules]
     noun = "package" if len(packages) == 1 else "packages"
@@ -86,6 +86,6 @@ def missing(*modules):
 
 def need(*modules):
     """Ends the tool if a module is missing."""
-    python_with(*modules)
-    if lacking := [module for module in modules if not has(module)]:
-        raise Stop(missing(*lacking), FAILED)
+    restart_with(*modules)
+    if lacking := [module for module in modules if not has_module(module)]:
+        raise Stop(missing_message(*lacking), FAILED)

@@ -34,10 +34,10 @@ def is_table(path):
     return is_workbook(path) or path.lower().endswith(CSV)
 
 
-def workbook(tables):
+def workbook_bytes(tables):
     """The bytes of a workbook with a sheet for each table, by name."""
     try:
-        return sheets.workbook(tables)
+        return sheets.workbook_bytes(tables)
     except sheets.BadTable as fault:
         raise command.Stop(f"{fault}: write it as {CSV}", command.COMMAND_LINE) from None
 
@@ -46,9 +46,9 @@ def write(tool, args, name, rows, periods):
     """Writes a table, which is whole before the first byte is written."""
     rows = list(rows)
     if is_workbook(args.out):
-        data = workbook({name: rows})
+        data = workbook_bytes({name: rows})
     elif args.json:
         data = shapes.as_json(name, rows, shapes.day_of_periods(periods)).encode()
     else:
-        data = sheets.written(rows, args.decimal_comma).encode()
+        data = sheets.table_text(rows, args.decimal_comma).encode()
     file_io.write_bytes(tool, args.out, data)

@@ -10,8 +10,8 @@ from ..results import decisions
 from ..runs import engine
 from ..tool import command, day_files, output
 from . import changes
-from ..runs.cleared import Cleared, book_text
-from ..runs.errors import Fault
+from ..runs.cleared import THE_DAY, Cleared, book_text
+from ..runs.errors import Fault, Wrong
 from ..base.progress import StepBar
 
 COUNT = rules.HIGHEST_PRICE - rules.LOWEST_PRICE + 1  # of limits
@@ -21,6 +21,7 @@ LAW = "a better limit keeps a block: proved, see docs/MARKET.md"
 NO_LAW = "no law says that a better limit keeps an hourly order, see docs/MARKET.md"
 MARK = "?"  # in place of a limit: no journal has it
 BETTER = {"buy": "higher", "sell": "lower"}
+BROKEN = "the program's results break the rules"
 MOST_OTHERS = 20  # orders whose result differs that are named
 HEADS = ["participant", "order", "side", "price_eur_mwh", "outcome", "worst_limit_eur_mwh", "surplus_eur", "welfare_eur", "others", "why"]
 
@@ -36,8 +37,8 @@ def place_of(side, limit):
 
 class Found(NamedTuple):
     """The worst limit at which a block is accepted, in cents per MWh, None if there is none; the clearing at it, and one cent past it,
-    or at the best limit if none is enough; None at a place past the range. `clearings` is how many were needed apart from the day as it
-    was."""
+    or at the best limit if none is enough; None at a place past the range. Their results were checked: by the law, no other limit has
+    such a pair, whatever the other clearings printed. `clearings` is how many were needed apart from the day as it was."""
 
     limit: object
     at: object
@@ -69,9 +70,10 @@ class Search:
         return self.printed[limit]
 
     def at(self, limit):
-        """The clearing with a limit."""
+        """The clearing with a limit. If its results break the rules, that is a fault."""
         if limit not in self.seen:
-            self.seen[limit] = Cleared.of_text(self.rows(limit), self.held.periods, self.output(limit))
+            more = "" if limit == self.order.price else f" with a limit of {text.shown_price(limit)} EUR/MWh"
+            self.seen[limit] = Cleared.of_text(self.rows(limit), self.held.periods, self.output(limit), f"{THE_DAY}{more}")
         return self.seen[limit]
 
     def keep(self, limit, printed):
@@ -101,7 +103,7 @@ class Search:
         return limit_at(side, low - 1) if low else None, limit_at(side, low) if low < COUNT else None
 
     def worst(self):
-        self.output(self.order.price)
+        self.at(self.order.price)
         before = len(self.printed)
         limit, past = self.ends()
         at, after = (None if end is None else self.at(end) for end in (limit, past))
@@ -195,7 +197,7 @@ def sentences(search, found):
 
 def short(search):
     """The worst limit of a rejected block in one sentence."""
-    limit, _ = search.ends()
+    limit = search.worst().limit
     if limit is None:
         return "With no limit would it have been accepted."
     return f"With a limit of {text.shown_price(limit)} EUR/MWh or {BETTER[search.order.side]} it would have been accepted."
@@ -212,7 +214,8 @@ def of_rejected(day, who=None, is_asked=True):
         return dict.fromkeys(places, not_computed(why))
     bar = StepBar("report", len(places), "limits of rejected blocks")
     with engine.team_of(engine.processors()) as (team, running):
-        waiting = [team.submit(sentence, day.book, day.problem.blocks[place], own, running) for place in places]
+        was = Cleared.of_day(day)  # which the program has too
+        waiting = [team.submit(sentence, day.book, day.problem.blocks[place], own, was, running) for place in places]
         try:
             return {place: after_step(promise.result(), bar) for place, promise in zip(places, waiting)}
         finally:
@@ -230,25 +233,30 @@ def not_computed(why):
 
 def why_none(day, own):
     """Why no limit can be computed, if the program fails on a day or has other results; None if it has the same."""
-    if isinstance(own, Fault):
-        why, more = "the program couldn't clear the day", str(own)
-    elif Cleared.of_text(day.book.rows, day.problem.periods, own).orders != Cleared.of_day(day).orders:
+    try:
+        if isinstance(own, Fault):
+            raise own
+        if Cleared.of_text(day.book.rows, day.problem.periods, own).orders == Cleared.of_day(day).orders:
+            return None
         why, more = "the program has other results", f"{day_files.SEE_AUDIT} --best"
-    else:
-        return None
+    except Wrong as fault:
+        why, more = BROKEN, str(fault)
+    except Fault as fault:
+        why, more = "the program couldn't clear the day", str(fault)
     command.tell("report", f"the limits that rejected blocks needed weren't computed: {why}: {more}")
     return why
 
 
-def sentence(held, block, own, running):
-    """What a page says of a rejected block, whose day is printed as `own`."""
+def sentence(held, block, own, was, running):
+    """What a page says of a rejected block, whose day is printed as `own`, and was checked."""
     search = Search(held, (block.who, block.name), lambda given: engine.result(engine.answer(given, running=running)))
     search.keep(block.order.price, own)
+    search.seen[block.order.price] = was
     try:
         return short(search)
     except Fault as fault:
         command.tell("report", f"the limit of {' '.join(search.key)} wasn't computed: {fault}")
-        return not_computed("a run of the program failed")
+        return not_computed(BROKEN if isinstance(fault, Wrong) else "a run of the program failed")
 
 
 def columns(rows):

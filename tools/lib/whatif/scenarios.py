@@ -9,11 +9,12 @@ from fractions import Fraction
 from typing import NamedTuple
 
 from ..base import rules, text
+from ..results import selection
 from ..sheets import cell_values, order_table, sheets
 from . import changes
 from ..runs.cleared import NO_RESULTS, book_text
 from ..sheets.command_table import Columns
-from ..runs.errors import Fault
+from ..runs.errors import Fault, Wrong
 
 SCENARIO = "scenario"
 CONTROL = re.compile("[\0-\x1f\x7f-\x9f\ufffe\uffff]")  # in no name: a line of a text, or a cell of a workbook, couldn't hold it
@@ -21,6 +22,7 @@ MOST_ROWS = 50_000  # of a table, after the first one: a longer one can be parte
 # What is said of a block over all scenarios. For each part of its surpluses, in per cent, there is one more column.
 BLOCK = ["participant", "order", "price_eur_mwh", "scenarios", "accepted", "share", "mean_eur"]
 PARTS = [5, 25, 50, 75, 95]
+EACH = 16  # the first random scenario, and every 16th after it, is checked whole: to check all would take several times as long as to clear
 
 
 class Scenario(NamedTuple):
@@ -233,20 +235,23 @@ class Distribution:
     """What becomes of some blocks over many scenarios: whether each is accepted, and its surplus at the prices."""
 
     def __init__(self, held, keys):
-        self.rows, self.keys, self.hours = held.rows, keys, rules.DAYS[held.periods]
+        self.rows, self.keys, self.periods, self.hours = held.rows, keys, held.periods, rules.DAYS[held.periods]
         self.surpluses = {key: [] for key in keys}  # of the scenarios that accept it
         self.rejected = dict.fromkeys(keys, 0)
 
-    def add(self, printed):
-        """Adds a scenario by what `dam clear` printed for it; a fault if it isn't of this book."""
-        for key in self.keys:
-            try:
-                begin = printed.index(f"\nblock,{key[0]},{key[1]},".encode()) + 1
-                outcome, surplus = printed[begin : printed.index(b"\n", begin)].split(b",")[3:]
-                amount = int(surplus)
-            except ValueError:
-                raise Fault(NO_RESULTS) from None
-            if outcome == b"accepted":
+    def add(self, name, printed):
+        """Adds a scenario by the output of `dam clear` for it. A fault if it isn't of this book, or a surplus isn't the one at its prices."""
+        try:
+            lines = printed.decode().split("\n", self.periods + 2)[2:-1]  # after the day and the welfare
+            prices = {number: int(line.split(",")[2]) for number, line in enumerate(lines, 1)}
+            found = {key: (*block_of(printed, key), selection.surplus(self.rows[key], prices)) for key in self.keys}
+        except (ValueError, LookupError):
+            raise Fault(NO_RESULTS) from None
+        for key, (is_accepted, amount, right) in found.items():
+            if amount != right:
+                words = f"block {','.join(key)}: the surplus is {amount}, and at the prices {right}"
+                raise Wrong(f"the program's results of {text.safe(name)} break the rules ({words})")
+            if is_accepted:
                 self.surpluses[key].append(amount)
             else:
                 self.rejected[key] += 1
@@ -266,6 +271,13 @@ class Distribution:
 
     def eur(self, amount):
         return "" if amount is None else f"{float(amount * self.hours / 1_000):.2f}"
+
+
+def block_of(printed, key):
+    """Whether a block is accepted in an output of `dam clear`, and its surplus; a ValueError or a KeyError if it isn't there."""
+    begin = printed.index(f"\nblock,{key[0]},{key[1]},".encode()) + 1
+    outcome, surplus = printed[begin : printed.index(b"\n", begin)].split(b",")[3:]
+    return {b"accepted": True, b"rejected": False}[outcome], int(surplus)
 
 
 def quantile(found, part):

@@ -93,6 +93,8 @@ def main(description, epilog):
 
 
 def status_of(fault):
+    if isinstance(fault, errors.Wrong):
+        return command.DIFFERS
     is_failure = isinstance(fault, (errors.Unstarted, errors.TimedOut)) or fault.is_failure()
     return command.FAILED if is_failure else command.NO_INPUT
 
@@ -241,7 +243,8 @@ def compared(books, who, program):
     for found in printed:
         if isinstance(found, errors.Fault):
             raise found
-    days = [Cleared.of_text(one.rows, one.periods, found) for one, found in zip(books, printed)]
+    names = cleared.THE_DAY, f"{cleared.THE_DAY} with the changes"
+    days = [Cleared.of_text(one.rows, one.periods, found, name) for one, found, name in zip(books, printed, names)]
     return changes.table(*days, who)
 
 
@@ -259,7 +262,8 @@ def add_scenarios(commands, epilog):
     add("--seed", metavar="WORD", help="the seed of the random scenarios (default: 1)")
     add("--price-sd", metavar="EUR", type=standard_deviation, help="the standard deviation of the changes of limits (default: 3)")
     add("--volume-sd", metavar="SHARE", type=standard_deviation, help="the standard deviation of the factor of volumes (default: 0.1)")
-    add("--cluster", metavar="ADDRESS", help="the scheduler of a dask cluster to run on, such as tcp://10.0.0.1:8786")
+    add("--cluster", metavar="ADDRESS", help="the scheduler of a dask cluster to run on, such as tcp://10.0.0.1:8786; with tls:// the"
+        " certificates are those of ~/.config/dask or /etc/dask")
     add_quiet(parser)
 
 
@@ -392,13 +396,15 @@ def scenario_rows(args, held, given, count, over):
         program = args.program if args.cluster is None else None
         answers = ends.enter_context(contextlib.closing(engine.answers(texts(), args.jobs, executor, program, call)))
         before = day_of("the day as it was", held.rows, held.periods, next(answers))
-        for printed in engine.with_bar(answers, count, "scenario", args.quiet):
+        for number, printed in enumerate(engine.with_bar(answers, count, "scenario", args.quiet)):
             scenario = waiting.popleft()
+            name = f"scenario {scenario.name}"
             if over is None:
-                day = day_of(f"scenario {scenario.name}", scenario.rows(), held.periods, printed)
-                yield from make(scenario.name, before, day, asked_of(args))
-            else:
-                over.add(printed_of(f"scenario {scenario.name}", printed))
+                yield from make(scenario.name, before, day_of(name, scenario.rows(), held.periods, printed), asked_of(args))
+                continue
+            if number % scenarios.EACH == 0:
+                day_of(name, scenario.rows(), held.periods, printed)
+            over.add(name, printed_of(name, printed))
 
 
 def asked_of(args):
@@ -414,7 +420,7 @@ def printed_of(name, printed):
 
 
 def day_of(name, rows, periods, printed):
-    return Cleared.of_text(rows, periods, printed_of(name, printed))
+    return Cleared.of_text(rows, periods, printed_of(name, printed), text.safe(name))
 
 
 def write_distribution(args, held, over):

@@ -34,10 +34,15 @@ class Percentage(Unlike):
 
 
 class Changed(Unlike):
-    """A number of which Excel shows a thousandth, or with other digits next to it, or nothing."""
+    """A number of which Excel shows a thousandth, or with another sign or other digits next to it, or nothing."""
 
     __slots__ = ()
     kind, remedy = "a number that Excel shows in another way", "give its cell the format General"
+
+
+class Repeated(Changed):
+    __slots__ = ()
+    kind, remedy = "a number that fills its cell again and again", "give its cell another horizontal alignment"
 
 
 class Styled(Unlike):
@@ -106,7 +111,7 @@ class Kept:
 
 
 # The kinds of cells: before each cell of a packed row stands a half of a character, which no text has, and says its kind.
-CELLS = str, int, StyledString, Uncomputed, Date, Formatted, Percentage, Changed, Styled, Shortened, Truth
+CELLS = str, int, StyledString, Uncomputed, Date, Formatted, Percentage, Changed, Repeated, Styled, Shortened, Truth
 HALVES = {kind: chr(0xD800 + at) for at, kind in enumerate(CELLS)}
 PACKED = re.compile("([\ud800-\udfff])([^\ud800-\udfff]*)")
 

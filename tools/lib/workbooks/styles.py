@@ -1,10 +1,12 @@
 """The formats of cells: how each shows numbers, and whether it shows texts in another way."""
 
 import decimal
+import functools
 import re
+import unicodedata
 
 from ..base import text
-from .cells import Changed, Date, Formatted, Percentage, Shortened
+from .cells import Changed, Date, Formatted, Percentage, Repeated, Shortened
 from .limits import LONGEST_FORMAT, MOST_FORMATS, MOST_OF_FORMATS, MOST_OWN_FORMATS, broken, too_many
 from .part import ANY_OTHERS, BLANK, Part, unsigned
 
@@ -12,9 +14,21 @@ from .part import ANY_OTHERS, BLANK, Part, unsigned
 DATE_FORMATS = {*range(14, 23), *range(27, 37), *range(45, 48), *range(50, 59), *range(71, 82)}
 PERCENT_FORMATS = 9, 10, 67, 68  # the numbers of Excel's own
 MOST_DIGITS = 11  # that Excel shows of a number in the format General
-PIECE = re.compile(r'"[^"]*"|\\.|_.|\*.|\[[^\]\[]*\]|.')  # of a format
+PIECE = re.compile(r'"[^"]*"|\\.|_.|\*.|\[[^\]\[]*\]|(?i:general)|[Ee][+-]|.')  # of a format
+GENERAL = "\1"  # in place of the piece General
+DIGIT = f"[0#?{GENERAL}]"  # a place of digits
+DIGITS = re.compile(f"{DIGIT}(?:.*{DIGIT})?", re.DOTALL)
 UNSEEN = re.compile(r"_.|\* | |\[(?:\$(?:-.*)?|[^$].*)?\]", re.DOTALL)  # a piece that adds no character
 SEPARATORS = " '\u00a0\u202f"  # of thousands, besides the comma
+POINTS = ".,\u00b7\u066b\u066c\u3001\u3002"  # and commas, in one width, of all scripts
+MINUS = re.compile(r"\b(?:MINUS|HYPHEN|DASH)\b")  # in the name of a character
+OTHER_MINUSES = "\u25b2\u25b3\u2500"  # the triangles of Japanese tables, and a line that looks like a minus
+REVERSED = "\u202e"  # the characters after it are shown from right to left
+LETTER, OTHER = r"[^\W\d_]", r"[\W\d_]"
+IN_BRACKETS = re.compile(r"\([^()]*\)")
+# A sign in words before or after a number: a bracket, or a minus that doesn't join words.
+SIGN_BEFORE = re.compile(rf"[()]|^{OTHER}*-|-{OTHER}*$|(?<!{LETTER})-(?={LETTER})")
+SIGN_AFTER = re.compile(rf"[()]|^{OTHER}*-(?!{LETTER})|-{OTHER}*$")
 NO_DATE = re.compile(r'"[^"]*"|\\.|_.|\*.|\[(?!(?:h+|m+|s+)\])[^\]\[]*\]', re.IGNORECASE)
 
 
@@ -61,39 +75,96 @@ def is_percentage(code):
 
 
 def added(piece):
-    """The characters that a piece of a format adds to a number."""
+    """The characters that a piece of a format adds to a number; of one that fills the cell, once."""
     if piece.startswith("[$"):
         return piece[2:-1].partition("-")[0]
-    return piece[1:].removesuffix('"') if piece[0] in '"\\' else ""
+    if piece[0] in '"\\*':
+        return piece[1:].removesuffix('"')
+    return "" if piece.isascii() else piece
 
 
-def is_changed(pieces, is_positive):
-    """Whether a section of a format shows another number: if it adds digits, a point or a comma, the sign of a negative number to a positive
-    one, or anything between digits, or shows a thousandth, or no digit at all."""
+def code_of(piece):
+    """A piece as one character. Of one that adds characters, a character that no format has, or nothing if they may separate thousands."""
+    if words := added(piece):
+        return "\0" if words.strip(SEPARATORS) else ""
+    if piece.lower() == "general":
+        return GENERAL
+    return piece[0] if len(piece) == 1 or piece[0] in "Ee" else ""
+
+
+def is_changed(pieces):
+    """Whether a section of a format shows another number: if it adds digits, a point or a comma, or anything between digits, or shows a
+    thousandth, digits in reverse, or none."""
     words = list(map(added, pieces))
-    marks = "".join(each for each in words if not any(map(str.isalpha, each)))
-    # in place of the added characters that aren't separators of thousands, one that no format has
-    own = "".join(piece if len(piece) == 1 else "\0" if each.strip(SEPARATORS) else "" for piece, each in zip(pieces, words))
-    own = re.sub("[Ee][+-]", "E", own)
-    if any(map(str.isnumeric, "".join(words))) or re.search("[.,]", marks) or is_positive and re.search("[-()\u2212]", marks + own):
+    if any(each.isnumeric() or each == REVERSED for each in "".join(words)):
         return True
-    if re.search(rf"[0#?][^0#?.,/E{SEPARATORS}]+[0#?]|[1-9]|[0#?],+(?![0#?,])", own):
+    if re.search(f"[{POINTS}]", unicodedata.normalize("NFKC", without_letters(words))):
         return True
-    return not re.search("[0#?]", own) and "general" not in own.lower()
+    code = "".join(map(code_of, pieces))
+    found = DIGITS.search(code)
+    if not found or re.search(rf"[^0#?.,/E{SEPARATORS}]", found[0][1:-1]) or "," in code[found.end() :]:
+        return True
+    return bool(re.search("[1-9]|[0#?],+(?![0#?,])", code))
+
+
+def without_letters(words):
+    """Those of some words that have no letter."""
+    return "".join(each for each in words if not any(map(str.isalpha, each)))
+
+
+@functools.lru_cache(2**10)
+def sign(character):
+    """A minus or a bracket for those of all scripts; other characters as they are."""
+    kind = unicodedata.category(character)
+    if kind == "Pd" or character in OTHER_MINUSES or MINUS.search(unicodedata.name(character, "")):
+        return "-"
+    return {"Ps": "(", "Pe": ")"}.get(kind, character)
+
+
+def signs(pieces):
+    """The characters that each piece shows besides digits, with the same signs for all scripts."""
+    return ["".join(map(sign, added(piece) or (piece if len(piece) == 1 else ""))) for piece in pieces]
+
+
+def has_sign(pieces):
+    """Whether a section of a format shows the sign of a negative number: a minus, or brackets around the number. Within words, such as
+    EUR-MWh or (MW), they are none."""
+    marks, places = signs(pieces), [at for at, piece in enumerate(pieces) if re.fullmatch(DIGIT, code_of(piece))]
+    if re.search("[-()]", without_letters(marks)) or not places:
+        return bool(places)
+    before, after = (
+        IN_BRACKETS.sub(lambda found: without_letters([found[0]]), "".join(part)) for part in (marks[: places[0]], marks[places[-1] + 1 :])
+    )
+    return bool(SIGN_BEFORE.search(before) or SIGN_AFTER.search(after))
+
+
+def hides_zero(pieces):
+    """Whether a section of a format shows zero without a digit, and without the dash that stands for it in accounts."""
+    return not re.search(f"[0/{GENERAL}]", "".join(map(code_of, pieces))) and "-" not in "".join(signs(pieces))
+
+
+def changes(code):
+    """Whether a format changes positive numbers, negative ones and zero. A section of its own for negative ones shows them without their
+    sign, unless it has one. Under conditions, any section may be of any number, and show it without its sign."""
+    sections = sections_of(code)[:3]
+    changed, signed, hides = (list(map(call, sections)) for call in (is_changed, has_sign, hides_zero))
+    if re.search(r"\[[<>=]", code):
+        positive = any(changed) or any(signed)
+        return positive, True, positive or any(hides)
+    positive = changed[0] or signed[0]
+    negative = changed[1] or not signed[1] if len(sections) > 1 else positive
+    return positive, negative, changed[2] or hides[2] if len(sections) > 2 else positive or hides[0]
 
 
 def of_sections(code):
-    """How a format shows a number if one of its sections changes some."""
-    changed = [is_changed(section, at == 0) for at, section in enumerate(sections_of(code)[:3])]
-    if re.search(r"\[[<>=]", code):
-        changed = [any(changed)]
+    """How a format shows a number if it changes some."""
+    positive, negative, zero = changes(code)
 
     def shown(words):
         number = decimal.Decimal(words)
-        place = 1 if number < 0 and len(changed) > 1 else 2 if not number and len(changed) > 2 else 0
-        return (Changed if changed[place] else Formatted)(words)
+        return (Changed if (positive if number > 0 else negative if number < 0 else zero) else Formatted)(words)
 
-    return shown if any(changed) else Formatted
+    return shown if positive or negative or zero else Formatted
 
 
 def shown_by(code):
@@ -172,13 +243,13 @@ class Styles(Part):
             raise too_many(MOST_FORMATS, "formats of cells")
 
     def open_alignment(self, attributes):
-        """A cell may be filled with its text, again and again."""
+        """A cell may be filled with its text or number, again and again."""
         if attributes.get("horizontal", "").strip(BLANK) == "fill":
             self.filled.add(len(self.formats) - 1)
 
     def of_cells(self):
         made = [self.shown.get(number, Formatted) for number in self.formats]
-        return [Formatted if at in self.filled and shown in (str, general) else shown for at, shown in enumerate(made)]
+        return [Repeated if at in self.filled and shown not in (Date, Percentage) else shown for at, shown in enumerate(made)]
 
     def of_texts(self):
         """The formats of cells that show texts in another way."""

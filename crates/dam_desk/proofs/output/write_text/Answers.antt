@@ -17,4 +17,5 @@ loop-written-preserved g c =
     record {
       within = omega (arith, fits);
       taken = subst (Appends _ _) joined (Appends-trans _ _ _ _ _ before.taken c.in-Ok.ensures.bytes);
+      unfailed = c.in-Ok.ensures.cause;
     }

@@ -4,6 +4,7 @@ use Rattle.std.proofs.lemmas.Bool.{both_ways}
 use Rattle.std.proofs.lemmas.Result.{on_ok_weaker}
 use Rattle.dam_desk.specs.Desk.{at_first}
 use Rattle.dam_desk.specs.Faults.{is_read}
+use Rattle.dam_desk.proofs.Devices.{devices_of}
 use Rattle.dam_desk.proofs.Ends.{end_counts}
 use Rattle.dam_desk.proofs.Served.{answered_still, err_both, err_then, is_served, served_still}
 use Rattle.dam_desk.proofs.run.run_desk.Goals as goal
@@ -19,7 +20,7 @@ returns-in-Ok-clause-served g c =
       given = done.0;
       whole = done.1;
       served = is_served c.serve-done.new.desk disk c.into_disk.ensures is.journal c.as_slice.result.now first done.0
-          (g.W.Write.contents c.args.writer.now) (g.W.Write.contents c.serve-done.new.writer) c.journals_grow.ensures.reads
+          c.args.writer.now.taken c.serve-done.new.writer.taken c.journals_grow.ensures.reads
           c.replies_are_answers.ensures c.journals_are_unambiguous.ensures is.fresh.reads done.2;
     }) (c.serve-done.ensures.done (at_first is.journal) [] is.fresh)
 
@@ -36,7 +37,7 @@ returns-in-Ok-clause-answered g c =
       given = part.0;
       taken = part.1;
       answered = answered_still c.serve-done.new.desk disk c.into_disk.ensures is.journal c.as_slice.result.now first part.0
-          (g.W.Write.contents c.args.writer.now) (g.W.Write.contents c.serve-done.new.writer) part.2;
+          c.args.writer.now.taken c.serve-done.new.writer.taken part.2;
     }) (c.serve-done.ensures.answered (at_first is.journal) [] is.fresh)
 
 pub returns-in-Err-clause-answered : goal.returns-in-Err-clause-answered
@@ -56,7 +57,12 @@ returns-in-Ok-clause-faulty g c =
         given = part.0;
         taken = part.1;
         served = served_still c.serve-done.new.desk disk c.into_disk.ensures is.journal c.as_slice.result.now first part.0
-            (g.W.Write.contents c.args.writer.now) (g.W.Write.contents c.serve-done.new.writer) why part.2;
+            c.args.writer.now.taken c.serve-done.new.writer.taken why part.2;
       },
     )) (c.serve-done.ensures.cause (at_first is.journal) [] is.fresh)
     (c.serve-done.ensures.faulty (at_first is.journal) [] is.fresh)
+
+pub returns-in-Err-clause-devices : goal.returns-in-Err-clause-devices
+returns-in-Err-clause-devices g c =
+    let stream = c.in-Err.ensures.refused.no_stream in
+    devices_of c.args.reader.now c.args.writer.now c.in-Err.refused.why stream.0 c.requires.reader (c.requires.writer ∙ sym stream.1)

@@ -1,4 +1,4 @@
--- Each piece has one answer, all of them done: the collecting law.
+-- Each piece has one answer, all of them done: together they give the result.
 use Rattle.std.proofs.Common.{ℕ, ◌^◌, subst}
 use Rattle.dam_search.specs.inside.Collect.{AreOneEach}
 use Rattle.dam_search.proofs.Answers.{all_in_cutting, conclusive}
@@ -17,7 +17,7 @@ unreachable-requires g c =
     let one : AreOneEach answers (2 ^ depth) = subst (λ (n : ℕ). AreOneEach answers n) c.piece_count.ensures.value c.in_default.ensures in
     let are = conclusive problem depth c.args.nodes answers c.use_invariant.ensures c.requires.depth c.requires.worked one
     c.in_default-least_unfinished.ensures in
-    c.collecting.ensures.found problem depth answers are c.in-None.ensures
+    c.conclusive_answers_give_result.ensures.found problem depth answers are c.in-None.ensures
 
 pub returns-clause-ok : goal.returns-clause-ok
 returns-clause-ok g c =
@@ -25,7 +25,7 @@ returns-clause-ok g c =
     let one : AreOneEach answers (2 ^ depth) = subst (λ (n : ℕ). AreOneEach answers n) c.piece_count.ensures.value c.in_default.ensures in
     let are = conclusive problem depth c.args.nodes answers c.use_invariant.ensures c.requires.depth c.requires.worked one
     c.in_default-least_unfinished.ensures in
-    c.collecting.ensures.result problem depth answers c.in-Some-highest.best are c.in-Some-highest.ensures
+    c.conclusive_answers_give_result.ensures.result problem depth answers c.in-Some-highest.best are c.in-Some-highest.ensures
 
 pub returns-clause-needed : goal.returns-clause-needed
 returns-clause-needed g c =
@@ -34,4 +34,4 @@ returns-clause-needed g c =
     let are = conclusive problem depth c.args.nodes answers c.use_invariant.ensures c.requires.depth c.requires.worked one
     c.in_default-least_unfinished.ensures in
     limit_needed problem depth c.args.nodes answers c.in-Some-highest.best c.requires.worked are.answered
-    (c.collecting.ensures.result problem depth answers c.in-Some-highest.best are c.in-Some-highest.ensures)
+    (c.conclusive_answers_give_result.ensures.result problem depth answers c.in-Some-highest.best are c.in-Some-highest.ensures)

@@ -17,8 +17,8 @@ use Rattle.dam_desk.proofs.desk.Desk.answer_cut_short.Goals as goal
 pub returns-then-is_empty-clause-ok : goal.returns-then-is_empty-clause-ok
 returns-then-is_empty-clause-ok g c begun line =
     let none = sym (ap length (c.bytes.ensures ∙ line)) ∙ eqb-true (length c.bytes.result.now) 0 (sym c.is_empty.ensures ∙ c.if-is_empty.true) in
-    subst (Appends (g.W.Write.contents c.args.writer.now) (g.W.Write.contents c.args.writer.now))
-    (sym (end_of_none (next c.args.self.now.intake.answered) begun none)) (Appends-nil (g.W.Write.contents c.args.writer.now))
+    subst (Appends c.args.writer.now.taken c.args.writer.now.taken)
+    (sym (end_of_none (next c.args.self.now.intake.answered) begun none)) (Appends-nil c.args.writer.now.taken)
 
 pub returns-clause-ok : goal.returns-clause-ok
 returns-clause-ok g c begun line =
@@ -29,7 +29,7 @@ returns-clause-ok g c begun line =
     ∙ ap (λ (n : ℕ). fault_line n CutShort) c.saturating_add-number.ensures
     ∙ sym (end_of_some (next c.args.self.now.intake.answered) begun some) in
     subst (λ (t : List ℕ). OnOk c.write_text.result
-    (Appends (g.W.Write.contents c.args.writer.now) (g.W.Write.contents c.write_text.new.writer) t)) text c.write_text.ensures.done
+    (Appends c.args.writer.now.taken c.write_text.new.writer.taken t)) text c.write_text.ensures.done
 
 pub returns-clause-err : goal.returns-clause-err
 returns-clause-err g c begun line =
@@ -39,11 +39,11 @@ returns-clause-err g c begun line =
     ∙ ap (λ (t : List ℕ). t ++ fault_line c.saturating_add-number.result CutShort) c.new-text.ensures.items
     ∙ ap (λ (n : ℕ). fault_line n CutShort) c.saturating_add-number.ensures
     ∙ sym (end_of_some (next c.args.self.now.intake.answered) begun some) in
-    let old = g.W.Write.contents c.args.writer.now in
-    let new = g.W.Write.contents c.write_text.new.writer in
+    let old = c.args.writer.now.taken in
+    let new = c.write_text.new.writer.taken in
     subst (λ (t : List ℕ). IfErr c.write_text.result (λ fault. (count : ℕ) × Appends old new (take count t) × SaysCount count fault)) text
     (written_part old new c.as_slice.result.now c.write_text.result c.write_text.ensures.fault)
 
 pub returns-in_err-write_fault-clause-err : goal.returns-in_err-write_fault-clause-err
 returns-in_err-write_fault-clause-err g c begun line =
-    err_is c.from_residual.result _ Memory c.from_residual.ensures.1 (0, Appends-nil (g.W.Write.contents c.args.writer.now), tt)
+    err_is c.from_residual.result _ Memory c.from_residual.ensures.1 (0, Appends-nil c.args.writer.now.taken, tt)

@@ -19,13 +19,13 @@ returns-in_err-append-clause-crash g c ready clean file left = either_keeps (hel
 pub returns-in_err-enter_batch-clause-faulty : goal.returns-in_err-enter_batch-clause-faulty
 returns-in_err-enter_batch-clause-faulty g c state begun is ready =
     err_is c.from_residual.result _ Memory c.from_residual.ensures.1
-    (served_none state (begun ++ c.args.bytes.now) [] Memory (g.W.Write.contents c.args.writer.now) _ tt
+    (served_none state (begun ++ c.args.bytes.now) [] Memory c.args.writer.now.taken _ tt
     (opens_store c.args.self.now.store state.journal is.reads is.file (c.is_broken-safe.ensures.safe ready)))
 
 pub returns-in_err-batch-clause-faulty : goal.returns-in_err-batch-clause-faulty
 returns-in_err-batch-clause-faulty g c state begun is ready =
     err_is c.from_residual-in_err-batch.result _ Memory c.from_residual-in_err-batch.ensures.1
-    (served_none state (begun ++ c.args.bytes.now) [] Memory (g.W.Write.contents c.args.writer.now) _ tt
+    (served_none state (begun ++ c.args.bytes.now) [] Memory c.args.writer.now.taken _ tt
     (opens_store c.args.self.now.store state.journal is.reads is.file (c.is_broken-safe.ensures.safe ready)))
 
 pub returns-in_err-append-clause-faulty : goal.returns-in_err-append-clause-faulty
@@ -33,7 +33,7 @@ returns-in_err-append-clause-faulty g c state begun is ready =
     let read = c.in_ok-enter_batch.ensures state begun is.intake in
     let fault = c.in_err-append.field-0.0 in
     err_is c.from_residual-in_err-append.result _ (of_store fault) c.from_residual-in_err-append.ensures.1
-    (served_pending c.enter_batch.new.self state (begun ++ c.args.bytes.now) (of_store fault) (g.W.Write.contents c.args.writer.now) _
+    (served_pending c.enter_batch.new.self state (begun ++ c.args.bytes.now) (of_store fault) c.args.writer.now.taken _
     (store_says 0 fault) read
     (opens_either c.args.self.now.store c.append.new.self c.in_ok-batch.batch (entered_text c.enter_batch.new.self) state.journal read.last.journal
     is.reads (c.journals_grow.ensures.reads state read.last read.lines c.enter_batch.new.self.answers.items is.reads read.answers)
@@ -56,7 +56,7 @@ returns-clause-served g c state begun is =
         answers = c.enter_batch.new.self.answers.items;
         last = read.last;
         answered = read.answers;
-        written = subst (Appends (g.W.Write.contents c.args.writer.now) (g.W.Write.contents c.write_text.new.writer))
+        written = subst (Appends c.args.writer.now.taken c.write_text.new.writer.taken)
             c.as_slice-answers.ensures.value c.in_ok-write_text.ensures.done;
         now = record { intake = read.now; reads = reads; file = text };
         safe = opens_store c.append.new.self read.last.journal reads text c.in_ok-append.ensures.safe;
@@ -67,8 +67,8 @@ returns-clause-served g c state begun is =
 pub returns-in_err-write_text-clause-faulty : goal.returns-in_err-write_text-clause-faulty
 returns-in_err-write_text-clause-faulty g c state begun is ready =
     let read = c.in_ok-enter_batch.ensures state begun is.intake in
-    let old = g.W.Write.contents c.args.writer.now in
-    let new = g.W.Write.contents c.write_text.new.writer in
+    let old = c.args.writer.now.taken in
+    let new = c.write_text.new.writer.taken in
     let reads = c.journals_grow.ensures.reads state read.last read.lines c.enter_batch.new.self.answers.items is.reads read.answers in
     let text = store_grown c.args.self.now.store c.append.new.self c.in_ok-batch.batch (entered_text c.enter_batch.new.self) state.journal read.last.journal
     c.append.ensures.clean is.file c.in_ok-batch.ensures read.text c.in_ok-append.ensures.acknowledged in

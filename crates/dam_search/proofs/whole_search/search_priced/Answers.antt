@@ -1,6 +1,6 @@
 -- The welfare of the first selection is reached, and the explorer suits the plan.
 use Rattle.dam_search.proofs.Seats.{first_reached}
-use Rattle.dam_search.proofs.workers.search_priced.Goals as goal
+use Rattle.dam_search.proofs.whole_search.search_priced.Goals as goal
 
 pub search_with_explorer-requires-clause-reached : goal.search_with_explorer-requires-clause-reached
 search_with_explorer-requires-clause-reached g c κs within =

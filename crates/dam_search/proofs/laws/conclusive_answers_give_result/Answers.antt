@@ -1,9 +1,9 @@
--- The collecting law, from the laws of the crate below.
+-- Conclusive answers give the result, from the laws of the crate below.
 use Rattle.std.proofs.Common.{max}
 use Rattle.dam_blocks.specs.Problem.{ProblemState, IsProblem}
 use Rattle.dam_search.specs.Answer.{IsReached, greatest_found}
 use Rattle.dam_search.proofs.Collecting.{collected, some_found, reached_zero, reached_greater, reached_greatest, all_reached}
-use Rattle.dam_search.proofs.laws.collecting.Goals as goal
+use Rattle.dam_search.proofs.laws.conclusive_answers_give_result.Goals as goal
 
 zero_reached : (c : goal.After-choices_are_all_selections) (problem : ProblemState) → IsProblem problem → IsReached problem 0
 zero_reached c problem is =

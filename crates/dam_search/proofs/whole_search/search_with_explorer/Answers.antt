@@ -6,7 +6,7 @@ use Rattle.dam_search.specs.declared.answer.PieceAnswer.{PieceAnswer}
 use Rattle.dam_search.specs.Search.{IsUnfinished, LimitHasNeeded}
 use Rattle.dam_search.specs.inside.Collect.{IsWorked, IsCollected}
 use Rattle.dam_search.proofs.Seats.{all_worked, one_each, none_faulty}
-use Rattle.dam_search.proofs.workers.search_with_explorer.Goals as goal
+use Rattle.dam_search.proofs.whole_search.search_with_explorer.Goals as goal
 
 pub collected-requires-clause-worked : goal.collected-requires-clause-worked
 collected-requires-clause-worked g c =

@@ -1,0 +1,50 @@
+-- The reader and the writer after a desk's end.
+use Rattle.std.proofs.Common.{◌≡◌, ℕ, List, Option, Result, Ok, Err, IsErrAnd, true, false, refl, sym, ◌∙◌, subst}
+use Rattle.std.proofs.lemmas.Bool.{both_ways}
+use Rattle.dam_desk.specs.Device.{SourceState, SinkState, AreDevicesAfter, IsReaderAfter}
+use Rattle.dam_desk.specs.Faults.{IsWritingFault, fault_after, is_read, is_write}
+use Rattle.dam_desk.specs.declared.fault.DeskFault.{DeskFault}
+use Rattle.dam_desk.specs.declared.fault.DeskFault.TheVariants.{File, Store, NotAJournal, Respelled, Read, Write, Memory}
+use Rattle.dam_desk.proofs.Ends.{read_after, write_after}
+
+not_read : {R : Type 0} (reader : SourceState R) (fault : DeskFault) → is_read fault ≡ false → reader.failed ≡ false → IsReaderAfter reader fault
+not_read reader (File why) other unfailed = unfailed
+not_read reader (Store why) other unfailed = unfailed
+not_read reader (NotAJournal why) other unfailed = unfailed
+not_read reader Respelled other unfailed = unfailed
+not_read reader Read other unfailed = absurd (both_ways true other refl)
+not_read reader (Write written) other unfailed = unfailed
+not_read reader Memory other unfailed = unfailed
+
+-- the fault isn't the reader's
+pub devices_of : {R W : Type 0} (reader : SourceState R) (writer : SinkState W) (fault : DeskFault) → is_read fault ≡ false
+    → reader.failed ≡ false → writer.failed ≡ is_write fault → AreDevicesAfter reader writer (Err fault)
+devices_of reader writer fault other unfailed device = (not_read reader fault other unfailed, device)
+
+-- the same for a fault of a longer text
+pub devices_after : {R W : Type 0} (reader : SourceState R) (writer : SinkState W) (printed : ℕ) (fault told : DeskFault)
+    → told ≡ fault_after printed fault → is_read fault ≡ false → reader.failed ≡ false → writer.failed ≡ is_write fault
+    → AreDevicesAfter reader writer (Err told)
+devices_after reader writer printed fault told same other unfailed device =
+    subst (λ (why : DeskFault). AreDevicesAfter reader writer (Err why)) (sym same)
+    (devices_of reader writer (fault_after printed fault) (read_after printed fault ∙ other) unfailed (device ∙ sym (write_after printed fault)))
+
+writing_fault : (old new : Option (List ℕ)) (text : List ℕ) (fault : DeskFault) → IsWritingFault old new text fault
+    → (is_read fault ≡ false) × (is_write fault ≡ true)
+writing_fault old new text (File why) is = absurd is
+writing_fault old new text (Store why) is = absurd is
+writing_fault old new text (NotAJournal why) is = absurd is
+writing_fault old new text Respelled is = absurd is
+writing_fault old new text Read is = absurd is
+writing_fault old new text (Write written) is = (refl, refl)
+writing_fault old new text Memory is = absurd is
+
+-- the writer failed, and so the run ends with that fault
+pub devices_writing : {R W : Type 0} (reader : SourceState R) (writer : SinkState W) (old new : Option (List ℕ)) (text : List ℕ) (fault : DeskFault)
+    (result : Result (Unit {0}) DeskFault) → IsErrAnd result (λ why. why ≡ fault) → IsWritingFault old new text fault
+    → reader.failed ≡ false → writer.failed ≡ true → AreDevicesAfter reader writer result
+devices_writing reader writer old new text fault (Ok done) same is unfailed failed = absurd same
+devices_writing reader writer old new text fault (Err why) same is unfailed failed =
+    let kind = writing_fault old new text fault is in
+    subst (λ (told : DeskFault). AreDevicesAfter reader writer (Err told)) (sym same)
+    (devices_of reader writer fault kind.0 unfailed (failed ∙ sym kind.1))

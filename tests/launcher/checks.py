@@ -1,0 +1,112 @@
+"""The end of ./check: signals, totals, and the rows of the crates."""
+
+import contextlib
+import json
+import os
+import signal
+import subprocess
+import sys
+import tempfile
+import types
+from importlib.machinery import SourceFileLoader
+
+from repository import FORKING, Case
+
+# A part of a check: it starts a process that doesn't end at SIGTERM, and while any of them runs, the file `running` is open.
+PART = """#!/bin/sh
+exec > running
+sh -c 'trap "" TERM; echo begun; exec sleep 100' &
+wait
+"""
+
+
+class Check(Case):
+    def ends(self, status, signals, ignored=()):
+        """Starts a check that ignores some signals, sends signals to it, but not to the part that is running, and sees how both end."""
+        running = os.open(f"{self.at.top}/running", os.O_RDONLY | os.O_NONBLOCK)
+        shell = [f"trap '' {name}" for name in ignored] + ['exec "$0" --no-install']
+        words = ["sh", "-c", "; ".join(shell), f"{self.at.top}/check"]
+        with self.at.start(*words) as process:
+            self.wait_for(lambda: self.read(running) == b"begun\n")
+            for number in signals:
+                process.send_signal(number)
+            out, error = process.communicate(timeout=60)
+        self.assertEqual((process.returncode, out, error), (status, "== edits: tests/wrong-bodies --apply-only\n", ""))
+        self.wait_for(lambda: self.read(running) == b"")
+        os.close(running)
+
+    def read(self, running):
+        """The written bytes: nothing (None) as yet, or no bytes if nobody has it open for writing."""
+        try:
+            return os.read(running, 100)
+        except BlockingIOError:
+            return None
+
+    def test_libraries_are_copied_if_they_are_proved_or_kept(self):
+        check = types.ModuleType("check")
+        check.__file__ = f"{self.at.top}/check"
+        SourceFileLoader("check", check.__file__).exec_module(check)
+        for name in ("low", "left", "right"):
+            self.at.write(f"crates/{name}/out/rlib/{name}.rlib/checked", name)
+        crates = check.Crates(f"{self.at.top}/copied")
+        crates.line("rt: low proved")
+        crates.line("rt: left is kept: an earlier run on this machine proved the same files over the same libraries")
+        crates.line("rt: right NOT PROVED")
+        rows = list(crates.rows())
+        self.assertEqual(sorted(os.listdir(f"{self.at.top}/copied")), ["left.rlib", "low.rlib"])
+        self.assertEqual(self.at.read("copied/left.rlib/checked"), "left")
+        self.assertIn("proved 0.0 minutes after the start", rows[0])
+        self.assertIn("proved by an earlier run", rows[1])
+
+    def test_the_time_of_a_crate_is_that_of_its_own_proof(self):
+        check = types.ModuleType("check")
+        check.__file__ = f"{self.at.top}/check"
+        SourceFileLoader("check", check.__file__).exec_module(check)
+        works = ["-c", "while True: pass", "--crate-name", "low"]
+        with contextlib.ExitStack() as ends:
+            places = f"{self.at.top}/crates/low", ends.enter_context(tempfile.TemporaryDirectory(prefix="rt-edit-"))
+            with FORKING:
+                proof, edit = (subprocess.Popen([sys.executable, *works], cwd=place) for place in places)
+                # its parent ends at once, so that the check has nothing to do with it
+                words = ["sh", "-c", '"$0" "$@" > /dev/null & echo $!', sys.executable, *works]
+                stranger = subprocess.run(words, cwd=places[0], stdout=subprocess.PIPE, text=True, check=True).stdout.strip()
+            for process in (proof, edit):
+                ends.callback(process.wait)
+                ends.callback(process.kill)
+            ends.callback(os.kill, int(stranger), signal.SIGKILL)
+            crates = check.Crates(f"{self.at.top}/copied")
+            counted = {("low", False, str(proof.pid)), ("low", True, str(edit.pid))}
+            self.wait_for(lambda: {it for it, seconds in list(crates.seconds.items()) if seconds} == counted)
+            crates.line("rt: low proved")
+            self.assertEqual(len(list(crates.rows())), 1)
+            self.assertEqual(set(crates.seconds), counted)
+
+    def test_the_totals_are_written_with_the_commit(self):
+        check = types.ModuleType("check")
+        check.__file__ = f"{self.at.top}/check"
+        SourceFileLoader("check", check.__file__).exec_module(check)
+        whole = check.Part("all")
+        whole.passed, whole.failed = 7, 1
+        before = check.state()
+        self.assertIsNone(before, "no repository")
+        self.at.write(".gitignore", "out/\ncrates/*/out/\n")
+        names = [word for who in ("user.name", "user.email") for word in ("-c", f"{who}=test")]
+        for line in (["init", "--quiet"], ["add", "--all"], [*names, "commit", "--quiet", "-m", "all"]):
+            self.assertEqual(self.at.run("git", *line, cwd=self.at.top)[0], 0)
+        commit = check.state()
+        self.assertEqual(commit, self.at.run("git", "rev-parse", "HEAD", cwd=self.at.top)[1].strip())
+        for changed, of in ((None, commit), ("crates/low/src/lib.rt", None)):
+            if changed:
+                self.at.write(changed, "changed meanwhile")
+            check.tell(whole, commit, False)
+            told = json.loads(self.at.read("out/check.json"))
+            self.assertEqual((told["commit"], told["command"], told["passed"], told["failed"]), (of, "./check", 7, 1))
+
+    def test_a_signal_ends_the_part_with_what_it_started(self):
+        with FORKING:
+            self.at.write("tests/wrong-bodies", PART)
+        os.chmod(f"{self.at.top}/tests/wrong-bodies", 0o755)
+        os.mkfifo(f"{self.at.top}/running")
+        for number in (signal.SIGTERM, signal.SIGINT, signal.SIGHUP):
+            self.ends(128 + number, [number])
+        self.ends(128 + signal.SIGTERM, [signal.SIGHUP, signal.SIGINT, signal.SIGTERM], ["HUP", "INT"])

@@ -1,0 +1,183 @@
+"""./dam runs a program: which one, with which input, output and status."""
+
+import os
+import signal
+import sys
+import time
+
+from repository import IGNORING, PROGRAM, DamCase
+
+
+class Launcher(DamCase):
+    """Which program ./dam runs, before and after it is proved; its input, output and status."""
+
+    def test_answers_before_anything_is_proved(self):
+        for count in range(3):
+            ran = self.at.dam("clear", "a b", "--cut", "9", given="text")
+            self.assertEqual(ran, (0, "words: clear a b --cut 9\ntext", self.line()))
+        self.assertEqual(self.verbs(), ["try"], "compiled once")
+        self.assertEqual(len(self.kept()), 1)
+        self.assertFalse(os.path.exists(self.at.program))
+
+    def test_once_proved_the_line_goes(self):
+        self.at.dam("clear", given="text")
+        status, out, error = self.at.dam("prove")
+        self.assertEqual((status, out), (0, ""))
+        self.assertRegex(error, r"(?m)^proved dam_cli in \d+ s")
+        self.assertEqual({it[1] for it in self.at.said()}, {"low", "left", "right", "high", "dam_cli", "dam_desk"})
+        for words in ([], ["--proved"]):
+            self.assertEqual(self.at.dam(*words, "clear", given="text"), (0, "words: clear\ntext", ""))
+        self.assertEqual(self.verbs().count("try"), 1)
+        self.assertTrue(self.at.is_clean())
+
+    def test_the_words_of_prove_are_those_of_the_tool(self):
+        status, out, error = self.at.dam("prove", "--plan", "--jobs", "2")
+        self.assertEqual((status, error), (0, ""))
+        self.assertIn("of a processor", out)
+        self.assertEqual(self.at.dam("prove", "--jobs", "0")[0], 2)
+        # in another place it is a word of the program
+        self.assertEqual(self.at.dam("clear", "prove")[1], "words: clear prove\n")
+
+    def test_status_and_error_are_the_programs(self):
+        for line in (self.line(), ""):
+            for status in (0, 1, 2, 3, 6, 70, 126):
+                self.assertEqual(self.at.dam("ends", str(status)), (status, f"words: ends {status}\n", line))
+            self.assertEqual(self.at.dam("says", "no\\n"), (0, "words: says no\\n\n", line + "no\n"))
+            self.assertEqual(self.at.dam(), (2, "", line + "help\n"))
+            self.assertEqual(self.at.dam("--help"), (0, "help\n", line))
+            self.prove_it()
+
+    def test_the_status_is_seen_from_a_process_that_ignores_it(self):
+        for status in (0, 3):
+            ran = self.at.run(sys.executable, "-c", IGNORING, f"{self.at.top}/tools/unproved", "ends", str(status))
+            self.assertEqual(ran[:2], (status, f"words: ends {status}\n"))
+
+    def test_input_and_output_go_straight_to_the_program(self):
+        """Also if the input is silent for a time, closed or without end, and if nobody reads the output."""
+        for before in (False, True):
+            with self.at.start(f"{self.at.top}/dam", "x") as process:
+                process.stdin.write("first ")
+                process.stdin.flush()
+                self.assertEqual(process.stdout.readline(), "words: x\n")
+                time.sleep(0.3)
+                process.stdin.write("last")
+                process.stdin.close()
+                out = process.stdout.read()
+            self.assertEqual((process.returncode, out), (0, "first last"))
+            with self.at.start(f"{self.at.top}/dam", "--help") as process:
+                self.assertEqual(process.wait(60), 0)
+            words = '"$1" x <&-; echo "$?"; yes | "$1" x | head -1; "$1" x 2>&- < /dev/null'
+            out = self.at.run("sh", "-c", words, "", f"{self.at.top}/dam")[1]
+            self.assertEqual(out, "words: x\n0\nwords: x\nwords: x\n")
+            if not before:
+                self.prove_it()
+
+    def test_a_directory_as_input(self):
+        """Python doesn't start with it, and the program says what it says of it."""
+        for before in (False, True):
+            status, out, error = self.at.run("sh", "-c", '"$1" x < /', "", f"{self.at.top}/dam")
+            self.assertEqual((status, out), (0, "words: x\n"))
+            self.assertTrue(error.startswith(f"{'' if before else self.line()}cat: "), error)
+            if not before:
+                self.prove_it()
+        # the sums are looked at
+        self.at.write("crates/low/src/lib.rt", "# edited\n")
+        self.at.make_newer("crates/low/src/lib.rt")
+        error = self.at.run("sh", "-c", '"$1" --proved x < /', "", f"{self.at.top}/dam")[2]
+        self.assertIn("low changed since", error)
+
+    def test_an_edit_after_the_proof(self):
+        self.prove_it()
+        paths = ("crates/low/src/lib.rt", "crates/dam_cli/src/main.rt", "crates/high/proofs/p.antt", "crates.txt")
+        for count, path in enumerate(paths):
+            before = self.at.read(path) if os.path.exists(f"{self.at.top}/{path}") else None
+            self.at.write(path, f"{before or ''}\n# edited\n")
+            self.at.make_newer(path)
+            changed = "low, left, right, high" if path == "crates.txt" else path.split("/")[1]
+            name = "crates/dam_cli/out/dam_cli was built of other sources"
+            status, out, error = self.at.dam("x", given="text")
+            if path != "crates.txt":
+                self.assertEqual((status, out, error), (0, "words: x\ntext", self.line(f"{name}: {changed} changed since")), path)
+                self.assertEqual(self.verbs().count("try"), count + 1)
+                status, out, error = self.at.dam("--proved", "x", given="text")
+                self.assertEqual((status, out), (70, ""))
+                self.assertEqual(error, f"dam: {name}: {changed} changed since: './dam prove' proves and builds the program\n")
+            # as it was, at a later date: the sums decide
+            if before is None:
+                os.remove(f"{self.at.top}/{path}")
+            else:
+                self.at.write(path, before)
+            for words in ([], ["--proved"]):
+                self.assertEqual(self.at.dam(*words, "x", given="text"), (0, "words: x\ntext", ""))
+                # the sums needn't be looked at again
+                dates = [os.path.getmtime(it) for it in (self.at.program, f"{self.at.top}/{path}") if os.path.exists(it)]
+                self.assertEqual(max(dates), dates[0])
+        # crates of no concern, and files that aren't sources
+        for path in ("crates/far/src/lib.rt", "crates/other/src/main.rt", "crates/dam_cli/args"):
+            self.at.write(path, "edited")
+            self.at.make_newer(path)
+        self.assertEqual(self.at.dam("--proved", "x", given="text"), (0, "words: x\ntext", ""))
+
+    def test_proved_runs_nothing_else(self):
+        status, out, error = self.at.dam("--proved", "x", given="text")
+        self.assertEqual((status, out), (70, ""))
+        self.assertEqual(error, "dam: crates/dam_cli/out/dam_cli is missing: './dam prove' proves and builds the program\n")
+        self.at.dam("x")
+        self.assertEqual(self.at.dam("--proved", "x")[0], 70, "compiled without proofs")
+        self.prove_it()
+        self.at.write("crates/dam_cli/out/dam_cli", f"{PROGRAM}# another")
+        self.assertIn("another one took its place", self.at.dam("--proved", "x")[2])
+        os.remove(f"{self.at.program}.json")
+        self.assertIn("has no record", self.at.dam("--proved", "x")[2])
+        status, out, error = self.at.dam("x", given="text")
+        why = "crates/dam_cli/out/dam_cli has no record of the sources that it was built of"
+        self.assertEqual((status, out, error), (0, "words: x\ntext", self.line(why)))
+
+    def test_unproved_runs_nothing_that_is_proved(self):
+        self.prove_it()
+        line = self.line("--unproved asks for this")
+        self.assertEqual(self.at.dam("--unproved", "x", "a b", "--", "--unproved", given="text"), (0, "words: x a b -- --unproved\ntext", line))
+        self.assertEqual(self.verbs().count("try"), 1)
+
+    def test_without_python(self):
+        lacks = self.at.without("python3")
+        for words in (["x"], ["--unproved", "x"], ["--proved", "x"], ["prove"]):
+            status, out, error = self.at.dam(*words, env=lacks)
+            self.assertEqual((status, out), (70, ""))
+            self.assertIn("there is no python3 on the path", error)
+        self.prove_it()
+        self.assertEqual(self.at.dam("x", given="text", env=lacks), (0, "words: x\ntext", ""))
+
+    def test_through_links(self):
+        os.makedirs(f"{self.at.top}/some where/deep")
+        os.symlink(f"{self.at.top}/dam", f"{self.at.top}/some where/one")
+        os.symlink("../one", f"{self.at.top}/some where/deep/two")
+        for way in ([f"{self.at.top}/some where/deep/two"], ["sh", "some where/deep/two"], ["some where/one", "--unproved"]):
+            status, out, _ = self.at.run(*way, "x", given="text", cwd=self.at.top)
+            self.assertEqual((status, out), (0, "words: x\ntext"))
+        self.assertEqual(len(self.kept()), 1)
+
+    def test_version(self):
+        self.assertEqual(self.at.dam("--version", env=self.at.without("rt")), (0, "dam 1.2.3\n", ""))
+        self.assertEqual(self.at.said(), [])
+        # it is no word of the program
+        self.assertEqual(self.at.dam("clear", "--version")[:2], (0, "words: clear --version\n"))
+
+    def test_signals(self):
+        """While it compiles and while the program runs, to the whole group and to the launcher alone."""
+        room = f"{self.at.top}/tmp"
+        os.makedirs(room)
+        how = {"env": {**self.at.environment, "TMPDIR": room}}
+        for text, runs in ((f"{PROGRAM}# SECONDS 100", False), ("[ $1 = --help ] || { : > began; exec sleep 100; }", True)):
+            self.at.write("crates/dam_cli/src/main.rt", f"#!/bin/sh\n{text}")
+            for number, to_group in ((signal.SIGINT, True), (signal.SIGTERM, False), (signal.SIGHUP, False), (signal.SIGINT, False)):
+                with self.at.start(f"{self.at.top}/dam", "x", cwd=self.at.top, **how) as process:
+                    self.wait_for(lambda: os.path.exists(f"{self.at.top}/began") if runs else os.listdir(room))
+                    time.sleep(0.2)
+                    (os.killpg if to_group else os.kill)(process.pid, number)
+                    process.communicate(timeout=60)
+                self.assertEqual(process.returncode, 128 + number)
+                self.assertEqual(os.listdir(room), [])
+                self.assertEqual(len(self.kept()), int(runs))
+                if runs:
+                    os.remove(f"{self.at.top}/began")

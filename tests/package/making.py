@@ -1,0 +1,120 @@
+"""Copies of the working tree, and the packages that tools/package makes of them."""
+
+import io
+import json
+import os
+import re
+import shutil
+import subprocess
+import sys
+import tarfile
+from pathlib import Path
+
+from lib.base.rules import VERSION
+
+HERE = Path(__file__).resolve().parent
+TOP = HERE.parents[1]
+PROGRAM, DESK = "crates/dam_cli/out/dam_cli", "crates/dam_desk/out/dam_desk"
+SHARED, STATIC = "library/out/libdam.so.1", "library/out/libdam.a"
+BUILT = {PROGRAM: "dam_cli", DESK: "dam_desk", SHARED: "dam_c", STATIC: "dam_c"}
+DEBIAN, PLAIN = f"dam_{VERSION}_amd64.deb", f"dam-{VERSION}-x86_64-linux.tar.xz"
+PREFIX = PLAIN[: -len(".tar.xz")]
+SECONDS = 1_790_000_000  # the time of the commit
+NAMES = {f"GIT_{who}_{what}": "test" for who in ("AUTHOR", "COMMITTER") for what in ("NAME", "EMAIL")}
+# A second machine: other paths, times, languages and rights.
+OTHER = {"TZ": "Asia/Tokyo", "LANG": "C", "LC_ALL": "C", "COLUMNS": "40", "GZIP": "-1", "XZ_OPT": "-1", "TAR_OPTIONS": "--mode=777"}
+# A Python that leaves docstrings and the tool's folder out.
+ISOLATED = {"PYTHONOPTIMIZE": "2", "PYTHONSAFEPATH": "1"}
+# The Python modules that the office needs, with Debian's package of each.
+OF_THE_OFFICE = {"aiohttp": "python3-aiohttp", "cryptography": "python3-cryptography", "jinja2": "python3-jinja2"}
+
+
+def run_command(words, folder=TOP, **how):
+    """The status, the output and the errors of a command."""
+    ran = subprocess.run([str(word) for word in words], cwd=folder, stdin=subprocess.DEVNULL, capture_output=True, **how)
+    return ran.returncode, ran.stdout.decode(errors="replace"), ran.stderr.decode(errors="replace")
+
+
+def commit_all(folder, words="all"):
+    when = {**os.environ, **NAMES, "GIT_AUTHOR_DATE": f"{SECONDS} +0000", "GIT_COMMITTER_DATE": f"{SECONDS} +0000"}
+    for line in (["add", "--all"], ["commit", "--quiet", "-m", words]):
+        subprocess.run(["git", *line], cwd=folder, env=when, check=True, stdout=subprocess.DEVNULL)
+
+
+def list_tracked():
+    """The files of the working tree that a commit would have."""
+    _, shown, _ = run_command(["git", "ls-files", "-z", "--cached", "--others", "--exclude-standard"])
+    return [name for name in shown.split("\0") if name and (TOP / name).is_file()]
+
+
+def make_copy(folder, stand_ins):
+    """Makes a copy of the working tree, with the built files."""
+    folder.mkdir()
+    for name in list_tracked():
+        (folder / name).parent.mkdir(parents=True, exist_ok=True)
+        shutil.copy(TOP / name, folder / name)
+    subprocess.run(["git", "init", "--quiet"], cwd=folder, check=True)
+    commit_all(folder)
+    for name, crate in BUILT.items():
+        (folder / name).parent.mkdir(parents=True, exist_ok=True)
+        if stand_ins:
+            shutil.copy(stand_ins / Path(name).name, folder / name)
+            record_as_built(folder, name, crate)
+        else:
+            shutil.copy(TOP / name, folder / name)
+            shutil.copy(f"{TOP / name}.json", f"{folder / name}.json")
+
+
+def record_as_built(folder, name, crate):
+    """Records a file as built of the present sources."""
+    _, sums, _ = run_command([sys.executable, "tools/lib/crates/sources.py", crate], folder)
+    (folder.parent / "sums").write_text(sums)
+    run_command([sys.executable, "tools/lib/crates/sources.py", crate, folder.parent / "sums", folder / name], folder)
+
+
+def compile_stand_ins(folder, given):
+    """Compiles the stand-ins of the built files, in place of those that aren't given."""
+    folder.mkdir()
+    subprocess.run(["cc", HERE / "stand_in.c", "-o", folder / "dam_cli"], check=True)
+    (folder / "usage.h").write_text(f"#define USAGE {json.dumps(read_usage_of_desk())}\n")
+    subprocess.run(["cc", "-DDESK", "-include", folder / "usage.h", HERE / "stand_in.c", "-o", folder / "dam_desk"], check=True)
+    shared = ["-DLIBRARY", "-shared", "-fPIC", "-Wl,-soname,libdam.so.1"]
+    subprocess.run(["cc", *shared, HERE / "stand_in.c", "-o", folder / "libdam.so.1"], check=True)
+    shutil.copy(folder / "libdam.so.1", folder / "libdam.a")
+    for name, path in ("dam_cli", given.dam), ("dam_desk", given.desk):
+        if path:
+            shutil.copy(path, folder / name)
+    return folder
+
+
+def read_usage_of_desk():
+    """The help of dam-desk, from its source."""
+    return re.search(r'^pub\(crate\) const USAGE: &str = "(.*?)";$', (TOP / "crates/dam_desk/src/command_line.rt").read_text(), re.M | re.S)[1]
+
+
+def run_tool(folder, *words, **how):
+    return run_command([sys.executable, "tools/package", *words], folder, **how)
+
+
+def make_packages(counts, folder, other=False):
+    """Makes the packages of a copy: their folder."""
+    room = folder.parent / f"made of {folder.name}"
+    how = {"env": {**os.environ, **OTHER, "TMPDIR": str(folder.parent)}, "umask": 0o077} if other else {}
+    status, out, error = run_tool(folder, "--out", room, **how)
+    counts.check(f"the packages of {folder.name} are made: {error}", status == 0 and out == f"{room / DEBIAN}\n{room / PLAIN}\n")
+    return room
+
+
+def unpack_tar(room):
+    return subprocess.run(["xz", "-dc", room / PLAIN], stdout=subprocess.PIPE, check=True).stdout
+
+
+def read_contents(room):
+    """The files of the archive that runs in place, by name."""
+    with tarfile.open(fileobj=io.BytesIO(unpack_tar(room))) as archive:
+        return {it.name.partition("/")[2]: archive.extractfile(it).read() for it in archive if it.isfile()}
+
+
+def run_for_commands(program):
+    """The commands in the help of `dam`."""
+    return re.findall(r"^  (\w+) ", run_command([program, "--help"])[1].partition("\nCommands:\n")[2].partition("\n\n")[0], re.MULTILINE)
