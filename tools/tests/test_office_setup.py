@@ -554,6 +554,68 @@ class Setup(Office):
                 self.assertIn(f"{path} can't be used: it isn't {kind}", err)
             path.write_bytes(kept)
 
+    def test_where_the_terms_of_a_day_are_odd(self):
+        """The fault names the member."""
+        self.addCleanup(os.umask, os.umask(0o077))
+        self.make()
+        path = self.office.days()[DAY].file(folder.TERMS)
+        kept = path.read_bytes()
+        value = json.loads(kept)
+        periods, zone = "periods should be one of 23, 24, 25, 92, 96, 100, and is ", "zone should be a time zone of this system, and is "
+        closes, each = "closes should be a time in UTC, such as 2026-11-28T11:00:00+00:00, and is ", "from 0 to 9,999, and has "
+        for more, words in (
+            ({"day": "2026-11-30"}, f'day should be the name of its folder, {DAY}, and is "2026-11-30"'),
+            ({"day": 20261129}, f"day should be the name of its folder, {DAY}, and is 20261129"),
+            ({"periods": 48}, f"{periods}48"),
+            ({"periods": "24"}, f'{periods}"24"'),
+            ({"periods": 24.0}, f"{periods}24.0"),
+            ({"periods": True}, f"{periods}true"),
+            ({"periods": 10**19}, f"{periods}10000000000000000000"),
+            ({"periods": 10**20}, f"{periods}1e+20"),
+            ({"shares": {"GAS": -(10**4_000)}}, f"shares: GAS should have a whole number {each}-Infinity"),
+            ({"closes": "2026-11-28T11:00:00"}, f'{closes}"2026-11-28T11:00:00"'),
+            ({"closes": "2026-11-28T12:00:00+01:00"}, f'{closes}"2026-11-28T12:00:00+01:00"'),
+            ({"closes": "noon"}, f'{closes}"noon"'),
+            ({"closes": 1795863600}, f"{closes}1795863600"),
+            ({"zone": "Atlantis"}, f'{zone}"Atlantis"'),
+            ({"zone": "../../etc/passwd"}, f'{zone}"../../etc/passwd"'),
+            ({"zone": None}, f"{zone}null"),
+            ({"shares": {}}, "shares should be an object that has each participant, and is {}"),
+            ({"shares": ["GAS"]}, 'shares should be an object that has each participant, and is ["GAS"]'),
+            ({"shares": {"gas": 1}}, "shares: 'gas' should be 1 to 8 letters A to Z"),
+            ({"shares": {"GAS": 1, "A": -1}}, f"shares: A should have a whole number {each}-1"),
+            ({"shares": {"GAS": 1.5}}, f"shares: GAS should have a whole number {each}1.5"),
+            ({"shares": {"GAS": True}}, f"shares: GAS should have a whole number {each}true"),
+            ({"shares": {"GAS": 10_000}}, f"shares: GAS should have a whole number {each}10000"),
+            ({"shares": {"GAS": 9_000, "A": 1_000}}, "shares: together they are 10,000, and a journal has 9,999 commands"),
+            ({"share": 1}, "'share' is no member of it"),
+        ):
+            self.odd(path, json.dumps({**value, **more}).encode(), words)
+        for name in value:
+            self.odd(path, json.dumps({other: value[other] for other in value if other != name}).encode(), f"'{name}' is missing")
+            twice = kept.rstrip()[:-1] + f', "{name}": {json.dumps(value[name])}}}'.encode()
+            self.odd(path, twice, f"'{name}' comes twice")
+        self.odd(path, kept.replace(b'"GAS": 1000', b'"GAS": 1, "GAS": 2'), "'GAS' comes twice")
+        self.odd(path, b"[]", "it should be an object")
+        self.odd(path, kept.replace(b'"periods": 24', b'"periods": 1' + b"0" * 9_999), f"{periods}Infinity")
+        self.odd(path, kept.replace(b'"periods": 24', b'"periods": 1e999'), f"{periods}Infinity")
+        with mock.patch("lib.tool.modules.has_zone", return_value=False):
+            self.odd(path, kept, f'{zone}"UTC"', False)
+        path.write_bytes(kept)
+        self.assertEqual(self.office.days()[DAY].terms().value(), value)
+
+    def odd(self, path, data, words, by_status=True):
+        """Terms whose fault has these words."""
+        path.write_bytes(data)
+        said = f"{path} can't be used: it isn't the terms of a day: {words}"
+        with self.subTest(words):
+            with self.assertRaises(command.Stop) as fault:
+                self.office.days()[DAY].terms()
+            self.assertEqual(str(fault.exception), said)
+            if by_status:
+                status, _, err = tool("office", "status", self.office.path, "--desk", "true")
+                self.assertEqual((status, err), (command.NO_INPUT, f"office: {DAY}: {said}\n"))
+
     def test_the_status_has_the_other_days_of_one_that_cant_be_read(self):
         self.addCleanup(os.umask, os.umask(0o077))
         self.make()

@@ -11,7 +11,7 @@ from typing import NamedTuple
 
 from ..base import place, replacing, rules, text
 from ..seal import heads
-from ..tool import command
+from ..tool import command, modules
 
 KEY, PUBLIC, PARTICIPANTS, LOCK, DAYS = "operator.pem", "operator.pem.pub", "participants.json", "lock", "days"
 TERMS, SALTS, DESK = "terms.json", "salts.json", "desk"  # of a day; the last one is the desk's file
@@ -25,6 +25,7 @@ STOPPED = "stopped"  # a state that only an office in service knows
 MOST_COMMANDS = rules.MOST_RECORDS - 2  # of all participants: the day and the close are records too
 UNREADABLE = (OSError, command.Stop)  # by a file that is missing, damaged or another user's
 PRIVATE = 0o077  # the bits of a mode that no file of an office has
+MOST_DIGITS = 20  # of a number that is read
 ROOM = 1 << 17  # bytes: more than the desk writes at once
 
 
@@ -41,14 +42,68 @@ class Terms(NamedTuple):
         return {**self._asdict(), "closes": self.closes.isoformat()}
 
 
-def terms_read(data):
-    value = json.loads(data)
-    made = Terms(**{**value, "closes": datetime.datetime.fromisoformat(value["closes"])})
-    if not is_name(heads.DAY, made.day) or type(made.periods) is not int or made.periods not in rules.DAYS or made.closes.tzinfo is None:
-        raise ValueError
-    if not isinstance(made.zone, str) or not is_by_participant(made.shares, lambda share: type(share) is int and share >= 0):
-        raise ValueError
+class Odd(ValueError):
+    """A file of the office isn't as the office writes it: the words say where."""
+
+
+def once(pairs):
+    """The object of these members, none of which comes twice."""
+    made = {}
+    for name, value in pairs:
+        if name in made:
+            raise Odd(f"{text.quoted(name)} comes twice")
+        made[name] = value
     return made
+
+
+def terms_read(data, day):
+    """The terms of the day of a name."""
+    value = json.loads(data, object_pairs_hook=once, parse_int=whole_number)
+    if not isinstance(value, dict):
+        raise Odd("it should be an object")
+    for name in [*Terms._fields, *value]:
+        if name not in value or name not in Terms._fields:
+            raise Odd(f"{text.quoted(name)} is {'missing' if name not in value else 'no member of it'}")
+    closes = closes_read(value["closes"])
+    for name, is_right, should in (
+        ("day", value["day"] == day, f"the name of its folder, {day}"),
+        ("periods", type(value["periods"]) is int and value["periods"] in rules.DAYS, f"one of {', '.join(map(str, sorted(rules.DAYS)))}"),
+        ("closes", closes is not None, "a time in UTC, such as 2026-11-28T11:00:00+00:00"),
+        ("zone", isinstance(value["zone"], str) and modules.has_zone(value["zone"]), "a time zone of this system"),
+        ("shares", isinstance(value["shares"], dict) and value["shares"], "an object that has each participant"),
+    ):
+        if not is_right:
+            raise Odd(f"{name} should be {should}, and is {shown(value[name])}")
+    refuse_shares(value["shares"])
+    return Terms(**{**value, "closes": closes})
+
+
+def whole_number(digits):
+    """A whole number; one with more digits than any that is right is another."""
+    return int(digits) if len(digits) <= MOST_DIGITS else float(digits)
+
+
+def closes_read(word):
+    """The time of a close; None for any other value."""
+    with contextlib.suppress(ValueError):
+        if isinstance(word, str) and (found := datetime.datetime.fromisoformat(word)).utcoffset() == datetime.timedelta(0):
+            return found
+    return None
+
+
+def refuse_shares(shares):
+    for who, share in shares.items():
+        if text.parse_participant(who.encode(errors="replace")) is None:
+            raise Odd(f"shares: {text.quoted(who)} should be {text.A_PARTICIPANT}")
+        if type(share) is not int or not 0 <= share <= MOST_COMMANDS:
+            raise Odd(f"shares: {who} should have a whole number from 0 to {MOST_COMMANDS:,}, and has {shown(share)}")
+    if (whole := sum(shares.values())) > MOST_COMMANDS:
+        raise Odd(f"shares: together they are {whole:,}, and a journal has {MOST_COMMANDS:,} commands")
+
+
+def shown(value):
+    """A value that was read, in a message."""
+    return text.safe(json.dumps(value))
 
 
 def is_name(form, word):
@@ -111,8 +166,9 @@ def sound(path, kind):
     """Ends what reads a file of the office with a fault that names it, if it is damaged."""
     try:
         yield
-    except (ValueError, TypeError, KeyError, RecursionError, heads.BadRecord):
-        raise command.Stop(f"{command.shown(path)} can't be used: it isn't {kind}") from None
+    except (ValueError, TypeError, KeyError, RecursionError, heads.BadRecord) as fault:
+        where = f": {fault}" if isinstance(fault, (Odd, heads.BadRecord)) else ""
+        raise command.Stop(f"{command.shown(path)} can't be used: it isn't {kind}{where}") from None
 
 
 def as_json(value):
@@ -146,7 +202,7 @@ class DayFolder:
 
     def terms(self):
         with sound(self.file(TERMS), "the terms of a day"):
-            return terms_read(self.read(TERMS))
+            return terms_read(self.read(TERMS), self.path.name)
 
     def salts(self):
         with sound(self.file(SALTS), "the salts of a day"):

@@ -27,7 +27,7 @@ def digest(token):
 
 def digests_read(data):
     """The digest of each participant's token, or None if it has none."""
-    value = json.loads(data)
+    value = json.loads(data, object_pairs_hook=folder.once)
     if not folder.is_by_participant(value, lambda digest: digest is None or folder.is_name(DIGEST, digest)):
         raise ValueError
     return value
