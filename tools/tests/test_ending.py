@@ -24,7 +24,7 @@ from unittest import mock
 from support import AUCTION, AUCTION_RESULTS, TOOLS, TOP, heed_interrupts, journal_of, results_of
 
 from lib.audit import better
-from lib.base import aside, children, ending
+from lib.base import aside, children, ending, place
 from lib.tool import command, modules
 from lib.base.progress import Progress
 from lib.runs import by_program, errors
@@ -85,9 +85,10 @@ PACKAGES = {"audit": [], "lint": [], "plot": ["matplotlib"], "report": ["matplot
 
 def limited(words, megabytes, data=b""):
     """A run of a tool that may have no more memory than this."""
+    most = int(megabytes * 2**20)
 
     def limit():
-        resource.setrlimit(resource.RLIMIT_AS, (megabytes << 20, megabytes << 20))
+        resource.setrlimit(resource.RLIMIT_AS, (most, most))
 
     ran = subprocess.run([sys.executable, *map(str, words)], input=data, capture_output=True, preexec_fn=limit)
     return ran.returncode, ran.stdout, ran.stderr.decode()
@@ -153,6 +154,37 @@ class Failing(unittest.TestCase):
             "(_ for _ in ()).throw(SystemError('<built-in function a> returned NULL without setting an exception'))",
         ):
             self.assertEqual(self.failed(call), said)
+
+    def test_memory_before_a_tool_is_watched(self):
+        """If it is enough for Python to read the script, the last line names it; each limit is near the least one that is enough."""
+        for name, *words in (["lint", "-"], ["table", "-", "--rows", "commands"]):
+            read = ["-I", "-S", "-c", f"compile(open({str(TOOLS / name)!r}).read(), 'a', 'exec')"]
+            sizes = (size / 2 for size in range(12, 120))
+            enough = next(size for size in sizes if not any(limited(read, size + more)[0] for more in (0, 0.5, 1)))
+            for more in range(4, 12):
+                status, out, err = limited(["-I", "-S", TOOLS / name, *words], enough + more / 4)
+                self.assertEqual((status, out, err.splitlines()[-1:]), (command.FAILED, b"", [f"{name}: out of memory"]))
+                self.assertNotIn("Traceback", err)
+
+    def test_a_small_stack(self):
+        """Without it, the system would end Python in the midst of a picture, or at a text that is nested too deep."""
+        for name in place.TOOLS:
+            for kib, is_enough in ((64, False), (511, False), (512, True)):
+                limit = functools.partial(resource.setrlimit, resource.RLIMIT_STACK, (kib << 10, kib << 10))
+                words = [sys.executable, "-I", "-S", TOOLS / name, "--version"]
+                ran = subprocess.run(words, capture_output=True, text=True, preexec_fn=limit)
+                said = "" if is_enough else f"{name}: its stack may have {kib} KiB: raise the limit (ulimit -s)\n"
+                self.assertEqual((ran.returncode, ran.stderr), (command.FAILED * (not is_enough), said))
+
+    def test_a_tool_without_its_parts(self):
+        with tempfile.TemporaryDirectory() as folder:
+            for name in place.TOOLS:
+                path = Path(folder, name)
+                path.write_bytes((TOOLS / name).read_bytes())
+                ran = subprocess.run([sys.executable, "-I", "-S", path], capture_output=True, text=True)
+                said = "it can't start: No module named 'lib'"
+                said = f"the rest of this tool is missing: the folder {folder}/lib" if name == "audit" else said
+                self.assertEqual((ran.returncode, ran.stdout, ran.stderr), (command.FAILED, "", f"{name}: {said}\n"))
 
     def test_right_results_are_never_called_wrong(self):
         """The search for a better selection needs far more memory than the rest."""

@@ -1,13 +1,14 @@
 """How a tool ends if it fails itself, because memory or files run out or it has a defect: with one line on standard error, and a status that
 is no verdict. With DAM_DEBUG=1 in the environment Python's traceback comes before the line.
 
-A tool calls `watch` before it imports anything else of this folder, since an import may fail too, and Ctrl-C may come in the midst of it. The
-launcher's call `guard`, for which Python 3.8 is enough.
+A tool calls `watch` before it imports anything else of this folder, since an import may fail too, and Ctrl-C may come in the midst of it.
+If this import fails, a function `stop` of its script ends it. The launcher's call `guard`, for which Python 3.8 is enough.
 From `raise_signals` on, signals are exceptions: so the tool's processes are ended, and its temporary files removed."""
 
 import atexit
 import contextlib
 import os
+import resource
 import signal
 import sys
 import threading
@@ -21,6 +22,7 @@ INTERRUPTED = OF_SIGNALS + signal.SIGINT
 ENDING = signal.SIGTERM, signal.SIGHUP  # besides Ctrl-C
 PAUSE = 5  # seconds after a signal, or Ctrl-C, in which others aren't heeded: they would stop the end
 AGAIN = 0.01  # seconds until a signal whose exception was lost is raised again
+LEAST_STACK = 1 << 19  # bytes: with fewer, the system ends Python before it sees a recursion that is too deep, or matplotlib draws
 
 # The messages of the system's loader, of Python's threads and of code in C if there is no memory for them.
 NO_MEMORY = ("cannot allocate memory", "failed to map segment", "can't start new thread", "can't allocate", "out of memory",
@@ -100,10 +102,19 @@ def watch(tool):
         os.write(2, f"{tool}: it needs Python 3.10 or newer\n".encode())
         sys.exit(FAILED)
     guard(tool)
+    need_stack(tool)
     if sys.flags.no_site:  # the packages of the system, which may run code of their own, are left until now
         import site
 
         site.main()
+
+
+def need_stack(tool):
+    """Ends the tool at once if its stack, and so that of each thread, may be too small."""
+    most, _ = resource.getrlimit(resource.RLIMIT_STACK)
+    if 0 <= most < LEAST_STACK:
+        os.write(2, f"{place.command_name(tool)}: its stack may have {most >> 10} KiB: raise the limit (ulimit -s)\n".encode())
+        os._exit(FAILED)
 
 
 def guard(tool, failed=FAILED):
