@@ -13,7 +13,7 @@ import images
 import journals
 import kills
 import streams
-from device import OUTPUT, SECONDS, SYNC
+from device import EVERY, INPUT, OUTPUT, SECONDS, SYNC, Refusal
 from images import HEAD, MOST, is_at_rest, marked_in
 from journals import CLOSE, rules
 from shared.printed import Printed
@@ -27,6 +27,7 @@ NOBODY = 65_534
 NO_TEXT = os.fsdecode(b"\xff")  # a word that isn't UTF-8
 BATCH = 65_536  # bytes of a read
 READS = 70_000  # more than 16 bits count
+LINES = 300_000  # of an input that comes in by as many reads
 LENGTHS = [round(1.5**power) for power in range(1, 29)]  # of lines, up to one that is too long
 MEMORY = 256 << 20  # bytes of addresses, for the longest inputs
 USAGE = b"command line\nUsage: dam-desk "
@@ -101,6 +102,7 @@ def run(counts, desk, dam, whole):
     files.half_a_line()
     files.long_batches()
     files.many_reads()
+    files.many_lines()
     files.hostile_lines(whole)
     print(f"files: {counts.passed + counts.failed - before} checks; {time.monotonic() - begun:.1f} s", flush=True)
 
@@ -352,6 +354,14 @@ class Files:
             self.counts.check(f"line {number} of as many reads is answered", is_right)
             rest, _ = desk.communicate()
             self.counts.check(f"a desk ends after {number} reads: status {desk.returncode}", (desk.returncode, rest) == (0, b""))
+
+    def many_lines(self):
+        """The same for more lines, which are all there at once: each read moves the two bytes of one."""
+        file, refusal = desk_file(self.desk.folder(), lines(DAY)), " ".join(map(str, Refusal(INPUT, 1, EVERY, most=2)))
+        got = self.given([file], b"A\n" * LINES, env=self.desk.environment(file, DESK_REFUSE=refusal))
+        right = b"day,24\n" + b"".join(b"fault,%d,FieldCount\n" % number for number in range(1, LINES + 1))
+        about = f"{LINES:,} lines in as many reads: status {got.status}, {got.stderr[:80]!r}, {got.stdout[-60:]!r}"
+        self.counts.check(about, (got.status, got.stdout, got.stderr) == (0, right, b""))
 
     def hostile_lines(self, whole):
         """16 MB of lines that aren't records, in little memory."""

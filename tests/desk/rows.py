@@ -12,6 +12,7 @@ import crashes
 import files
 import kills
 import names
+import openings
 import refused
 import shape_costs
 import stand_ins
@@ -20,8 +21,8 @@ from device import Desk
 from journals import Dam
 from shared.counts import Counts
 
-PARTS = {"stand_ins": stand_ins, "crashes": crashes, "kills": kills, "refused": refused, "files": files, "streams": streams, "names": names,
-         "shapes": shape_costs}  # fmt: skip
+PARTS = {"stand_ins": stand_ins, "crashes": crashes, "kills": kills, "refused": refused, "files": files, "openings": openings,
+         "streams": streams, "names": names, "shapes": shape_costs}  # fmt: skip
 
 
 def processor_time():

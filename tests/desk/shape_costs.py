@@ -1,5 +1,6 @@
 """What a desk costs for journals of each shape, as `tests/hostile/shapes.py` has it for `dam`: with a new file, with that file opened
-again, for the journal of the file, and for the second half of the journal in a file that has the first."""
+again, for the journal of the file, and for the second half of the journal in a file that has the first. Files of more commands on each
+length of a day, of a full journal and with a torn end are only opened again; long lines come to a file that has only its day."""
 
 import itertools
 import shutil
@@ -7,15 +8,24 @@ import sys
 from concurrent.futures import ThreadPoolExecutor
 from pathlib import Path
 
+import files
+from images import HEAD
+from journals import rules
+from streams import LONGEST
+
 sys.path.append(str(Path(__file__).resolve().parents[1] / "hostile"))
 
 import costs
 import shapes
 from preload import Program, Refusal
 
-COUNTED = Path(__file__).with_name("counted.csv")
+HERE = Path(__file__).resolve().parent
 HELD, AT_ONCE = 1_000, 64  # orders, and bytes of a read
-SEED = costs.FIXED._replace(first=3)  # a file draws twice before
+JOURNAL, JOURNAL_SEED, SEED = "--journal", costs.FIXED, costs.FIXED._replace(first=3)  # an opened file draws twice before
+COMMANDS = dict(zip(rules.DAYS, (1_050, 1_600, 2_400, 3_600, 5_400, 8_100)))  # of a file that is opened again, by the day's length
+LINES, IN_ALL = (12_000, 30_000, LONGEST, 100_000, 16_000_000), 2_000_000  # the lengths of long lines, and their bytes in all, or one line
+TORN = (20_000, 500_000, 10_000_000)  # bytes after the end of a file's lines
+DAY = b"day,24,,,,,,,\n"
 
 
 def journals():
@@ -26,6 +36,64 @@ def journals():
             yield f"{shape.periods}: {about}", costs.journal([*first, *itertools.islice(records, shapes.COMMANDS)], True, shape.periods)
 
 
+def longer_journals():
+    """Yields a journal of each length of a day, and a full one."""
+    for periods, count in COMMANDS.items():
+        shape = shapes.Shape(periods, "BRAVO", "N-%d", False)
+        *_, (_, records) = shapes.commands(shape)
+        first = list(shape.first())
+        yield f"{periods}: {count:,} commands", costs.journal([*first, *itertools.islice(records, count - len(first))], False, periods)
+    yield "24: all commands of a full journal", costs.journal(costs.full_journal())
+
+
+def cost(program, words, data, others):
+    """What a run costs. It is made twice, and the second time with the other words: those of a file that is the same."""
+    found, growths = costs.counted(program, words, data, JOURNAL_SEED if JOURNAL in words else SEED)
+    printed, peak = program.run(others, data, Refusal("peak"))
+    if printed.status:
+        raise ValueError(f"{words}: status {printed.status}, {printed.stderr[:80]!r}")
+    return shapes.Cost(found, peak, growths)
+
+
+def of_journal(program, desk, about, data):
+    """Yields the name of each run, and its cost."""
+    file, copy = (desk.folder() / "day.desk" for _ in range(2))
+    yield f"new {about}", cost(program, [file], data, [copy])
+    yield f"again {about}", cost(program, [file], b"", [file])
+    yield f"journal {about}", cost(program, [JOURNAL, file], b"", [JOURNAL, file])
+    yield f"rest {about}", of_rest(program, desk, data)
+
+
+def of_longer(program, desk, about, data):
+    """Yields what the file of a journal costs that is opened again."""
+    file = desk.folder() / "day.desk"
+    program.run([file], data, costs.DRAWN)
+    yield f"again {about}", cost(program, [file], b"", [file])
+
+
+def of_rest(program, desk, data):
+    """What the second half of a journal costs, whose first half a file has."""
+    lines = data.splitlines(keepends=True)
+    first, rest = (b"".join(part) for part in (lines[: len(lines) // 2], lines[len(lines) // 2 :]))
+    file, copy = (desk.folder() / "day.desk" for _ in range(2))
+    for path in (file, copy):
+        program.run([path], first, costs.DRAWN)
+    return cost(program, [file], rest, [copy])
+
+
+def of_torn(program, desk, count):
+    """Yields what the opening of a file costs that a crash left with line feeds after its lines: its end is repaired."""
+    file, copy = (files.desk_file(desk.folder(), HEAD + b"+" + DAY + b"\n" * count) for _ in range(2))
+    yield f"again after {count:,} bytes torn", cost(program, [file], b"", [copy])
+
+
+def of_lines(program, desk, length):
+    """Yields what lines cost whose first byte isn't ASCII: they are copied, but not read as records."""
+    data = DAY + (b"\xff" + b"A" * (length - 1) + b"\n") * max(1, IN_ALL // length)
+    file, copy = (desk.folder() / "day.desk" for _ in range(2))
+    yield f"new, lines of {length:,} bytes", cost(program, [file], data, [copy])
+
+
 def small_reads(program, desk):
     """Yields the runs of a desk that gets a few lines at a time, with a book of many orders after a cancel: it draws its own seeds."""
     shape = shapes.SHORT
@@ -33,44 +101,24 @@ def small_reads(program, desk):
     records = [*shape.first(HELD), shape.cancel(shape.named(1)), *itertools.islice(amends, shapes.COMMANDS)]
     data, file = costs.journal(records, True, shape.periods), desk.folder() / "day.desk"
     found = costs.instructions(program, [file], data, Refusal("read", most=AT_ONCE))
-    yield f"new, {AT_ONCE} bytes a read", found, 0
-
-
-def of_journal(program, desk, about, data):
-    """Yields the name of each run, its instructions, and the most bytes that it holds."""
-    file, copy = (desk.folder() / "day.desk" for _ in range(2))
-    for name, words, text in [("new", [file], data), ("again", [file], b""), ("journal", ["--journal", file], b"")]:
-        found = costs.instructions(program, words, text, SEED)
-        printed, peak = program.run([copy if word == file else word for word in words], text, Refusal("peak"))
-        if printed.status:
-            raise ValueError(f"{about}, {name}: status {printed.status}, {printed.stderr[:80]!r}")
-        yield f"{name} {about}", found, peak
-    yield f"rest {about}", *of_rest(program, desk, data)
-
-
-def of_rest(program, desk, data):
-    """What the second half of a journal costs, whose first half a file has: the instructions, and the bytes that are held."""
-    lines = data.splitlines(keepends=True)
-    first, rest = (b"".join(part) for part in (lines[: len(lines) // 2], lines[len(lines) // 2 :]))
-    files = [desk.folder() / "day.desk" for _ in range(2)]
-    for file in files:
-        program.run([file], first, Refusal("peak"))
-    return costs.instructions(program, [files[0]], rest, SEED), program.run([files[1]], rest, Refusal("peak"))[1]
+    yield f"new, {AT_ONCE} bytes a read", shapes.Cost(found)
 
 
 def costs_of(desk):
-    program, tried = Program(desk.words[0], desk.room), list(journals())
+    program = Program(desk.words[0], desk.room)
+    tried = [(of_journal, it) for it in journals()] + [(of_longer, it) for it in longer_journals()]
+    tried += [(of_torn, [count]) for count in TORN] + [(of_lines, [length]) for length in LINES] + [(small_reads, [])]
     with ThreadPoolExecutor() as pool:
-        found = list(itertools.chain.from_iterable(pool.map(lambda it: list(of_journal(program, desk, *it)), tried)))
-    return [*found, *small_reads(program, desk)]
+        found = pool.map(lambda it: list(it[0](program, desk, *it[1])), tried)
+        return list(itertools.chain.from_iterable(found))
 
 
 def count(desk):
-    shapes.write(COUNTED, costs_of(desk))
+    shapes.write(HERE, costs_of(desk))
 
 
 def run(counts, desk, dam, whole):
     if shutil.which("valgrind"):
-        shapes.compare(counts, COUNTED, costs_of(desk))
+        shapes.compare(counts, HERE, costs_of(desk))
     else:
         counts.leave_out("what a desk costs for each shape of a journal: valgrind, which counts instructions, is missing", 1)

@@ -1,10 +1,12 @@
 """Memory is refused to one call after another of `dam_refusals`, which makes each call again that was refused memory, and checks that the
 refused call changed nothing and that the same call then gives its row's answer."""
 
+import bisect
 from pathlib import Path
 from typing import NamedTuple
 
 import judge
+from lib.base import rules
 from lib.runs.by_library import MOST_NODES
 from preload import EVERY, Program, Refusal
 from shared.printed import Printed
@@ -13,6 +15,7 @@ REFUSALS = Path(__file__).resolve().parents[2] / "crates/dam_refusals/out/dam_re
 # The output if memory is refused before the first call of the row: to its words or its input, or to the state that it needs.
 BEFORE = {Printed(1, b"", b"Error: Kind(OutOfMemory)\n"), Printed(0, b"memory\n", b"")}
 SPREAD = 40  # of the calls for memory of a long beginning, as many as this are refused
+COPIED = 30  # orders of a book that is copied with each number of them
 
 
 class Again(NamedTuple):
@@ -138,10 +141,38 @@ def lines():
         yield Again(f"the line {line!r}", ["line", *line.split()], b"", answer, least=5, goes_on=True)
 
 
+def few_orders(periods):
+    """A day of some orders, every fifth of them a block."""
+    yield b"day,%d,,,,,,,\n" % periods
+    for at in range(COPIED):
+        kind, volumes = (b"block", b"1:5;2:6") if at % 5 == 4 else (b"hour", b"%d:5" % (at % 20 + 1))
+        yield b"submit,A,%d,%b,%b,%d,%b,,\n" % (at, kind, [b"buy", b"sell"][at % 2], at, volumes)
+
+
+def copies_of_books(runs, room):
+    """A gate copies its book for the call after one that was refused memory. So each call for memory at a gate is refused in turn, on each
+    length of a day: the call is made again, and takes as many calls for memory on each length."""
+    refusals, made = Refusals(runs, room), {}
+    for periods in rules.DAYS:
+        data = b"".join(few_orders(periods))
+        row = Again(f"{COPIED} orders on {periods} periods", [], data, f"{COPIED + 1} entries")
+        plans = [Refusal("memory", number, number) for number in range(1, refusals.calls([], data) + 1)]
+        plans = plans[bisect.bisect_left(plans, True, key=lambda plan: refusals.printed(row, plan) == row.told(1)) :]
+        ran = list(runs.pool.map(lambda plan: refusals.program.run(row.words, row.data, plan), plans))
+        for plan, (got, _) in zip(plans, ran):
+            runs.check(f"{row.about}: call {plan.first}: {got.stdout!r}, {got.stderr[:80]!r}", got == row.told(1))
+        made[periods] = [count for _, count in ran]
+    least = [*map(min, zip(*made.values()))]
+    for periods, counts in made.items():
+        about = f"{COPIED} orders on {periods} periods take {sum(counts) - sum(least)} calls for memory more than on other lengths of a day"
+        runs.check(about, counts == least)
+
+
 def run(runs, room, rows):
     runs.check("dam_refusals is built", REFUSALS.exists())
     if not REFUSALS.exists():
         return
+    copies_of_books(runs, room)
     refusals = Refusals(runs, room)
     again, count = 0, 0
     for row in rows:

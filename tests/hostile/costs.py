@@ -45,12 +45,17 @@ COUNTED = re.compile(r"I +refs: +([\d,]+)")
 
 def instructions(program, words, data, refusal, status=0):
     """How many instructions a run takes, which must end with this status."""
+    return counted(program, words, data, refusal, status)[0]
+
+
+def counted(program, words, data, refusal, status=0):
+    """The same, and how many calls for memory it makes."""
     log = program.counts().with_suffix(".valgrind")
     count = [shutil.which("valgrind"), "--tool=cachegrind", "--cache-sim=no", "--cachegrind-out-file=/dev/null", f"--log-file={log}"]
-    printed, _ = program.run(words, data, refusal, seconds=SECONDS, under=count)
+    printed, _, growths = program.counted(words, data, refusal, seconds=SECONDS, under=count)
     if printed.status != status:
         raise ValueError(f"{words} under valgrind: status {printed.status}, {printed.stderr[:80]!r}")
-    return int(COUNTED.search(log.read_text())[1].replace(",", ""))
+    return int(COUNTED.search(log.read_text())[1].replace(",", "")), growths
 
 
 def journal(records, is_closed=True, periods=24):

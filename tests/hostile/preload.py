@@ -56,22 +56,32 @@ class Program:
             part.rename(file)
         return file
 
-    def run(self, words, data, refusal, stdout=subprocess.PIPE, seconds=SECONDS, under=()):
-        """Its output, and how many calls of the refusal's kind it made. The words of `under` go before the program. A program that
-        writes before it has joined each thread that it started is at fault: that thread may still be running."""
+    def run(self, words, data, refusal, **how):
+        """Its output, and how many calls of the refusal's kind it made."""
+        printed, made, _ = self.counted(words, data, refusal, **how)
+        return printed, made
+
+    def held(self, words, data):
+        """Its output, the most bytes that it held at once, and how many calls for memory it made."""
+        return self.counted(words, data, Refusal("peak"))
+
+    def counted(self, words, data, refusal, source=None, stdout=subprocess.PIPE, seconds=SECONDS, under=()):
+        """Its output, and the numbers that the library counts. The input is the data, or comes from the source. The words of `under` go
+        before the program. A program that writes before it has joined each thread that it started is at fault: that thread may still be
+        running."""
         calls = self.counts()
-        calls.write_bytes(bytes(16))
+        calls.write_bytes(bytes(24))
         surroundings = {
             "LD_PRELOAD": str(self.room / "refuse.so"),
             "HOSTILE": " ".join(map(str, refusal)),
             "HOSTILE_CALLS": str(calls),
         }
         with open(self.given(data), "rb") as stdin:
-            how = {"stdin": stdin, "stdout": stdout, "stderr": subprocess.PIPE, "env": surroundings, "timeout": seconds}
+            how = {"stdin": source or stdin, "stdout": stdout, "stderr": subprocess.PIPE, "env": surroundings, "timeout": seconds}
             try:
                 ran = subprocess.run([*under, self.path, *words], close_fds=False, **how)
                 printed = Printed(ran.returncode, ran.stdout or b"", ran.stderr)
             except subprocess.TimeoutExpired:
                 printed = Printed(NONE, b"", f"no answer in {seconds} seconds\n".encode())
-        made, early = struct.unpack("@2L", calls.read_bytes())
-        return Printed(NONE, b"", LEFT) if early else printed, made
+        made, early, growths = struct.unpack("@3L", calls.read_bytes())
+        return Printed(NONE, b"", LEFT) if early else printed, made, growths

@@ -4,8 +4,8 @@
    HOSTILE in the environment is 'KIND FIRST LAST ERROR MOST'. KIND is memory, thread, random, read (of standard input), write (of
    standard output) or report (writes to standard error). The calls of the kind whose numbers are from FIRST to LAST fail with the
    error number ERROR; if that is 0, such a read or write moves no byte. Every other read or write of the kind moves at most MOST
-   bytes, or all if MOST is 0. The file that HOSTILE_CALLS names holds two numbers: the calls of the kind so far, and the writes to
-   standard output or standard error made before every started thread was joined.
+   bytes, or all if MOST is 0. The file that HOSTILE_CALLS names holds three numbers: the calls of the kind so far, the writes to
+   standard output or standard error made before every started thread was joined, and the calls for memory that got a block.
 
    For memory, MOST is no limit: if it isn't 0, each reading of the clock is MOST milliseconds later than the one before.
 
@@ -48,7 +48,7 @@ static const char *const names[] = {"none", "memory", "thread", "random", "read"
 static enum kind chosen = NONE;
 static unsigned long first, last, most;
 static int error;
-static atomic_ulong *calls, *early;
+static atomic_ulong *calls, *early, *growths;
 static atomic_long large;    /* the blocks of at least MOST bytes */
 static atomic_long unjoined; /* the threads that were started and not joined */
 static atomic_long bytes;    /* of the blocks that the program holds */
@@ -69,12 +69,14 @@ __attribute__((constructor)) static void begin(void) {
     if (plan == NULL || file == NULL || sscanf(plan, "%15s %lu %lu %d %lu", name, &first, &last, &error, &most) != 5)
         return;
     int shared = open(file, O_RDWR);
-    void *page = mmap(NULL, 2 * sizeof *calls, PROT_READ | PROT_WRITE, MAP_SHARED, shared, 0);
+    void *page = mmap(NULL, 3 * sizeof *calls, PROT_READ | PROT_WRITE, MAP_SHARED, shared, 0);
     close(shared);
     if (page == MAP_FAILED)
         return;
     calls = page;
     early = calls + 1;
+    growths = calls + 2;
+    *growths = 0; /* valgrind makes some before it runs the program */
     for (int kind = MEMORY; kind <= PEAK; kind++)
         if (strcmp(name, names[kind]) == 0)
             chosen = kind;
@@ -105,6 +107,8 @@ static size_t size_of(void *block) {
 
 /* Counts a block that the program gets from here on. */
 static void *held(void *block) {
+    if (growths != NULL)
+        ++*growths;
     large += is_large(block);
     if (chosen != PEAK)
         return block;

@@ -1,6 +1,8 @@
 """rows.py ROOM PROGRAM [--all | --count]: runs the program on examples with each of its calls refused in turn, by ROOM/refuse.so."""
 
 import errno
+import fcntl
+import itertools
 import os
 import shutil
 import subprocess
@@ -95,6 +97,11 @@ cancel,SELLERAB,PARENT-BLOCK,,,,,,
 CLOSED_FIRST = DAY + CLOSE + b"submit,A,B1,hour,buy,5000,1:10,,\namend,A,B1,,,5000,1:10,,\ncancel,A,B1,,,,,,\n" + CLOSE
 
 CUTTINGS = [["--workers", "1", "--cut", "0"], ["--workers", "2", "--cut", "3"], ["--workers", "8", "--cut", "8"]]
+CHUNK = 65_536  # bytes of a read
+LENGTHS = [10_000, 100_000, 1_000_000, 4_000_000, 10_000_000, rules.MOST_BYTES]  # of texts that are read
+PIPE = 1 << 20  # the most bytes of a pipe
+AMENDS = [9, 1_100, rules.MOST_DAY_COMMANDS - rules.MOST_BLOCKS]  # of all periods, whose journals have 30 KB, one megabyte and nine
+SMALL_BOOK = 30  # orders
 
 
 def worked_rows():
@@ -344,13 +351,65 @@ def texts(runs):
 
 
 def reads(runs):
-    """A long text is read in pieces of 65,536 bytes. A program that reads it byte by byte would be seen: it has as many reads as bytes."""
+    """A text is read in pieces of 65,536 bytes. A program that reads it byte by byte would be seen: it has as many reads as bytes."""
     for word, data in [("replay", AUCTION), ("clear", AUCTION), ("day", OPEN_AUCTION)]:
         text = data + b"\n" * (1 << 18)
-        for most, least, greatest in [(0, 1, len(text) // 65_536 + 2), (1, len(text), len(text) + 1)]:
+        for most, least, greatest in [(0, 1, len(text) // CHUNK + 2), (1, len(text), len(text) + 1)]:
             _, made = runs.program.run([word], text, Refusal("read", most=most))
             at_once = "one byte" if most else "as much as it asks for"
             runs.check(f"{word} reads {len(text)} bytes by {made} calls that give {at_once}", least <= made <= greatest)
+        for length in LENGTHS:
+            read_whole(runs, word, data + b"\n" * (length - len(data)))
+
+
+def read_whole(runs, word, text):
+    """A text of any length is read by as few calls, from a file and from a pipe that holds it."""
+    about, right = f"{word} reads {len(text):,} bytes of", -(-len(text) // CHUNK) + 1
+    got, made = runs.program.run([word], text, Refusal("read"))
+    runs.check(f"{about} a file by {made} calls, and not {right}", (got.status, made) == (0, right))
+    if len(text) <= PIPE:
+        with full_pipe(text) as pipe:
+            got, made = runs.program.run([word], text, Refusal("read"), source=pipe)
+        runs.check(f"{about} a pipe by {made} calls, and not {right}", (got.status, made) == (0, right))
+    runs.program.given(text).unlink()
+
+
+def full_pipe(text):
+    """The end of a pipe that has this text, and then nothing more."""
+    ours, theirs = os.pipe()
+    fcntl.fcntl(theirs, fcntl.F_SETPIPE_SZ, PIPE)
+    os.write(theirs, text)
+    os.close(theirs)
+    return open(ours, "rb", buffering=0)
+
+
+def writes(runs):
+    """A text of any length is written by one call, if the stream takes it whole."""
+    refused = DAY + b"cancel,ABCDEFGH,NAME-NUMBER1,,,,,,\n" * rules.MOST_DAY_COMMANDS
+    tried = [("replay", AUCTION, 500), ("replay", refused, 200_000), ("clear", AUCTION, 500), ("day", OPEN_AUCTION, 500)]
+    for count in AMENDS:
+        names = itertools.islice(itertools.cycle(peaks.NAMES), count)
+        tried.append(("day", b"".join([peaks.DAY_RECORD, *map(peaks.blocks, peaks.NAMES), *map(peaks.amends, names)]), 900 * count))
+    for word, data, least in tried:
+        got, made = runs.program.run([word], data, Refusal("write"))
+        about = f"{word} writes {len(got.stdout):,} bytes by {made} calls: status {got.status}, {got.stderr[:80]!r}"
+        runs.check(about, got.status == 0 and len(got.stdout) >= least and made == 1)
+        runs.program.given(data).unlink()
+
+
+def small_books(runs):
+    """Books of a few orders, on each length of a day. With one order more, a run asks for memory at least as often, and holds at least as
+    many bytes: a copy that is made of books of one size only would be seen."""
+    for words, periods in itertools.product([shapes.REPLAY, shapes.CLEAR, shapes.DAY], rules.DAYS):
+        orders = [b"submit,A,%d,hour,%b,%d,%d:1,,\n" % (at, [b"buy", b"sell"][at % 2], at, at % 23 + 1) for at in range(SMALL_BOOK)]
+        begin, end = b"day,%d,,,,,,,\n" % periods, CLOSE * (words != shapes.DAY)
+        texts = [begin + b"".join(orders[:count]) + end for count in range(SMALL_BOOK + 1)]
+        found = list(runs.pool.map(lambda text: runs.program.held(words, text), texts))
+        for count, ((got, held, growths), (_, more_held, more)) in enumerate(zip(found, [*found[1:], found[-1]])):
+            about = f"{words[0]} of {count} orders on {periods} periods"
+            runs.check(f"{about}: status {got.status}, {got.stderr[:80]!r}", (got.status, got.stderr) == (0, b""))
+            runs.check(f"{about}: {growths} calls for memory, and {more} with one order more", growths <= more)
+            runs.check(f"{about}: {held} bytes, and {more_held} with one order more", held <= more_held)
 
 
 def stacks(runs):
@@ -384,7 +443,7 @@ def main():
         sys.exit("usage: tests/hostile/run PROGRAM [--all | --count]")
     runs = Runs(Program(program, room), rest == ["--all"])
     if rest == ["--count"]:
-        return shapes.write(shapes.COUNTED, shapes.costs_of(runs))
+        return shapes.write(shapes.HERE, shapes.costs_of(runs))
     runs.run_rows("memory refused once in the worked cases", worked_rows())
     runs.run_rows("memory refused from one call on in the worked cases", worked_rows_without_memory())
     runs.run_rows("memory refused in days and other runs", memory_rows())
@@ -398,6 +457,8 @@ def main():
     strays(runs)
     texts(runs)
     reads(runs)
+    writes(runs)
+    small_books(runs)
     stacks(runs)
     copies(runs)
     peaks.peaks(runs)
@@ -405,7 +466,7 @@ def main():
         costs.names(runs)
         costs.cancels(runs)
         costs.full(runs)
-        shapes.compare(runs, shapes.COUNTED, shapes.costs_of(runs))
+        shapes.compare(runs, shapes.HERE, shapes.costs_of(runs))
     else:
         runs.leave_out("names that collide, many cancels, full books, and shapes: valgrind, which counts instructions, is missing", 4)
     return runs.end()

@@ -1,9 +1,11 @@
-"""What journals of each shape cost: the instructions and the most bytes of a run, compared with those that were counted before.
+"""What journals of each shape cost: the instructions, the most bytes and the calls for memory of a run, compared with those that were
+counted before.
 
 A body that does some work once more for each command, order, period or node, or keeps a copy of something, costs more on the shapes that
 it does so on. So there is a journal for each command and each refusal, on short and long days, with short and long names, and with volumes
 in one period or in each; one for each length of a day; books with all kinds of blocks and bonds in all kinds of markets; and a text in each
-form. A run costs less than `TIMES` the cost in `counted.csv`. `run PROGRAM --count` counts all of them again: look at each row that grew.
+form. A run costs less than `TIMES` the cost in `counted.csv`, and makes at most as many calls for memory as `growths.csv` has.
+`run PROGRAM --count` counts all of them again: look at each row that grew.
 
 The seed of the maps is the fixed one, and one participant enters the commands of a day, so that a run always costs the same. The table is
 of a program as `rt ci` builds it: `tools/unproved` doesn't optimize, so count first what its program of the unchanged sources takes."""
@@ -16,8 +18,9 @@ import sys
 from pathlib import Path
 from typing import NamedTuple
 
-from costs import FIXED, UNFINISHED, crowded, instructions, journal, volumes
-from preload import Refusal  # by which `lib` is found
+from again import REFUSALS
+from costs import FIXED, UNFINISHED, counted, crowded, journal, volumes
+from preload import Program, Refusal  # by which `lib` is found
 from lib.base import rules
 
 sys.path.append(str(Path(__file__).resolve().parents[1] / "fuzz"))
@@ -25,7 +28,8 @@ sys.path.append(str(Path(__file__).resolve().parents[1] / "fuzz"))
 import full
 
 TOP = Path(__file__).resolve().parents[2]
-COUNTED = Path(__file__).with_name("counted.csv")
+HERE = Path(__file__).resolve().parent
+COUNTED, GROWTHS = ["run", "instructions", "bytes"], ["run", "growths"]  # the heads of the tables counted.csv and growths.csv
 TIMES = 1.25
 ROOM = 16 << 10  # bytes that a run may hold beyond
 HOURS, BLOCKS = 100, rules.MOST_BLOCKS - 4  # of a book before the commands that are counted
@@ -120,11 +124,17 @@ def commands(shape):
 
 
 class Run(NamedTuple):
-    """A run with these words and this text, and the statuses that it may end with."""
+    """A run with these words and this text, and the statuses that it may end with; of another program, if one is given."""
 
     words: list
     data: bytes
     statuses: tuple = (0,)
+    program: Path = None
+
+    @property
+    def is_alone(self):
+        """Whether one thread does it, so that it always makes as many calls for memory."""
+        return self.words[:1] != ["clear"] or self.words[1:3] == ALONE[:2]
 
 
 ALONE = ["--workers", "1", "--cut", "0"]
@@ -185,6 +195,21 @@ def by_workers():
     data = made("make_blocks.py", "random", 20, 1, 1, 20, THIN, "free")
     for workers in range(2, MOST_WORKERS + 1):
         yield f"clear by {workers} workers", Run(["clear", "--workers", str(workers)], data)
+
+
+def small_books():
+    """Yields the runs on an empty book and on one order, on each length of a day."""
+    for periods in rules.DAYS:
+        shape = SHORT._replace(periods=periods)
+        yield f"day without orders, {periods} periods", Run(DAY, journal([], False, periods))
+        yield f"clear without orders, {periods} periods", Run(CLEAR, journal([], True, periods))
+        yield f"clear of one order, {periods} periods", Run(CLEAR, journal([shape.hour(0)], True, periods))
+
+
+def closes():
+    """Yields the runs on closes of the operator, whose receipts are settled: `dam_refusals` enters them at a gate, and one more."""
+    for count in (30, 3_000):
+        yield f"{count:,} closes at a gate", Run([], journal(["close,,,,,,,,\n"] * count, False), program=REFUSALS)
 
 
 def gaps():
@@ -268,42 +293,63 @@ def texts():
 
 
 def every():
-    return dict(itertools.chain(days(), full_books(), participants(), gaps(), by_workers(), searches(), blocks(), texts(), long_texts()))
+    books = [days(), full_books(), participants(), small_books(), closes(), gaps(), by_workers(), searches(), blocks()]
+    return dict(itertools.chain(*books, texts(), long_texts()))
+
+
+class Cost(NamedTuple):
+    """The instructions of a run, the most bytes that it holds at once, and its calls for memory, or None if their number varies."""
+
+    instructions: int
+    bytes: int = 0
+    growths: int = None
 
 
 def cost(program, run):
-    """The instructions of a run, and the most bytes that it holds."""
+    program = Program(run.program, program.room) if run.program else program
     printed, peak = program.run(run.words, run.data, Refusal("peak"))
     if printed.status not in run.statuses:
         raise ValueError(f"{run.words}: status {printed.status}, {printed.stderr[:80]!r}")
-    found = instructions(program, run.words, run.data, FIXED, printed.status)
+    found, growths = counted(program, run.words, run.data, FIXED, printed.status)
     program.given(run.data).unlink(missing_ok=True)
-    return found, peak
+    return Cost(found, peak, growths if run.is_alone else None)
 
 
 def costs_of(runs):
-    """Yields the name of each run, its instructions and its bytes."""
+    """Yields the name of each run, and its cost."""
     tried = every()
-    for about, found in zip(tried, runs.pool.map(lambda run: cost(runs.program, run), tried.values())):
-        yield about, *found
+    yield from zip(tried, runs.pool.map(lambda run: cost(runs.program, run), tried.values()))
 
 
-def write(path, rows):
-    with open(path, "w", newline="") as file:
-        table = csv.writer(file, lineterminator="\n")
-        table.writerow(["run", "instructions", "bytes"])
-        table.writerows(rows)
+def write(folder, costs):
+    """Writes the tables of a folder."""
+    costs = list(costs)
+    each = [[about, cost.instructions, cost.bytes] for about, cost in costs]
+    growths = [[about, cost.growths] for about, cost in costs if cost.growths is not None]
+    for name, rows in [("counted.csv", [COUNTED, *each]), ("growths.csv", [GROWTHS, *growths])]:
+        with open(folder / name, "w", newline="") as file:
+            csv.writer(file, lineterminator="\n").writerows(rows)
 
 
-def compare(counts, path, rows):
-    """Compares the costs of runs with those of a table, which has each of the runs and no other."""
-    with open(path, newline="") as file:
-        counted = {row["run"]: (int(row["instructions"]), int(row["bytes"])) for row in csv.DictReader(file)}
+def counted_in(folder):
+    """The costs that the tables of a folder have, by the names of the runs."""
+    with open(folder / "counted.csv", newline="") as each, open(folder / "growths.csv", newline="") as growths:
+        found = {row["run"]: Cost(int(row["instructions"]), int(row["bytes"]), 0) for row in csv.DictReader(each)}
+        for row in csv.DictReader(growths):
+            found[row["run"]] = found[row["run"]]._replace(growths=int(row["growths"]))
+    return found
+
+
+def compare(counts, folder, costs):
+    """Compares the costs of runs with those of the tables of a folder, which have each of the runs and no other."""
+    before = counted_in(folder)
     most = [0, 0]
-    for about, took, held in rows:
-        then, held_then = counted.pop(about)
+    for about, (took, held, growths) in costs:
+        then, held_then, growths_then = before.pop(about)
         counts.check(f"{about}: {took:,} instructions, {TIMES} times {then:,} or more", took < TIMES * then)
         counts.check(f"{about}: {held:,} bytes were held, {TIMES} times {held_then:,} or more", held < TIMES * held_then + ROOM)
+        if growths is not None:
+            counts.check(f"{about}: {growths:,} calls for memory, more than {growths_then:,}", growths <= growths_then)
         most = [max(most[0], took / then), max(most[1], held / max(held_then, 1))]
-    counts.check(f"runs that were counted, and aren't there: {[*counted]}", not counted)
+    counts.check(f"runs that were counted, and aren't there: {[*before]}", not before)
     print("shapes: at most {:.2f} times the instructions that were counted, and {:.2f} times the bytes".format(*most), flush=True)
