@@ -207,9 +207,11 @@ def small_books():
 
 
 def closes():
-    """Yields the runs on closes of the operator, whose receipts are settled: `dam_refusals` enters them at a gate, and one more."""
+    """Yields the runs on orders and on closes of the operator, whose receipts are settled: `dam_refusals` enters them at a gate, and one
+    close more."""
     for count in (30, 3_000):
-        yield f"{count:,} closes at a gate", Run([], journal(["close,,,,,,,,\n"] * count, False), program=REFUSALS)
+        records = [*SHORT.first(), *["close,,,,,,,,\n"] * count]
+        yield f"{count:,} closes at a gate", Run([], journal(records, False), program=REFUSALS)
 
 
 def gaps():
