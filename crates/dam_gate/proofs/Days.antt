@@ -21,8 +21,8 @@ use Rattle.dam_gate.specs.Settled.{numbered, receipts_of}
 use Rattle.dam_book.specs.Command.{giver}
 use Rattle.dam_gate.specs.Day.{commands_by, is_one_of, AreTaken, IsDayFault, givers_from, givers_of, with_any, with_giver, IsDayRun}
 use Rattle.dam_gate.specs.inside.Tally.{AreReceipts}
-use Rattle.dam_gate.specs.inside.Entering.{AreApart, AreGivers, AreServed, AreShares, Enters, HasAll, HasEntered, IsRefusalAt}
-use Rattle.dam_gate.specs.inside.Entering.{commands_at, share_at}
+use Rattle.dam_gate.specs.inside.Entering.{AreApart, AreGivers, AreServed, AreAllPlaces, Enters, HasAll, HasEntered, IsRefusalAt}
+use Rattle.dam_gate.specs.inside.Entering.{commands_at, places_of}
 use Rattle.dam_gate.specs.declared.day.DayFault.{DayFault}
 use Rattle.dam_gate.specs.declared.day.DayFault.TheVariants.{TooManyCommands, CloseGiven, TooManyParticipants, NotSettled, Memory}
 use Rattle.dam_book.specs.Limits.{most_entries}
@@ -515,41 +515,41 @@ fewer : (cs : List Command) (places : List ℕ) → length (commands_at cs place
 fewer cs [] = omega arith
 fewer cs (p ∷ ps) = fewer-head (slice_get cs p) (commands_at cs ps) (length ps) (fewer cs ps)
 
--- as many receipts as places in the share are of all its commands
+-- as many receipts as places in the places are of all its commands
 none-left : (xs ys : List Command) (n : ℕ) → length xs ≡ n → length (xs ++ ys) ≤ n → ys ≡ []
 none-left xs [] n same few = refl
 none-left xs (y ∷ ys) n same few = absurd (omega (arith, same, few, length-append xs (y ∷ ys)))
 
-all-entered : (cs : List Command) (share : List ℕ) (p : AccountState) → HasEntered [] (commands_at cs share) p → length p.receipts ≡ length share
-    → commands_of p.receipts ≡ commands_at cs share
-all-entered cs share p has as_long =
-    let count : length has.entered ≡ length share =
+all-entered : (cs : List Command) (places : List ℕ) (p : AccountState) → HasEntered [] (commands_at cs places) p → length p.receipts ≡ length places
+    → commands_of p.receipts ≡ commands_at cs places
+all-entered cs places p has as_long =
+    let count : length has.entered ≡ length places =
     ap (λ (ds : List Command). length ds) (sym has.receipts) ∙ length-map p.receipts (λ (e : Entry). e.command) ∙ as_long in
-    let most : length (has.entered ++ has.left) ≤ length share =
-    subst (λ (ds : List Command). length ds ≤ length share) has.own_is (fewer cs share) in
+    let most : length (has.entered ++ has.left) ≤ length places =
+    subst (λ (ds : List Command). length ds ≤ length places) has.own_is (fewer cs places) in
     has.receipts ∙ sym (append-nil has.entered)
-    ∙ ap (λ (ds : List Command). has.entered ++ ds) (sym (none-left has.entered has.left (length share) count most))
+    ∙ ap (λ (ds : List Command). has.entered ++ ds) (sym (none-left has.entered has.left (length places) count most))
     ∙ sym has.own_is
 
 -- a participant's pass that has receipts of all its own commands
 abbrev pub IsServed : List Command → List ℕ → AccountState → Type 0
 IsServed given who p = (commands_of p.receipts ≡ commands_by who given) × IsAccount p
 
-served : (given : List Command) (who : List ℕ) (share : List ℕ) (before p : AccountState) → before ≡ new_pass (Some who)
-    → commands_at given share ≡ commands_by who given → Enters (commands_at given share) before p → HasAll share p → IsServed given who p
-served given who share before p new mine enters all =
-    let entered : HasEntered [] (commands_at given share) p =
-    subst (λ (q : AccountState). HasEntered (commands_of q.receipts) (commands_at given share) p) new enters.entered in
-    (all-entered given share p entered all.as_many ∙ mine, all.pass)
+served : (given : List Command) (who : List ℕ) (places : List ℕ) (before p : AccountState) → before ≡ new_pass (Some who)
+    → commands_at given places ≡ commands_by who given → Enters (commands_at given places) before p → HasAll places p → IsServed given who p
+served given who places before p new mine enters all =
+    let entered : HasEntered [] (commands_at given places) p =
+    subst (λ (q : AccountState). HasEntered (commands_of q.receipts) (commands_at given places) p) new enters.entered in
+    (all-entered given places p entered all.as_many ∙ mine, all.pass)
 
-share-of : (all front : List Command) (participants : List (List ℕ)) (shares : List (List ℕ)) (i : ℕ) (w : List ℕ)
-    → AreShares all front participants shares → i < length participants
-    → commands_at all (share_at shares i) ≡ commands_by (get_or participants i w) front
-share-of all front [] shares i w are within = absurd (omega (arith, within))
-share-of all front (who ∷ participants) [] i w are within = absurd are
-share-of all front (who ∷ participants) (share ∷ shares) zero w are within = are.0
-share-of all front (who ∷ participants) (share ∷ shares) (suc i) w are within =
-    share-of all front participants shares i w are.1 (omega (arith, within))
+places-of-one : (all front : List Command) (participants : List (List ℕ)) (all_places : List (List ℕ)) (i : ℕ) (w : List ℕ)
+    → AreAllPlaces all front participants all_places → i < length participants
+    → commands_at all (places_of all_places i) ≡ commands_by (get_or participants i w) front
+places-of-one all front [] all_places i w are within = absurd (omega (arith, within))
+places-of-one all front (who ∷ participants) [] i w are within = absurd are
+places-of-one all front (who ∷ participants) (places ∷ all_places) zero w are within = are.0
+places-of-one all front (who ∷ participants) (places ∷ all_places) (suc i) w are within =
+    places-of-one all front participants all_places i w are.1 (omega (arith, within))
 
 served-from : (given : List Command) (participants : List (List ℕ)) (ps : List AccountState) → length ps ≡ length participants
     → ((i : ℕ) (d : AccountState) (w : List ℕ) → i < length ps → IsServed given (get_or participants i w) (get_or ps i d))
@@ -567,21 +567,21 @@ new_at [] i d w within = absurd (omega (arith, within))
 new_at (who ∷ participants) zero d w within = refl
 new_at (who ∷ participants) (suc i) d w within = new_at participants i d w (omega (arith, within))
 
-pub served-all : (given : List Command) (participants : List (List ℕ)) (shares : List (List ℕ)) (olds news : List AccountState)
-    → AreShares given given participants shares
+pub served-all : (given : List Command) (participants : List (List ℕ)) (all_places : List (List ℕ)) (olds news : List AccountState)
+    → AreAllPlaces given given participants all_places
     → olds ≡ map (λ (who : List ℕ). new_pass (Some who)) participants → length news ≡ length olds
-    → ((i : ℕ) (d : AccountState) → i < length olds → Enters (commands_at given (share_at shares i)) (get_or olds i d) (get_or news i d))
-    → ((i : ℕ) (d : AccountState) → i < length news → HasAll (share_at shares i) (get_or news i d))
+    → ((i : ℕ) (d : AccountState) → i < length olds → Enters (commands_at given (places_of all_places i)) (get_or olds i d) (get_or news i d))
+    → ((i : ℕ) (d : AccountState) → i < length news → HasAll (places_of all_places i) (get_or news i d))
     → AreServed given participants news
-served-all given participants shares olds news are new_ones as_long enters all =
+served-all given participants all_places olds news are new_ones as_long enters all =
     let many : length olds ≡ length participants = ap (λ (ps : List AccountState). length ps) new_ones
     ∙ length-map participants (λ (who : List ℕ). new_pass (Some who)) in
     served-from given participants news (as_long ∙ many)
     (λ i d w within.
     let at : get_or olds i d ≡ new_pass (Some (get_or participants i w)) =
     ap (λ (ps : List AccountState). get_or ps i d) new_ones ∙ new_at participants i d w (omega (arith, within, as_long, many)) in
-    let mine = share-of given given participants shares i w are (omega (arith, within, as_long, many)) in
-    served given (get_or participants i w) (share_at shares i) (get_or olds i d) (get_or news i d) at mine
+    let mine = places-of-one given given participants all_places i w are (omega (arith, within, as_long, many)) in
+    served given (get_or participants i w) (places_of all_places i) (get_or olds i d) (get_or news i d) at mine
     (enters i d (omega (arith, within, as_long))) (all i d within))
 
 held-from : (participants : List (List ℕ)) (ps : List AccountState) → length ps ≡ length participants

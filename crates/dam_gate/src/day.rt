@@ -1,31 +1,28 @@
-//! A day of given commands: each participant enters its own at one gate.
+//! A day of given commands: the participants enter theirs at one gate, and then the operator closes.
 
-ghost use Rattle.dam_gate.specs.Limits.{most_participants};
-ghost use Rattle.std.specs.Prelude.{◌≡◌, ◌≤◌, ◌<◌, ◌+◌, ◌∷◌, ◌++◌, [], ℕ, true, Some, length, map, slice_index_or, IfOk, IfErr, OnOk, All};
+ghost use Rattle.std.specs.Prelude.{◌≡◌, ◌≤◌, ◌<◌, ◌+◌, ◌∷◌, ◌++◌, [], ℕ, length, map, slice_index_or, IfOk, IfErr};
 ghost use mathlib.Core.List.{IsPrefix};
-ghost use Rattle.dam_gate.specs.Pass.{Knowledge, IsKnowledge, after_learning, holders, knowing_nothing};
+ghost use Rattle.dam_gate.specs.Limits.{most_participants};
+ghost use Rattle.dam_gate.specs.Pass.{Knowledge, after_learning};
 ghost use Rattle.dam_gate.specs.Settled.{IsSettled, receipts_of};
 ghost use Rattle.dam_gate.specs.Headline.{IsWholeAccount};
-ghost use Rattle.dam_gate.specs.Day.{AreTaken, IsDayFault, IsSettledDay, givers_of, is_one_of};
-ghost use Rattle.dam_gate.specs.inside.Entering.{AreApart, AreGivers, AreServed, Enters, HasAll, IsRefusalAt, IsUnsettled, TakesGiver, commands_at, share_at};
+ghost use Rattle.dam_gate.specs.Day.{AreTaken, IsDayFault, IsSettledDay, givers_of};
+ghost use Rattle.dam_gate.specs.inside.Entering.{AreGivers, IsUnsettled};
 
 use crate::account::Account;
+use crate::entering::enter_before_close;
 use crate::gate::{Gate, GateFault, PassFault};
-use crate::history::{Answered, GateName, Opening};
-use crate::keeper::Journal;
-use crate::limits::MOST_PARTICIPANTS;
+use crate::givers::{check_room, givers};
+use crate::journal::Journal;
+use crate::opening::{Answered, GateName, Opening};
 use crate::pass::Pass;
 use crate::settlement::{Mismatch, Settled, settle};
-use crate::shares::{Share, share_of, shares_of};
-use crate::version::{NextShown, Shown};
-use dam_book::{Command, DayLength, MOST_ENTRIES, PackedCommand, Participant, Seed};
+use dam_book::{Command, DayLength, PackedCommand, Participant, Seed};
 use dam_plan::Turnstile;
-use left_right::Absorb;
 use std::alloc::{AllocError, AllocFailed, Global};
 use std::marker::Brand;
 use std::sync::Wait;
 use std::sync::ledger::Share as LedgerPart;
-use std::thread;
 use std::thread::Threads;
 use thiserror::Error;
 
@@ -44,7 +41,8 @@ pub enum DayFault {
     /// The journal and the passes came out unsettled. By contract, this never happens.
     #[error("not settled: {0}")]
     NotSettled(Mismatch),
-    /// Memory ran out, or a call or a pass was refused.
+    /// Memory ran out. A call or a pass that the day's gate refuses gives this fault too: there, only lack of memory is
+    /// known to refuse one, and the remedy is the same, to run the day again.
     #[error("out of memory")]
     Memory,
 }
@@ -102,166 +100,6 @@ impl From<GateFault> for DayFault {
     }
 }
 
-/// Enters the commands at these places in their order, up to the first that is refused.
-fn enter_commands<J: GateName, H: Wait + Drop>(
-    rt: &impl Wait,
-    gate: &Gate<J, H>,
-    pass: &mut Pass<J>,
-    commands: &[PackedCommand],
-    places: &[usize],
-)
-    ensures { Enters (commands_at commands.now places.now) pass.old.account pass.new.account }
-{
-    for place in places {
-        let Some(given) = commands.get(*place) else {
-            continue;
-        };
-        let Ok(_answer) = gate.call_packed(rt, pass, given) else {
-            return;
-        };
-    }
-}
-
-/// Enters the commands of one participant, between the calls of the turnstile.
-fn enter_through_turnstile<J: GateName, H: Wait + Drop, T: Turnstile>(
-    rt: &impl Wait,
-    gate: &Gate<J, H>,
-    turnstile: &T,
-    participant: u32,
-    pass: &mut Pass<J>,
-    commands: &[PackedCommand],
-    places: &[usize],
-)
-    ensures { Enters (commands_at commands.now places.now) pass.old.account pass.new.account }
-{
-    turnstile.before(participant);
-    enter_commands(rt, gate, pass, commands, places);
-    turnstile.after(participant);
-}
-
-/// Has each participant enter its commands, on a thread of its own if one can be started.
-fn enter_all<J: GateName + Send + Sync, R: Threads + Wait + Sync, T: Turnstile + Sync>(
-    rt: &R,
-    gate: &Gate<J, &R>,
-    turnstile: &T,
-    passes: &mut [Pass<J>],
-    commands: &[PackedCommand],
-    shares: &[Share],
-)
-    requires { length passes.old ≤ most_participants }
-    ensures { (i : ℕ) (d : Knowledge) → i < length passes.old
-        → Enters (commands_at commands.now (share_at shares.now i))
-        (slice_index_or passes.old i d).account (slice_index_or passes.new i d).account }
-{
-    thread::for_each_mut(
-        rt,
-        passes,
-        MOST_PARTICIPANTS,
-        &|place, pass| {
-            let places = share_of(shares, place);
-            enter_through_turnstile(rt, gate, turnstile, place as u32, pass, commands, places)
-        },
-    );
-}
-
-/// Whether no call was refused: each pass has as many receipts as there are places in its share.
-fn have_all_entered<J: GateName>(passes: &[Pass<J>], shares: &[Share]) -> bool
-    ensures all { result ≡ true → (i : ℕ) (d : Knowledge) → i < length passes.now
-        → HasAll (share_at shares.now i) (slice_index_or passes.now i d).account }
-    ensures valid { result ≡ true → All IsKnowledge passes.now }
-{
-    for (place, pass) in passes.iter().enumerate() {
-        if pass.receipts().len() != share_of(shares, place).len() {
-            return false;
-        }
-    }
-    true
-}
-
-fn is_one_of(participants: &[Participant], who: &Participant) -> bool
-    ensures { result ≡ is_one_of participants.now who.now }
-{
-    participants.iter().any(|other| *who == *other)
-}
-
-/// Adds the participant who gives the command at this place, unless it is among the participants.
-fn add_giver(
-    participants: &mut Vec<Participant>,
-    command: &PackedCommand,
-    place: usize,
-) -> Result<(), DayFault>
-    requires { length participants.old.items ≤ most_participants }
-    ensures few { OnOk result (length participants.new.items ≤ most_participants) }
-    ensures giver { OnOk result
-        (TakesGiver command.now participants.old.items participants.new.items) }
-    ensures refused { IfErr result (IsRefusalAt place participants.old.items command.now) }
-{
-    let Some(who) = command.participant() else {
-        return Err(DayFault::CloseGiven(place));
-    };
-    if is_one_of(participants, who) {
-        return Ok(());
-    }
-    if participants.len() >= MOST_PARTICIPANTS {
-        return Err(DayFault::TooManyParticipants(place));
-    }
-    participants.push(who.copy())?;
-    Ok(())
-}
-
-/// The participants who give the commands, by first occurrence, if the day takes the commands.
-fn givers(alloc: Global, commands: &[PackedCommand]) -> Result<Vec<Participant>, DayFault>
-    ensures ok { IfOk result (λ participants. AreGivers participants.items commands.now) }
-    ensures order { IfOk result (λ participants. participants.items ≡ givers_of commands.now) }
-    ensures few { IfOk result (λ participants. length participants.items ≤ most_participants) }
-    ensures taken { OnOk result (AreTaken commands.now) }
-    ensures fault { IfErr result (IsDayFault commands.now) }
-{
-    if commands.len() >= MOST_ENTRIES {
-        return Err(DayFault::TooManyCommands);
-    }
-    let mut participants = Vec::new(alloc);
-    for (place, command) in commands.iter().enumerate() {
-        add_giver(&mut participants, command, place)?;
-    }
-    Ok(participants)
-}
-
-/// A pass for the participant, with room for this number of receipts.
-fn pass_for<J: GateName, H: Wait + Drop>(
-    rt: &impl Wait,
-    gate: &Gate<J, H>,
-    who: &Participant,
-    receipts: usize,
-) -> Result<Pass<J>, DayFault>
-    ensures ok { IfOk result (λ pass. pass ≡ knowing_nothing (Some who.now)) }
-    ensures err { IfErr result (λ fault. fault ≡ DayFault.Memory) }
-{
-    let mut pass = gate.pass(rt, who.copy())?;
-    pass.reserve_receipts(receipts)?;
-    Ok(pass)
-}
-
-/// A pass for each participant, with room for the receipts of its commands.
-fn passes_for<J: GateName, H: Wait + Drop>(
-    rt: &impl Wait,
-    alloc: Global,
-    gate: &Gate<J, H>,
-    participants: &[Participant],
-    shares: &[Share],
-) -> Result<Vec<Pass<J>>, DayFault>
-    ensures ok { IfOk result (λ passes.
-        passes.items ≡ map (λ who. knowing_nothing (Some who)) participants.now) }
-    ensures err { IfErr result (λ fault. fault ≡ DayFault.Memory) }
-{
-    let mut passes = Vec::with_capacity(alloc, participants.len() + 1)?;
-    for who in participants {
-        let receipts = share_of(shares, passes.len()).len();
-        passes.push(pass_for(rt, gate, who, receipts)?)?;
-    }
-    Ok(passes)
-}
-
 /// The pass learns all that these have seen.
 fn learn_from_all<J: GateName>(pass: &mut Pass<J>, others: &[Pass<J>])
     ensures pass { pass.new ≡ after_learning pass.old pass.new.learnt }
@@ -294,36 +132,6 @@ fn accounts_of<J: GateName>(
     }
     accounts.push(last)?;
     Ok((accounts, parts))
-}
-
-/// The passes through which all commands were entered, one for each participant.
-fn enter_before_close<J: GateName + Send + Sync, R: Threads + Wait + Sync, T: Turnstile + Sync>(
-    rt: &R,
-    alloc: Global,
-    gate: &Gate<J, &R>,
-    turnstile: &T,
-    participants: &[Participant],
-    commands: &[PackedCommand],
-) -> Result<Vec<Pass<J>>, DayFault>
-    requires few { length participants.now ≤ most_participants }
-    requires apart { AreApart participants.now }
-    ensures ok { IfOk result (λ passes. AreServed commands.now participants.now
-        (map (λ pass. pass.account) passes.items)) }
-    ensures holders { IfOk result (λ passes. holders (map (λ pass. pass.account) passes.items)
-        ≡ map (λ who. Some who) participants.now) }
-    ensures valid { IfOk result (λ passes. All IsKnowledge passes.items) }
-    ensures err { IfErr result (λ fault. fault ≡ DayFault.Memory) }
-{
-    let shares = shares_of(alloc, participants, commands)?;
-    let shares = shares.as_slice();
-    let mut passes = passes_for(rt, alloc, gate, participants, shares)?;
-    // So that a journal which grows isn't copied.
-    gate.reserve_entries(rt, commands.len() + 1)?;
-    enter_all(rt, gate, turnstile, &mut passes, commands, shares);
-    if !have_all_entered(&passes, shares) {
-        return Err(DayFault::Memory);
-    }
-    Ok(passes)
 }
 
 /// The day of participants who give all the commands, at a gate of its own.
@@ -410,9 +218,7 @@ pub fn run_commands<R: Threads + Wait + Sync, T: Turnstile + Sync>(
     ensures day { IfOk result (IsSettledDay periods commands.now) }
     ensures fault { IfErr result (IsDayFault commands.now) }
 {
-    if commands.len() >= MOST_ENTRIES {
-        return Err(DayFault::TooManyCommands);
-    }
+    check_room(commands.len())?;
     let packed = pack_commands(alloc, commands)?;
     run_packed(rt, alloc, periods, seed, &packed, turnstile)
 }

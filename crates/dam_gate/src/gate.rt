@@ -6,9 +6,10 @@ ghost use Rattle.dam_gate.specs.Gate.{IsBeginFault, IsCalled, IsGateFault};
 ghost use Rattle.dam_gate.specs.inside.Entering.{IsClosedByOperator};
 ghost use Rattle.dam_gate.specs.inside.Locked.{entry_of};
 
-use crate::history::{GateName, Opening};
-use crate::keeper::{BeginFault, Journal, KeeperFault};
+use crate::journal::Journal;
+use crate::keeper::{BeginFault, KeeperFault};
 use crate::locked::Locked;
+use crate::opening::{GateName, Opening};
 use crate::pass::Pass;
 use crate::version::{NextShown, Shown};
 use dam_book::{

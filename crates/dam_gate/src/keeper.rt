@@ -7,6 +7,7 @@ ghost use Rattle.dam_gate.specs.Keeper.{IsPreparedFor};
 ghost use Rattle.dam_gate.specs.Gate.{IsBeginFault, IsKeeperFault};
 
 use crate::books::Books;
+use crate::journal::Journal;
 use dam_book::{
     Book, Command, DayLength, Entry, Outcome, PackedCommand, PackedEntry, Seed, is_journal_full,
 };
@@ -332,55 +333,6 @@ impl<A: Allocator + Copy> Keeper<A> {
         ensures { result ≡ self.journal }
     {
         let Keeper { books, entries } = self;
-        Journal {
-            book: books.into_book(),
-            entries,
-        }
-    }
-}
-
-/// The journal that a gate leaves: its entries, and the book that they made.
-///
-/// A contract sees the entries and the book, as in a `Keeper`.
-#[derive(Debug, Drop)]
-pub struct Journal<A: Allocator = Global> {
-    book: Arc<Book<A>, A>,
-    entries: Vec<PackedEntry<A>, A>,
-}
-
-impl<A: Allocator> Model for Journal<A> {
-    ghost use Rattle.std.specs.Arc.{arc_value};
-    ghost use Rattle.dam_gate.specs.Journal.{JournalState, IsJournal};
-
-    ghost Value = { JournalState };
-
-    ghost view = { λ j. record { entries = j.entries.items; book = arc_value j.book } };
-
-    ghost invariant = { λ j.
-        IsJournal (record { entries = j.entries.items; book = arc_value j.book }) };
-}
-
-impl<A: Allocator + Copy> Journal<A> {
-    /// The number of periods of the delivery day.
-    pub fn periods(&self) -> DayLength
-        ensures { result ≡ self.now.book.periods }
-    {
-        self.book.periods()
-    }
-
-    /// The entries, numbered from 1.
-    pub fn entries(&self) -> &[PackedEntry<A>]
-        ensures value { result.now ≡ self.now.entries }
-        ensures valid { IsJournal self.now }
-    {
-        &self.entries
-    }
-
-    /// The book that the commands of the entries make of the empty book of the day.
-    pub fn book(&self) -> &Book<A>
-        ensures value { result.now ≡ self.now.book }
-        ensures valid { IsJournal self.now }
-    {
-        &self.book
+        Journal::new(books.into_book(), entries)
     }
 }

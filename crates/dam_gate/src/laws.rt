@@ -8,8 +8,8 @@ ghost use Rattle.dam_gate.specs.Settled.{IsSettled};
 ghost use Rattle.dam_gate.specs.Headline.{IsWholeAccount};
 
 use crate::account::Account;
-use crate::history::GateName;
 use crate::limits::{MOST_PARTICIPANTS, MOST_PASSES};
+use crate::opening::GateName;
 use crate::pass::{Note, Pass};
 use crate::settlement::Settled;
 use dam_book::laws::histories_are_runs;

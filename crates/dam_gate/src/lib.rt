@@ -42,16 +42,20 @@
 
 mod account;
 mod books;
+mod command_places;
 mod day;
+mod entering;
 mod gate;
+mod givers;
 mod history;
+mod journal;
 mod keeper;
 pub mod laws;
 mod limits;
 mod locked;
+mod opening;
 mod pass;
 mod settlement;
-mod shares;
 mod tally;
 mod version;
 
@@ -59,9 +63,10 @@ pub use account::Account;
 pub use dam_plan::{FreeTurn, Turnstile};
 pub use day::{DayFault, SettledDay, run_commands, run_packed};
 pub use gate::{Gate, GateFault, PassFault};
-pub use history::{GateName, Opening};
-pub use keeper::{BeginFault, Journal, Keeper, KeeperFault, PreparedStep};
+pub use journal::Journal;
+pub use keeper::{BeginFault, Keeper, KeeperFault, PreparedStep};
 pub use limits::{MOST_PARTICIPANTS, MOST_PASSES};
+pub use opening::{GateName, Opening};
 pub use pass::{Look, Note, Pass};
 pub use settlement::{Mismatch, Settled, Unsettled, settle};
 pub use version::{NextShown, Shown};

@@ -10,9 +10,11 @@ ghost use Rattle.dam_gate.specs.inside.Shown.{IsAtMostNext, IsNext, IsNoteOf, sl
 ghost use Rattle.left_right.specs.Handles.{pending, published};
 
 use crate::gate::{GateFault, PassFault};
-use crate::history::{Answered, EntryCount, GateName, History, NamedOpening, Opening};
-use crate::keeper::{Journal, Keeper, KeeperFault, PreparedStep};
+use crate::history::{EntryCount, History};
+use crate::journal::Journal;
+use crate::keeper::{Keeper, KeeperFault, PreparedStep};
 use crate::limits::MOST_PASSES;
+use crate::opening::{Answered, GateName, NamedOpening, Opening};
 use crate::pass::{FIRST_RECEIPTS, Pass};
 use crate::version::{NextShown, Shown, Slot, Version, filled_slot};
 use dam_book::{Command, DayLength, PackedCommand, Participant, Reply, Seed};

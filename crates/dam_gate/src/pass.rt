@@ -9,8 +9,9 @@ ghost use Rattle.dam_gate.specs.inside.Locked.{entry_of};
 
 use crate::account::{Account, acts_for, copy_holder};
 use crate::gate::GateFault;
-use crate::history::{Answered, GateName, History};
+use crate::history::History;
 use crate::locked::Locked;
+use crate::opening::{Answered, GateName};
 use crate::version::{NextShown, Shown};
 use dam_book::{Name, Order, PackedCommand, PackedEntry, Participant, Reply};
 use left_right::{Absorb, ReadHandle};

@@ -4,7 +4,7 @@ ghost use Rattle.dam_gate.specs.Headline.{IsWholeAccount};
 ghost use Rattle.dam_gate.specs.inside.Tally.{IsFirstMismatch};
 
 use crate::account::Account;
-use crate::keeper::Journal;
+use crate::journal::Journal;
 use crate::laws::whole_account;
 use crate::tally::Tally;
 use std::alloc::{AllocError, Allocator, Global};

@@ -3,7 +3,8 @@ ghost use Rattle.std.specs.Arc.{arc_value};
 ghost use Rattle.dam_gate.specs.Journal.{IsJournal};
 ghost use Rattle.dam_gate.specs.inside.Shown.{IsNoteOf, slot_name};
 
-use crate::history::{GateName, History};
+use crate::history::History;
+use crate::opening::GateName;
 use dam_book::Book;
 use left_right::Absorb;
 use once_cell::race::{Note as CellNote, OnceBox};

@@ -43,17 +43,17 @@ IsRefusalAt place participants c (NotSettled why) = ⊥
 abbrev pub commands_at : List Command → List ℕ → List Command
 commands_at cs places = filter_map (λ (place : ℕ). slice_get cs place) places
 
--- each participant's share, which is a list of places, has those of its commands among the first of all, `front`
-abbrev pub AreShares : List Command → List Command → List (List ℕ) → List (List ℕ) → Type 0
-AreShares all front [] [] = Unit {0}
-AreShares all front (who ∷ participants) (share ∷ shares) =
-    (commands_at all share ≡ commands_by who front) × AreShares all front participants shares
-AreShares all front [] (share ∷ shares) = ⊥
-AreShares all front (who ∷ participants) [] = ⊥
+-- each participant's places are those of its commands among the first of all, `front`
+abbrev pub AreAllPlaces : List Command → List Command → List (List ℕ) → List (List ℕ) → Type 0
+AreAllPlaces all front [] [] = Unit {0}
+AreAllPlaces all front (who ∷ participants) (places ∷ all_places) =
+    (commands_at all places ≡ commands_by who front) × AreAllPlaces all front participants all_places
+AreAllPlaces all front [] (places ∷ all_places) = ⊥
+AreAllPlaces all front (who ∷ participants) [] = ⊥
 
--- the share of the participant at this place; no places if there is none
-abbrev pub share_at : List (List ℕ) → ℕ → List ℕ
-share_at shares at = slice_index_or shares at []
+-- the places of the participant of this index; none if there is none
+abbrev pub places_of : List (List ℕ) → ℕ → List ℕ
+places_of all_places at = slice_index_or all_places at []
 
 -- the pass has receipts of the earlier commands, and then of some of its own, the first ones
 pub record HasEntered (earlier own : List Command) (p : AccountState) : Type 0 where
@@ -75,10 +75,10 @@ AreServed given (who ∷ participants) (p ∷ ps) =
 AreServed given [] (p ∷ ps) = ⊥
 AreServed given (who ∷ participants) [] = ⊥
 
--- the pass has as many receipts as there are places in its share
-pub record HasAll (share : List ℕ) (p : AccountState) : Type 0 where
+-- the pass has as many receipts as its participant has places
+pub record HasAll (places : List ℕ) (p : AccountState) : Type 0 where
   pub pass : IsAccount p
-  pub as_many : length p.receipts ≡ length share
+  pub as_many : length p.receipts ≡ length places
 
 -- the faults of a day if this journal and these passes aren't found settled: why they aren't, or that memory ran out
 abbrev pub IsUnsettled : JournalState → List AccountState → DayFault → Type 0

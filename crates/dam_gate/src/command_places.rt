@@ -1,7 +1,7 @@
 ghost use Rattle.std.specs.Prelude.{◌≡◌, ◌++◌, ◌∷◌, [], List, replicate, slice_get, false, Some, IfOk, OnOk, IfSome, IfNone};
 ghost use Rattle.dam_book.specs.declared.command.Command.{Command};
 ghost use Rattle.dam_gate.specs.Day.{is_one_of};
-ghost use Rattle.dam_gate.specs.inside.Entering.{AreApart, AreShares, share_at};
+ghost use Rattle.dam_gate.specs.inside.Entering.{AreApart, AreAllPlaces, places_of};
 
 use dam_book::{PackedCommand, Participant};
 use std::alloc::{AllocError, Global};
@@ -9,11 +9,11 @@ use std::marker::Model;
 
 /// The places of one participant's commands among the day's commands, in their order. A contract sees the places.
 #[derive(Debug, Drop)]
-pub(crate) struct Share {
+pub(crate) struct CommandPlaces {
     places: Vec<usize>,
 }
 
-impl Model for Share {
+impl Model for CommandPlaces {
     ghost use Rattle.std.specs.Prelude.{List, ℕ};
 
     ghost Value = { List ℕ };
@@ -21,11 +21,11 @@ impl Model for Share {
     ghost view = { λ s. s.places.items };
 }
 
-impl Share {
-    fn new(alloc: Global) -> Share
+impl CommandPlaces {
+    fn new(alloc: Global) -> CommandPlaces
         ensures { result ≡ [] }
     {
-        Share {
+        CommandPlaces {
             places: Vec::new(alloc),
         }
     }
@@ -45,28 +45,28 @@ impl Share {
 }
 
 /// The places of the commands of the participant at this place; none if there is no such participant.
-pub(crate) fn share_of(shares: &[Share], at: usize) -> &[usize]
-    ensures { result.now ≡ share_at shares.now at }
+pub(crate) fn places_of(all_places: &[CommandPlaces], at: usize) -> &[usize]
+    ensures { result.now ≡ places_of all_places.now at }
 {
-    match shares.get(at) {
-        Some(share) => share.places(),
+    match all_places.get(at) {
+        Some(places) => places.places(),
         None => &[],
     }
 }
 
-/// `count` shares without a place.
-fn empty_shares(alloc: Global, count: usize) -> Result<Vec<Share>, AllocError>
-    ensures { IfOk result (λ shares. shares.items ≡ replicate count []) }
+/// `count` all_places without a place.
+fn empty_places(alloc: Global, count: usize) -> Result<Vec<CommandPlaces>, AllocError>
+    ensures { IfOk result (λ all_places. all_places.items ≡ replicate count []) }
 {
-    let mut shares = Vec::with_capacity(alloc, count)?;
+    let mut all_places = Vec::with_capacity(alloc, count)?;
     for _ in 0..count {
-        shares.push(Share::new(alloc))?;
+        all_places.push(CommandPlaces::new(alloc))?;
     }
-    Ok(shares)
+    Ok(all_places)
 }
 
 /// The place of the participant among these.
-fn place_of(participants: &[Participant], who: &Participant) -> Option<usize>
+fn index_of(participants: &[Participant], who: &Participant) -> Option<usize>
     ensures found { IfSome result (λ at. slice_get participants.now at ≡ Some who.now) }
     ensures absent { IfNone result (is_one_of participants.now who.now ≡ false) }
 {
@@ -80,41 +80,41 @@ fn place_of(participants: &[Participant], who: &Participant) -> Option<usize>
 
 /// Adds the place of the command to the share of the participant who gives it.
 fn add_place(
-    shares: &mut [Share],
+    all_places: &mut [CommandPlaces],
     participants: &[Participant],
     command: &PackedCommand,
     place: usize,
 ) -> Result<(), AllocError>
     requires { AreApart participants.now }
     ensures { (all front : List Command) → slice_get all place ≡ Some command.now
-        → AreShares all front participants.now shares.old → OnOk result
-        (AreShares all (front ++ command.now ∷ []) participants.now shares.new) }
+        → AreAllPlaces all front participants.now all_places.old → OnOk result
+        (AreAllPlaces all (front ++ command.now ∷ []) participants.now all_places.new) }
 {
     let Some(who) = command.participant() else {
         return Ok(());
     };
-    let Some(at) = place_of(participants, who) else {
+    let Some(at) = index_of(participants, who) else {
         return Ok(());
     };
-    if at < shares.len() {
-        shares[at].add(place)?;
+    if at < all_places.len() {
+        all_places[at].add(place)?;
     }
     Ok(())
 }
 
-/// The shares of the participants, found in one pass over the commands.
-pub(crate) fn shares_of(
+/// The all_places of the participants, found in one pass over the commands.
+pub(crate) fn find_all_places(
     alloc: Global,
     participants: &[Participant],
     commands: &[PackedCommand],
-) -> Result<Vec<Share>, AllocError>
+) -> Result<Vec<CommandPlaces>, AllocError>
     requires { AreApart participants.now }
-    ensures { IfOk result (λ shares.
-        AreShares commands.now commands.now participants.now shares.items) }
+    ensures { IfOk result (λ all_places.
+        AreAllPlaces commands.now commands.now participants.now all_places.items) }
 {
-    let mut shares = empty_shares(alloc, participants.len())?;
+    let mut all_places = empty_places(alloc, participants.len())?;
     for (place, command) in commands.iter().enumerate() {
-        add_place(&mut shares, participants, command, place)?;
+        add_place(&mut all_places, participants, command, place)?;
     }
-    Ok(shares)
+    Ok(all_places)
 }

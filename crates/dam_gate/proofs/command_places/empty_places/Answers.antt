@@ -1,12 +1,12 @@
 -- One more has none either.
 use Rattle.std.proofs.Common.{◌≡◌, ◌++◌, ◌∷◌, [], ℕ, List, replicate, ap, ap₂, ◌∙◌, arith}
 use Rattle.std.proofs.lemmas.List.{replicate_more}
-use Rattle.dam_gate.proofs.shares.empty_shares.Goals as goal
+use Rattle.dam_gate.proofs.command_places.empty_places.Goals as goal
 
 pub loop-preserved : goal.loop-preserved
 loop-preserved c =
     c.in_ok-push.ensures.items
-    ∙ ap₂ (λ (shares : List (List ℕ)) (share : List ℕ). shares ++ share ∷ []) c.loop.invariant c.new.ensures
+    ∙ ap₂ (λ (all_places : List (List ℕ)) (places : List ℕ). all_places ++ places ∷ []) c.loop.invariant c.new.ensures
     ∙ replicate_more c.loop.counter []
 
 pub returns : goal.returns

@@ -2,7 +2,7 @@
 use Rattle.std.proofs.Common.{◌≡◌, ◌++◌, take}
 use Rattle.dam_book.specs.Book.{commands_of}
 use Rattle.dam_gate.specs.inside.Entering.{commands_at}
-use Rattle.dam_gate.proofs.day.enter_commands.Given as goal
+use Rattle.dam_gate.proofs.entering.enter_commands.Given as goal
 
 abbrev pub invariant-loop-place : goal.invariant-loop-place
 invariant-loop-place g l = record {

@@ -1,6 +1,6 @@
 -- Those so far have no place.
 use Rattle.std.proofs.Common.{◌≡◌, [], replicate}
-use Rattle.dam_gate.proofs.shares.empty_shares.Given as goal
+use Rattle.dam_gate.proofs.command_places.empty_places.Given as goal
 
 abbrev pub invariant-loop : goal.invariant-loop
-invariant-loop l = l.shares.items ≡ replicate l.counter []
+invariant-loop l = l.all_places.items ≡ replicate l.counter []

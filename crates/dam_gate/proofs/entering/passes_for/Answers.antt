@@ -2,7 +2,7 @@
 use Rattle.std.proofs.Common.{◌++◌, ◌∷◌, [], ℕ, List, Some, ap, ap₂, ◌∙◌}
 use Rattle.std.proofs.lemmas.List.{take_more, map-append}
 use Rattle.dam_gate.specs.Pass.{Knowledge, knowing_nothing}
-use Rattle.dam_gate.proofs.day.passes_for.Goals as goal
+use Rattle.dam_gate.proofs.entering.passes_for.Goals as goal
 
 pub loop-who-preserved : goal.loop-who-preserved
 loop-who-preserved g c =

@@ -8,7 +8,7 @@ use Rattle.dam_gate.specs.Pass.{Knowledge}
 use Rattle.dam_gate.specs.inside.Entering.{commands_at}
 use Rattle.dam_gate.specs.inside.Locked.{entry_of}
 use Rattle.dam_gate.proofs.Days.{own-split, none_past, next-place, one-receipt}
-use Rattle.dam_gate.proofs.day.enter_commands.Goals as goal
+use Rattle.dam_gate.proofs.entering.enter_commands.Goals as goal
 
 pub loop-place-preserved-in_default : goal.loop-place-preserved-in_default
 loop-place-preserved-in_default g c =

@@ -2,7 +2,7 @@
 use Rattle.std.proofs.Common.{Some, length, ℕ, List, refl, sym, ap, ◌∙◌}
 use Rattle.std.proofs.lemmas.Option.{slice_get_read}
 use Rattle.dam_gate.proofs.Days.{text-Decides}
-use Rattle.dam_gate.proofs.shares.place_of.Goals as goal
+use Rattle.dam_gate.proofs.command_places.index_of.Goals as goal
 
 pub returns-then-eq-clause-found : goal.returns-then-eq-clause-found
 returns-then-eq-clause-found c =

@@ -1,0 +1,164 @@
+//! The participants enter their commands at one gate, each on a thread of its own if one can be started.
+
+ghost use Rattle.std.specs.Prelude.{◌≡◌, ◌≤◌, ◌<◌, ℕ, true, Some, length, map, slice_index_or, IfOk, IfErr, All};
+ghost use Rattle.dam_gate.specs.Limits.{most_participants};
+ghost use Rattle.dam_gate.specs.Pass.{Knowledge, IsKnowledge, holders, knowing_nothing};
+ghost use Rattle.dam_gate.specs.inside.Entering.{AreApart, AreServed, Enters, HasAll, commands_at, places_of};
+
+use crate::command_places::{CommandPlaces, find_all_places, places_of};
+use crate::day::DayFault;
+use crate::gate::Gate;
+use crate::limits::MOST_PARTICIPANTS;
+use crate::opening::GateName;
+use crate::pass::Pass;
+use dam_book::{PackedCommand, Participant};
+use dam_plan::Turnstile;
+use std::alloc::Global;
+use std::sync::Wait;
+use std::thread;
+use std::thread::Threads;
+
+/// Enters the commands at these places in their order, up to the first that is refused.
+fn enter_commands<J: GateName, H: Wait + Drop>(
+    rt: &impl Wait,
+    gate: &Gate<J, H>,
+    pass: &mut Pass<J>,
+    commands: &[PackedCommand],
+    places: &[usize],
+)
+    ensures { Enters (commands_at commands.now places.now) pass.old.account pass.new.account }
+{
+    for place in places {
+        let Some(given) = commands.get(*place) else {
+            continue;
+        };
+        let Ok(_answer) = gate.call_packed(rt, pass, given) else {
+            return;
+        };
+    }
+}
+
+/// Enters the commands of one participant, between the calls of the turnstile.
+fn enter_through_turnstile<J: GateName, H: Wait + Drop, T: Turnstile>(
+    rt: &impl Wait,
+    gate: &Gate<J, H>,
+    turnstile: &T,
+    participant: u32,
+    pass: &mut Pass<J>,
+    commands: &[PackedCommand],
+    places: &[usize],
+)
+    ensures { Enters (commands_at commands.now places.now) pass.old.account pass.new.account }
+{
+    turnstile.before(participant);
+    enter_commands(rt, gate, pass, commands, places);
+    turnstile.after(participant);
+}
+
+/// Has each participant enter its commands, on a thread of its own if one can be started.
+fn enter_all<J: GateName + Send + Sync, R: Threads + Wait + Sync, T: Turnstile + Sync>(
+    rt: &R,
+    gate: &Gate<J, &R>,
+    turnstile: &T,
+    passes: &mut [Pass<J>],
+    commands: &[PackedCommand],
+    all_places: &[CommandPlaces],
+)
+    requires { length passes.old ≤ most_participants }
+    ensures { (i : ℕ) (d : Knowledge) → i < length passes.old
+        → Enters (commands_at commands.now (places_of all_places.now i))
+        (slice_index_or passes.old i d).account (slice_index_or passes.new i d).account }
+{
+    thread::for_each_mut(
+        rt,
+        passes,
+        MOST_PARTICIPANTS,
+        &|place, pass| {
+            let places = places_of(all_places, place);
+            enter_through_turnstile(rt, gate, turnstile, place as u32, pass, commands, places)
+        },
+    );
+}
+
+/// Whether no call was refused: each pass has as many receipts as there are places in its share.
+fn have_all_entered<J: GateName>(passes: &[Pass<J>], all_places: &[CommandPlaces]) -> bool
+    ensures all { result ≡ true → (i : ℕ) (d : Knowledge) → i < length passes.now
+        → HasAll (places_of all_places.now i) (slice_index_or passes.now i d).account }
+    ensures valid { result ≡ true → All IsKnowledge passes.now }
+{
+    for (place, pass) in passes.iter().enumerate() {
+        if pass.receipts().len() != places_of(all_places, place).len() {
+            return false;
+        }
+    }
+    true
+}
+
+/// A pass for the participant, with room for this number of receipts.
+fn pass_for<J: GateName, H: Wait + Drop>(
+    rt: &impl Wait,
+    gate: &Gate<J, H>,
+    who: &Participant,
+    receipts: usize,
+) -> Result<Pass<J>, DayFault>
+    ensures ok { IfOk result (λ pass. pass ≡ knowing_nothing (Some who.now)) }
+    ensures err { IfErr result (λ fault. fault ≡ DayFault.Memory) }
+{
+    let mut pass = gate.pass(rt, who.copy())?;
+    pass.reserve_receipts(receipts)?;
+    Ok(pass)
+}
+
+/// A pass for each participant, with room for the receipts of its commands.
+fn passes_for<J: GateName, H: Wait + Drop>(
+    rt: &impl Wait,
+    alloc: Global,
+    gate: &Gate<J, H>,
+    participants: &[Participant],
+    all_places: &[CommandPlaces],
+) -> Result<Vec<Pass<J>>, DayFault>
+    ensures ok { IfOk result (λ passes.
+        passes.items ≡ map (λ who. knowing_nothing (Some who)) participants.now) }
+    ensures err { IfErr result (λ fault. fault ≡ DayFault.Memory) }
+{
+    let mut passes = Vec::with_capacity(alloc, participants.len() + 1)?;
+    for who in participants {
+        let receipts = places_of(all_places, passes.len()).len();
+        passes.push(pass_for(rt, gate, who, receipts)?)?;
+    }
+    Ok(passes)
+}
+
+/// The passes through which all commands were entered, one for each participant.
+pub(crate) fn enter_before_close<
+    J: GateName + Send + Sync,
+    R: Threads + Wait + Sync,
+    T: Turnstile + Sync,
+>(
+    rt: &R,
+    alloc: Global,
+    gate: &Gate<J, &R>,
+    turnstile: &T,
+    participants: &[Participant],
+    commands: &[PackedCommand],
+) -> Result<Vec<Pass<J>>, DayFault>
+    requires few { length participants.now ≤ most_participants }
+    requires apart { AreApart participants.now }
+    ensures ok { IfOk result (λ passes. AreServed commands.now participants.now
+        (map (λ pass. pass.account) passes.items)) }
+    ensures holders { IfOk result (λ passes. holders (map (λ pass. pass.account) passes.items)
+        ≡ map (λ who. Some who) participants.now) }
+    ensures valid { IfOk result (λ passes. All IsKnowledge passes.items) }
+    ensures err { IfErr result (λ fault. fault ≡ DayFault.Memory) }
+{
+    let all_places = find_all_places(alloc, participants, commands)?;
+    let all_places = all_places.as_slice();
+    let mut passes = passes_for(rt, alloc, gate, participants, all_places)?;
+    // So that a journal which grows isn't copied.
+    gate.reserve_entries(rt, commands.len() + 1)?;
+    enter_all(rt, gate, turnstile, &mut passes, commands, all_places);
+    if !have_all_entered(&passes, all_places) {
+        return Err(DayFault::Memory);
+    }
+    Ok(passes)
+}
