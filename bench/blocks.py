@@ -13,28 +13,28 @@ of a few milliseconds."""
 
 import make_blocks
 import make_family
-from clearing import MOST_OF_BEFORE, MOST_OF_DEEP, MeasuredBook, Together, kinds_of
-from running import TWIN, enumeration
+from clearing import MOST_OF_BEFORE, MOST_OF_DEEP, BooksTogether, kinds_asked_or_exit, write_book
+from running import TWIN, prepare_enumeration
 
 DEFAULT = ["2", "3"]  # the default plan: workers, and how many of the first blocks are cut
 MOST = {"before": MOST_OF_BEFORE, "the twin": 2, "enumeration": 0.1}  # times as long
 MOST_TOGETHER = {"alone": 12, "before": 1}
 
 
-def measured(drawn):
-    book = MeasuredBook("blocks", drawn)
+def measure_book(drawn):
+    book = write_book("blocks", drawn)
     twin = {"the twin": [TWIN, *DEFAULT]} if drawn in make_family.BOOKS else {}
-    book.time_with({**twin, "enumeration": enumeration(book.path)})
-    book.show(MOST_OF_DEEP, MOST)
-    book.peers()
+    book.time_or_exit({**twin, "enumeration": prepare_enumeration(book.path)})
+    book.record_clear(MOST_OF_DEEP, MOST)
+    book.run_and_record_peers()
     return book
 
 
 def main():
     drawn = [*make_blocks.BOOKS, *make_family.BOOKS]
-    kinds = kinds_of(drawn)
-    books = [measured(each) for each in drawn if each.kind in kinds]
-    Together("deep books", books).show(MOST_OF_DEEP, MOST_TOGETHER)
+    kinds = kinds_asked_or_exit(drawn)
+    books = [measure_book(each) for each in drawn if each.kind in kinds]
+    BooksTogether("deep books", books).record_sums(MOST_OF_DEEP, MOST_TOGETHER)
 
 
 main()

@@ -11,7 +11,7 @@ import statistics
 import sys
 
 from figures import multiple_text, record_at_most, record_figure, record_ratio, seconds_text
-from running import BEFORE, DAM, LIMIT, PEER_LIMIT, by_turns, run_to_file
+from running import BEFORE, DAM, LIMIT, PEER_LIMIT, run_in_turns, run_to_file
 
 MOST_OF_DEEP = 0.15  # seconds
 MOST_OF_BEFORE = 2  # times as long as the program before
@@ -22,14 +22,14 @@ LEAST_OF_PEER = 20  # times as long as `dam clear`
 OTHERS = {"alone": "the same without blocks", "before": "the program before", "enumeration": "the enumeration"}
 
 
-def kinds_of(books):
+def kinds_asked_or_exit(books):
     """The kinds of books that the command line names, or else all of these books."""
     known = list(dict.fromkeys(drawn.kind for drawn in books))
     kinds = sys.argv[1:] or known
     return kinds if set(kinds) <= set(known) else sys.exit(f"{sys.argv[0]}: KIND is one of {' '.join(known)}")
 
 
-def walls_of(runs):
+def wall_seconds_of(runs):
     """The seconds of the runs of each program."""
     return {name: [each.wall for each in found] for name, found in runs.items()}
 
@@ -38,7 +38,7 @@ def welfare_of(cleared):
     return int(cleared.text.split(b"welfare,")[1].split(b"\n")[0])
 
 
-def answer_of(asked):
+def answer_of_peer(asked):
     """The welfare that a run of peer.py found, and why it found none."""
     text = asked.text.decode().strip() if asked else "gave up"
     if text.startswith("missing: "):
@@ -48,62 +48,67 @@ def answer_of(asked):
     return (None, f"gave up after {PEER_LIMIT:g} s") if text == "gave up" else (int(text), "")
 
 
-class MeasuredBook:
+def write_book(part, drawn):
+    """Writes the journal of a book and the one without its blocks, and returns the book, on which no program was run."""
+    words = drawn.words, drawn.words_without_blocks
+    return TimedBook(drawn, *(run_to_file(f"out/{part}-{'-'.join(each)}.csv", drawn.script, *each) for each in words))
+
+
+class TimedBook:
     """A book with blocks, and its figures. `walls` has the seconds of the runs of each program."""
 
-    def __init__(self, part, drawn):
+    def __init__(self, drawn, path, path_without_blocks):
         self.drawn, self.name, self.walls = drawn, drawn.name, {}
-        words = drawn.words, drawn.words_without_blocks
-        self.path, self.alone = (run_to_file(f"out/{part}-{'-'.join(each)}.csv", drawn.script, *each) for each in words)
+        self.path, self.alone = path, path_without_blocks
 
     @property
-    def what(self):
+    def label(self):
         return f"{self.name}: dam clear"
 
-    def in_turns(self, more, limit=LIMIT):
+    def run_programs(self, more, limit=LIMIT):
         """The runs of `dam clear`, of itself on the book without its blocks, and of more programs that there are."""
         clear = [DAM, "clear"]
         words = {"dam": clear, "alone": clear, **{name: given for name, given in more.items() if given}}
-        return by_turns(words, self.path, TURNS, SECONDS, ONCE, inputs={"alone": self.alone}, limit=limit)
+        return run_in_turns(words, self.path, TURNS, SECONDS, ONCE, inputs={"alone": self.alone}, limit=limit)
 
-    def time_with(self, more):
+    def time_or_exit(self, more):
         """Runs `dam clear` and other programs by turns; `more` has the words of further ones. The twin must find the same welfare."""
-        runs = self.in_turns({"before": BEFORE and [BEFORE, "clear"], **more})
+        runs = self.run_programs({"before": BEFORE and [BEFORE, "clear"], **more})
         if runs["dam"] and any(int(each.text.split()[1]) != welfare_of(runs["dam"][0]) for each in runs.get("the twin", [])):
             sys.exit(f"{self.name}: the twin finds another welfare")
-        self.walls = walls_of(runs)
+        self.walls = wall_seconds_of(runs)
 
-    def median(self, name):
+    def median_seconds(self, name):
         """None if the program didn't end, or wasn't run."""
         return statistics.median(self.walls[name]) if self.walls.get(name) else None
 
-    def show(self, most, others):
+    def record_clear(self, most, others):
         """Prints the seconds of `dam clear`, which may be `most`, and how many times as long as other programs it takes; `others` has how
         many times that may be."""
-        median, target = self.median("dam"), f"at most {seconds_text(most)}"
+        median, target = self.median_seconds("dam"), f"at most {seconds_text(most)}"
         if median is None:
-            record_figure(self.what, f"> {LIMIT:g} s", target, False)
+            record_figure(self.label, f"> {LIMIT:g} s", target, False)
             return
-        record_figure(self.what, seconds_text(median), target, median <= most)
+        record_figure(self.label, seconds_text(median), target, median <= most)
         for name, most_times in others.items():
-            what = f"{self.what} compared with {OTHERS.get(name, name)}"
+            what = f"{self.label} compared with {OTHERS.get(name, name)}"
             if self.walls.get(name):
                 note = self.drawn.note if name == "enumeration" else ""
                 record_ratio(what, self.walls["dam"], self.walls[name], most_times, note=note)
             elif name in self.walls:
                 record_figure(what, "?", detail=f"it didn't end in {LIMIT:g} s")
 
-    def peers(self):
+    def run_and_record_peers(self):
         """Runs `dam clear` and its peers by turns, and prints how many times as long each takes. The details have the time that the blocks
         add to `dam clear`, which is nearer to that of a solver, since the rest reads and prints."""
         if not self.walls.get("dam"):
             return
-        runs = self.in_turns({peer: ["./peer.py", peer, self.path, str(PEER_LIMIT)] for peer in PEERS}, max(LIMIT, PEER_LIMIT + SPARE))
-        walls, welfare = walls_of(runs), welfare_of(runs["dam"][0])
+        runs = self.run_programs({peer: ["./peer.py", peer, self.path, str(PEER_LIMIT)] for peer in PEERS}, max(LIMIT, PEER_LIMIT + SPARE))
+        walls, welfare = wall_seconds_of(runs), welfare_of(runs["dam"][0])
         added = max(statistics.median(walls["dam"]) - statistics.median(walls["alone"]), 0)
         for peer, name in PEERS.items():
             what = f"{self.name}: {name} compared with dam clear"
-            found, why = answer_of(runs[peer][0] if runs[peer] else None)
+            found, why = answer_of_peer(runs[peer][0] if runs[peer] else None)
             if found is None:
                 is_slow = why.startswith("gave up") and PEER_LIMIT >= LEAST_OF_PEER * statistics.median(walls["dam"])
                 record_figure(what, "?", f"at least {multiple_text(LEAST_OF_PEER)}" if is_slow else "", is_slow or None, f"it {why}")
@@ -111,44 +116,44 @@ class MeasuredBook:
                 record_figure(what, "?", f"welfare {welfare}", False, f"it finds {found}")
             else:
                 note = f"; it finds less welfare, {found} of {welfare}" if found < welfare else ""
-                lasted = [each.lap(peer) for each in runs[peer]]
+                lasted = [each.reported_seconds(peer) for each in runs[peer]]
                 record_ratio(what, lasted, walls["dam"], least=LEAST_OF_PEER, note=f"the blocks add {seconds_text(added)}{note}")
 
 
-class Together:
+class BooksTogether:
     """Many books together. What didn't end counts as the limit."""
 
     def __init__(self, name, books):
         self.name, self.books = f"{name} together", books
 
-    def lasted(self, books, name):
-        return [LIMIT if book.median(name) is None else book.median(name) for book in books]
+    def seconds_of(self, books, name):
+        return [LIMIT if book.median_seconds(name) is None else book.median_seconds(name) for book in books]
 
-    def show(self, most, others):
+    def record_sums(self, most, others):
         """Prints the sum of the seconds of `dam clear` and the slowest book, which may take `most`, and compares the sum with those of
         other programs; `others` has how many times as long it may be."""
         if not self.books:
             return
-        lasted = self.lasted(self.books, "dam")
+        lasted = self.seconds_of(self.books, "dam")
         slowest = max(range(len(lasted)), key=lasted.__getitem__)
         record_figure(f"{self.name}: dam clear", seconds_text(sum(lasted)), detail=f"{len(lasted)} books")
         record_at_most(f"{self.name}: dam clear, the slowest", lasted[slowest], most, detail=self.books[slowest].name)
         for name, most_times in others.items():
-            run_on = self.run_on(name)
+            run_on = self.books_with(name)
             if run_on:
-                ours, theirs = (sum(self.lasted(run_on, each)) for each in ("dam", name))
-                late = sum(book.median(name) is None for book in run_on)
+                ours, theirs = (sum(self.seconds_of(run_on, each)) for each in ("dam", name))
+                late = sum(book.median_seconds(name) is None for book in run_on)
                 note = f"{late} of {len(run_on)} didn't end in {LIMIT:g} s" if late else ""
                 record_ratio(f"{self.name}: dam clear compared with {OTHERS.get(name, name)}", [ours], [theirs], most_times, note=note)
 
-    def run_on(self, name):
+    def books_with(self, name):
         """The books on which a program was run."""
         return [book for book in self.books if name in book.walls]
 
     def record_slower(self, one_in):
         """Prints how many books take longer than by the program before, of which there may be one in `one_in`."""
-        books = self.run_on("before")
-        pairs = zip(books, self.lasted(books, "dam"), self.lasted(books, "before"))
+        books = self.books_with("before")
+        pairs = zip(books, self.seconds_of(books, "dam"), self.seconds_of(books, "before"))
         slower = [f"{book.name} {one / other:.2f} x" for book, one, other in pairs if one > other]
         if books:
             most = len(books) // one_in

@@ -19,7 +19,7 @@ from concurrent.futures import ThreadPoolExecutor
 from pathlib import Path
 
 from figures import MIB, PER_SECOND, record_at_most, record_ratio, record_times
-from running import DAM, DESK, in_turns, peak_memory, run, run_to_file
+from running import DAM, DESK, call_in_turns, run_for_peak_memory, run_or_exit, run_to_file
 
 sys.path.insert(0, str(Path(__file__).resolve().parent.parent / "tests" / "desk"))
 
@@ -32,57 +32,57 @@ TARGETS = {1: 0.8, 64: 2, 1_000: 2}  # times as many records as sqlite3, by the 
 TABLE = "CREATE TABLE journal (number INTEGER PRIMARY KEY, record TEXT NOT NULL)"
 
 
-def new_in(folder):
+def empty_for_desk_file(folder):
     """The path of a file in a folder, which is emptied."""
     for path in Path(folder).iterdir():
         path.unlink()
     return f"{folder}/day.desk"
 
 
-def batches_of(size):
+def read_batches(size):
     """The lines of the journal in batches of this size."""
     records = Path(JOURNAL).read_bytes().splitlines(keepends=True)
     return [b"".join(records[at : at + size]) for at in range(0, len(records), size)]
 
 
-def next_to_replay(desk):
+def run_with_replay(desk):
     """The runs of a desk, and those of `dam replay` on the journal."""
-    return in_turns({"desk": desk, "replay": lambda _: run([DAM, "replay"], JOURNAL)}, TURNS, seconds=30).values()
+    return call_in_turns({"desk": desk, "replay": lambda _: run_or_exit([DAM, "replay"], JOURNAL)}, TURNS, seconds=30).values()
 
 
 def record_writing(folder):
-    desk, replay = next_to_replay(lambda _: run([DESK, new_in(folder)], JOURNAL))
+    desk, replay = run_with_replay(lambda _: run_or_exit([DESK, empty_for_desk_file(folder)], JOURNAL))
     if desk[0].text != replay[0].text:
         sys.exit("the desk and dam replay print different texts")
     record_times("dam replay compared with a desk in memory, 10,000 records", replay, desk, least=0.5)
 
 
 def record_opening(folder, medium):
-    file = new_in(folder)
-    run([DESK, file], JOURNAL)
-    record_times(f"opening 10,000 records {medium} compared with dam replay", *next_to_replay(lambda _: run([DESK, file])), 2)
+    file = empty_for_desk_file(folder)
+    run_or_exit([DESK, file], JOURNAL)
+    record_times(f"opening 10,000 records {medium} compared with dam replay", *run_with_replay(lambda _: run_or_exit([DESK, file])), 2)
 
 
-def record_kept(folder):
+def record_rates(folder):
     for size, least in TARGETS.items():
-        batches = batches_of(size)
+        batches = read_batches(size)
         count = sum(batch.count(b"\n") for batch in batches)
-        programs = {"desk": lambda _: count / seconds_of_desk(folder, batches), "sqlite": lambda _: count / seconds_of_sqlite(folder, size)}
-        rates = in_turns(programs, DISK_TURNS, seconds=60)
+        programs = {"desk": lambda _: count / time_desk(folder, batches), "sqlite": lambda _: count / time_sqlite(folder, size)}
+        rates = call_in_turns(programs, DISK_TURNS, seconds=60)
         what = f"records that a desk keeps compared with sqlite3, batches of {size:,}"
         record_ratio(what, rates["desk"], rates["sqlite"], least=least, shown=PER_SECOND)
 
 
-def seconds_of_desk(folder, batches):
+def time_desk(folder, batches):
     """The seconds of a desk that gets these batches."""
     in_packets = max(map(len, batches)) <= device.PACKET
     ours, theirs = os.pipe2(os.O_CLOEXEC | (os.O_DIRECT if in_packets else 0))
     fcntl.fcntl(theirs, fcntl.F_SETPIPE_SZ, device.ROOM)
-    with subprocess.Popen([DESK, new_in(folder)], stdin=ours, stdout=subprocess.PIPE) as desk, ThreadPoolExecutor(1) as reader:
+    with subprocess.Popen([DESK, empty_for_desk_file(folder)], stdin=ours, stdout=subprocess.PIPE) as desk, ThreadPoolExecutor(1) as reader:
         os.close(ours)
 
         def enter(given):
-            reading = reader.submit(answers, desk, given)
+            reading = reader.submit(read_answers_or_exit, desk, given)
             for batch in given:
                 os.write(theirs, batch)
             return reading.result()
@@ -97,7 +97,7 @@ def seconds_of_desk(folder, batches):
     return taken
 
 
-def answers(desk, batches):
+def read_answers_or_exit(desk, batches):
     """The next answers of a desk, one for each line of these batches."""
     parts, left = [], sum(batch.count(b"\n") for batch in batches)
     while left > 0:
@@ -106,10 +106,10 @@ def answers(desk, batches):
     return b"".join(parts)
 
 
-def seconds_of_sqlite(folder, size):
+def time_sqlite(folder, size):
     """The seconds in which sqlite3 keeps the journal."""
     records = Path(JOURNAL).read_text().splitlines()
-    with contextlib.closing(sqlite3.connect(new_in(folder), isolation_level=None)) as database:
+    with contextlib.closing(sqlite3.connect(empty_for_desk_file(folder), isolation_level=None)) as database:
         for words in ("PRAGMA journal_mode=WAL", "PRAGMA synchronous=FULL", TABLE):
             database.execute(words)
         begun = time.perf_counter()
@@ -123,10 +123,10 @@ def seconds_of_sqlite(folder, size):
 def record_memory(folder):
     run_to_file(BLOCKS, "./make_journal.py", "blocks")
     for about, journal in [("10,000 records", JOURNAL), ("10,000 blocks of 100 volumes", BLOCKS)]:
-        replay = peak_memory([DAM, "replay"], journal)
-        file = new_in(folder)
+        replay = run_for_peak_memory([DAM, "replay"], journal)
+        file = empty_for_desk_file(folder)
         for what, given in [("a desk", journal), ("an opening", os.devnull)]:
-            more = peak_memory([DESK, file], given) - replay
+            more = run_for_peak_memory([DESK, file], given) - replay
             record_at_most(f"memory of {what} above dam replay's, {about}", more, 10, shown=MIB, detail=f"dam replay has {MIB(replay)}")
 
 
@@ -138,7 +138,7 @@ def main():
         record_memory(folder)
     with tempfile.TemporaryDirectory(dir="out", prefix="desk-") as folder:
         record_opening(folder, "on disk")
-        record_kept(folder)
+        record_rates(folder)
 
 
 main()

@@ -11,7 +11,7 @@ import sys
 import make_blocks
 import make_family
 from figures import record_figure
-from running import TWIN, run, run_to_file
+from running import TWIN, run_or_exit, run_to_file
 
 BLOCKS = (8, 12, 16, 20, 24)
 MOST = 2 ** (BLOCKS[-1] + 1) // 100  # nodes
@@ -21,16 +21,16 @@ FAMILIES = [*make_family.FAMILIES, BASE]
 PICTURE = "../docs/growth.svg"
 
 
-def nodes_of_book(family, periods, blocks):
+def run_twin_for_nodes(family, periods, blocks):
     """The nodes of a book; None if the twin didn't end in time."""
     usual = ["./make_blocks.py", BASE, str(make_blocks.USUAL), "1", PERIODS[periods], str(blocks)]
     words = usual if family == BASE else ["./make_family.py", family, "500", str(blocks), PERIODS[periods]]
     path = run_to_file(f"out/growth-{family}-{periods}-{blocks}.csv", *words)
-    searched = run([TWIN, "1", "0"], path)
+    searched = run_or_exit([TWIN, "1", "0"], path)
     return searched and int(searched.text.split()[-1])
 
 
-def show(family, periods, counts):
+def record_nodes(family, periods, counts):
     """Prints the nodes of a family's greatest book, and returns those of each of its books."""
     *smaller, most = ("?" if nodes is None else f"{nodes:,}" for nodes in counts)
     holds = counts[-1] is not None and counts[-1] <= MOST
@@ -39,7 +39,7 @@ def show(family, periods, counts):
     return counts
 
 
-def draw(nodes):
+def write_picture(nodes):
     """Draws the nodes by the number of blocks, a panel for each length of a day."""
     try:
         import matplotlib
@@ -65,4 +65,4 @@ def draw(nodes):
 
 
 days = [(family, periods) for family in FAMILIES for periods in PERIODS]
-draw({day: show(*day, [nodes_of_book(*day, blocks) for blocks in BLOCKS]) for day in days})
+write_picture({day: record_nodes(*day, [run_twin_for_nodes(*day, blocks) for blocks in BLOCKS]) for day in days})

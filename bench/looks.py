@@ -7,22 +7,22 @@ The plain program looks at a version through a lock-free pointer, and copies its
 import statistics
 
 from figures import record_at_most, record_ratio, seconds_text
-from running import MEASURES, by_turns, run_to_file
+from running import MEASURES, run_in_turns, run_to_file
 
 PLAIN = "out/looks"
 LOOKS, CALLS = 1_000_000, 2_000
 
 
-def timed(words, repeats, book, most):
+def time_measures_and_plain(words, repeats, book, most):
     """The seconds of one look or call, of the measures and of the plain program."""
-    runs = by_turns({"one": [MEASURES, *words], "other": [PLAIN, *words]}, book, most)
-    return ([one.lap(words[0]) / repeats for one in runs[name]] for name in ("one", "other"))
+    runs = run_in_turns({"one": [MEASURES, *words], "other": [PLAIN, *words]}, book, most)
+    return ([one.reported_seconds(words[0]) / repeats for one in runs[name]] for name in ("one", "other"))
 
 
 for others in (0, 1, 3):
-    found = timed(["looks", str(others), str(LOOKS)], LOOKS, "out/hourly.csv", most=9)
+    found = time_measures_and_plain(["looks", str(others), str(LOOKS)], LOOKS, "out/hourly.csv", most=9)
     record_ratio(f"a look compared with a plain one, while {others} threads call and look", *found, 3)
 for orders in (100, 1_000, 4_000):
     book = run_to_file(f"out/hourly-{orders}.csv", "./make_family.py", "market", str(orders), "0")
-    one, other = map(statistics.median, timed(["calls", str(CALLS)], CALLS, book, most=5))
+    one, other = map(statistics.median, time_measures_and_plain(["calls", str(CALLS)], CALLS, book, most=5))
     record_at_most(f"a call, {orders:,} orders held", one, 150e-6, detail=f"a plain one {seconds_text(other)}")

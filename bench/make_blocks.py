@@ -23,7 +23,7 @@ import math
 import random
 import sys
 
-from make_family import BLOCKS, HOURS, MOST_HOURLY, DrawnBook, Day, number_of
+from make_family import BLOCKS, HOURS, MOST_HOURLY, DayMarket, DrawnBook, number_or_exit
 from make_journal import CLOSE, PARTICIPANTS, Order
 
 HOURLY, MOST_THIN = 3_800, 1_500  # the usual number of hourly orders, and the greatest of a thin market
@@ -38,63 +38,63 @@ NIGHT = [hour for hour in ALL if hour not in PEAK]
 BY_TURNS = [ALL, PEAK, NIGHT]
 
 
-class Market(Day):
+class BlockMarket(DayMarket):
     """A day, and the generator of the volumes of its blocks."""
 
-    def volume(self):
+    def draw_volume(self):
         return self.rng.randint(*BLOCK_VOLUMES)
 
-    def by_hour(self, volumes):
+    def volumes_by_period(self, volumes):
         """The volumes of a block whose volume in each hour is given."""
         return {period: volume for hour, volume in volumes.items() for period in self.periods_of(hour, hour + 1)}
 
-    def flat(self, hours):
-        return self.by_hour(dict.fromkeys(hours, self.volume()))
+    def draw_flat(self, hours):
+        return self.volumes_by_period(dict.fromkeys(hours, self.draw_volume()))
 
-    def shape(self):
+    def draw_shaped(self):
         """Volumes that rise and fall once in a day, by up to six tenths of their mean."""
-        mean, highest, part = self.volume(), self.rng.uniform(0, HOURS), self.rng.uniform(0.2, 0.6)
+        mean, highest, part = self.draw_volume(), self.rng.uniform(0, HOURS), self.rng.uniform(0.2, 0.6)
         wave = {hour: math.cos((hour - highest) * 2 * math.pi / HOURS) for hour in ALL}
-        return self.by_hour({hour: round(mean * (1 + part * height)) for hour, height in wave.items()})
+        return self.volumes_by_period({hour: round(mean * (1 + part * height)) for hour, height in wave.items()})
 
-    def noise(self, volumes=BLOCK_VOLUMES):
+    def draw_noise(self, volumes=BLOCK_VOLUMES):
         return {period: self.rng.randint(*volumes) for period in range(1, self.count + 1)}
 
-    def stretch(self, by_hour):
+    def draw_stretch(self, by_hour):
         """A span of hours, with one volume or with a volume for each hour."""
         hours = range(*sorted(self.rng.sample(range(1, HOURS + 2), 2)))
-        return self.by_hour({hour: self.volume() for hour in hours}) if by_hour else self.flat(hours)
+        return self.volumes_by_period({hour: self.draw_volume() for hour in hours}) if by_hour else self.draw_flat(hours)
 
-    def worth(self, volumes):
+    def mean_price_of(self, volumes):
         """The mean price of these volumes."""
-        return sum(self.curve(period) * volume for period, volume in volumes.items()) / sum(volumes.values())
+        return sum(self.price_at(period) * volume for period, volume in volumes.items()) / sum(volumes.values())
 
 
-class Level(Market):
+class LevelMarket(BlockMarket):
     """A day of which every period has the same price."""
 
-    def curve(self, _period):
+    def price_at(self, _period):
         return LEVEL
 
 
-def mixed(day, number):
+def draw_mixed(day, number):
     turn = number % 4
-    return day.flat(BY_TURNS[turn]) if turn < 3 else day.stretch(by_hour=number % 8 == turn)
+    return day.draw_flat(BY_TURNS[turn]) if turn < 3 else day.draw_stretch(by_hour=number % 8 == turn)
 
 
 # The volumes of a day's block, by its number.
 USUAL_KINDS = {
-    "base": lambda day, number: day.flat(ALL),
-    "peaks": lambda day, number: day.flat(BY_TURNS[number % 3]),
-    "shaped": lambda day, number: day.shape(),
-    "odd": lambda day, number: day.noise() if number == BLOCKS // 2 else day.flat(ALL),
-    "random": lambda day, number: day.noise(),
+    "base": lambda day, number: day.draw_flat(ALL),
+    "peaks": lambda day, number: day.draw_flat(BY_TURNS[number % 3]),
+    "shaped": lambda day, number: day.draw_shaped(),
+    "odd": lambda day, number: day.draw_noise() if number == BLOCKS // 2 else day.draw_flat(ALL),
+    "random": lambda day, number: day.draw_noise(),
 }
 WIDE = "wide"
-KINDS = {**USUAL_KINDS, "mixed": mixed, WIDE: lambda day, number: day.noise((LEAST_WIDE, day.rng.randint(*MOST_WIDE)))}
+KINDS = {**USUAL_KINDS, "mixed": draw_mixed, WIDE: lambda day, number: day.draw_noise((LEAST_WIDE, day.rng.randint(*MOST_WIDE)))}
 
 
-def families(blocks, size):
+def give_to_families(blocks, size):
     """The blocks by families of this size, each with its number, and with the participant of its first block."""
     for first in range(0, len(blocks), size):
         family = blocks[first : first + size]
@@ -103,29 +103,29 @@ def families(blocks, size):
         yield first // size, family
 
 
-def links(blocks, rng):
-    for _, family in families(blocks, 6):
+def set_links(blocks, rng):
+    for _, family in give_to_families(blocks, 6):
         for place, block in enumerate(family[1:], 1):
             block.parent = rng.choice(family[:place]).name
 
 
-def groups(blocks, _rng):
-    for number, family in families(blocks, 3):
+def set_groups(blocks, _rng):
+    for number, family in give_to_families(blocks, 3):
         for block in family:
             block.group = f"GROUP-{number}"
 
 
-def links_and_groups(blocks, _rng):
-    for number, (parent, *children) in families(blocks, 4):
+def set_links_and_groups(blocks, _rng):
+    for number, (parent, *children) in give_to_families(blocks, 4):
         for block in children:
             block.parent, block.group = parent.name, f"GROUP-{number}"
 
 
 FREE = "free"
-BONDS = {FREE: lambda blocks, rng: None, "links": links, "groups": groups, "both": links_and_groups}
+BONDS = {FREE: lambda blocks, rng: None, "links": set_links, "groups": set_groups, "both": set_links_and_groups}
 
 
-def drawn_book(kind, spread, seed, parts, hourly=HOURLY, bonds=FREE):
+def book_of_kind(kind, spread, seed, parts, hourly=HOURLY, bonds=FREE):
     told = f", {bonds}" if bonds != FREE else ""
     told += f", {hourly:,} orders" if hourly != HOURLY else ""
     words, without = ([kind, *map(str, (spread, seed, parts, blocks, hourly)), bonds] for blocks in (BLOCKS, 0))
@@ -143,7 +143,7 @@ def drawn_book(kind, spread, seed, parts, hourly=HOURLY, bonds=FREE):
 SPREADS, SEEDS = (5, 50, 300, 1_000), (1, 2, 3)
 USUAL = 50  # the spread for which there is a book of each seed; for the others there is one
 BOOKS = [
-    drawn_book(kind, spread, seed, parts)
+    book_of_kind(kind, spread, seed, parts)
     for kind in USUAL_KINDS
     for parts in (1, 4)
     for spread in SPREADS
@@ -152,40 +152,40 @@ BOOKS = [
 # Thin markets: the spreads take turns, so that each kind has each of them on each length of a day.
 THIN_HOURLY, THIN_SPREADS = (200, 500, 1_500), (0, 20, 50)
 THIN = [
-    drawn_book(kind, THIN_SPREADS[(kinds + lengths + turn) % len(THIN_SPREADS)], 1, parts, orders)
+    book_of_kind(kind, THIN_SPREADS[(kinds + lengths + turn) % len(THIN_SPREADS)], 1, parts, orders)
     for kinds, kind in enumerate(USUAL_KINDS)
     for lengths, parts in enumerate((1, 4))
     for turn, orders in enumerate(THIN_HOURLY)
 ]
 # One of equal limits, so that a search looks for a sum of volumes, and one that took more than 30 s while bounds came from tables.
-THIN += [drawn_book("odd", 0, 2, 4, 500), drawn_book("base", 20, 6, 4, 1_500)]
+THIN += [book_of_kind("odd", 0, 2, 4, 500), book_of_kind("base", 20, 6, 4, 1_500)]
 # The thin markets that took a search longest, of 2,575 that were drawn at random: by number of orders, spread and seed.
 ODD = {1_000: [(0, 249)], 800: [(0, 285)], 300: [(0, 242)]}
 RANDOM = {500: [(200, 686), (5, 30), (5, 284), (50, 347), (0, 109), (5, 752)], 800: [(300, 1)]}
-HARDEST = [drawn_book(kind, *drawn, 4, orders) for kind, found in (("odd", ODD), ("random", RANDOM)) for orders, each in found.items() for drawn in each]
-BOUND = [drawn_book("base", 20, 1, parts, orders, bonds) for bonds in list(BONDS)[1:] for parts, orders in ((1, 200), (4, 500))]
+HARDEST = [book_of_kind(kind, *drawn, 4, orders) for kind, found in (("odd", ODD), ("random", RANDOM)) for orders, each in found.items() for drawn in each]
+BOUND = [book_of_kind("base", 20, 1, parts, orders, bonds) for bonds in list(BONDS)[1:] for parts, orders in ((1, 200), (4, 500))]
 # Deep markets with blocks of other kinds: mixed ones, and wide ones with two orders of each side in a period, or with many.
-DEEP = [drawn_book("mixed", spread, 1, parts) for parts in (1, 4) for spread in (20, 50)]
+DEEP = [book_of_kind("mixed", spread, 1, parts) for parts in (1, 4) for spread in (20, 50)]
 FEW = {1: 96, 4: 384}
-DEEP += [drawn_book(WIDE, spread, 1, parts, orders) for parts, few in FEW.items() for spread, orders in ((0, few), (50, few), (0, HOURLY))]
+DEEP += [book_of_kind(WIDE, spread, 1, parts, orders) for parts, few in FEW.items() for spread, orders in ((0, few), (50, few), (0, HOURLY))]
 MORE = THIN + HARDEST + BOUND + DEEP
 
 
-def order(day, number, is_wide):
+def draw_order(day, number, is_wide):
     """An hourly order; in a wide book by turns a buy and a sell of each period."""
     period, name = 1 + number % day.count, f"HOUR-{number}"
     if is_wide:
         side, price = "sell" if number // day.count % 2 else "buy", LEVEL
         return Order(day.rng.choice(PARTICIPANTS), name, "hour", side, price, {period: day.rng.randint(*LEVEL_VOLUMES)})
-    side, price = day.side(), day.curve(period) + day.rng.randint(-AROUND, AROUND)
+    side, price = day.draw_side(), day.price_at(period) + day.rng.randint(-AROUND, AROUND)
     volume = day.rng.randint(*HOURLY_VOLUMES)
     return Order(day.rng.choice(PARTICIPANTS), name, "hour", side, price, {period: volume})
 
 
-def block(day, kind, spread, number):
+def draw_block(day, kind, spread, number):
     volumes = KINDS[kind](day, number)
-    price = round(day.worth(volumes)) + day.rng.randint(-spread, spread)
-    side, who = day.side(), day.rng.choice(PARTICIPANTS)
+    price = round(day.mean_price_of(volumes)) + day.rng.randint(-spread, spread)
+    side, who = day.draw_side(), day.rng.choice(PARTICIPANTS)
     return Order(who, f"BLOCK-{number}", "block", side, price, volumes)
 
 
@@ -194,17 +194,17 @@ def main():
     if not 3 <= len(words) <= 7 or words[0] not in KINDS:
         sys.exit(__doc__)
     kind, spread, seed, parts, count, orders, bonds = [*words, *["1", str(BLOCKS), str(HOURLY), FREE][len(words) - 3 :]]
-    spread, seed = number_of("SPREAD", spread, range(MOST_SPREAD + 1)), number_of("SEED", seed, range(MOST_SEED + 1))
-    parts, count = number_of("PARTS", parts, (1, 4), "1 or 4"), number_of("BLOCKS", count, range(BLOCKS + 1))
-    orders = number_of("HOURLY", orders, range(MOST_HOURLY + 1))
+    spread, seed = number_or_exit("SPREAD", spread, range(MOST_SPREAD + 1)), number_or_exit("SEED", seed, range(MOST_SEED + 1))
+    parts, count = number_or_exit("PARTS", parts, (1, 4), "1 or 4"), number_or_exit("BLOCKS", count, range(BLOCKS + 1))
+    orders = number_or_exit("HOURLY", orders, range(MOST_HOURLY + 1))
     if bonds not in BONDS:
         sys.exit(f"make_blocks.py: BONDS is '{bonds}' and should be one of {' '.join(BONDS)}")
     drawn = f"{kind} {spread} {seed} {parts}"
-    day = (Level if kind == WIDE else Market)(parts, random.Random(drawn))
+    day = (LevelMarket if kind == WIDE else BlockMarket)(parts, random.Random(drawn))
     print(f"day,{day.count},,,,,,,")
     for number in range(orders):
-        print(order(day, number, kind == WIDE))
-    blocks = [block(day, kind, spread, number) for number in range(count)]
+        print(draw_order(day, number, kind == WIDE))
+    blocks = [draw_block(day, kind, spread, number) for number in range(count)]
     BONDS[bonds](blocks, random.Random(f"{drawn} {bonds}"))
     print(*blocks, CLOSE, sep="\n")
 

@@ -17,7 +17,7 @@ import random
 import sys
 from typing import NamedTuple
 
-from make_journal import CLOSE, PARTICIPANTS, Order, drawn_side
+from make_journal import CLOSE, PARTICIPANTS, Order, draw_side
 
 HOURS = 24
 BLOCKS, MOST_HOURLY = 24, 4_000  # the limits of a book
@@ -25,14 +25,14 @@ SEED = 20_251_001
 MOST_THIN = 200  # hourly orders of a thin market
 
 
-class Day:
+class DayMarket:
     """The periods of a day, of which each hour has `parts`, and the generator of its orders."""
 
     def __init__(self, parts, rng):
         self.parts, self.rng = parts, rng
         self.count = HOURS * parts  # of periods
 
-    def curve(self, period):
+    def price_at(self, period):
         """The price around which the hourly orders of a period lie, in cents per MWh."""
         hour = 1 + (period - 1) // self.parts
         return round(6_000 + 2_500 * math.sin((hour - 7) * math.pi / 12))
@@ -41,37 +41,37 @@ class Day:
         """The periods of these hours, without the last one."""
         return range(1 + self.parts * (first - 1), 1 + self.parts * (last - 1))
 
-    def span(self, least, most):
+    def draw_span(self, least, most):
         length = self.rng.randint(least, most)
         first = self.rng.randint(1, HOURS - length + 1)
         return self.periods_of(first, first + length)
 
     def mean_price(self, periods):
-        return sum(map(self.curve, periods)) / len(periods)
+        return sum(map(self.price_at, periods)) / len(periods)
 
-    def blocks(self, count, hours, sizes, above, side):
+    def draw_blocks(self, count, hours, sizes, above, side):
         """Blocks over a span of this number of hours, with one volume; `above` draws by how much the limit is above the mean price."""
         for number in range(count):
-            periods, size = self.span(*hours), self.rng.randint(*sizes)
+            periods, size = self.draw_span(*hours), self.rng.randint(*sizes)
             price = round(self.mean_price(periods) + above())
-            yield block(number, side(), price, dict.fromkeys(periods, size))
+            yield block_of_alpha(number, side(), price, dict.fromkeys(periods, size))
 
-    def side(self):
-        return drawn_side(self.rng)
+    def draw_side(self):
+        return draw_side(self.rng)
 
 
-def block(number, side, price, volumes):
+def block_of_alpha(number, side, price, volumes):
     return Order("ALPHA", f"BLOCK-{number}", "block", side, price, volumes)
 
 
-def hourly(day, number):
+def draw_hourly(day, number):
     period = 1 + number % day.count
     side = "buy" if (number // day.count) % 2 == 0 else "sell"
-    price = day.curve(period) + round(day.rng.gauss(0, 1_500)) + (700 if side == "buy" else -700)
+    price = day.price_at(period) + round(day.rng.gauss(0, 1_500)) + (700 if side == "buy" else -700)
     return Order(day.rng.choice(PARTICIPANTS), f"HOUR-{number}", "hour", side, price, {period: day.rng.randint(50, 500)})
 
 
-def flat(day, number):
+def flat_hourly(day, number):
     """Of each period, one buy and one sell that leave much of both at 6,000 cents, and small ones that never matter."""
     period, rank = 1 + number % day.count, number // day.count
     side = "buy" if rank % 2 == 0 else "sell"
@@ -79,42 +79,42 @@ def flat(day, number):
     return Order("ALPHA", f"HOUR-{number}", "hour", side, price, {period: volume})
 
 
-def market(day, count, volume):
-    return day.blocks(count, (4, 12), (volume // 2, volume), lambda: day.rng.gauss(0, 450), day.side)
+def draw_market(day, count, volume):
+    return day.draw_blocks(count, (4, 12), (volume // 2, volume), lambda: day.rng.gauss(0, 450), day.draw_side)
 
 
-def paradox(day, count, volume):
-    return day.blocks(count, (3, 12), (volume // 2, volume), lambda: -day.rng.uniform(0, 200), lambda: "sell")
+def draw_paradox(day, count, volume):
+    return day.draw_blocks(count, (3, 12), (volume // 2, volume), lambda: -day.rng.uniform(0, 200), lambda: "sell")
 
 
-def spread(day, count, volume):
+def draw_spread(day, count, volume):
     sizes = max(volume // 20, 1), max(volume // 4, 2)
-    return day.blocks(count, (2, 24), sizes, lambda: day.rng.uniform(-1_200, 1_200), day.side)
+    return day.draw_blocks(count, (2, 24), sizes, lambda: day.rng.uniform(-1_200, 1_200), day.draw_side)
 
 
-def nearties(day, count, volume):
+def draw_nearties(day, count, volume):
     periods = day.periods_of(8, 21)
     price = round(day.mean_price(periods)) - 300
-    return [block(number, "sell", price + 20 * number, dict.fromkeys(periods, volume // 4)) for number in range(count)]
+    return [block_of_alpha(number, "sell", price + 20 * number, dict.fromkeys(periods, volume // 4)) for number in range(count)]
 
 
-def links(day, count, volume):
-    for number, each in enumerate(market(day, count, volume)):
+def draw_links(day, count, volume):
+    for number, each in enumerate(draw_market(day, count, volume)):
         each.side, each.parent = "sell", f"BLOCK-{number - 1}" if number % 6 else ""
         yield each
 
 
-def groups(day, count, volume):
-    for number, each in enumerate(market(day, count, 2 * volume)):
+def draw_groups(day, count, volume):
+    for number, each in enumerate(draw_market(day, count, 2 * volume)):
         each.group = f"GROUP-{number // 3}"
         yield each
 
 
-def ties(day, count, _volume):
-    return [block(number, "sell", 6_000, dict.fromkeys(day.span(1, 6), 1)) for number in range(count)]
+def draw_ties(day, count, _volume):
+    return [block_of_alpha(number, "sell", 6_000, dict.fromkeys(day.draw_span(1, 6), 1)) for number in range(count)]
 
 
-FAMILIES = {made.__name__: made for made in (market, paradox, spread, nearties, links, groups, ties)}
+FAMILIES = {draw.__name__.removeprefix("draw_"): draw for draw in (draw_market, draw_paradox, draw_spread, draw_nearties, draw_links, draw_groups, draw_ties)}
 
 
 class DrawnBook(NamedTuple):
@@ -129,18 +129,18 @@ class DrawnBook(NamedTuple):
     note: str = ""  # a fact about the book that explains a long search
 
 
-def drawn_book(family, hourly, parts):
+def book_of_family(family, hourly, parts):
     name = f"{family} {hourly:,}, {HOURS * parts} periods"
     words = ([family, str(hourly), str(blocks), str(parts)] for blocks in (BLOCKS, 0))
     return DrawnBook(name, family, "./make_family.py", *words, is_thin=hourly <= MOST_THIN)
 
 
 HOURLY = (500, 4_000)
-BOOKS = [drawn_book(family, hourly, parts) for family in FAMILIES for hourly in HOURLY for parts in (1, 4)]
-THIN = [drawn_book(family, MOST_THIN, parts) for family in ("links", "groups") for parts in (1, 4)]
+BOOKS = [book_of_family(family, hourly, parts) for family in FAMILIES for hourly in HOURLY for parts in (1, 4)]
+THIN = [book_of_family(family, MOST_THIN, parts) for family in ("links", "groups") for parts in (1, 4)]
 
 
-def number_of(name, word, allowed, of=""):
+def number_or_exit(name, word, allowed, of=""):
     """A number on the command line, one of the allowed ones."""
     if not (word.isascii() and word.isdecimal()) or int(word) not in allowed:
         program, of = sys.argv[0].rpartition("/")[2], of or f"a number from 0 to {allowed[-1]}"
@@ -152,11 +152,11 @@ def main():
     words = sys.argv[1:]
     if not 2 <= len(words) <= 4 or words[0] not in FAMILIES:
         sys.exit(__doc__)
-    family, orders = words[0], number_of("HOURLY", words[1], range(MOST_HOURLY + 1))
-    count = number_of("BLOCKS", words[2], range(BLOCKS + 1)) if len(words) > 2 else BLOCKS
-    parts = number_of("PARTS", words[3], (1, 4), "1 or 4") if len(words) > 3 else 1
-    day = Day(parts, random.Random(f"{SEED} {family} {orders}"))
-    order = flat if family == "ties" else hourly
+    family, orders = words[0], number_or_exit("HOURLY", words[1], range(MOST_HOURLY + 1))
+    count = number_or_exit("BLOCKS", words[2], range(BLOCKS + 1)) if len(words) > 2 else BLOCKS
+    parts = number_or_exit("PARTS", words[3], (1, 4), "1 or 4") if len(words) > 3 else 1
+    day = DayMarket(parts, random.Random(f"{SEED} {family} {orders}"))
+    order = flat_hourly if family == "ties" else draw_hourly
     volume = max(orders * 275 // day.count // 20, 10)  # a tenth of that of one side of a period
     print(f"day,{day.count},,,,,,,")
     for number in range(orders):

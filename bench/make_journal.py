@@ -33,47 +33,47 @@ class Order:
         return f"submit,{self.who},{self.name},{self.kind},{self.side},{self.price},{pairs},{self.parent},{self.group}"
 
 
-def drawn_side(rng):
+def draw_side(rng):
     return rng.choice(["buy", "sell"])
 
 
-def hour_order(who, name, rng):
-    side, price = drawn_side(rng), rng.randint(-5_000, 30_000)
+def draw_hour_order(who, name, rng):
+    side, price = draw_side(rng), rng.randint(-5_000, 30_000)
     return Order(who, name, "hour", side, price, {rng.randint(1, PERIODS): rng.randint(1, 5_000)})
 
 
-def commands(count, rng):
+def draw_commands(count, rng):
     standing, made = [], 0
     for _ in range(count):
         draw = rng.randrange(100)
         if draw < SUBMITS or not standing:
             made += 1
             standing.append((rng.choice(PARTICIPANTS), f"ORDER-{made}"))
-            yield hour_order(*standing[-1], rng)
+            yield draw_hour_order(*standing[-1], rng)
         elif draw < SUBMITS + CANCELS:
             who, name = standing.pop(rng.randrange(len(standing)))
             yield f"cancel,{who},{name},,,,,,"
         elif draw % 2 == 0:
-            yield hour_order(*rng.choice(standing), rng)
+            yield draw_hour_order(*rng.choice(standing), rng)
         else:
             yield f"cancel,{rng.choice(PARTICIPANTS)},NEVER-{made},,,,,,"
 
 
-def blocks(count, rng):
+def draw_blocks(count, rng):
     for number in range(count):
         volumes = {period: rng.randint(10_000, 99_999) for period in range(1, 101)}
-        who, side = rng.choice(PARTICIPANTS), drawn_side(rng)
+        who, side = rng.choice(PARTICIPANTS), draw_side(rng)
         yield Order(who, f"BLOCK-{number}", "block", side, rng.randint(10_000, 99_999), volumes)
 
 
 def main():
     kind, rng = sys.argv[1] if sys.argv[1:] else "closed", random.Random(20_240_601)
     if kind == "blocks":
-        lines = ["day,100,,,,,,,", *blocks(RECORDS, rng)]
+        lines = ["day,100,,,,,,,", *draw_blocks(RECORDS, rng)]
     elif kind == "day":
-        lines = [DAY, *commands(RECORDS - 1, rng)]
+        lines = [DAY, *draw_commands(RECORDS - 1, rng)]
     else:
-        lines = [DAY, *commands(RECORDS - 2, rng), CLOSE]
+        lines = [DAY, *draw_commands(RECORDS - 2, rng), CLOSE]
     print(*lines, sep="\n")
 
 

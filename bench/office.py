@@ -11,7 +11,7 @@ import sys
 from pathlib import Path
 
 from figures import PER_SECOND, record_at_most, record_figure, record_ratio
-from running import DAM, DESK, in_turns
+from running import DAM, DESK, call_in_turns
 
 HERE = Path(__file__).resolve().parent
 sys.path.insert(0, str(HERE.parent / "tests" / "office"))
@@ -24,7 +24,7 @@ CONNECTIONS, TURNS, COMMANDS = 50, 5, 40  # COMMANDS of each connection in a tur
 WHOLE_DAY = 199  # and on the whole day
 
 
-class Plain(Served):
+class ServedPlain(Served):
     """The plain office, next to which a folder and tokens are made as for the office."""
 
     is_ready = Served.listens
@@ -34,32 +34,32 @@ class Plain(Served):
         self.process = subprocess.Popen(words, env=self.environment)
 
 
-def loaded(office, count):
+def run_load(office, count):
     """The commands a second, and the median seconds of one."""
     load = loads.Load(office)
     took = asyncio.run(load.run(count))
     return len(load.seconds) / took, statistics.median(load.seconds)
 
 
-def under_load(kind):
+def serve_and_load(kind):
     with served(DAM, DESK, kind=kind, count=CONNECTIONS) as office:
         office.start()
-        return loaded(office, COMMANDS)
+        return run_load(office, COMMANDS)
 
 
-def compare():
-    found = in_turns({"ours": lambda _: under_load(Served), "theirs": lambda _: under_load(Plain)}, TURNS, math.inf)
+def record_comparison():
+    found = call_in_turns({"ours": lambda _: serve_and_load(Served), "theirs": lambda _: serve_and_load(ServedPlain)}, TURNS, math.inf)
     (our_rates, our_times), (their_rates, their_times) = (zip(*results) for results in found.values())
     what = f"an office compared with a plain one, {CONNECTIONS} connections"
     record_ratio(f"{what}, commands a second", our_rates, their_rates, least=1, shown=PER_SECOND)
     record_ratio(f"{what}, time of a command", our_times, their_times, most=1)
 
 
-def whole_day():
+def record_whole_day():
     commands = CONNECTIONS * WHOLE_DAY
     with served(DAM, DESK, count=CONNECTIONS) as office:
         office.start()
-        rate, _ = loaded(office, WHOLE_DAY)
+        rate, _ = run_load(office, WHOLE_DAY)
         record_figure(f"commands that an office takes, {commands:,} of a day", PER_SECOND(rate), f"at least {PER_SECOND(1_000)}", rate >= 1_000)
         office.kill("office", "desk")
         record_at_most(f"a start of an office after a crash, {commands:,} entries", office.start(), 1.0)
@@ -70,8 +70,8 @@ def main():
     if not all(map(modules.has_module, ("aiohttp", "cryptography", "jinja2"))):
         record_figure("the office: python3-aiohttp, python3-cryptography or python3-jinja2 is missing", "")
         return
-    compare()
-    whole_day()
+    record_comparison()
+    record_whole_day()
 
 
 main()

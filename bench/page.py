@@ -59,7 +59,7 @@ A part's CSV file has all figures with a target ([some set later](../bench/NOTES
 """
 
 
-def printed(*words):
+def run_for_output(*words):
     """The output of a program, or nothing if it is missing or fails."""
     try:
         return subprocess.run(words, stdout=subprocess.PIPE, stderr=subprocess.DEVNULL, text=True, check=True).stdout.strip()
@@ -67,26 +67,26 @@ def printed(*words):
         return ""
 
 
-def version_of(package):
+def query_version(package):
     """The version of one of Debian's packages."""
-    return printed("dpkg-query", "--show", "--showformat", "${Version}", package) or "of an unknown version"
+    return run_for_output("dpkg-query", "--show", "--showformat", "${Version}", package) or "of an unknown version"
 
 
-def facts_of_this_run(part):
+def query_facts_of_run(part):
     """The day, the commit, the machine and the kit of a part's figures, and other facts about them."""
-    commit = printed("git", "rev-parse", "--short", "HEAD") or "unknown"
-    if printed("git", "status", "--porcelain", "--", ":/", *(f":(top,exclude){name}" for name in WRITTEN)):
+    commit = run_for_output("git", "rev-parse", "--short", "HEAD") or "unknown"
+    if run_for_output("git", "status", "--porcelain", "--", ":/", *(f":(top,exclude){name}" for name in WRITTEN)):
         commit += " with changes"
     processors = re.findall(r"(?m)^model name\s*: (.*)", Path("/proc/cpuinfo").read_text()) or [os.uname().machine]
     load, limit, before = (os.environ.get(name, "") for name in ("LOAD", "PEER_LIMIT", "BEFORE_IS"))
-    peers = f"HiGHS (of SciPy {version_of('python3-scipy')}) and CBC ({version_of('coinor-cbc')})"
+    peers = f"HiGHS (of SciPy {query_version('python3-scipy')}) and CBC ({query_version('coinor-cbc')})"
     notes = [f"{peers}: the time of solving alone, at most {limit} s"] if limit and part in ("blocks", "thin") else []
     notes += [f"the program before is {before}"] if before else []
     machine = f"{os.cpu_count()} processors ({processors[0]})"
-    return [part, str(datetime.date.today()), commit, machine, load, printed("rt", "version"), "; ".join(notes)]
+    return [part, str(datetime.date.today()), commit, machine, load, run_for_output("rt", "version"), "; ".join(notes)]
 
 
-def read(path):
+def read_rows(path):
     """The rows of a file below its head; none if it is missing."""
     if not path.exists():
         return []
@@ -94,54 +94,54 @@ def read(path):
         return list(csv.reader(text))[1:]
 
 
-def write(path, columns, rows):
+def write_rows(path, columns, rows):
     with open(path, "w", encoding="utf-8", newline="") as text:
         csv.writer(text, lineterminator="\n").writerows([columns, *rows])
 
 
-def take_over(parts):
+def write_taken_over(parts):
     """Replaces the kept figures and runs of these parts by those that they have just printed."""
-    runs = {row[0]: row for row in read(KEPT / "runs.csv")}
+    runs = {row[0]: row for row in read_rows(KEPT / "runs.csv")}
     for part in parts:
         lines = (HERE / "out" / f"{part}.tsv").read_text(encoding="utf-8").splitlines()
-        write(KEPT / f"{part}.csv", COLUMNS, [line.split("\t") for line in lines])
-        runs[part] = facts_of_this_run(part)
-    write(KEPT / "runs.csv", RUN_COLUMNS, [runs[part] for part in PARTS if part in runs])
+        write_rows(KEPT / f"{part}.csv", COLUMNS, [line.split("\t") for line in lines])
+        runs[part] = query_facts_of_run(part)
+    write_rows(KEPT / "runs.csv", RUN_COLUMNS, [runs[part] for part in PARTS if part in runs])
 
 
-def about(part):
+def read_description(part):
     """The first paragraph of the part's script."""
     text = (HERE / f"{part}.py").read_text(encoding="utf-8")
     return ast.get_docstring(ast.parse(text)).split("\n\n")[0]
 
 
-def row(fields):
+def markdown_row(fields):
     return f"| {' | '.join(field.replace('|', '/') for field in fields)} |"
 
 
-def table(head, rows):
-    return "".join(f"{line}\n" for line in [row(head), "|---" * len(head) + "|", *map(row, rows)])
+def markdown_table(head, rows):
+    return "".join(f"{line}\n" for line in [markdown_row(head), "|---" * len(head) + "|", *map(markdown_row, rows)])
 
 
-def shown(part, rows):
+def table_of_part(part, rows):
     """The figures that the page shows of a part."""
     if part not in CELLS:
-        return held(SHOWN.get(part, ""), rows)
+        return table_of_names(SHOWN.get(part, ""), rows)
     found = [(match.groups(), figure) for name, figure, *_ in rows if (match := re.fullmatch(SHOWN[part], name))]
     cells = {groups[:2]: " ".join([figure, *(f"(spread {it})" for it in groups[2:])]) for groups, figure in found}
     names, columns = (list(dict.fromkeys(pair[at] for pair in cells)) for at in (0, 1))
     what, column = CELLS[part]
     lines = [[name, *(cells.get((name, each), "") for each in columns)] for name in names]
-    return table([what, *(column.format(f"{int(each):,}" if each.isdigit() else each) for each in columns)], lines) if cells else ""
+    return markdown_table([what, *(column.format(f"{int(each):,}" if each.isdigit() else each) for each in columns)], lines) if cells else ""
 
 
-def held(names, rows):
+def table_of_names(names, rows):
     """A table of the figures with such names, without those that miss a target."""
     lines = [row[:3] for row in rows if re.fullmatch(names, row[0]) and row[3] != "MISSED"]
-    return table(["What", "Figure", "Target"], lines) if lines else ""
+    return markdown_table(["What", "Figure", "Target"], lines) if lines else ""
 
 
-def size(figure):
+def sort_key_of(figure):
     """A figure as a number, by which figures of one kind can be sorted: a time in seconds, any other in its own unit. A figure without a
     number, such as that of a run that failed, is the greatest."""
     number, _, unit = figure.removeprefix("> ").partition(" ")
@@ -151,16 +151,16 @@ def size(figure):
         return math.inf
 
 
-def span(figures):
+def span_text(figures):
     """From the least to the greatest of these, with their unit once if it is the same."""
-    least, greatest = min(figures, key=size), max(figures, key=size)
+    least, greatest = min(figures, key=sort_key_of), max(figures, key=sort_key_of)
     if least == greatest:
         return least
     number, _, unit = least.partition(" ")
     return f"{number if greatest.endswith(f' {unit}') else least} to {greatest}"
 
 
-def missed(rows):
+def rows_of_missed(rows):
     """A row for each kind of missed target, the words after the last colon with the target itself: how many are missed of how many, and how
     many peers gave up, which holds if their seconds alone are enough; the missed figures, and which is furthest from the target."""
     kinds = collections.defaultdict(list)
@@ -172,25 +172,25 @@ def missed(rows):
         if wrong:
             gave_up = sum(figure == "?" for _, figure, _ in found)
             count = f"{len(wrong)} of {len(found)}" + (f" ({gave_up} gave up: met)" if gave_up else "")
-            furthest, _ = (min if target.startswith("at least") else max)(wrong, key=lambda each: size(each[1]))
-            yield [kind, count, span([figure for _, figure in wrong]), target, furthest]
+            furthest, _ = (min if target.startswith("at least") else max)(wrong, key=lambda each: sort_key_of(each[1]))
+            yield [kind, count, span_text([figure for _, figure in wrong]), target, furthest]
 
 
-def section(part):
+def read_section(part):
     """The figures that the page shows of a part; a table by books begins with the words that say which books these are."""
-    words, rows = f"{about(part)}\n" if part in CELLS else None, read(KEPT / f"{part}.csv")
-    return "\n".join(filter(None, [f"## `bench/run {part}`\n", words, shown(part, rows), held(TOGETHER, rows), PICTURES.get(part)]))
+    words, rows = f"{read_description(part)}\n" if part in CELLS else None, read_rows(KEPT / f"{part}.csv")
+    return "\n".join(filter(None, [f"## `bench/run {part}`\n", words, table_of_part(part, rows), table_of_names(TOGETHER, rows), PICTURES.get(part)]))
 
 
-def row_of_run(part, date, commit, load, notes):
+def read_row_of_run(part, date, commit, load, notes):
     """The row of a part's run, with its figures and how many of its targets are missed; of the load the mean of the last minute."""
-    rows = read(KEPT / f"{part}.csv")
+    rows = read_rows(KEPT / f"{part}.csv")
     counts = collections.Counter(holds for _, _, _, holds, _ in rows)
     wrong = f"{counts['MISSED']} of {counts['MISSED'] + counts['holds']}"
     return [part, f"[{len(rows)}](../bench/measured/{part}.csv)", wrong, date, commit, load.split(" ")[0] or "unknown", notes]
 
 
-def by_value(runs, column, words):
+def sentences_by_value(runs, column, words):
     """Says by these words which parts have which value in a column of the runs. The most common one comes last."""
     parts = collections.defaultdict(list)
     for run in runs:
@@ -201,17 +201,17 @@ def by_value(runs, column, words):
     return "".join(f"{subject} {words.format(value)}.\n" for subject, value in subjects)
 
 
-def page():
-    runs = read(KEPT / "runs.csv")
+def read_page():
+    runs = read_rows(KEPT / "runs.csv")
     notes = list(dict.fromkeys(note for run in runs for note in run[6].split("; ") if note))
-    lines = [row_of_run(*run[:3], run[4], " ".join(f"({notes.index(note) + 1})" for note in run[6].split("; ") if note)) for run in runs]
-    when = table(["Part", "Figures", "Targets missed", "Day", "Commit", "Load", "Notes"], lines)
+    lines = [read_row_of_run(*run[:3], run[4], " ".join(f"({notes.index(note) + 1})" for note in run[6].split("; ") if note)) for run in runs]
+    when = markdown_table(["Part", "Figures", "Targets missed", "Day", "Commit", "Load", "Notes"], lines)
     notes = "; ".join(f"({number}) {note}" for number, note in enumerate(notes, 1))
-    circumstances = by_value(runs, 3, "ran on {}") + by_value(runs, 5, "used the kit `{}`")
+    circumstances = sentences_by_value(runs, 3, "ran on {}") + sentences_by_value(runs, 5, "used the kit `{}`")
     circumstances += f"Notes: {notes}.\n" if notes else ""
-    wrong = [[run[0], *each] for run in runs for each in missed(read(KEPT / f"{run[0]}.csv"))]
-    wrong = table(["Part", "Missed", "How many", "Figures", "Target", "Worst"], wrong) if wrong else "None.\n"
-    return "\n".join([HEAD, when, textwrap.fill(circumstances, 140) + "\n", "## Missed targets\n", wrong, *map(section, (run[0] for run in runs))])
+    wrong = [[run[0], *each] for run in runs for each in rows_of_missed(read_rows(KEPT / f"{run[0]}.csv"))]
+    wrong = markdown_table(["Part", "Missed", "How many", "Figures", "Target", "Worst"], wrong) if wrong else "None.\n"
+    return "\n".join([HEAD, when, textwrap.fill(circumstances, 140) + "\n", "## Missed targets\n", wrong, *map(read_section, (run[0] for run in runs))])
 
 
 def main():
@@ -220,8 +220,8 @@ def main():
         sys.exit(f"usage: page.py [PART..], of {' '.join(PARTS)}")
     KEPT.mkdir(exist_ok=True)
     if parts:
-        take_over(parts)
-    PAGE.write_text(page(), encoding="utf-8")
+        write_taken_over(parts)
+    PAGE.write_text(read_page(), encoding="utf-8")
 
 
 if __name__ == "__main__":

@@ -28,17 +28,17 @@ OPTIONS = ["-ratioGap", "0", "-allowableGap", "0"]
 LATE = 5.0  # seconds after its limit at which CBC is ended
 
 
-def highs(model, left):
+def solve_by_highs(model, left):
     """A selection, or None if there is none, and the seconds that it took. Fails if there is no time left."""
     begun = time.perf_counter()
     return model.solve_next(left), time.perf_counter() - begun
 
 
-def cbc(model, left):
+def solve_by_cbc(model, left):
     """The same by CBC as a process of its own, which reads the program from a file. To write it isn't measured."""
     with tempfile.TemporaryDirectory() as folder:
         program, found = Path(folder, "program.mps"), Path(folder, "found.txt")
-        program.write_text(mps(model.program), encoding="ascii")
+        program.write_text(mps_text(model.program), encoding="ascii")
         words = ["cbc", program, "-seconds", str(left), *OPTIONS, "-solve", "-solution", found]
         begun = time.perf_counter()
         try:
@@ -54,7 +54,7 @@ def cbc(model, left):
     return frozenset(place for place, column in enumerate(model.accepted) if values.get(column, 0) > 0.5), lasted
 
 
-def row_of(lower, upper):
+def mps_kind_and_side(lower, upper):
     """The kind of a row in MPS, and its side. The program has no row with two."""
     if lower == upper:
         return "E", lower
@@ -65,9 +65,9 @@ def row_of(lower, upper):
     raise ValueError(f"a row from {lower} to {upper}")
 
 
-def mps(program):
+def mps_text(program):
     """A program in the free form of MPS. A row is named R and its number, a column C and its number."""
-    rows, entries = [row_of(*sides) for sides in program.rows], [[] for _ in program.costs]
+    rows, entries = [mps_kind_and_side(*sides) for sides in program.rows], [[] for _ in program.costs]
     for row, column, factor in program.at:
         entries[column].append(f" C{column} R{row} {float(factor)!r}")
     lines = ["NAME program FREE", "ROWS", " N COST", *(f" {kind} R{number}" for number, (kind, _) in enumerate(rows)), "COLUMNS"]
@@ -82,10 +82,10 @@ def mps(program):
 
 
 INFINITE = float("inf")
-SOLVERS = {"highs": highs, "cbc": cbc}
+SOLVERS = {"highs": solve_by_highs, "cbc": solve_by_cbc}
 
 
-def find(solve, model, problem, limit):
+def find_welfare(solve, model, problem, limit):
     """The welfare, or a word that says why there is none, and the seconds that the solver took."""
     lasted = 0.0
     while lasted < limit:
@@ -103,7 +103,7 @@ def find(solve, model, problem, limit):
     return "gave up", limit
 
 
-def missing(peer):
+def missing_package(peer):
     """The package that is missing, if one is. The program of both is written with scipy."""
     if not modules.has_module("scipy"):
         return PACKAGES["highs"]
@@ -113,7 +113,7 @@ def missing(peer):
 def main():
     modules.restart_with("scipy")
     peer, path, limit = sys.argv[1:]
-    if lacking := missing(peer):
+    if lacking := missing_package(peer):
         print(f"missing: {lacking}")
         return
     from lib.audit import solver
@@ -122,7 +122,7 @@ def main():
     problem = selection.Problem(closed)
     model = solver.Model(problem)
     model.restrict(0, [], solver.ROOM)
-    found, lasted = find(SOLVERS[peer], model, problem, float(limit))
+    found, lasted = find_welfare(SOLVERS[peer], model, problem, float(limit))
     print(found)
     print(peer, round(lasted * 1e9), file=sys.stderr)
 

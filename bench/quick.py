@@ -8,14 +8,14 @@ compares each receipt with its entry. The times that are compared also have the 
 import sys
 
 from figures import MIB, record_ratio, record_times
-from running import BASELINE, DAM, MEASURES, by_turns, peak_memory
+from running import BASELINE, DAM, MEASURES, run_for_peak_memory, run_in_turns
 
 JOURNAL, HOURLY, DAY = "out/journal.csv", "out/hourly.csv", "out/day.csv"
 
 
 def record_programs(what, words, others, journal, most, same=False):
     """Wall and processor time of a program compared with another one's."""
-    ones, others = by_turns({"one": words, "other": others}, journal, seconds=30).values()
+    ones, others = run_in_turns({"one": words, "other": others}, journal, seconds=30).values()
     if same and len({each.text for each in ones + others}) > 1:
         sys.exit(f"{what}: they print different texts")
     record_times(what, ones, others, most)
@@ -28,10 +28,10 @@ def record_journals():
     record_programs("dam day compared with the baseline with threads, 9,999 commands", day, baseline, DAY, 1.2)
     what = "dam day compared with the baseline with threads, peak memory"
     note = "the baseline keeps one book, and a gate that shows versions two; each entry and order has room for 100 volumes"
-    record_ratio(what, [peak_memory(day, DAY)], [peak_memory(baseline, DAY)], 1.5, shown=MIB, note=note)
+    record_ratio(what, [run_for_peak_memory(day, DAY)], [run_for_peak_memory(baseline, DAY)], 1.5, shown=MIB, note=note)
 
 
 record_journals()
-laps = by_turns({"": [MEASURES, "settlement"]}, DAY)[""]
+laps = run_in_turns({"": [MEASURES, "settlement"]}, DAY)[""]
 what = "settle of 10,000 entries and 9 passes compared with a plain pass"
-record_ratio(what, *([each.lap(part) for each in laps] for part in ("settle", "receipts")), 3)
+record_ratio(what, *([each.reported_seconds(part) for each in laps] for part in ("settle", "receipts")), 3)

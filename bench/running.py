@@ -37,12 +37,12 @@ class Run(NamedTuple):
     wall: float
     processor: float
 
-    def lap(self, name):
+    def reported_seconds(self, name):
         """The seconds that the program reports for a part of this name."""
         return int(dict(line.split() for line in self.stderr.decode().splitlines())[name]) / 1e9
 
 
-def run(words, given=os.devnull, limit=LIMIT, padding=0):
+def run_or_exit(words, given=os.devnull, limit=LIMIT, padding=0):
     """Runs a program on a file. Returns None if it didn't end in time, and ends the bench if it failed. The padding is the number of bytes
     that are added to its environment, which move its stack."""
     with open(given, "rb") as text, tempfile.TemporaryFile() as printed, tempfile.TemporaryFile() as errors:
@@ -68,11 +68,11 @@ def run(words, given=os.devnull, limit=LIMIT, padding=0):
 def run_to_file(path, *words):
     """Writes the output of a program to a file, and returns its path."""
     with open(path, "wb") as made:
-        made.write(run(words).text)
+        made.write(run_or_exit(words).text)
     return path
 
 
-def in_turns(functions, most=31, seconds=5.0, once=math.inf):
+def call_in_turns(functions, most=31, seconds=5.0, once=math.inf):
     """Calls functions in turns, with the number of the turn. Returns for each name its results: at most `most`, and no further one after
     `seconds`. A function isn't called again if it returned None, or if it took longer than `once`; that call doesn't count among the
     seconds."""
@@ -92,19 +92,19 @@ def in_turns(functions, most=31, seconds=5.0, once=math.inf):
     return found
 
 
-def by_turns(programs, given=os.devnull, most=31, seconds=5.0, once=math.inf, inputs=None, limit=LIMIT):
+def run_in_turns(programs, given=os.devnull, most=31, seconds=5.0, once=math.inf, inputs=None, limit=LIMIT):
     """Runs programs in turns, and returns the runs of each; a program that doesn't end in time has none. A program reads the file of its
     name among the inputs, or else the given one. Each turn has their stacks at another place, because the time of a walk varies with
     that."""
 
     def runs(name, words):
         read = (inputs or {}).get(name, given)
-        return lambda turn: run(words, read, limit=limit, padding=STACKS * (turn % PLACES))
+        return lambda turn: run_or_exit(words, read, limit=limit, padding=STACKS * (turn % PLACES))
 
-    return in_turns({name: runs(name, words) for name, words in programs.items()}, most, seconds, once)
+    return call_in_turns({name: runs(name, words) for name, words in programs.items()}, most, seconds, once)
 
 
-def peak_memory(words, given):
+def run_for_peak_memory(words, given):
     """The peak memory of a program in MiB. (The system's report on a child of this process also counts this process's pages.)"""
     with open(given, "rb") as text, tempfile.NamedTemporaryFile("r") as used:
         timed = ["/usr/bin/time", "-f", "%M", "-o", used.name, *words]
@@ -112,10 +112,10 @@ def peak_memory(words, given):
         return int(used.read()) / 1024
 
 
-def enumeration(path):
+def prepare_enumeration(path):
     """The command that tries all selections of a book by `tools/audit`, with four threads, and fails if the results of `dam` aren't right
     and best; None if numpy is missing, or `dam` takes too long."""
-    cleared = run([DAM, "clear"], path) if modules.has_module("numpy") or modules.debian_has("numpy") else None
+    cleared = run_or_exit([DAM, "clear"], path) if modules.has_module("numpy") or modules.debian_has("numpy") else None
     if cleared is None:
         return None
     results = f"{path}.txt"

@@ -15,8 +15,8 @@ search looks for a subset of the volumes with the best sum, and hardly any bound
 
 import make_blocks
 import make_family
-from clearing import MOST_OF_BEFORE, MeasuredBook, Together, kinds_of
-from running import enumeration
+from clearing import MOST_OF_BEFORE, BooksTogether, kinds_asked_or_exit, write_book
+from running import prepare_enumeration
 
 MOST = 3.0  # seconds
 MOST_OF_SUM_BEFORE, ONE_IN = 1 / 6, 20
@@ -24,21 +24,21 @@ MOST_OF_ENUMERATION = {True: 0.5, False: 0.1}  # by whether the market is thin
 BOOKS = make_blocks.THIN + make_blocks.HARDEST + make_blocks.BOUND + make_family.THIN + make_blocks.DEEP
 
 
-def measured(drawn):
-    book = MeasuredBook("thin", drawn)
-    book.time_with({"enumeration": enumeration(book.path)})
-    book.show(MOST, {"before": MOST_OF_BEFORE, "enumeration": MOST_OF_ENUMERATION[drawn.is_thin]})
+def measure_book(drawn):
+    book = write_book("thin", drawn)
+    book.time_or_exit({"enumeration": prepare_enumeration(book.path)})
+    book.record_clear(MOST, {"before": MOST_OF_BEFORE, "enumeration": MOST_OF_ENUMERATION[drawn.is_thin]})
     if not drawn.is_thin:
-        book.peers()
+        book.run_and_record_peers()
     return book
 
 
 def main():
-    kinds = kinds_of(BOOKS)
-    books = [measured(each) for each in BOOKS if each.kind in kinds]
-    Together("wide and mixed books", [book for book in books if not book.drawn.is_thin]).show(MOST, {})
-    thin = Together("all thin books", [book for book in books if book.drawn.is_thin])
-    thin.show(MOST, {"before": MOST_OF_SUM_BEFORE})
+    kinds = kinds_asked_or_exit(BOOKS)
+    books = [measure_book(each) for each in BOOKS if each.kind in kinds]
+    BooksTogether("wide and mixed books", [book for book in books if not book.drawn.is_thin]).record_sums(MOST, {})
+    thin = BooksTogether("all thin books", [book for book in books if book.drawn.is_thin])
+    thin.record_sums(MOST, {"before": MOST_OF_SUM_BEFORE})
     thin.record_slower(ONE_IN)
 
 

@@ -8,8 +8,8 @@ at another place."""
 
 import make_family
 from figures import record_ratio
-from make_blocks import drawn_book
-from running import LIMIT, MEASURES, by_turns, run_to_file
+from make_blocks import book_of_kind
+from running import LIMIT, MEASURES, run_in_turns, run_to_file
 
 CUT = "8"
 DEFAULT, ONE = ("2", "3"), ("1", "0")
@@ -17,27 +17,27 @@ LEAST = {"2": 1.8, "4": 3.2}  # times as fast as one worker
 ORDERS = ("500", "4000")
 # They are among the books of thin.py.
 LONG = [
-    drawn_book("base", 0, 1, 1, 200),
-    drawn_book("shaped", 20, 1, 4, 500),
-    drawn_book("odd", 0, 1, 4, 1_500),
-    drawn_book("random", 50, 1, 4, 200),
+    book_of_kind("base", 0, 1, 1, 200),
+    book_of_kind("shaped", 20, 1, 4, 500),
+    book_of_kind("odd", 0, 1, 4, 1_500),
+    book_of_kind("random", 50, 1, 4, 200),
 ]
 
 
-def searched(plans, book, most):
+def run_searches(plans, book, most):
     """The seconds of the search under each plan, in several runs; for one that doesn't end, the limit."""
-    runs = by_turns({plan: [MEASURES, "search", *plan] for plan in plans}, book, most, seconds=20)
-    return {plan: [each.lap("search") for each in found] or [LIMIT] for plan, found in runs.items()}
+    runs = run_in_turns({plan: [MEASURES, "search", *plan] for plan in plans}, book, most, seconds=20)
+    return {plan: [each.reported_seconds("search") for each in found] or [LIMIT] for plan, found in runs.items()}
 
 
 def record_speed(name, book):
-    found = searched([(workers, CUT) for workers in ("1", *LEAST)], book, most=8)
+    found = run_searches([(workers, CUT) for workers in ("1", *LEAST)], book, most=8)
     for workers, least in LEAST.items():
         record_ratio(f"{name}, cut {CUT}: the rate of {workers} workers compared with 1", found["1", CUT], found[workers, CUT], least=least)
 
 
 def record_default(name, book):
-    found = searched([DEFAULT, ONE], book, most=32)
+    found = run_searches([DEFAULT, ONE], book, most=32)
     record_ratio(f"{name}: the search by the default plan compared with 1 worker", found[DEFAULT], found[ONE], 1)
 
 

@@ -23,11 +23,11 @@ class PlainOffice:
             self.rows.execute(words)
         self.book = book.Book(periods)
 
-    async def next(self, request):
+    async def answer_next_number(self, request):
         (count,) = self.rows.execute("SELECT count(*) FROM entries WHERE who = ?", (request.match_info["who"],)).fetchone()
         return web.json_response({"next": count + 1})
 
-    async def put(self, request):
+    async def enter_and_answer(self, request):
         record = (await request.text()).rstrip("\n")
         reason = self.book.apply(heads.command_of(record))
         reply = f"refused,{reason}" if reason else heads.DONE
@@ -38,8 +38,8 @@ class PlainOffice:
 
 def main(path, port):
     office, app = PlainOffice(path), web.Application()
-    app.router.add_get("/days/{day}/commands/{who}", office.next)
-    app.router.add_put("/days/{day}/commands/{who}/{number}", office.put)
+    app.router.add_get("/days/{day}/commands/{who}", office.answer_next_number)
+    app.router.add_put("/days/{day}/commands/{who}/{number}", office.enter_and_answer)
     web.run_app(app, host="127.0.0.1", port=int(port), print=None, access_log=None)
 
 

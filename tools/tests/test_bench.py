@@ -22,7 +22,7 @@ from lib.tool import modules
 PEER, THIN = TOP / "bench" / "peer.py", worked.named("thin")
 
 
-class Timed(clearing.MeasuredBook):
+class Timed(clearing.TimedBook):
     """A book whose runs took these seconds."""
 
     def __init__(self, name, **walls):
@@ -47,7 +47,7 @@ class Together(unittest.TestCase):
 
     def test_sums_and_the_slowest(self):
         books = [Timed("a", dam=[1.0, 3.0, 2.0], before=[8.0]), Timed("b", dam=[4.0], before=[4.0]), Timed("c", dam=[0.5])]
-        lines = self.printed(lambda: clearing.Together("three", books).show(3.0, {"before": 0.6, "enumeration": 1}))
+        lines = self.printed(lambda: clearing.BooksTogether("three", books).record_sums(3.0, {"before": 0.6, "enumeration": 1}))
         self.assertEqual(
             lines,
             [
@@ -59,7 +59,7 @@ class Together(unittest.TestCase):
 
     def test_a_run_that_did_not_end_counts_as_the_limit(self):
         books = [Timed("a", dam=[1.0], before=[]), Timed("b", dam=[], before=[1.0])]
-        lines = self.printed(lambda: clearing.Together("two", books).show(60, {"before": 2}))
+        lines = self.printed(lambda: clearing.BooksTogether("two", books).record_sums(60, {"before": 2}))
         slowest, compared = ["60 s", "at most 60 s", "holds"], ["1.00 x", "at most 2.00 x", "holds"]
         self.assertEqual([line[1:4] for line in lines], [["61 s", "", ""], slowest, compared])
         self.assertIn("1 of 2 didn't end in 60 s", lines[-1][4])
@@ -67,7 +67,7 @@ class Together(unittest.TestCase):
     def test_books_slower_than_before(self):
         books = [Timed(str(number), dam=[1.0], before=[2.0]) for number in range(39)] + [Timed("slow", dam=[3.0], before=[2.0])]
         for part, verdict in (20, "holds"), (41, "MISSED"):
-            (line,) = self.printed(lambda: clearing.Together("forty", books).record_slower(part))
+            (line,) = self.printed(lambda: clearing.BooksTogether("forty", books).record_slower(part))
             self.assertEqual(line[1:], ["1 of 40", f"at most {40 // part}", verdict, "slow 1.50 x"])
 
 

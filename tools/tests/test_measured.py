@@ -53,23 +53,23 @@ class Benchmarks(unittest.TestCase):
 
 class Measured(unittest.TestCase):
     def test_the_page_is_made_of_the_kept_figures(self):
-        self.assertEqual(page.PAGE.read_text(encoding="utf-8"), page.page())
+        self.assertEqual(page.PAGE.read_text(encoding="utf-8"), page.read_page())
 
     def test_every_kept_file_is_of_a_part_and_a_run(self):
-        parts = [row[0] for row in page.read(page.KEPT / "runs.csv")]
+        parts = [row[0] for row in page.read_rows(page.KEPT / "runs.csv")]
         self.assertEqual({path.stem for path in page.KEPT.iterdir()}, {*parts, "runs"})
         self.assertEqual(set(parts), set(page.PARTS))
 
     def test_every_missed_target_is_counted(self):
         text, total = page.PAGE.read_text(encoding="utf-8"), 0
-        for part in (row[0] for row in page.read(page.KEPT / "runs.csv")):
-            missed = [row for row in page.read(page.KEPT / f"{part}.csv") if row[3] == "MISSED"]
+        for part in (row[0] for row in page.read_rows(page.KEPT / "runs.csv")):
+            missed = [row for row in page.read_rows(page.KEPT / f"{part}.csv") if row[3] == "MISSED"]
             said = re.findall(rf"^\| {part} \| [^[|]* \| (\d+) of \d+(?: \((\d+) gave up: met\))? \| ([^|]*) \| ([^|]*) \| ([^|]*) \|$", text, re.MULTILINE)
             with self.subTest(part):
                 self.assertEqual(sum(int(count) for count, *_ in said), len(missed))
                 kind = lambda row: (row[0].rpartition(": ")[2], row[2])
                 kinds = set(map(kind, missed))
-                gave_up = [row for row in page.read(page.KEPT / f"{part}.csv") if row[1] == "?" and row[3] == "holds" and kind(row) in kinds]
+                gave_up = [row for row in page.read_rows(page.KEPT / f"{part}.csv") if row[1] == "?" and row[3] == "holds" and kind(row) in kinds]
                 self.assertEqual(sum(int(count or 0) for _, count, *_ in said), len(gave_up))
                 for row in missed:
                     self.assertTrue(any(row[2] == target for *_, target, _ in said), row)
@@ -81,7 +81,7 @@ class Measured(unittest.TestCase):
 
     def test_the_readme_has_the_slowest_of_the_measured_books(self):
         slowest, units = 0.0, {"us": 1e-3, "ms": 1, "s": 1e3}
-        for what, figure, *_ in page.read(page.KEPT / "blocks.csv"):
+        for what, figure, *_ in page.read_rows(page.KEPT / "blocks.csv"):
             if re.fullmatch(r"\w+ \d+, spread [\d,]+, seed \d+: dam clear", what):
                 number, unit = figure.split()
                 slowest = max(slowest, float(number) * units[unit])
@@ -91,17 +91,17 @@ class Measured(unittest.TestCase):
 
     def test_the_parts_of_each_machine(self):
         runs = [["quick", "old"], ["thin", "new"], ["desk", "new"], ["looks", "old"], ["office", "old"]]
-        self.assertEqual(page.by_value(runs, 1, "ran on {}"), "`thin` and `desk` ran on new.\nThe other parts ran on old.\n")
-        self.assertEqual(page.by_value(runs[1:3], 1, "ran on {}"), "All parts ran on new.\n")
+        self.assertEqual(page.sentences_by_value(runs, 1, "ran on {}"), "`thin` and `desk` ran on new.\nThe other parts ran on old.\n")
+        self.assertEqual(page.sentences_by_value(runs[1:3], 1, "ran on {}"), "All parts ran on new.\n")
         runs += [["growth", "own"], ["workers", "new"], ["blocks", "old"]]
         said = "`growth` ran on own.\n`thin`, `desk` and `workers` ran on new.\nThe other parts ran on old.\n"
-        self.assertEqual(page.by_value(runs, 1, "ran on {}"), said)
+        self.assertEqual(page.sentences_by_value(runs, 1, "ran on {}"), said)
 
     def test_a_span(self):
-        self.assertEqual(page.span(["1.90 x", "1.20 x", "1.5 x"]), "1.20 to 1.90 x")
-        self.assertEqual(page.span(["1.9 ms", "800 us", "0.1 s"]), "800 us to 0.1 s")
-        self.assertEqual(page.span(["1.9 ms"]), "1.9 ms")
-        self.assertEqual(page.span(["1.9 ms", "?", "> 60 s"]), "1.9 ms to ?")
+        self.assertEqual(page.span_text(["1.90 x", "1.20 x", "1.5 x"]), "1.20 to 1.90 x")
+        self.assertEqual(page.span_text(["1.9 ms", "800 us", "0.1 s"]), "800 us to 0.1 s")
+        self.assertEqual(page.span_text(["1.9 ms"]), "1.9 ms")
+        self.assertEqual(page.span_text(["1.9 ms", "?", "> 60 s"]), "1.9 ms to ?")
 
     def test_a_part_is_taken_over(self):
         with tempfile.TemporaryDirectory() as folder:
@@ -110,11 +110,11 @@ class Measured(unittest.TestCase):
             (here / "measured").mkdir()
             (here / "blocks.py").write_text('"""Hard books.\n\nMore."""\n')
             (here / "out" / "blocks.tsv").write_text("".join("\t".join(row) + "\n" for row in ROWS))
-            with unittest.mock.patch.multiple(page, HERE=here, KEPT=here / "measured", version_of=len):
+            with unittest.mock.patch.multiple(page, HERE=here, KEPT=here / "measured", query_version=len):
                 with unittest.mock.patch.dict("os.environ", {"PEER_LIMIT": "5", "BEFORE_IS": "that of yesterday"}):
-                    page.take_over(["blocks"])
-                    of_peers = [page.facts_of_this_run(part)[-1] for part in ("blocks", "thin")]
-                text = page.page()
+                    page.write_taken_over(["blocks"])
+                    of_peers = [page.query_facts_of_run(part)[-1] for part in ("blocks", "thin")]
+                text = page.read_page()
         peers = "HiGHS (of SciPy 13) and CBC (10): the time of solving alone, at most 5 s"  # the lengths of the packages' names
         self.assertEqual(of_peers, [f"{peers}; the program before is that of yesterday"] * 2)
         self.assertIn(f"Notes: (1) {peers}; (2) the program before is that of yesterday.", " ".join(text.split()))
