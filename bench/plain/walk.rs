@@ -131,12 +131,12 @@ impl Walk<'_> {
         if node.left.len() < LEAST_LEFT_TO_REPRICE {
             self.branch(node, bound);
         } else {
-            self.explore_repriced(node, bound);
+            self.branch_repriced(node, bound);
         }
     }
 
     #[inline(never)]
-    fn explore_repriced(&mut self, node: Node, bound: &Bound) {
+    fn branch_repriced(&mut self, node: Node, bound: &Bound) {
         let mut own = Bound::empty();
         self.classes.write_pricing(node.taken, node.left, &mut own);
         let most = own.most(node.taken, node.left);

@@ -17,7 +17,7 @@ pub type Nodes = u32;
 /// The greatest number of nodes that may be visited in one piece.
 pub const MOST_NODES: Nodes = 67_108_864;
 
-/// How a search is shared out: how many workers explore the pieces, how many of the first blocks
+/// How a search is shared out: how many workers walk the pieces, how many of the first blocks
 /// the cutting decides, and how many nodes of one piece may be visited.
 ///
 /// A finished search has the same result under every plan; whether a small third number leaves it

@@ -7,7 +7,7 @@ use Rattle.dam_blocks.specs.Problem.{ProblemState}
 use Rattle.dam_search.specs.declared.answer.PieceAnswer.{PieceAnswer}
 use Rattle.dam_search.specs.Piece.{welfare_found}
 use Rattle.dam_search.specs.Answer.{IsReached}
-use Rattle.dam_search.specs.Work.{IsExplored}
+use Rattle.dam_search.specs.Work.{IsWalkedPiece}
 use Rattle.dam_search.specs.inside.Collect.{IsWorked, AreOneEach}
 use Rattle.dam_search.proofs.Collecting.{reached_less, reached_greater, reached_found}
 
@@ -18,10 +18,10 @@ pub one_alone : (a : PieceAnswer) → a.piece ≡ 0 → AreOneEach (a ∷ []) 1
 one_alone a zero piece less = grind (arith, nat_tests, zero, less)
 
 -- the answer about the whole
-pub worked_is : (problem explored : ProblemState) (first nodes : ℕ) (a : PieceAnswer) → explored ≡ problem → IsExplored explored 0 nodes a
+pub worked_is : (problem walked : ProblemState) (first nodes : ℕ) (a : PieceAnswer) → walked ≡ problem → IsWalkedPiece walked 0 nodes a
     → IsReached problem first → a.read ≤ max first (welfare_found a.best) → IsWorked problem 0 nodes a
-worked_is problem explored first nodes a same answer reached read =
-    let own = subst (λ (p : ProblemState). IsExplored p 0 nodes a) same answer in
+worked_is problem walked first nodes a same answer reached read =
+    let own = subst (λ (p : ProblemState). IsWalkedPiece p 0 nodes a) same answer in
     record {
       in_cutting = own.in_cutting;
       sound = own.sound;

@@ -21,7 +21,7 @@ use Rattle.dam_search.specs.declared.fault.SearchFault.TheVariants.{Collected}
 use Rattle.dam_blocks.specs.declared.selection.Solution.{Solution}
 use Rattle.dam_blocks.specs.Eligible.{IsEligible}
 use Rattle.dam_search.specs.Words.{times, once_below, first_view, joined_view, standing, AreClosedWords}
-use Rattle.dam_search.specs.Work.{IsExplored, AreAnswersOf}
+use Rattle.dam_search.specs.Work.{IsWalkedPiece, AreAnswersOf}
 use Rattle.dam_search.specs.inside.Seats.{AreJoined, AreAllAnswers}
 use Rattle.dam_search.proofs.Collecting.{spent_less, reached_less, reached_greater, reached_greatest}
 
@@ -38,11 +38,11 @@ read_more answers told later le all = All-weaker (λ (a : PieceAnswer). a.read �
 pub one_more : (problem : ProblemState) (depth nodes besides : ℕ) (v w : View) (answers : List PieceAnswer) (a : PieceAnswer)
     → AreAnswersOf problem depth nodes besides v answers
     → w.drawn ≡ v.drawn ++ a.piece ∷ [] → w.greatest_read ≡ max v.greatest_read a.read
-    → w.greatest_offer ≡ max v.greatest_offer (welfare_found a.best) → IsExplored problem depth nodes a
+    → w.greatest_offer ≡ max v.greatest_offer (welfare_found a.best) → IsWalkedPiece problem depth nodes a
     → AreAnswersOf problem depth nodes besides w (answers ++ a ∷ [])
-one_more problem depth nodes besides v w answers a h drawn told top explored = record {
+one_more problem depth nodes besides v w answers a h drawn told top walked = record {
   pieces = map-append (λ (a : PieceAnswer). a.piece) answers (a ∷ []) ∙ ap (λ (xs : List ℕ). xs ++ a.piece ∷ []) h.pieces ∙ sym drawn;
-  explored = All-push (λ (a : PieceAnswer). IsExplored problem depth nodes a) answers a h.explored explored;
+  walked = All-push (λ (a : PieceAnswer). IsWalkedPiece problem depth nodes a) answers a h.walked walked;
   greatest_read = All-push (λ (a : PieceAnswer). a.read ≤ w.greatest_read) answers a
       (read_more answers v.greatest_read w.greatest_read (omega (arith, told)) h.greatest_read) (omega (arith, told));
   offered = (let before = h.offered in let more = greatest_append answers (a ∷ []) in omega (arith, before, more, top));
@@ -53,7 +53,7 @@ pub both_answers : (problem : ProblemState) (depth nodes besides : ℕ) (v w : V
     → AreAnswersOf problem depth nodes besides (joined_view v w) (xs ++ ys)
 both_answers problem depth nodes besides v w xs ys g h = record {
   pieces = map-append (λ (a : PieceAnswer). a.piece) xs ys ∙ ap₂ (λ (m n : List ℕ). m ++ n) g.pieces h.pieces;
-  explored = All-append (λ (a : PieceAnswer). IsExplored problem depth nodes a) xs ys g.explored h.explored;
+  walked = All-append (λ (a : PieceAnswer). IsWalkedPiece problem depth nodes a) xs ys g.walked h.walked;
   greatest_read = All-append (λ (a : PieceAnswer). a.read ≤ max v.greatest_read w.greatest_read) xs ys
       (read_more xs v.greatest_read (max v.greatest_read w.greatest_read) (omega arith) g.greatest_read)
       (read_more ys w.greatest_read (max v.greatest_read w.greatest_read) (omega arith) h.greatest_read);
@@ -61,10 +61,10 @@ both_answers problem depth nodes besides v w xs ys g h = record {
 }
 
 -- the answer of a walk over a piece that was drawn
-pub explored_is : (problem : ProblemState) (depth nodes piece told : ℕ) (a : PieceAnswer) → a.piece ≡ piece → piece < 2 ^ depth
+pub walked_is : (problem : ProblemState) (depth nodes piece told : ℕ) (a : PieceAnswer) → a.piece ≡ piece → piece < 2 ^ depth
     → IsSound problem (choice depth piece) a.best a.read a.done
-    → IsSpent problem (choice depth piece) (length problem.blocks - depth) told nodes a.visited a.read a.done → IsExplored problem depth nodes a
-explored_is problem depth nodes piece told a same within sound spent = record {
+    → IsSpent problem (choice depth piece) (length problem.blocks - depth) told nodes a.visited a.read a.done → IsWalkedPiece problem depth nodes a
+walked_is problem depth nodes piece told a same within sound spent = record {
   in_cutting = subst (λ (n : ℕ). n < 2 ^ depth) (sym same) within;
   sound = subst (λ (n : ℕ). IsSound problem (choice depth n) a.best a.read a.done) (sym same) sound;
   spent = λ few. subst (λ (n : ℕ). IsSpent problem (choice depth n) (length problem.blocks - depth) 0 nodes a.visited a.read a.done)
@@ -73,10 +73,10 @@ explored_is problem depth nodes piece told a same within sound spent = record {
 }
 
 -- the answer of a walk to the end of a piece that was drawn, if the limit can't bind
-pub explored_whole : (problem : ProblemState) (depth nodes piece : ℕ) (a : PieceAnswer) → a.piece ≡ piece → piece < 2 ^ depth
+pub walked_whole : (problem : ProblemState) (depth nodes piece : ℕ) (a : PieceAnswer) → a.piece ≡ piece → piece < 2 ^ depth
     → IsSound problem (choice depth piece) a.best a.read a.done → a.done ≡ true → node_count (length problem.blocks - depth) ≤ nodes
-    → IsExplored problem depth nodes a
-explored_whole problem depth nodes piece a same within sound done many = record {
+    → IsWalkedPiece problem depth nodes a
+walked_whole problem depth nodes piece a same within sound done many = record {
   in_cutting = subst (λ (n : ℕ). n < 2 ^ depth) (sym same) within;
   sound = subst (λ (n : ℕ). IsSound problem (choice depth n) a.best a.read a.done) (sym same) sound;
   spent = λ few. absurd (omega (arith, few, many));
@@ -87,7 +87,7 @@ pub none_yet : (problem : ProblemState) (depth nodes : ℕ) (v : View) → v.dra
     → AreAnswersOf problem depth nodes 0 v []
 none_yet problem depth nodes v undrawn unoffered = record {
   pieces = sym undrawn;
-  explored = λ k d l. absurd (omega arith);
+  walked = λ k d l. absurd (omega arith);
   greatest_read = λ k d l. absurd (omega arith);
   offered = omega (arith, unoffered);
 }
@@ -104,13 +104,13 @@ pub past_end : (problem : ProblemState) (depth nodes besides past : ℕ) (v w : 
     → AreAnswersOf problem depth nodes besides w answers
 past_end problem depth nodes besides past v w answers e h = record {
   pieces = h.pieces ∙ sym (ap (λ (u : View). u.drawn) e);
-  explored = h.explored;
+  walked = h.walked;
   greatest_read = (let same = ap (λ (u : View). u.greatest_read) e in read_more answers v.greatest_read w.greatest_read
       (omega (arith, same)) h.greatest_read);
   offered = ap (λ (u : View). u.greatest_offer) e ∙ h.offered;
 }
 
--- a seat with the view v that drew a piece, and then w, and then explored the piece
+-- a seat with the view v that drew a piece, and then w, and then walked the piece
 pub record IsNext (v u : View) (piece : ℕ) : Type 0 where
   pub drawn : u.drawn ≡ v.drawn ++ piece ∷ []
   pub draws_past_the_end : u.draws_past_the_end ≡ v.draws_past_the_end
@@ -138,7 +138,7 @@ pub none_joined : (problem : ProblemState) (depth nodes : ℕ) (v : View) → v.
 none_joined problem depth nodes v undrawn = record {
   are_answers = record {
     pieces = sym undrawn;
-    explored = λ k d l. absurd (omega arith);
+    walked = λ k d l. absurd (omega arith);
     greatest_read = λ k d l. absurd (omega arith);
     offered = omega arith;
   };
@@ -187,7 +187,7 @@ whole problem depth nodes first workers pieces words v w answers h going top som
     record {
       each = λ x. ap (λ (xs : List ℕ). times x xs) h.are_answers.pieces ∙ closed.each (omega (arith, past, some)) x
           ∙ ap (λ (n : ℕ). once_below x n) e;
-      explored = h.are_answers.explored;
+      walked = h.are_answers.walked;
       greatest_read = read_more answers w.greatest_read (max first (greatest_found answers)) (omega (arith, told, offered, top))
           h.are_answers.greatest_read;
     }
@@ -197,14 +197,14 @@ pub all_worked : (problem : ProblemState) (depth nodes first : ℕ) (answers : L
     → AreAllAnswers problem depth nodes first answers → All (λ (a : PieceAnswer). IsWorked problem depth nodes a) answers
 all_worked problem depth nodes first answers reached h =
     let greatest = reached_greatest problem depth answers (reached_less problem first 0 (omega arith) reached)
-    (λ k d l. (h.explored k d l).sound) in
+    (λ k d l. (h.walked k d l).sound) in
     let both = reached_greater problem first (greatest_found answers) reached greatest in
-    λ k d l. (let explored = h.explored k d l in record {
-      in_cutting = explored.in_cutting;
-      sound = explored.sound;
+    λ k d l. (let walked = h.walked k d l in record {
+      in_cutting = walked.in_cutting;
+      sound = walked.sound;
       reached = reached_less problem (max first (greatest_found answers)) (slice_index_or answers k d).read (h.greatest_read k d l) both;
-      spent = explored.spent;
-      done = explored.done;
+      spent = walked.spent;
+      done = walked.done;
     })
 
 pub first_reached : (problem : ProblemState) (b : Solution) → IsEligible problem b.selection (pos b.welfare) → IsReached problem b.welfare

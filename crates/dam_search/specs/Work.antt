@@ -9,7 +9,7 @@ use Rattle.dam_search.specs.Answer.{IsSoundAnswer, greatest_found}
 
 -- a sound answer about a piece of the cutting. If a piece can have more nodes than the limit, the answer kept to it.
 -- Otherwise it is done
-pub record IsExplored (problem : ProblemState) (depth nodes : ℕ) (a : PieceAnswer) : Type 0 where
+pub record IsWalkedPiece (problem : ProblemState) (depth nodes : ℕ) (a : PieceAnswer) : Type 0 where
   pub in_cutting : a.piece < 2 ^ depth
   pub sound : IsSoundAnswer problem depth a
   pub spent : nodes < node_count (length problem.blocks - depth)
@@ -30,6 +30,6 @@ pub record IsFresh (pieces : ℕ) (v : View) : Type 0 where
 pub record AreAnswersOf (problem : ProblemState) (depth nodes besides : ℕ) (v : View)
     (answers : List PieceAnswer) : Type 0 where
   pub pieces : map (λ (a : PieceAnswer). a.piece) answers ≡ v.drawn
-  pub explored : All (λ (a : PieceAnswer). IsExplored problem depth nodes a) answers
+  pub walked : All (λ (a : PieceAnswer). IsWalkedPiece problem depth nodes a) answers
   pub greatest_read : All (λ (a : PieceAnswer). a.read ≤ v.greatest_read) answers
   pub offered : v.greatest_offer ≡ max besides (greatest_found answers)

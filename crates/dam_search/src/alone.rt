@@ -8,27 +8,28 @@ ghost use Rattle.dam_search.specs.Search.{IsUnfinished, LimitHasNeeded};
 
 use crate::collect::collected;
 use crate::conflicts::Conflicts;
-use crate::explorer::{ByPrices, Explorer, limit_can_bind};
 use crate::fault::SearchFault;
 use crate::first::first_selection;
 use crate::incumbent::{Incumbent, OwnIncumbent};
 use crate::order::decision_order;
-use crate::prefix_walk::ByPrefixes;
+use crate::piece_walk::{PieceWalk, limit_can_bind};
+use crate::prefix_walk::PrefixWalk;
+use crate::price_walk::PriceWalk;
 use crate::priced_problem::PricedProblem;
 use dam_blocks::{Problem, Solution};
 use dam_bound::{ClassCurves, Relaxed};
 use dam_plan::Nodes;
 use std::alloc::Global;
 
-/// The result of the explorer's problem, if this welfare is offered first.
-fn search_alone_with_explorer<E: Explorer>(
+/// The result of the walk's problem, if this welfare is offered first.
+fn search_alone_by_walk<W: PieceWalk>(
     problem: &Problem,
-    explorer: &E,
+    walk: &W,
     first_welfare: u64,
     nodes: Nodes,
 ) -> Result<Solution, SearchFault>
-    requires same { E.problem explorer.now ≡ problem.now }
-    requires suits { E.suits explorer.now 0 nodes ≡ true }
+    requires same { W.problem walk.now ≡ problem.now }
+    requires suits { W.suits walk.now 0 nodes ≡ true }
     requires reached { IsReached problem.now first_welfare }
     ensures ok { IfOk result (λ best. IsResult problem.now best.selection (pos best.welfare)) }
     ensures unfinished { (piece visited : ℕ)
@@ -39,11 +40,11 @@ fn search_alone_with_explorer<E: Explorer>(
 {
     let mut incumbent = OwnIncumbent::new();
     incumbent.offer(first_welfare);
-    let answer = explorer.explore(0, 0, nodes, &mut incumbent);
+    let answer = walk.walk_piece(0, 0, nodes, &mut incumbent);
     collected(problem, 0, nodes, &[answer])
 }
 
-/// The result of the problem, by the explorer that suits the limit.
+/// The result of the problem, by the walk that suits the limit.
 fn search_alone_priced<P: PricedProblem>(
     alloc: Global,
     problem: &Problem,
@@ -61,19 +62,19 @@ fn search_alone_priced<P: PricedProblem>(
     let first_welfare = first_selection(problem, priced).welfare;
     if limit_can_bind(problem, 0, nodes) {
         let relaxed = &Relaxed::build(alloc, problem)?;
-        let by_prefixes = &ByPrefixes { problem, relaxed };
-        return search_alone_with_explorer(problem, by_prefixes, first_welfare, nodes);
+        let prefix_walk = &PrefixWalk { problem, relaxed };
+        return search_alone_by_walk(problem, prefix_walk, first_welfare, nodes);
     }
     let conflicts = &Conflicts::of(problem, priced);
     let order = &decision_order(alloc, problem, 0)?;
-    let by_prices = &ByPrices {
+    let price_walk = &PriceWalk {
         problem,
         priced,
         conflicts,
         depth: 0,
         order,
     };
-    search_alone_with_explorer(problem, by_prices, first_welfare, nodes)
+    search_alone_by_walk(problem, price_walk, first_welfare, nodes)
 }
 
 /// The result of a problem, found on the calling thread alone, without other threads, locks or shared

@@ -1,4 +1,4 @@
-//! The search for the best selection of blocks: its pieces, and the workers that explore them.
+//! The search for the best selection of blocks: its pieces, and the workers that walk them.
 //!
 //! ```
 //! let plan = Plan::new(2, 3, MOST_NODES)?; // workers, depth of the cutting, nodes of a piece
@@ -11,7 +11,7 @@
 //! visited nodes in an answer is the number visited, that few are visited if the limit on nodes can't stop the
 //! search, and that the incumbent is read at each; the least limit on
 //! nodes with which a search ends; which of several unfinished pieces is named; that the first selection is a good one; that a
-//! turnstile is called with the piece's number; that pieces are explored at the same time, and that one worker reads
+//! turnstile is called with the piece's number; that pieces are walked at the same time, and that one worker reads
 //! the offers of another; and that a search reports out of memory only if memory has run out.
 //!
 //! The crate doesn't know how prices are found. It doesn't know texts.
@@ -21,7 +21,6 @@ mod alone;
 mod answer;
 mod collect;
 mod conflicts;
-mod explorer;
 mod fault;
 mod first;
 mod incumbent;
@@ -29,6 +28,7 @@ mod invariant;
 pub mod laws;
 mod node;
 mod order;
+mod piece_walk;
 mod prefix;
 mod prefix_walk;
 mod price_walk;
@@ -45,11 +45,11 @@ mod workers;
 pub use alone::search_alone;
 pub use answer::PieceAnswer;
 pub use dam_plan::{FreeTurn, MOST_CUT, MOST_NODES, MOST_WORKERS, Nodes, Plan, Turnstile};
-pub use explorer::Explorer;
 pub use fault::SearchFault;
 pub use first::first_selection;
 pub use incumbent::{Incumbent, OwnIncumbent};
-pub use prefix_walk::explore_by_prefixes;
+pub use piece_walk::PieceWalk;
+pub use prefix_walk::walk_by_prefixes;
 pub use priced_problem::PricedProblem;
 pub use view::View;
 pub use whole_search::search;

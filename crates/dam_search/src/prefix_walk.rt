@@ -7,6 +7,7 @@ ghost use Rattle.dam_search.specs.inside.PrefixWalk.{Finds, Covers, IsGoing, IsW
 use crate::answer::PieceAnswer;
 use crate::incumbent::Incumbent;
 use crate::invariant::use_invariant;
+use crate::piece_walk::PieceWalk;
 use crate::prefix::Prefix;
 use crate::walk_state::{WalkState, bound_equals, bound_reaches, ranks_above_found};
 use dam_blocks::{Problem, Solution, Verdict, score};
@@ -14,15 +15,15 @@ use dam_bound::Relaxed;
 use dam_plan::Nodes;
 use std::alloc::Allocator;
 
-/// A problem, and the relaxed welfares by which its prefixes are explored.
+/// A problem, and the relaxed welfares by which its prefixes are walked.
 #[derive(Drop)]
-pub(crate) struct ByPrefixes<'a, A: Allocator, B: Allocator> {
+pub(crate) struct PrefixWalk<'a, A: Allocator, B: Allocator> {
     pub(crate) problem: &'a Problem<A>,
     pub(crate) relaxed: &'a Relaxed<B>,
     ghost same: { relaxed.now ≡ without_rows problem.now },
 }
 
-impl<A: Allocator, B: Allocator> ByPrefixes<'_, A, B> {
+impl<A: Allocator, B: Allocator> PrefixWalk<'_, A, B> {
     /// The prefix's bound, if it is at least the value.
     fn live_bound(&self, prefix: &Prefix, least: u64) -> Option<i64>
         requires { length prefix.now ≤ length self.now.problem.now.blocks }
@@ -72,9 +73,9 @@ impl<A: Allocator, B: Allocator> ByPrefixes<'_, A, B> {
     /// is left.
     ///
     /// A prefix that the links and the groups don't admit is passed over without a visit. One whose bound is less than
-    /// the value read is passed over after its own visit. 'Rejected' is explored before 'accepted', which finds good
+    /// the value read is passed over after its own visit. 'Rejected' is walked before 'accepted', which finds good
     /// selections sooner. If the bound equals the value read, no completion has more welfare than that, and only the
-    /// order of ties counts: 'accepted' comes first in it, and is explored first.
+    /// order of ties counts: 'accepted' comes first in it, and is walked first.
     fn walk<I: Incumbent>(
         &self,
         nodes: Nodes,
@@ -117,7 +118,7 @@ impl<A: Allocator, B: Allocator> ByPrefixes<'_, A, B> {
     }
 }
 
-/// Explores a piece of the cutting that decides the first `depth` blocks. If the answer is `done`, it has the piece's
+/// Walks a piece of the cutting that decides the first `depth` blocks. If the answer is `done`, it has the piece's
 /// best eligible selection, apart from those with less welfare than was read of the incumbent.
 ///
 /// In piece j the block at place i is accepted if the binary digit of j with weight 2 to the power
@@ -125,7 +126,7 @@ impl<A: Allocator, B: Allocator> ByPrefixes<'_, A, B> {
 /// it, it is visited when its bound is compared with the value read, or, if it decides every block, when
 /// its welfare is looked at; otherwise it is passed over without a visit. A node is never visited twice,
 /// and the answer isn't `done` if it takes more than `nodes` nodes. The search takes no memory.
-pub fn explore_by_prefixes<A: Allocator, B: Allocator, I: Incumbent>(
+pub fn walk_by_prefixes<A: Allocator, B: Allocator, I: Incumbent>(
     problem: &Problem<A>,
     relaxed: &Relaxed<B>,
     piece: u32,
@@ -155,19 +156,38 @@ pub fn explore_by_prefixes<A: Allocator, B: Allocator, I: Incumbent>(
         → result.read ≡ 0 }
 {
     use_invariant(problem);
-    let by_prefixes = ByPrefixes { problem, relaxed };
+    let prefix_walk = PrefixWalk { problem, relaxed };
     let mut found = WalkState {
         best: None,
         read: 0,
         visited: 0,
     };
     let prefix = Prefix::of_piece(depth, piece);
-    let done = by_prefixes.walk(nodes, &prefix, incumbent, &mut found);
+    let done = prefix_walk.walk(nodes, &prefix, incumbent, &mut found);
     PieceAnswer {
         piece,
         best: found.best,
         read: found.read,
         visited: found.visited,
         done,
+    }
+}
+
+/// Walks by the relaxed welfare of each prefix, and counts nodes as the limit does.
+impl<A: Allocator, B: Allocator> PieceWalk for PrefixWalk<'_, A, B> {
+    ghost use Rattle.std.specs.Prelude.{true};
+
+    ghost problem = { λ by. by.problem.now };
+
+    ghost suits = { λ _ _ _. true };
+
+    fn walk_piece<I: Incumbent>(
+        &self,
+        piece: u32,
+        depth: usize,
+        nodes: Nodes,
+        incumbent: &mut I,
+    ) -> PieceAnswer {
+        walk_by_prefixes(self.problem, self.relaxed, piece, depth, nodes, incumbent)
     }
 }

@@ -1,7 +1,8 @@
-//! The walk by prices, with which a search explores a piece if its limit on nodes can't bind.
+//! The walk by prices, with which a search walks a piece if its limit on nodes can't bind.
 
 ghost use Rattle.std.specs.Prelude.{◌≡◌, ◌^◌, ◌<◌, ◌≤◌, ◌⊎◌, max, ℕ, ℤ, pos, ◌≤ℤ◌, ◌<ℤ◌, true, false, not};
 ghost use Rattle.std.specs.Prelude.{Some, List, Bool, [], ◌∷◌, length, IfSome, IfNone};
+ghost use Rattle.std.proofs.Props.{props};
 ghost use Rattle.dam_book.specs.Limits.{most_blocks};
 ghost use Rattle.dam_blocks.specs.Selection.{accepts, choice};
 ghost use Rattle.dam_blocks.specs.Eligible.{IsEligible};
@@ -9,31 +10,38 @@ ghost use Rattle.dam_bound.specs.Relaxed.{without_rows};
 ghost use Rattle.dam_bound.specs.Open.{IsOpen};
 ghost use Rattle.dam_search.specs.Piece.{IsMatched, Rises, welfare_found, IsSound};
 ghost use Rattle.dam_search.specs.inside.Conflicts.{AcceptsAll, AcceptsNone, AreConflicts};
-ghost use Rattle.dam_search.specs.inside.PriceWalk.{IsNode, IsBounded, IsReady, IsSlack, IsWalkedOpen, IsDecisionOrder, with_place_if};
+ghost use Rattle.dam_search.specs.inside.PriceWalk.{IsNode, IsBounded, IsReady, IsSlack, IsWalkedOpen, AreDistinct-prop, IsDecisionOrder, with_place_if};
 
 use crate::answer::PieceAnswer;
 use crate::conflicts::Conflicts;
 use crate::incumbent::Incumbent;
 use crate::invariant::use_invariant;
 use crate::node::Node;
+use crate::piece_walk::PieceWalk;
 use crate::priced_problem::PricedProblem;
 use crate::root::{slack_of_piece, write_pricing_of_piece};
 use crate::walk_state::{WalkState, bound_equals, bound_reaches, ranks_above_found};
 use dam_blocks::{Problem, Selection, Solution, admissible, ranks_above};
 use dam_bound::{ClassPrices, Pricing, Slack};
+use dam_plan::Nodes;
 use std::alloc::Allocator;
 
 /// The least number of places left for which a node gets prices of its own.
 const LEAST_LEFT_TO_REPRICE: usize = 10;
 
-/// The input of a walk by prices.
+/// A problem, and the input of its walks by prices for the pieces of one cutting.
 #[derive(Drop)]
-struct PriceWalk<'a, A: Allocator, P: PricedProblem> {
-    problem: &'a Problem<A>,
-    priced: &'a P,
-    conflicts: &'a Conflicts,
+pub(crate) struct PriceWalk<'a, A: Allocator, P: PricedProblem> {
+    pub(crate) problem: &'a Problem<A>,
+    pub(crate) priced: &'a P,
+    pub(crate) conflicts: &'a Conflicts,
+    /// The depth of the cutting.
+    pub(crate) depth: usize,
+    /// The places from the depth on, in the order in which they are decided.
+    pub(crate) order: &'a [u8],
     ghost same: { P.problem priced.now ≡ without_rows problem.now },
     ghost are_conflicts: { AreConflicts problem.now conflicts.now },
+    ghost is_order: { IsDecisionOrder depth (length problem.now.blocks) order.now } by { Prim.hlevel (props, AreDistinct-prop) },
 }
 
 /// The selection with its welfare, if that is at least the value read and the selection, if it is eligible, is the best
@@ -89,18 +97,18 @@ impl<A: Allocator, P: PricedProblem> PriceWalk<'_, A, P> {
     /// far.
     fn try_selection<I: Incumbent>(
         &self,
-        accepted: Selection,
+        selection: Selection,
         pricing: &Pricing,
         incumbent: &mut I,
         found: &mut WalkState,
     )
-        requires long { length accepted ≡ most_blocks }
+        requires long { length selection ≡ most_blocks }
         requires fits { found.old.read < 2 ^ 63 }
         requires bounded { (bound : ℤ)
-            × IsBounded (P.problem self.now.priced.now) pricing.now accepted [] bound }
+            × IsBounded (P.problem self.now.priced.now) pricing.now selection [] bound }
         requires ready { IsReady
             (I.greatest_read incumbent.old) (I.greatest_offer incumbent.old) found.old }
-        ensures walked { IsWalkedOpen self.now.problem.now accepted []
+        ensures walked { IsWalkedOpen self.now.problem.now selection []
             (I.greatest_offer incumbent.old)
             (I.greatest_read incumbent.new) (I.greatest_offer incumbent.new)
             found.old found.new }
@@ -112,17 +120,17 @@ impl<A: Allocator, P: PricedProblem> PriceWalk<'_, A, P> {
         let mut prices = ClassPrices::placeholder();
         let Some(welfare) = self
             .priced
-            .clear_selection(accepted, pricing, found.read as i64, &mut prices)
+            .clear_selection(selection, pricing, found.read as i64, &mut prices)
         else {
             return;
         };
-        let Some(best) = better_than_found(accepted, welfare, found) else {
+        let Some(best) = better_than_found(selection, welfare, found) else {
             return;
         };
-        if !admissible(self.problem, accepted) {
+        if !admissible(self.problem, selection) {
             return;
         }
-        if self.priced.has_loss(accepted, &prices) {
+        if self.priced.has_loss(selection, &prices) {
             return;
         }
         let offer = best.welfare;
@@ -146,7 +154,7 @@ impl<A: Allocator, P: PricedProblem> PriceWalk<'_, A, P> {
         }
     }
 
-    /// Visits a node: reads the incumbent, and explores the node unless it is passed over.
+    /// Visits a node: reads the incumbent, and walks the node unless it is passed over.
     #[cycle(visit)]
     #[inline(always)]
     fn visit<I: Incumbent>(
@@ -180,15 +188,15 @@ impl<A: Allocator, P: PricedProblem> PriceWalk<'_, A, P> {
             self.branch(node, pricing, slack, incumbent, found);
             return;
         }
-        self.explore_repriced(node, pricing, slack, incumbent, found);
+        self.branch_repriced(node, pricing, slack, incumbent, found);
     }
 
-    /// Explores a node with prices of its own, if they give it a lesser bound.
+    /// Walks a node with prices of its own, if they give it a lesser bound.
     ///
     /// It isn't inlined, since the prices take space on the stack.
     #[cycle(visit)]
     #[inline(never)]
-    fn explore_repriced<I: Incumbent>(
+    fn branch_repriced<I: Incumbent>(
         &self,
         node: &Node,
         pricing: &Pricing,
@@ -231,7 +239,7 @@ impl<A: Allocator, P: PricedProblem> PriceWalk<'_, A, P> {
         self.branch(&node, &own_pricing, slack, incumbent, found);
     }
 
-    /// Explores both decisions on the next place, first the one that the sign of the block's gain is for. If no place
+    /// Walks both decisions on the next place, first the one that the sign of the block's gain is for. If no place
     /// is left, it tries the selection.
     #[cycle(visit)]
     fn branch<I: Incumbent>(
@@ -267,7 +275,7 @@ impl<A: Allocator, P: PricedProblem> PriceWalk<'_, A, P> {
         self.decide(node, place, left, !accept, pricing, slack, incumbent, found);
     }
 
-    /// Explores the node with this decision on the block at `place`, unless no eligible selection has it, by the conflicts
+    /// Walks the node with this decision on the block at `place`, unless no eligible selection has it, by the conflicts
     /// or by the slack that it leaves. `left` are the places that are left then.
     #[cycle(visit)]
     fn decide<I: Incumbent>(
@@ -324,81 +332,94 @@ fn rejected_under(depth: usize, selection: Selection) -> Selection
     rejected
 }
 
-/// Explores a piece of the cutting that decides the first `depth` blocks, and finds its best eligible selection, apart
-/// from those with less welfare than was read of the incumbent. The answer is always done.
-///
-/// The other blocks are decided in this order. A node is visited when the incumbent is read for it, and its bound is
-/// compared with that.
-pub(crate) fn explore_by_prices<A: Allocator, P: PricedProblem, I: Incumbent>(
-    problem: &Problem<A>,
-    priced: &P,
-    conflicts: &Conflicts,
-    order: &[u8],
-    piece: u32,
-    depth: usize,
-    incumbent: &mut I,
-) -> PieceAnswer
-    requires same { P.problem priced.now ≡ without_rows problem.now }
-    requires conflicts { AreConflicts problem.now conflicts.now }
-    requires order { IsDecisionOrder depth (length problem.now.blocks) order.now }
-    requires depth { depth ≤ length problem.now.blocks }
-    requires piece { piece < 2 ^ depth }
-    ensures piece { result.piece ≡ piece }
-    ensures sound { IsSound problem.now (choice depth piece) result.best result.read result.done }
-    ensures done { result.done ≡ true }
+impl<A: Allocator, P: PricedProblem> PriceWalk<'_, A, P> {
+    /// Walks a piece of the cutting, and finds its best eligible selection, apart from those with less welfare than was
+    /// read of the incumbent. The answer is always done. A node is visited when the incumbent is read for it, and its bound
+    /// is compared with that.
+    fn walk_by_prices<I: Incumbent>(&self, piece: u32, incumbent: &mut I) -> PieceAnswer
+        requires depth { self.now.depth ≤ length self.now.problem.now.blocks }
+        requires piece { piece < 2 ^ self.now.depth }
+        ensures piece { result.piece ≡ piece }
+        ensures sound { IsSound self.now.problem.now (choice self.now.depth piece)
+            result.best result.read result.done }
+        ensures done { result.done ≡ true }
 
-    // The incumbent after the call.
-    ensures offered { I.greatest_offer incumbent.new
-        ≡ max (I.greatest_offer incumbent.old) (welfare_found result.best) }
-    ensures greatest_read { I.greatest_read incumbent.new
-        ≡ max (I.greatest_read incumbent.old) result.read }
-    ensures kept { I.kept incumbent.new ≡ I.kept incumbent.old }
-{
-    dam_blocks::laws::fronts_are_admissible();
-    use_invariant(problem);
-    let accepted = Selection::choice(depth, piece);
-    if !admissible(problem, accepted) {
-        return PieceAnswer {
-            piece,
-            best: None,
-            read: 0,
-            visited: 0,
-            done: true,
+        // The incumbent after the call.
+        ensures offered { I.greatest_offer incumbent.new
+            ≡ max (I.greatest_offer incumbent.old) (welfare_found result.best) }
+        ensures greatest_read { I.greatest_read incumbent.new
+            ≡ max (I.greatest_read incumbent.old) result.read }
+        ensures kept { I.kept incumbent.new ≡ I.kept incumbent.old }
+    {
+        dam_blocks::laws::fronts_are_admissible();
+        use_invariant(self.problem);
+        let accepted = Selection::choice(self.depth, piece);
+        if !admissible(self.problem, accepted) {
+            return PieceAnswer {
+                piece,
+                best: None,
+                read: 0,
+                visited: 0,
+                done: true,
+            };
+        }
+        let Some(slack) = slack_of_piece(&self.conflicts.limits, accepted, self.depth) else {
+            return PieceAnswer {
+                piece,
+                best: None,
+                read: 0,
+                visited: 0,
+                done: true,
+            };
         };
+        let mut pricing = Pricing::placeholder();
+        let bound = write_pricing_of_piece(
+            self.priced,
+            accepted,
+            self.order,
+            self.depth,
+            &mut pricing,
+        );
+        let node = Node {
+            accepted,
+            rejected: rejected_under(self.depth, accepted),
+            left: self.order,
+            bound,
+        };
+        let mut found = WalkState {
+            best: None,
+            read: incumbent.read(),
+            visited: 0,
+        };
+        self.visit(&node, &pricing, &slack, incumbent, &mut found);
+        PieceAnswer {
+            piece,
+            best: found.best,
+            read: found.read,
+            visited: found.visited,
+            done: true,
+        }
     }
-    let Some(slack) = slack_of_piece(&conflicts.limits, accepted, depth) else {
-        return PieceAnswer {
-            piece,
-            best: None,
-            read: 0,
-            visited: 0,
-            done: true,
-        };
-    };
-    let mut pricing = Pricing::placeholder();
-    let bound = write_pricing_of_piece(priced, accepted, order, depth, &mut pricing);
-    let node = Node {
-        accepted,
-        rejected: rejected_under(depth, accepted),
-        left: order,
-        bound,
-    };
-    let mut found = WalkState {
-        best: None,
-        read: incumbent.read(),
-        visited: 0,
-    };
-    let walk = PriceWalk {
-        problem,
-        priced,
-        conflicts,
-    };
-    walk.visit(&node, &pricing, &slack, incumbent, &mut found);
-    PieceAnswer {
-        piece,
-        best: found.best,
-        read: found.read,
-        visited: found.visited,
-        done: true,
+}
+
+/// Walks by bounds at prices, to the end of each piece. It doesn't count nodes as the limit does, so it suits only a
+/// limit that can't bind.
+impl<A: Allocator, P: PricedProblem> PieceWalk for PriceWalk<'_, A, P> {
+    ghost use Rattle.std.specs.Prelude.{◌-◌, ◌==◌, ◌&&◌, nat_le, length};
+    ghost use Rattle.dam_search.specs.Piece.{node_count};
+
+    ghost problem = { λ by. by.problem.now };
+
+    ghost suits = { λ by depth nodes. (by.depth == depth)
+        && nat_le (node_count (length by.problem.now.blocks - depth)) nodes };
+
+    fn walk_piece<I: Incumbent>(
+        &self,
+        piece: u32,
+        _depth: usize,
+        _nodes: Nodes,
+        incumbent: &mut I,
+    ) -> PieceAnswer {
+        self.walk_by_prices(piece, incumbent)
     }
 }

@@ -1,4 +1,4 @@
-//! The bound and the slack with which the exploration of a piece begins.
+//! The bound and the slack with which the walk of a piece begins.
 
 ghost use Rattle.std.specs.Prelude.{◌≡◌, ◌<◌, ◌≤◌, ℤ, List, Bool, None, not, nat_lt, length, All, IfSome};
 ghost use Rattle.dam_book.specs.Limits.{most_blocks};

@@ -8,33 +8,34 @@ ghost use Rattle.dam_search.specs.Search.{IsUnfinished, LimitHasNeeded};
 
 use crate::collect::collected;
 use crate::conflicts::Conflicts;
-use crate::explorer::{ByPrices, Explorer, limit_can_bind};
 use crate::fault::SearchFault;
 use crate::first::first_selection;
 use crate::order::decision_order;
-use crate::prefix_walk::ByPrefixes;
+use crate::piece_walk::{PieceWalk, limit_can_bind};
+use crate::prefix_walk::PrefixWalk;
+use crate::price_walk::PriceWalk;
 use crate::priced_problem::PricedProblem;
-use crate::workers::{Task, explore_all};
+use crate::workers::{Task, walk_all_pieces};
 use dam_blocks::{Problem, Solution};
 use dam_bound::{ClassCurves, Relaxed};
 use dam_plan::{Plan, Turnstile};
 use std::alloc::Global;
 use std::thread::Threads;
 
-/// The result of the explorer's problem, if this welfare is offered before any worker starts.
-fn search_with_explorer<R: Threads + Sync, E: Explorer + Sync, T: Turnstile + Sync>(
+/// The result of the walk's problem, if this welfare is offered before any worker starts.
+fn search_by_walk<R: Threads + Sync, W: PieceWalk + Sync, T: Turnstile + Sync>(
     rt: &R,
     alloc: Global,
     problem: &Problem,
-    explorer: &E,
+    walk: &W,
     depth: usize,
     plan: Plan,
     first_welfare: u64,
     turnstile: &T,
 ) -> Result<Solution, SearchFault>
-    requires same { E.problem explorer.now ≡ problem.now }
+    requires same { W.problem walk.now ≡ problem.now }
     requires depth { depth ≡ min plan.cut (length problem.now.blocks) }
-    requires suits { E.suits explorer.now depth plan.nodes ≡ true }
+    requires suits { W.suits walk.now depth plan.nodes ≡ true }
     requires reached { IsReached problem.now first_welfare }
     ensures ok { IfOk result (λ best. IsResult problem.now best.selection (pos best.welfare)) }
     ensures unfinished { (piece visited : ℕ)
@@ -48,17 +49,17 @@ fn search_with_explorer<R: Threads + Sync, E: Explorer + Sync, T: Turnstile + Sy
     let task = Task {
         alloc,
         problem,
-        explorer,
+        walk,
         depth,
         nodes: plan.nodes(),
         workers: plan.workers(),
         first_welfare,
     };
-    let explored = explore_all(rt, &task, turnstile)?;
-    collected(problem, task.depth, task.nodes, &explored.answers)
+    let walked = walk_all_pieces(rt, &task, turnstile)?;
+    collected(problem, task.depth, task.nodes, &walked.answers)
 }
 
-/// The result of the problem, by the explorer that suits the plan.
+/// The result of the problem, by the walk that suits the plan.
 fn search_priced<R: Threads + Sync, P: PricedProblem + Sync, T: Turnstile + Sync>(
     rt: &R,
     alloc: Global,
@@ -81,12 +82,12 @@ fn search_priced<R: Threads + Sync, P: PricedProblem + Sync, T: Turnstile + Sync
     let depth = plan.depth(problem.block_count());
     if limit_can_bind(problem, depth, plan.nodes()) {
         let relaxed = &Relaxed::build(alloc, problem)?;
-        let by_prefixes = &ByPrefixes { problem, relaxed };
-        return search_with_explorer(
+        let prefix_walk = &PrefixWalk { problem, relaxed };
+        return search_by_walk(
             rt,
             alloc,
             problem,
-            by_prefixes,
+            prefix_walk,
             depth,
             plan,
             first_welfare,
@@ -95,18 +96,18 @@ fn search_priced<R: Threads + Sync, P: PricedProblem + Sync, T: Turnstile + Sync
     }
     let conflicts = &Conflicts::of(problem, priced);
     let order = &decision_order(alloc, problem, depth)?;
-    let by_prices = &ByPrices {
+    let price_walk = &PriceWalk {
         problem,
         priced,
         conflicts,
         depth,
         order,
     };
-    search_with_explorer(
+    search_by_walk(
         rt,
         alloc,
         problem,
-        by_prices,
+        price_walk,
         depth,
         plan,
         first_welfare,

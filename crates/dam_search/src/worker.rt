@@ -4,12 +4,12 @@ ghost use Rattle.dam_search.specs.Work.{IsFresh, AreAnswersOf};
 ghost use Rattle.dam_search.specs.Words.{view_of};
 
 use crate::answer::PieceAnswer;
-use crate::explorer::Explorer;
+use crate::piece_walk::PieceWalk;
 use crate::worker_seat::WorkerSeat;
 use dam_plan::{Nodes, Turnstile};
 use std::alloc::{AllocError, Allocator};
 
-/// A worker's whole share of a search: it explores each piece that it draws, until a draw finds
+/// A worker's whole share of a search: it walks each piece that it draws, until a draw finds
 /// none left.
 ///
 /// It answers for just the pieces that its seat drew, in the order of the draws, with the limit
@@ -20,19 +20,19 @@ use std::alloc::{AllocError, Allocator};
 /// thread of its own. It gives a fresh seat, made for the pieces of a cutting of this depth. Every piece is
 /// answered only if all seats of the words have worked and none was refused memory. A worker waits for
 /// nothing but the turnstile.
-pub fn work<A: Allocator, E: Explorer, T: Turnstile>(
+pub fn work<A: Allocator, W: PieceWalk, T: Turnstile>(
     alloc: A,
-    explorer: &E,
+    walk: &W,
     depth: usize,
     nodes: Nodes,
     seat: &mut WorkerSeat,
     turnstile: &T,
 ) -> Result<Vec<PieceAnswer, A>, AllocError>
-    requires suits { E.suits explorer.now depth nodes ≡ true }
-    requires depth { depth ≤ length (E.problem explorer.now).blocks }
+    requires suits { W.suits walk.now depth nodes ≡ true }
+    requires depth { depth ≤ length (W.problem walk.now).blocks }
     requires fresh { IsFresh (2 ^ depth) (view_of seat.old.seat) }
     ensures answers { IfOk result (λ answers.
-        AreAnswersOf (E.problem explorer.now) depth nodes 0
+        AreAnswersOf (W.problem walk.now) depth nodes 0
         (view_of seat.new.seat) answers.items) }
     ensures offered { IfOk result (λ answers.
         (view_of seat.new.seat).greatest_offer ≡ greatest_found answers.items) }
@@ -47,7 +47,7 @@ pub fn work<A: Allocator, E: Explorer, T: Turnstile>(
     let mut answers = Vec::with_capacity(alloc, seat.piece_count() as usize)?;
     while let Some(piece) = seat.draw() {
         turnstile.before(piece);
-        answers.push_reserved(explorer.explore(piece, depth, nodes, seat));
+        answers.push_reserved(walk.walk_piece(piece, depth, nodes, seat));
         turnstile.after(piece);
     }
     Ok(answers)

@@ -9,8 +9,8 @@ ghost use Rattle.dam_search.specs.inside.Seats.{IsNewSeat, IsWorkedSeat, AreJoin
 
 use crate::answer::PieceAnswer;
 use crate::collect::piece_count;
-use crate::explorer::Explorer;
 use crate::incumbent::Incumbent;
+use crate::piece_walk::PieceWalk;
 use crate::words::{ClosedWords, close_words, new_words};
 use crate::worker::work;
 use crate::worker_seat::WorkerSeat;
@@ -29,18 +29,18 @@ pub(crate) struct WorkedSeat<'a> {
 
 /// The state that all workers share.
 #[derive(Drop)]
-pub(crate) struct Task<'a, E: Explorer> {
+pub(crate) struct Task<'a, W: PieceWalk> {
     pub(crate) alloc: Global,
     pub(crate) problem: &'a Problem,
-    pub(crate) explorer: &'a E,
+    pub(crate) walk: &'a W,
     pub(crate) depth: usize,
     pub(crate) nodes: Nodes,
     pub(crate) workers: u8,
     /// The welfare that is offered before any worker starts.
     pub(crate) first_welfare: u64,
     ghost inside: { depth ≤ length problem.now.blocks },
-    ghost same: { E.problem explorer.now ≡ problem.now },
-    ghost suits: { E.suits explorer.now depth nodes ≡ true },
+    ghost same: { W.problem walk.now ≡ problem.now },
+    ghost suits: { W.suits walk.now depth nodes ≡ true },
 }
 
 /// A seat for each worker, split off the first one.
@@ -66,8 +66,8 @@ fn seats_for<'a>(
 }
 
 /// A worker's work at its seat.
-fn work_at_seat<'a, E: Explorer, T: Turnstile>(
-    task: &Task<E>,
+fn work_at_seat<'a, W: PieceWalk, T: Turnstile>(
+    task: &Task<W>,
     turnstile: &T,
     seat: WorkerSeat<'a>,
 ) -> WorkedSeat<'a>
@@ -77,20 +77,15 @@ fn work_at_seat<'a, E: Explorer, T: Turnstile>(
 {
     let mut seat = seat;
     let answers = work(
-        task.alloc,
-        task.explorer,
-        task.depth,
-        task.nodes,
-        &mut seat,
-        turnstile,
+        task.alloc, task.walk, task.depth, task.nodes, &mut seat, turnstile,
     );
     WorkedSeat { seat, answers }
 }
 
 /// Runs the workers, each on a thread of its own if threads can be made.
-fn work_all<'a, R: Threads + Sync, E: Explorer + Sync, T: Turnstile + Sync>(
+fn work_all<'a, R: Threads + Sync, W: PieceWalk + Sync, T: Turnstile + Sync>(
     rt: &R,
-    task: &Task<E>,
+    task: &Task<W>,
     turnstile: &T,
     seats: Vec<WorkerSeat<'a>>,
 ) -> Result<Vec<WorkedSeat<'a>>, AllocError>
@@ -114,8 +109,8 @@ fn work_all<'a, R: Threads + Sync, E: Explorer + Sync, T: Turnstile + Sync>(
 
 /// Joins the workers' seats into the first one, and their answers into one list, which was made with
 /// memory for them before the work.
-fn join_seats<'a, E: Explorer>(
-    task: &Task<E>,
+fn join_seats<'a, W: PieceWalk>(
+    task: &Task<W>,
     first: &mut WorkerSeat<'a>,
     mut worked: Vec<WorkedSeat<'a>>,
     mut answers: Vec<PieceAnswer>,
@@ -142,9 +137,9 @@ fn join_seats<'a, E: Explorer>(
 
 /// Has the workers share out the pieces among them, at seats that are split off the first one and
 /// joined into it again.
-fn explore_with_workers<'a, R: Threads + Sync, E: Explorer + Sync, T: Turnstile + Sync>(
+fn walk_with_workers<'a, R: Threads + Sync, W: PieceWalk + Sync, T: Turnstile + Sync>(
     rt: &R,
-    task: &Task<E>,
+    task: &Task<W>,
     turnstile: &T,
     first: &mut WorkerSeat<'a>,
 ) -> Result<Vec<PieceAnswer>, AllocError>
@@ -167,29 +162,29 @@ fn explore_with_workers<'a, R: Threads + Sync, E: Explorer + Sync, T: Turnstile 
 
 /// The answers of all workers, and the contents of the words when they were closed, which only a test reads.
 #[derive(Drop)]
-pub(crate) struct Explored {
+pub(crate) struct WalkedPieces {
     pub(crate) answers: Vec<PieceAnswer>,
     pub(crate) totals: ClosedWords,
 }
 
-/// Explores every piece, each of them once, beginning with the first welfare as offered.
-pub(crate) fn explore_all<R: Threads + Sync, E: Explorer + Sync, T: Turnstile + Sync>(
+/// Walks every piece, each of them once, beginning with the first welfare as offered.
+pub(crate) fn walk_all_pieces<R: Threads + Sync, W: PieceWalk + Sync, T: Turnstile + Sync>(
     rt: &R,
-    task: &Task<E>,
+    task: &Task<W>,
     turnstile: &T,
-) -> Result<Explored, AllocError>
+) -> Result<WalkedPieces, AllocError>
     requires few { task.now.depth ≤ most_cut }
     requires some_worker { 1 ≤ task.now.workers }
     requires few_workers { task.now.workers ≤ most_workers }
-    ensures { IfOk result (λ explored. AreAllAnswers task.now.problem.now task.now.depth
-        task.now.nodes task.now.first_welfare explored.answers.items) }
+    ensures { IfOk result (λ walked. AreAllAnswers task.now.problem.now task.now.depth
+        task.now.nodes task.now.first_welfare walked.answers.items) }
 {
     let count = piece_count(task.depth);
     let (words, seat) = new_words(task.alloc, count)?;
     let mut first = WorkerSeat::first(&words, seat, count);
     first.offer(task.first_welfare);
-    let answers = explore_with_workers(rt, task, turnstile, &mut first)?;
+    let answers = walk_with_workers(rt, task, turnstile, &mut first)?;
     let seat = first.into_seat();
     let totals = close_words(words, seat);
-    Ok(Explored { answers, totals })
+    Ok(WalkedPieces { answers, totals })
 }

@@ -5,7 +5,7 @@ use Rattle.dam_search.proofs.worker.work.Given as goal
 
 abbrev pub invariant-loop-piece : goal.invariant-loop-piece
 invariant-loop-piece g l = record {
-  answers : AreAnswersOf (g.E.Explorer.problem l.explorer) l.depth l.nodes 0 l.seat.seat.me.0 l.answers.items;
+  answers : AreAnswersOf (g.W.PieceWalk.problem l.walk) l.depth l.nodes 0 l.seat.seat.me.0 l.answers.items;
   going : l.seat.seat.me.0.draws_past_the_end ≡ 0;
   pieces : l.seat.seat.me.0.pieces ≡ 2 ^ l.depth;
   seats : l.seat.seat.me.0.seats ≡ l.fn.seat.seat.me.0.seats;

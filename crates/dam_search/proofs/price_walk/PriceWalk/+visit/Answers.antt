@@ -89,14 +89,14 @@ decide-visit-requires g t c κs within =
 
 -- ---- prices of its own
 
-pub explore_repriced-write_pricing-requires : goal.explore_repriced-write_pricing-requires
-explore_repriced-write_pricing-requires g t c = all_within c.args.node.now.accepted c.args.node.now.left.now c.requires.node.free
+pub branch_repriced-write_pricing-requires : goal.branch_repriced-write_pricing-requires
+branch_repriced-write_pricing-requires g t c = all_within c.args.node.now.accepted c.args.node.now.left.now c.requires.node.free
 
-pub explore_repriced-bound-bound-requires-clause-places : goal.explore_repriced-bound-bound-requires-clause-places
-explore_repriced-bound-bound-requires-clause-places g t c = all_within c.args.node.now.accepted c.args.node.now.left.now c.requires.node.free
+pub branch_repriced-bound-bound-requires-clause-places : goal.branch_repriced-bound-bound-requires-clause-places
+branch_repriced-bound-bound-requires-clause-places g t c = all_within c.args.node.now.accepted c.args.node.now.left.now c.requires.node.free
 
-pub explore_repriced-returns-then-is_passed-clause-walked : goal.explore_repriced-returns-then-is_passed-clause-walked
-explore_repriced-returns-then-is_passed-clause-walked g t c =
+pub branch_repriced-returns-then-is_passed-clause-walked : goal.branch_repriced-returns-then-is_passed-clause-walked
+branch_repriced-returns-then-is_passed-clause-walked g t c =
     let problem = c.args.self.now.problem.now in let relaxed = g.P.PricedProblem.problem c.args.self.now.priced.now in
     let node = c.args.node.now in let own = c.write_pricing.new.pricing in
     let fits : SFits w64 c.bound-bound.result = search rules in
@@ -106,8 +106,8 @@ explore_repriced-returns-then-is_passed-clause-walked g t c =
     (under_bound problem relaxed own node.accepted node.rejected sel node.left.now _ w c.pricing_bounds_open_selections.ensures c.args.self.now.same c.requires.node
     (record { is_pricing = c.write_pricing.ensures; bound_reaches = omega (arith, ints, value, at_most) }) opened e))
 
-pub explore_repriced-branch-self-requires-2 : goal.explore_repriced-branch-self-requires-2
-explore_repriced-branch-self-requires-2 g t c = search rules
+pub branch_repriced-branch-self-requires-2 : goal.branch_repriced-branch-self-requires-2
+branch_repriced-branch-self-requires-2 g t c = search rules
 
 -- ---- the node
 

@@ -5,8 +5,8 @@ use Rattle.dam_search.proofs.price_walk.PriceWalk.+visit.Given as goal
 abbrev pub decreases-visit : goal.decreases-visit
 decreases-visit g l = 4 * length l.node.now.left.now + 3
 
-abbrev pub decreases-explore_repriced : goal.decreases-explore_repriced
-decreases-explore_repriced g l = 4 * length l.node.now.left.now + 2
+abbrev pub decreases-branch_repriced : goal.decreases-branch_repriced
+decreases-branch_repriced g l = 4 * length l.node.now.left.now + 2
 
 abbrev pub decreases-branch : goal.decreases-branch
 decreases-branch g l = 4 * length l.node.now.left.now + 1

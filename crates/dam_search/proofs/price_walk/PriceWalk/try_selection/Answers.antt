@@ -15,8 +15,8 @@ unadmitted false e t = absurd (cc)
 pub returns-in_default-clause-walked : goal.returns-in_default-clause-walked
 returns-in_default-clause-walked g c =
     let problem = c.args.self.now.problem.now in let relaxed = g.P.PricedProblem.problem c.args.self.now.priced.now in let found = c.args.found.now in
-    walked_nothing problem c.args.accepted [] _ _ found c.requires.ready
-    (covers_leaf problem relaxed c.args.accepted found.best found.read c.requires.long c.args.self.now.same
+    walked_nothing problem c.args.selection [] _ _ found c.requires.ready
+    (covers_leaf problem relaxed c.args.selection found.best found.read c.requires.long c.args.self.now.same
     (λ w is e. (let under = c.clear_selection.ensures.none c.in_default.is w e in inl (omega (arith, ints, under, c.requires.fits)))))
 
 pub returns-in_default-better_than_found-clause-walked : goal.returns-in_default-better_than_found-clause-walked
@@ -24,34 +24,34 @@ returns-in_default-better_than_found-clause-walked g c =
     let problem = c.args.self.now.problem.now in let relaxed = g.P.PricedProblem.problem c.args.self.now.priced.now in let found = c.args.found.now in
     let fits : SFits w64 c.in-Some.welfare = search rules in
     let value = to_z-of_z w64 c.in-Some.welfare fits in
-    walked_nothing problem c.args.accepted [] _ _ found c.requires.ready
-    (covers_leaf problem relaxed c.args.accepted found.best found.read c.requires.long c.args.self.now.same
+    walked_nothing problem c.args.selection [] _ _ found c.requires.ready
+    (covers_leaf problem relaxed c.args.selection found.best found.read c.requires.long c.args.self.now.same
     (λ w is e. (let same = one_welfare _ w c.in-Some.welfare e c.in-Some.ensures.some.0 in
-    subst (λ (z : ℤ). (z <ℤ pos found.read) ⊎ IsMatched z c.args.accepted found.best) (value ∙ sym same) c.in_default-better_than_found.ensures.none)))
+    subst (λ (z : ℤ). (z <ℤ pos found.read) ⊎ IsMatched z c.args.selection found.best) (value ∙ sym same) c.in_default-better_than_found.ensures.none)))
 
 pub returns-then-not-admissible-clause-walked : goal.returns-then-not-admissible-clause-walked
 returns-then-not-admissible-clause-walked g c =
     let problem = c.args.self.now.problem.now in let relaxed = g.P.PricedProblem.problem c.args.self.now.priced.now in let found = c.args.found.now in
-    walked_nothing problem c.args.accepted [] _ _ found c.requires.ready
-    (covers_leaf problem relaxed c.args.accepted found.best found.read c.requires.long c.args.self.now.same
+    walked_nothing problem c.args.selection [] _ _ found c.requires.ready
+    (covers_leaf problem relaxed c.args.selection found.best found.read c.requires.long c.args.self.now.same
     (λ w is e. absurd (unadmitted c.admissible.result c.if-not-admissible.true (c.admissible.ensures.1 is.admissible))))
 
 pub returns-then-has_loss-clause-walked : goal.returns-then-has_loss-clause-walked
 returns-then-has_loss-clause-walked g c =
     let problem = c.args.self.now.problem.now in let relaxed = g.P.PricedProblem.problem c.args.self.now.priced.now in let found = c.args.found.now in
-    walked_nothing problem c.args.accepted [] _ _ found c.requires.ready
-    (covers_leaf problem relaxed c.args.accepted found.best found.read c.requires.long c.args.self.now.same
-    (λ w is e. absurd (no_eligible_loss problem relaxed c.args.accepted c.has_loss.result w c.args.self.now.same c.if-has_loss.true c.has_loss.ensures is)))
+    walked_nothing problem c.args.selection [] _ _ found c.requires.ready
+    (covers_leaf problem relaxed c.args.selection found.best found.read c.requires.long c.args.self.now.same
+    (λ w is e. absurd (no_eligible_loss problem relaxed c.args.selection c.has_loss.result w c.args.self.now.same c.if-has_loss.true c.has_loss.ensures is)))
 
 pub returns-clause-walked : goal.returns-clause-walked
 returns-clause-walked g c =
     let problem = c.args.self.now.problem.now in let relaxed = g.P.PricedProblem.problem c.args.self.now.priced.now in let found = c.args.found.now in
-    let best = c.in-Some-better_than_found.best in let accepted = c.args.accepted in
+    let best = c.in-Some-better_than_found.best in let selection = c.args.selection in
     let fits : SFits w64 c.in-Some.welfare = search rules in
     let value = to_z-of_z w64 c.in-Some.welfare fits in
     let now = c.in-Some-better_than_found.ensures.some in
-    let welfare = with_rows problem relaxed accepted c.in-Some.welfare c.args.self.now.same c.in-Some.ensures.some.0 in
-    let is = eligible_leaf problem relaxed accepted c.has_loss.result c.in-Some.welfare c.args.self.now.same c.requires.long c.if-has_loss.false
-    c.has_loss.ensures (c.admissible.ensures.0 (search rules)) welfare (c.balanced_selections_have_prices.ensures problem accepted c.in-Some.welfare c.use_invariant.ensures welfare) in
-    walked_leaf problem accepted _ _ _ _ found _ best c.requires.long c.requires.ready refl refl now.0
-    (subst (λ (z : ℤ). IsEligible problem accepted z) (sym (now.1 ∙ value)) is) now.2 c.offer.ensures.greatest_read c.offer.ensures.greatest_offer
+    let welfare = with_rows problem relaxed selection c.in-Some.welfare c.args.self.now.same c.in-Some.ensures.some.0 in
+    let is = eligible_leaf problem relaxed selection c.has_loss.result c.in-Some.welfare c.args.self.now.same c.requires.long c.if-has_loss.false
+    c.has_loss.ensures (c.admissible.ensures.0 (search rules)) welfare (c.balanced_selections_have_prices.ensures problem selection c.in-Some.welfare c.use_invariant.ensures welfare) in
+    walked_leaf problem selection _ _ _ _ found _ best c.requires.long c.requires.ready refl refl now.0
+    (subst (λ (z : ℤ). IsEligible problem selection z) (sym (now.1 ∙ value)) is) now.2 c.offer.ensures.greatest_read c.offer.ensures.greatest_offer

@@ -7,7 +7,7 @@ use Rattle.dam_search.specs.Piece.{IsFind, IsSound, IsSpent}
 use Rattle.dam_search.specs.inside.PrefixWalk.{Finds, Covers}
 use Rattle.dam_search.proofs.Prefixes.{length-choice}
 use Rattle.dam_search.proofs.Walks.{spent_from}
-use Rattle.dam_search.proofs.prefix_walk.explore_by_prefixes.Goals as goal
+use Rattle.dam_search.proofs.prefix_walk.walk_by_prefixes.Goals as goal
 
 as_long : (prefix : List Bool) (depth piece : ℕ) → prefix ≡ choice depth piece → length prefix ≡ depth
 as_long prefix depth piece e = ap (λ (xs : List Bool). length xs) e ∙ length-choice depth piece

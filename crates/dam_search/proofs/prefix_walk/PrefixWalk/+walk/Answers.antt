@@ -9,7 +9,7 @@ use Rattle.dam_search.specs.inside.PrefixWalk.{Spends, ReadsIncumbent, IsWalked}
 use Rattle.dam_search.proofs.Ranks.{finds_nothing, finds_shorter, finds_twice, covers_both, welfare_rises}
 use Rattle.dam_search.proofs.Walks.{spends_none, spends_nothing, spends_one, spends_first, spends_both, reads_nothing, reads_asked}
 use Rattle.dam_search.proofs.Walks.{unreached, less, needed_one, needed_both}
-use Rattle.dam_search.proofs.prefix_walk.ByPrefixes.+walk.Goals as goal
+use Rattle.dam_search.proofs.prefix_walk.PrefixWalk.+walk.Goals as goal
 
 -- a prefix that isn't full leaves some block undecided
 undecided : (prefix : List Bool) (depth count n : ℕ) → depth ≡ length prefix → count ≡ n

@@ -6,15 +6,15 @@ use Rattle.dam_search.specs.declared.answer.PieceAnswer.{PieceAnswer}
 use Rattle.dam_search.specs.Search.{IsUnfinished, LimitHasNeeded}
 use Rattle.dam_search.specs.inside.Collect.{IsWorked, IsCollected}
 use Rattle.dam_search.proofs.Seats.{all_worked, one_each, none_faulty}
-use Rattle.dam_search.proofs.whole_search.search_with_explorer.Goals as goal
+use Rattle.dam_search.proofs.whole_search.search_by_walk.Goals as goal
 
 pub collected-requires-clause-worked : goal.collected-requires-clause-worked
 collected-requires-clause-worked g c =
     let problem = c.args.problem.now in
     subst (λ (xs : List PieceAnswer). All (λ (a : PieceAnswer). IsWorked problem c.args.depth c.nodes.result a) xs)
     (sym c.deref.ensures.value)
-    (all_worked problem c.args.depth c.nodes.result c.args.first_welfare c.in_ok-explored.explored.answers.items c.requires.reached
-    c.in_ok-explored.ensures)
+    (all_worked problem c.args.depth c.nodes.result c.args.first_welfare c.in_ok-walked.walked.answers.items c.requires.reached
+    c.in_ok-walked.ensures)
 
 pub returns-clause-unfinished : goal.returns-clause-unfinished
 returns-clause-unfinished g c piece visited e =
@@ -32,8 +32,8 @@ returns-clause-needed g c =
 
 pub returns-clause-whole : goal.returns-clause-whole
 returns-clause-whole g c piece e =
-    let answers = c.in_ok-explored.explored.answers.items in
-    let one = one_each c.args.problem.now c.args.depth c.nodes.result c.args.first_welfare answers c.in_ok-explored.ensures in
+    let answers = c.in_ok-walked.walked.answers.items in
+    let one = one_each c.args.problem.now c.args.depth c.nodes.result c.args.first_welfare answers c.in_ok-walked.ensures in
     none_faulty c.args.depth answers c.collected.result piece
     (subst (λ (xs : List PieceAnswer). IsCollected c.args.depth xs c.collected.result) c.deref.ensures.value
     c.collected.ensures.collected) one e

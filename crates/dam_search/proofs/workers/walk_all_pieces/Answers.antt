@@ -6,25 +6,25 @@ use Rattle.atomic_table.specs.declared.shared.Seat.{Seat}
 use Rattle.dam_search.specs.declared.view.View.{View}
 use Rattle.dam_search.specs.Words.{AreClosedWords}
 use Rattle.dam_search.proofs.Seats.{begun, whole}
-use Rattle.dam_search.proofs.workers.explore_all.Goals as goal
+use Rattle.dam_search.proofs.workers.walk_all_pieces.Goals as goal
 
-pub explore_with_workers-requires-clause-pieces : goal.explore_with_workers-requires-clause-pieces
-explore_with_workers-requires-clause-pieces g c κs within =
+pub walk_with_workers-requires-clause-pieces : goal.walk_with_workers-requires-clause-pieces
+walk_with_workers-requires-clause-pieces g c κs within =
     let is = ap (λ (x : View × TableId). x.0) c.offer.ensures.kept in
     let first = ap (λ (s : Seat (Unit {0}) View). s.me.0) c.first-first.ensures
     ∙ ap (λ (m : Me (Unit {0}) View). m.0) c.in_ok-words.ensures.seat.1 in
     (begun c.piece_count-count.result c.first-first.result.seat.me.0 c.offer.new.self.seat.me.0 first is).pieces_are
     ∙ c.piece_count-count.ensures.value
 
-pub explore_with_workers-requires-clause-undrawn : goal.explore_with_workers-requires-clause-undrawn
-explore_with_workers-requires-clause-undrawn g c κs within =
+pub walk_with_workers-requires-clause-undrawn : goal.walk_with_workers-requires-clause-undrawn
+walk_with_workers-requires-clause-undrawn g c κs within =
     let is = ap (λ (x : View × TableId). x.0) c.offer.ensures.kept in
     let first = ap (λ (s : Seat (Unit {0}) View). s.me.0) c.first-first.ensures
     ∙ ap (λ (m : Me (Unit {0}) View). m.0) c.in_ok-words.ensures.seat.1 in
     (begun c.piece_count-count.result c.first-first.result.seat.me.0 c.offer.new.self.seat.me.0 first is).undrawn
 
-pub explore_with_workers-requires-clause-left : goal.explore_with_workers-requires-clause-left
-explore_with_workers-requires-clause-left g c κs within =
+pub walk_with_workers-requires-clause-left : goal.walk_with_workers-requires-clause-left
+walk_with_workers-requires-clause-left g c κs within =
     let is = ap (λ (x : View × TableId). x.0) c.offer.ensures.kept in
     let first = ap (λ (s : Seat (Unit {0}) View). s.me.0) c.first-first.ensures
     ∙ ap (λ (m : Me (Unit {0}) View). m.0) c.in_ok-words.ensures.seat.1 in
@@ -57,5 +57,5 @@ returns g c =
     let totals = c.close_words-totals.result.draws ∷ c.close_words-totals.result.offered ∷ [] in
     let closed = subst (λ (x : View). AreClosedWords c.in_ok-words.words.shared.key totals x) last c.close_words-totals.ensures in
     whole task.problem.now task.depth task.nodes task.first_welfare task.workers c.in_ok-words.words.shared.key totals
-    (record v { seats_left = v.seats_left - task.workers }) c.explore_with_workers.new.first.seat.me.0 c.in_ok-answers.answers.items
+    (record v { seats_left = v.seats_left - task.workers }) c.walk_with_workers.new.first.seat.me.0 c.in_ok-answers.answers.items
     c.in_ok-answers.ensures.joined b.going (omega (arith, top, none)) c.requires.some_worker (key ∙ count) closed

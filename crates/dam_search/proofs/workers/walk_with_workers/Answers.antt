@@ -5,7 +5,7 @@ use Rattle.atomic_table.specs.Seated.{TableId}
 use Rattle.dam_search.specs.declared.worker_seat.WorkerSeat.{WorkerSeat}
 use Rattle.dam_search.specs.declared.workers.WorkedSeat.{WorkedSeat}
 use Rattle.dam_search.specs.inside.Seats.{IsNewSeat, IsWorkedSeat}
-use Rattle.dam_search.proofs.workers.explore_with_workers.Goals as goal
+use Rattle.dam_search.proofs.workers.walk_with_workers.Goals as goal
 
 pub join_seats-requires-clause-worked : goal.join_seats-requires-clause-worked
 join_seats-requires-clause-worked g c =

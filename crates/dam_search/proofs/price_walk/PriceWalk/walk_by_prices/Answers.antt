@@ -1,0 +1,34 @@
+-- The walk from the decisions of the piece, with nothing found before.
+use Rattle.std.proofs.Common.{[], length, arith}
+use Rattle.dam_search.proofs.Opens.{all_within}
+use Rattle.dam_search.proofs.FirstNode.{piece_node, piece_sound}
+use Rattle.dam_search.proofs.Slacks.{piece_slack, nothing_sound}
+use Rattle.dam_search.proofs.price_walk.PriceWalk.walk_by_prices.Goals as goal
+
+pub write_pricing_of_piece-bound-requires-clause-places : goal.write_pricing_of_piece-bound-requires-clause-places
+write_pricing_of_piece-bound-requires-clause-places g c =
+    let node = piece_node c.args.self.now.depth c.args.piece (length c.args.self.now.problem.now.blocks) c.choice-accepted.result [] c.args.self.now.order.now
+    c.choice-accepted.ensures c.requires.depth c.use_invariant.ensures.few_blocks c.args.self.now.is_order (λ place e. absurd (cc)) in
+    all_within c.choice-accepted.result c.args.self.now.order.now node.free
+
+pub visit-requires-clause-node : goal.visit-requires-clause-node
+visit-requires-clause-node g c =
+    piece_node c.args.self.now.depth c.args.piece (length c.args.self.now.problem.now.blocks) c.choice-accepted.result c.rejected_under.result c.args.self.now.order.now
+    c.choice-accepted.ensures c.requires.depth c.use_invariant.ensures.few_blocks c.args.self.now.is_order c.rejected_under.ensures
+
+pub visit-requires-clause-slack : goal.visit-requires-clause-slack
+visit-requires-clause-slack g c =
+    piece_slack c.args.self.now.problem.now c.args.self.now.conflicts.now.limits.limits c.args.self.now.depth (length c.args.self.now.problem.now.blocks) c.choice-accepted.result
+    c.args.self.now.order.now c.in-Some.slack c.args.self.now.is_order c.args.self.now.are_conflicts.limits c.in-Some.ensures.slacks c.in-Some.ensures.some
+
+pub returns-in_default-clause-sound : goal.returns-in_default-clause-sound
+returns-in_default-clause-sound g c =
+    let few = c.use_invariant.ensures.few_blocks in let deep = c.requires.depth in
+    nothing_sound c.args.self.now.problem.now c.args.self.now.conflicts.now.limits.limits c.args.self.now.depth c.args.piece c.choice-accepted.result c.args.self.now.order.now
+    c.choice-accepted.ensures (omega (arith, few, deep)) c.args.self.now.is_order c.args.self.now.are_conflicts.limits (c.slack_of_piece.ensures.none c.in_default.is)
+
+pub returns-clause-sound : goal.returns-clause-sound
+returns-clause-sound g c =
+    let found = c.visit.new.found in let few = c.use_invariant.ensures.few_blocks in let deep = c.requires.depth in
+    piece_sound c.args.self.now.problem.now c.args.self.now.depth c.args.piece c.choice-accepted.result c.args.self.now.order.now found.best found.read
+    c.choice-accepted.ensures (omega (arith, few, deep)) c.args.self.now.is_order c.visit.ensures.walked.finds c.visit.ensures.walked.covers
