@@ -175,13 +175,23 @@ net_bounded periods t bs sel are few =
     let w = accepted_within (net_volume_of_block t) greatest_volume periods (net_small t) bs sel are in let l = w.at_least in let h = w.at_most in
     record { at_least = omega (arith, ints, l, few); at_most = omega (arith, ints, h, few) }
 
-pub line_within : (line : Line) (net : ℤ) → IsSmallLine last_period line → IsWithin (2 * greatest_net) net
+line_within : (line : Line) (net : ℤ) → IsSmallLine last_period line → IsWithin (2 * greatest_net) net
     → IsWithin greatest_line_value (line_value line net)
 line_within line net small within =
     let l = small.price_at_least in let h = small.price_at_most in
     let product = times_within (last_period * greatest_price) (2 * greatest_net) line.price net (record { at_least = l; at_most = h }) within in
     let a = product.at_least in let b = product.at_most in let c = small.surplus_at_least in let d = small.surplus_at_most in
     record { at_least = omega (arith, ints, a, c); at_most = omega (arith, ints, b, d) }
+
+pub lined_within : (problem : ProblemState) (pricing : Pricing) (sel : List Bool) (j c : ℕ) → AreBlocks (length problem.hours) problem.blocks
+    → length problem.blocks ≤ most_blocks → slice_get (class_places problem) j ≡ Some c → IsByLines problem pricing
+    → IsWithin greatest_line_value (lined problem pricing.lines sel c)
+lined_within problem pricing sel j c blocks few_blocks at is =
+    let place = is_place problem.blocks 0 (length problem.hours) j c at in let below = place.below in
+    let net = net_bounded (length problem.hours) (c + 1) problem.blocks sel blocks few_blocks in
+    let l = net.at_least in let h = net.at_most in
+    line_within (line_in pricing.lines c) (net_volume problem.blocks sel (c + 1)) (is.lines_are c (omega (arith, below)) place.first).small
+    (record { at_least = omega (arith, ints, l); at_most = omega (arith, ints, h) })
 
 few_left : (places : List ℕ) (j : ℕ) → length (drop j places) + j ≤ length places + (j - length places)
 few_left places zero = omega arith
@@ -200,11 +210,7 @@ lowered_within problem pricing sel j total few blocks few_blocks end is so_far =
     let worths = over_within (λ c. worth (joint_of problem sel c)) (take j places) greatest_joint_welfare (λ i c at.
     (let found = take_get places j i c at in (so_far.each i c found.1 found.0).small)) in
     let lines = over_within (lined problem pricing.lines sel) (drop j places) greatest_line_value (λ i c at.
-    (let place = is_place problem.blocks 0 (length problem.hours) (j + i) c (drop_get places j i c at) in let below = place.below in
-    let net = net_bounded (length problem.hours) (c + 1) problem.blocks sel blocks few_blocks in
-    let l = net.at_least in let h = net.at_most in
-    line_within (line_in pricing.lines c) (net_volume problem.blocks sel (c + 1)) (is.lines_are c (omega (arith, below)) place.first).small
-    (record { at_least = omega (arith, ints, l); at_most = omega (arith, ints, h) }))) in
+    lined_within problem pricing sel (j + i) c blocks few_blocks (drop_get places j i c at) is) in
     let values = accepted_within (day_value problem) (last_period * greatest_value) (length problem.hours)
     (λ o order. value_small (length problem.hours) o few order) problem.blocks sel blocks in
     let taken = few_taken places j in let left = few_left places j in let all = few_places problem.blocks 0 (length problem.hours) in
@@ -220,12 +226,13 @@ lowered_within problem pricing sel j total few blocks few_blocks end is so_far =
 pub one_lowered : (problem : ProblemState) (pricing : Pricing) (sel : List Bool) (j c : ℕ) (total line u : ℤ)
     → length problem.hours ≤ last_period → AreBlocks (length problem.hours) problem.blocks → length problem.blocks ≤ most_blocks
     → slice_get (class_places problem) j ≡ Some c → IsByLines problem pricing → joint_of problem sel c ≡ Some u
-    → IsWithin greatest_joint_welfare u → line ≡ lined problem pricing.lines sel c → IsWithin greatest_line_value line
+    → IsWithin greatest_joint_welfare u → line ≡ lined problem pricing.lines sel c
     → IsLowered problem pricing.lines sel j total
     → SFits w64 (total -ℤ to_z w64 (of_z w64 (to_z w64 (of_z w64 line) -ℤ to_z w64 (of_z w64 u))))
     × IsLowered problem pricing.lines sel (j + 1)
     (to_z w64 (of_z w64 (total -ℤ to_z w64 (of_z w64 (to_z w64 (of_z w64 line) -ℤ to_z w64 (of_z w64 u))))))
-one_lowered problem pricing sel j c total line u few blocks few_blocks at is joint small line_is line_small so_far =
+one_lowered problem pricing sel j c total line u few blocks few_blocks at is joint small line_is so_far =
+    let line_small = subst (IsWithin greatest_line_value) (sym line_is) (lined_within problem pricing sel j c blocks few_blocks at is) in
     let a = small.at_least in let b = small.at_most in let d = line_small.at_least in let e = line_small.at_most in
     let one = to_z-of_z w64 line (omega (arith, ints, d, e)) in
     let two = to_z-of_z w64 u (omega (arith, ints, a, b)) in
@@ -258,22 +265,3 @@ pub range_read : (problem : ProblemState) (sel : List Bool) (c : ℕ) (net : ℤ
 range_read problem sel c net e =
     let inside = net_inside (c + 1) problem.blocks sel in let l = inside.0 in let h = inside.1 in
     (omega (arith, ints, l, e), omega (arith, ints, h, e))
-
--- a line's value, as the code has it
-pub line_read : (line : Line) (net price : ℤ) → IsSmallLine last_period line → IsWithin (2 * greatest_net) net → price ≡ line.price
-    → SFits w64 (to_z w64 (of_z w64 line.surplus) +ℤ to_z w64 (of_z w64 (to_z w64 (of_z w64 price) *ℤ to_z w64 (of_z w64 net))))
-    × (to_z w64 (of_z w64 (to_z w64 (of_z w64 line.surplus) +ℤ to_z w64 (of_z w64 (to_z w64 (of_z w64 price) *ℤ to_z w64 (of_z w64 net)))))
-    ≡ line_value line net)
-line_read line net price small within same =
-    let l = small.price_at_least in let h = small.price_at_most in
-    let product = times_within (last_period * greatest_price) (2 * greatest_net) line.price net (record { at_least = l; at_most = h }) within in
-    let a = product.at_least in let b = product.at_most in let c = small.surplus_at_least in let d = small.surplus_at_most in
-    let e = within.at_least in let f = within.at_most in
-    let one = to_z-of_z w64 line.surplus (omega (arith, ints, c, d)) in
-    let two = to_z-of_z w64 price (omega (arith, ints, same, l, h)) ∙ same in
-    let three = to_z-of_z w64 net (omega (arith, ints, e, f)) in
-    let times = ap₂ (λ (x y : ℤ). x *ℤ y) two three in
-    let four = ap (λ (z : ℤ). to_z w64 (of_z w64 z)) times ∙ to_z-of_z w64 (line.price *ℤ net) (omega (arith, ints, a, b)) in
-    let all = ap₂ (λ (x y : ℤ). x +ℤ y) one four in
-    let fits : SFits w64 (line.surplus +ℤ line.price *ℤ net) = omega (arith, ints, a, b, c, d) in
-    (subst (SFits w64) (sym all) fits, ap (λ (z : ℤ). to_z w64 (of_z w64 z)) all ∙ to_z-of_z w64 (line.surplus +ℤ line.price *ℤ net) fits)

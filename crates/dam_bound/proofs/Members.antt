@@ -1,24 +1,41 @@
 -- The blocks that descend from one, place by place, and the sum of their gains.
-use Rattle.std.proofs.Common.{◌≡◌, ℕ, zero, suc, ◌+◌, ◌<◌, ◌≤◌, ℤ, pos, ◌+ℤ◌, Bool, true, false, Option, Some, List, [], ◌∷◌, length}
+use Rattle.std.proofs.Common.{◌≡◌, ℕ, zero, suc, ◌+◌, ◌<◌, ◌≤◌, ℤ, pos, ◌+ℤ◌, Bool, true, false, Option, Some, List, [], ◌∷◌, length, ◌&&◌, nat_lt, None, IsTrue}
 use Rattle.std.proofs.Common.{drop, get_or, option_map, unwrap_or, ap, ◌∙◌, sym, refl, arith}
 use Rattle.std.specs.List.{slice_get}
 use Rattle.std.proofs.lemmas.Int.{ints}
+use Rattle.std.proofs.lemmas.Bool.Decides.{nat_tests}
 use Rattle.std.proofs.lemmas.Option.{slice_get_read}
 use Rattle.dam_book.specs.Terms.{BlockTerms}
 use Rattle.dam_book.specs.Limits.{most_blocks}
 use Rattle.dam_blocks.specs.declared.problem.Block.{Block}
-use Rattle.dam_blocks.specs.Selection.{accepts, over_accepted}
+use Rattle.dam_blocks.specs.Selection.{accepts, over_accepted, Meets}
 use Rattle.dam_blocks.specs.Family.{descends}
 use Rattle.dam_blocks.specs.Eligible.{surplus_of, surplus_at}
 use Rattle.dam_bound.specs.inside.Families.{IsFamily, AreFamilies}
 use Rattle.dam_bound.proofs.Accepted.{if_accepted}
 
 -- ---- the descendants among the first places
-pub record IsFamilySoFar (blocks : List Block) (place other : ℕ) (family : List Bool) (is_empty : Bool) : Type 0 where
-  pub long : length family ≡ most_blocks
-  pub so_far : (j : ℕ) → j < other → accepts family j ≡ descends blocks place j
-  pub rest : (j : ℕ) → other ≤ j → accepts family j ≡ false
-  pub none : is_empty ≡ true → (j : ℕ) → j < other → descends blocks place j ≡ false
+pub record AreDescendantsSoFar (blocks : List Block) (place count : ℕ) (descendants : List Bool) : Type 0 where
+  pub long : length descendants ≡ most_blocks
+  pub are : (at : ℕ) → accepts descendants at ≡ (nat_lt at count && descends blocks place at)
+
+-- each block's acceptance in the set
+pub all_read : (blocks : List Block) (place : ℕ) (family : List Bool)
+    → ((at : ℕ) → accepts family at ≡ (nat_lt at (length blocks) && descends blocks place at)) → IsFamily blocks place (Some family)
+all_read blocks place family are j l =
+    let inside : nat_lt j (length blocks) ≡ true = grind (arith, nat_tests) in
+    are j ∙ ap (λ (b : Bool). b && descends blocks place j) inside
+
+unmet : (b met : Bool) → met ≡ false → (b ≡ true → IsTrue met) → b ≡ false
+unmet false met e h = refl
+unmet true met e h = absurd (let t = h refl in cc)
+
+pub none_met : (blocks : List Block) (place : ℕ) (family : List Bool) (met : Bool)
+    → ((at : ℕ) → accepts family at ≡ (nat_lt at (length blocks) && descends blocks place at)) → met ≡ false
+    → (Meets family family → IsTrue met) → IsFamily blocks place None
+none_met blocks place family met are e h j l =
+    let is = all_read blocks place family are j l in
+    unmet (descends blocks place j) met e (λ t. h (j, is ∙ t, is ∙ t))
 
 -- ---- sums over accepted places
 over_accepted-nil : (f : BlockTerms → ℤ) (bs : List Block) → over_accepted f bs [] ≡ pos 0

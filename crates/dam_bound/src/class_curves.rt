@@ -12,7 +12,7 @@ ghost use Rattle.dam_bound.specs.inside.Counted.{counted_if};
 use crate::class_making::{add_class_curves, values_of};
 use crate::class_prices::ClassPrices;
 use crate::families::descendants_of_each;
-use crate::numbers::{acceptance_weights, add_priced, doubled_weights, line_value, weighted};
+use crate::numbers::{acceptance_weights, add_priced, doubled_weights, weighted};
 use crate::pricing::Pricing;
 use dam_blocks::{Problem, Selection};
 use dam_book::MOST_BLOCKS;
@@ -125,7 +125,7 @@ impl<A: Allocator, B: Allocator> ClassCurves<'_, A, B> {
             let Some(point) = self.curves.point(class.curve, net) else {
                 return None;
             };
-            total -= line_value(pricing.lines[class.at as usize], net) - point.welfare;
+            total -= pricing.lines[class.at as usize].value(net) - point.welfare;
             if total < least {
                 return None;
             }

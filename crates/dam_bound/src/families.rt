@@ -1,24 +1,38 @@
-ghost use Rattle.std.specs.Prelude.{◌≤◌, length, IfOk};
+ghost use Rattle.std.specs.Prelude.{◌≡◌, ◌≤◌, ◌&&◌, ℕ, nat_lt, length, IfOk};
 ghost use Rattle.dam_book.specs.Limits.{most_blocks};
+ghost use Rattle.dam_blocks.specs.Selection.{accepts};
+ghost use Rattle.dam_blocks.specs.Family.{descends};
 ghost use Rattle.dam_bound.specs.inside.Families.{IsFamily, AreFamilies};
 
 use dam_blocks::{Block, Selection, descends};
 use std::alloc::{AllocError, Allocator};
+
+/// The places of the blocks that descend from the one at a place.
+pub fn descendants_of(blocks: &[Block], place: usize) -> Selection
+    requires { length blocks.now ≤ most_blocks }
+    ensures { (at : ℕ) → accepts result at
+        ≡ (nat_lt at (length blocks.now) && descends blocks.now place at) }
+{
+    let mut descendants = Selection::none();
+    for at in 0..blocks.len() {
+        if descends(blocks, place, at) {
+            descendants = descendants.with(at);
+        }
+    }
+    descendants
+}
 
 /// The blocks that descend from the one at a place; nothing if none does.
 fn family_of(blocks: &[Block], place: usize) -> Option<Selection>
     requires { length blocks.now ≤ most_blocks }
     ensures { IsFamily blocks.now place result }
 {
-    let mut family = Selection::none();
-    let mut is_empty = true;
-    for other in 0..blocks.len() {
-        if descends(blocks, place, other) {
-            family = family.with(other);
-            is_empty = false;
-        }
+    let family = descendants_of(blocks, place);
+    if family.meets(family) {
+        Some(family)
+    } else {
+        None
     }
-    if is_empty { None } else { Some(family) }
 }
 
 /// For each block those that descend from it. They are asked for once, so that gains compare no names.

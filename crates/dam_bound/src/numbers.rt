@@ -4,13 +4,11 @@
 ghost use Rattle.std.specs.Prelude.{◌≡◌, ◌*◌, ◌<◌, ◌≤◌, ℕ, All};
 ghost use Rattle.dam_book.specs.Limits.{most_blocks, last_period, greatest_volume};
 ghost use Rattle.dam_hour.specs.Limits.{greatest_net, greatest_price, greatest_value};
-ghost use Rattle.dam_curve.specs.Line.{line_value, IsSmallLine};
 ghost use Rattle.dam_blocks.specs.Magnitude.{IsWithin};
-ghost use Rattle.dam_bound.specs.inside.Numbers.{AreNumbersWithin, AreWeights, AreCounts, weighted, AreRaised, greatest_line_value};
+ghost use Rattle.dam_bound.specs.inside.Numbers.{AreNumbersWithin, AreWeights, AreCounts, weighted, AreRaised};
 
 use dam_blocks::Selection;
 use dam_book::MOST_BLOCKS;
-use dam_curve::Line;
 
 /// 1 for each accepted place, and 0 for the others.
 pub(crate) fn acceptance_weights(selection: Selection) -> [i32; MOST_BLOCKS]
@@ -66,15 +64,4 @@ pub(crate) fn add_priced(gains: &mut [i64; MOST_BLOCKS], nets: &[i32; MOST_BLOCK
     for place in 0..MOST_BLOCKS {
         gains[place] += i64::from(nets[place]) * i64::from(price);
     }
-}
-
-/// The value of a line at a net volume.
-#[inline(always)]
-pub(crate) fn line_value(line: Line, net: i64) -> i64
-    requires line { IsSmallLine last_period line }
-    requires net { IsWithin (2 * greatest_net) net }
-    ensures value { result ≡ line_value line net }
-    ensures size { IsWithin greatest_line_value result }
-{
-    line.surplus + i64::from(line.price) * net
 }

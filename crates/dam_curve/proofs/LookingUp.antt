@@ -11,12 +11,14 @@ use Rattle.dam_hour.specs.declared.step.Step.{Step}
 use Rattle.dam_hour.specs.Limits.{greatest_price}
 use Rattle.dam_curve.specs.declared.segment.Segment.{Segment}
 use Rattle.dam_curve.specs.declared.curves.Curve.{Curve}
+use Rattle.dam_curve.specs.declared.line.Line.{Line}
 use Rattle.dam_curve.specs.Curve.{joint_welfare, segment_at, end_of, AreSegments, ArePriced, bottom_of, IsOutside, greatest_segment_surplus, IsCurve, segments_at}
 use Rattle.dam_curve.specs.Curve.{IsSmallSegment, CurvesState, IsCurveAt}
 use Rattle.dam_curve.proofs.ListsOfSegments.{any_segment, bottom_at, small_at, price_is}
 use Rattle.dam_curve.proofs.PeriodSegments.{times_small}
 use Rattle.dam_curve.proofs.Adding.{segment_here, priced_here, place_from, stands_from, last_from, bottom_under, end_at, outside_from}
 use Rattle.dam_curve.specs.JointPrice.{IsJointPrice}
+use Rattle.dam_curve.specs.Line.{line_value, IsSmallLine}
 use Rattle.dam_curve.specs.inside.Segments.{price_at}
 
 -- ---- the segments of one curve
@@ -175,19 +177,19 @@ product_small (negsuc h) y n m a b c e =
     let turned : negsuc h *ℤ y ≡ neg_ℤ (pos (suc h) *ℤ y) = omega (arith, ints) in
     (omega (arith, ints, t.0, t.1, turned), omega (arith, ints, t.0, t.1, turned))
 
--- a segment at a net volume of 32 bits
-pub record AreSmallAt (segment : Segment) (net : ℤ) : Type 0 where
-  pub price_at_least : neg_ℤ (pos (last_period * greatest_price)) ≤ℤ segment.price
-  pub price_at_most : segment.price ≤ℤ pos (last_period * greatest_price)
-  pub product_at_least : neg_ℤ (pos ((last_period * greatest_price) * 2147483648)) ≤ℤ (segment.price *ℤ net)
-  pub product_at_most : (segment.price *ℤ net) ≤ℤ pos ((last_period * greatest_price) * 2147483648)
-  pub surplus_at_least : neg_ℤ (pos (last_period * greatest_segment_surplus)) ≤ℤ segment.surplus
-  pub surplus_at_most : segment.surplus ≤ℤ pos (last_period * greatest_segment_surplus)
+-- a line at a net volume of 32 bits
+pub record AreSmallAt (line : Line) (net : ℤ) : Type 0 where
+  pub price_at_least : neg_ℤ (pos (last_period * greatest_price)) ≤ℤ line.price
+  pub price_at_most : line.price ≤ℤ pos (last_period * greatest_price)
+  pub product_at_least : neg_ℤ (pos ((last_period * greatest_price) * 2147483648)) ≤ℤ (line.price *ℤ net)
+  pub product_at_most : (line.price *ℤ net) ≤ℤ pos ((last_period * greatest_price) * 2147483648)
+  pub surplus_at_least : neg_ℤ (pos (last_period * greatest_segment_surplus)) ≤ℤ line.surplus
+  pub surplus_at_most : line.surplus ≤ℤ pos (last_period * greatest_segment_surplus)
 
-pub small_at_net : (segment : Segment) (net : ℤ) → IsSmallSegment last_period segment → neg_ℤ (pos 2147483648) ≤ℤ net
-    → net ≤ℤ pos 2147483648 → AreSmallAt segment net
-small_at_net segment net small low high =
-    let product = product_small segment.price net (last_period * greatest_price) 2147483648 small.price_at_least small.price_at_most
+pub small_at_net : (line : Line) (net : ℤ) → IsSmallLine last_period line → neg_ℤ (pos 2147483648) ≤ℤ net
+    → net ≤ℤ pos 2147483648 → AreSmallAt line net
+small_at_net line net small low high =
+    let product = product_small line.price net (last_period * greatest_price) 2147483648 small.price_at_least small.price_at_most
     low high in
     record {
       price_at_least = small.price_at_least;
@@ -214,30 +216,39 @@ small_wide ps least most ls place d is l =
       surplus_at_most = omega (arith, ints, few, t);
     }
 
--- in the numbers of the machine
-pub record FitsAt (segment : Segment) (price net : ℤ) : Type 0 where
-  pub product : FitsSigned w64 (price *ℤ net)
-  pub sum : FitsSigned w64 (to_z w64 (of_z w64 segment.surplus) +ℤ to_z w64 (of_z w64 (price *ℤ net)))
-  pub value : to_z w64 (of_z w64 (to_z w64 (of_z w64 segment.surplus) +ℤ to_z w64 (of_z w64 (price *ℤ net)))) ≡ segment_at segment net
+pub small_line : (segment : Segment) → IsSmallSegment last_period segment
+    → IsSmallLine last_period (record { price = segment.price; surplus = segment.surplus })
+small_line segment small = record {
+  price_at_least = small.price_at_least;
+  price_at_most = small.price_at_most;
+  surplus_at_least = small.surplus_at_least;
+  surplus_at_most = small.surplus_at_most;
+}
 
-fits_at : (segment : Segment) (price net wide : ℤ) → AreSmallAt segment net → wide ≡ to_z w32 (of_z w32 segment.price)
-    → price ≡ to_z w64 (of_z w64 wide) → FitsAt segment price net
-fits_at segment price net wide small e k =
+-- in the numbers of the machine
+pub record FitsAt (line : Line) (price net : ℤ) : Type 0 where
+  pub product : FitsSigned w64 (price *ℤ net)
+  pub sum : FitsSigned w64 (to_z w64 (of_z w64 line.surplus) +ℤ to_z w64 (of_z w64 (price *ℤ net)))
+  pub value : to_z w64 (of_z w64 (to_z w64 (of_z w64 line.surplus) +ℤ to_z w64 (of_z w64 (price *ℤ net)))) ≡ line_value line net
+
+fits_at : (line : Line) (price net wide : ℤ) → AreSmallAt line net → wide ≡ to_z w32 (of_z w32 line.price)
+    → price ≡ to_z w64 (of_z w64 wide) → FitsAt line price net
+fits_at line price net wide small e k =
     let p = small.price_at_least in let q = small.price_at_most in
     let a = small.product_at_least in let b = small.product_at_most in
     let s = small.surplus_at_least in let t = small.surplus_at_most in
-    let is : price ≡ segment.price = omega (arith, ints, p, q, e, k) in
+    let is : price ≡ line.price = omega (arith, ints, p, q, e, k) in
     let same = ap (λ (z : ℤ). z *ℤ net) is in
-    let surplus : to_z w64 (of_z w64 segment.surplus) ≡ segment.surplus = omega (arith, ints, s, t) in
-    let product : to_z w64 (of_z w64 (price *ℤ net)) ≡ segment.price *ℤ net = omega (arith, ints, a, b, same) in
+    let surplus : to_z w64 (of_z w64 line.surplus) ≡ line.surplus = omega (arith, ints, s, t) in
+    let product : to_z w64 (of_z w64 (price *ℤ net)) ≡ line.price *ℤ net = omega (arith, ints, a, b, same) in
     record {
       product = omega (arith, ints, a, b, same);
       sum = omega (arith, ints, a, b, s, t, surplus, product);
       value = omega (arith, ints, a, b, s, t, surplus, product);
     }
 
-pub valued : (segment : Segment) (price wide net at : ℤ) → IsSmallSegment last_period segment → neg_ℤ (pos 2147483648) ≤ℤ net
-    → net ≤ℤ pos 2147483648 → at ≡ net → wide ≡ to_z w32 (of_z w32 segment.price) → price ≡ to_z w64 (of_z w64 wide)
-    → FitsAt segment price at
-valued segment price wide net at small low high same e k =
-    fits_at segment price at wide (small_at_net segment at small (omega (arith, ints, low, same)) (omega (arith, ints, high, same))) e k
+pub valued : (line : Line) (price wide net at : ℤ) → IsSmallLine last_period line → neg_ℤ (pos 2147483648) ≤ℤ net
+    → net ≤ℤ pos 2147483648 → at ≡ net → wide ≡ to_z w32 (of_z w32 line.price) → price ≡ to_z w64 (of_z w64 wide)
+    → FitsAt line price at
+valued line price wide net at small low high same e k =
+    fits_at line price at wide (small_at_net line at small (omega (arith, ints, low, same)) (omega (arith, ints, high, same))) e k

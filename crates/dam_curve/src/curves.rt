@@ -3,7 +3,7 @@ ghost use Rattle.dam_book.specs.Limits.{last_period};
 ghost use Rattle.dam_hour.specs.Limits.{greatest_price};
 ghost use Rattle.dam_hour.specs.declared.step.Step.{Step};
 ghost use Rattle.dam_curve.specs.declared.segment.Segment.{Segment};
-ghost use Rattle.dam_curve.specs.Curve.{joint_welfare, segment_at, end_of, bottom_of, IsSmallSegment, IsCurve, segments_at, CurvesState, IsCurveAt, Keeps};
+ghost use Rattle.dam_curve.specs.Curve.{joint_welfare, end_of, bottom_of, IsCurve, segments_at, CurvesState, IsCurveAt, Keeps};
 ghost use Rattle.dam_curve.specs.JointPrice.{IsJointPrice};
 ghost use Rattle.dam_curve.specs.Line.{IsAbove, IsSmallLine};
 ghost use Rattle.dam_curve.specs.Point.{IsSmallPoint};
@@ -116,17 +116,6 @@ pub(crate) fn segments_of(segments: &[Segment], curve: Curve) -> &[Segment]
     &segments[first..first + curve.count as usize]
 }
 
-/// The welfare that a segment gives at a net volume.
-#[inline(always)]
-fn welfare_on(segment: Segment, net: i64) -> i64
-    requires segment { IsSmallSegment last_period segment }
-    requires least { neg_ℤ (pos (2 ^ 31)) ≤ℤ net }
-    requires most { net ≤ℤ pos (2 ^ 31) }
-    ensures { result ≡ segment_at segment net }
-{
-    segment.surplus + i64::from(segment.price) * net
-}
-
 /// The joint welfare and the joint price at the net volume. The segment that holds there is looked for from a place near by.
 #[inline(always)]
 fn point_in(segments: &[Segment], net: i64, near: usize) -> Point
@@ -147,7 +136,7 @@ fn point_in(segments: &[Segment], net: i64, near: usize) -> Point
 {
     let segment = segments[place_at_net_near(segments, net, near)];
     Point {
-        welfare: welfare_on(segment, net),
+        welfare: segment.line().value(net),
         price: segment.price_at(net),
     }
 }

@@ -10,7 +10,7 @@ ghost use Rattle.dam_search.specs.inside.Conflicts.{AcceptsAll, AcceptsNone, Are
 use crate::priced_problem::PricedProblem;
 use dam_blocks::{Block, Problem, Selection, are_of_one_group, descends};
 use dam_book::MOST_BLOCKS;
-use dam_bound::NetLimits;
+use dam_bound::{NetLimits, descendants_of};
 use std::alloc::Allocator;
 
 /// Decisions that rule each other out, by links, by exclusive groups, by prices and by net volumes. A search asks
@@ -94,20 +94,6 @@ fn ancestors_of(blocks: &[Block], place: usize) -> Selection
         }
     }
     ancestors
-}
-
-/// The places of the blocks that descend from the block at `place`.
-fn descendants_of(blocks: &[Block], place: usize) -> Selection
-    requires { length blocks.now ≤ most_blocks }
-    ensures { IsSetOf (length blocks.now) (λ at. descends blocks.now place at) result }
-{
-    let mut descendants = Selection::none();
-    for at in 0..blocks.len() {
-        if descends(blocks, place, at) {
-            descendants = descendants.with(at);
-        }
-    }
-    descendants
 }
 
 /// Whether the block at `at` is another one of the exclusive group of the block at `place`.

@@ -2,7 +2,7 @@
 use Rattle.std.proofs.Common.{to_z, of_z, w64, rules}
 use Rattle.dam_curve.specs.Curve.{joint_welfare}
 use Rattle.dam_curve.proofs.ListsOfSegments.{any_segment, under_at}
-use Rattle.dam_curve.proofs.LookingUp.{small_wide, within_segments}
+use Rattle.dam_curve.proofs.LookingUp.{small_line, small_wide, within_segments}
 use Rattle.dam_curve.proofs.curves.line_in.Goals as goal
 
 pub place_at_net_near-requires-clause-last : goal.place_at_net_near-requires-clause-last
@@ -18,12 +18,6 @@ returns-clause-above c ps least most is =
 
 pub returns-clause-small : goal.returns-clause-small
 returns-clause-small c =
-    let small = small_wide c.requires.curve.0 c.requires.curve.1 c.requires.curve.2 c.args.segments.now c.place_before_end-place.result
-    any_segment c.requires.curve.3 c.place_before_end-place.ensures in
     rw c.line.ensures
-    (record {
-      price_at_least = small.price_at_least;
-      price_at_most = small.price_at_most;
-      surplus_at_least = small.surplus_at_least;
-      surplus_at_most = small.surplus_at_most;
-    })
+    (small_line _ (small_wide c.requires.curve.0 c.requires.curve.1 c.requires.curve.2 c.args.segments.now c.place_before_end-place.result
+    any_segment c.requires.curve.3 c.place_before_end-place.ensures))

@@ -1,10 +1,13 @@
 -- The segment that holds there is the joint welfare, and has the prices.
-use Rattle.std.proofs.Common.{◌≡◌, ℤ, Some, ap, ◌∙◌, subst, to_z, of_z, w32, w64, rules, arith}
+use Rattle.std.proofs.Common.{◌≡◌, ℤ, Some, ap, ◌∙◌, sym, subst, to_z, of_z, w32, w64, rules, arith}
 use Rattle.std.proofs.lemmas.Int.{ints}
+use Rattle.dam_book.specs.Limits.{last_period}
+use Rattle.dam_curve.specs.declared.line.Line.{Line}
 use Rattle.dam_curve.specs.Curve.{joint_welfare}
 use Rattle.dam_curve.specs.JointPrice.{IsJointPrice}
+use Rattle.dam_curve.specs.Line.{line_value, IsSmallLine}
 use Rattle.dam_curve.proofs.ListsOfSegments.{any_segment, price_small}
-use Rattle.dam_curve.proofs.LookingUp.{small_wide, within_segments, value_at, price_there}
+use Rattle.dam_curve.proofs.LookingUp.{small_line, small_wide, within_segments, value_at, price_there}
 use Rattle.dam_curve.proofs.curves.point_in.Goals as goal
 
 pub place_at_net_near-requires-clause-first : goal.place_at_net_near-requires-clause-first
@@ -17,16 +20,17 @@ place_at_net_near-requires-clause-last c =
     (within_segments c.args.segments.now c.args.net (to_z w64 (of_z w64 c.args.net)) (search rules) c.requires.some c.requires.bottom
     c.requires.top).last
 
-pub welfare_on-requires-clause-segment : goal.welfare_on-requires-clause-segment
-welfare_on-requires-clause-segment c =
-    small_wide c.requires.curve.0 c.requires.curve.1 c.requires.curve.2 c.args.segments.now c.place_at_net_near.result
-    any_segment c.requires.curve.3 c.place_at_net_near.ensures.inside
+pub value-requires-clause-line : goal.value-requires-clause-line
+value-requires-clause-line c =
+    subst (IsSmallLine last_period) (sym c.line.ensures)
+    (small_line _ (small_wide c.requires.curve.0 c.requires.curve.1 c.requires.curve.2 c.args.segments.now c.place_at_net_near.result
+    any_segment c.requires.curve.3 c.place_at_net_near.ensures.inside))
 
 pub returns-clause-welfare : goal.returns-clause-welfare
 returns-clause-welfare c ps least most is =
     let net : to_z w64 (of_z w64 c.args.net) ≡ c.args.net = search rules in
-    let own : to_z w64 (of_z w64 c.welfare_on.result) ≡ c.welfare_on.result = search rules in
-    ap (λ (z : ℤ). Some z) (own ∙ c.welfare_on.ensures)
+    let own : to_z w64 (of_z w64 c.value.result) ≡ c.value.result = search rules in
+    ap (λ (z : ℤ). Some z) (own ∙ c.value.ensures ∙ ap (λ (line : Line). line_value line c.args.net) c.line.ensures)
     ∙ value_at (joint_welfare ps) c.args.segments.now (to_z w64 (of_z w64 c.args.net)) c.place_at_net_near.result
     any_segment is.are_segments
     (within_segments c.args.segments.now c.args.net (to_z w64 (of_z w64 c.args.net)) net c.requires.some c.requires.bottom c.requires.top)

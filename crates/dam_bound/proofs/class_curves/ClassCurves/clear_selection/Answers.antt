@@ -15,11 +15,12 @@ use Rattle.dam_blocks.specs.Problem.{ProblemState}
 use Rattle.dam_bound.specs.ClassCurves.{class_orders, AreClassCurves}
 use Rattle.dam_bound.specs.Prices.{line_in, over_gains}
 use Rattle.dam_bound.specs.declared.class_curves.Class.{Class}
+use Rattle.dam_bound.specs.inside.Numbers.{greatest_line_value}
 use Rattle.dam_bound.proofs.ClassPricing.{ArePricedSoFar, no_price, price_more, all_priced}
 use Rattle.dam_bound.proofs.LineByLine.{own_class, as_many}
 use Rattle.dam_bound.proofs.LossPrices.{price_fits}
 use Rattle.dam_bound.proofs.Lowering.{lowered_first, most_lowered, all_lowered, none_balances}
-use Rattle.dam_bound.proofs.Lowering.{net_read, range_read, joint_here, one_lowered}
+use Rattle.dam_bound.proofs.Lowering.{net_read, range_read, joint_here, lined_within, one_lowered}
 use Rattle.dam_bound.proofs.class_curves.ClassCurves.clear_selection.Goals as goal
 
 abbrev nothing : Class
@@ -81,8 +82,8 @@ bounds-pricing-class g c =
     (own_class _ _ _ _ _ c.deref-class-items.result.now c.loop-class.class-index nothing c.self.invariant
     c.deref-class-items.ensures.value c.loop-class-test.true).place.below
 
-pub line_value-requires-clause-line : goal.line_value-requires-clause-line
-line_value-requires-clause-line g c =
+pub value-requires-clause-line : goal.value-requires-clause-line
+value-requires-clause-line g c =
     let are = subst (λ (p : ProblemState). AreClassCurves p c.self.inside.curves c.self.inside.classes.items c.self.inside.values
     c.self.inside.families.items) c.self.view_is c.self.invariant in
     let own = own_class c.args.self.now _ _ _ _ c.deref-class-items.result.now c.loop-class.class-index nothing are
@@ -91,9 +92,21 @@ line_value-requires-clause-line g c =
 
 pub overflow_sub-total : goal.overflow_sub-total
 overflow_sub-total g c =
+    let are = subst (λ (p : ProblemState). AreClassCurves p c.self.inside.curves c.self.inside.classes.items c.self.inside.values
+    c.self.inside.families.items) c.self.view_is c.self.invariant in
+    let j = c.loop-class.class-index in
+    let class = get_or c.deref-class-items.result.now j nothing in
+    let own = own_class c.args.self.now _ _ _ _ c.deref-class-items.result.now j nothing are c.deref-class-items.ensures.value
+    c.loop-class-test.true in
+    let net = net_read c.args.self.now c.args.selection class.at c.acceptance_weights-counts.result class.nets c.weighted.result c.from-net.result
+    are.few_blocks own.is.nets_are own.small.long c.acceptance_weights-counts.ensures.counts c.weighted.ensures.value c.weighted.ensures.size
+    c.from-net.ensures in
+    let value = c.value.ensures ∙ ap (line_value (line_in c.args.pricing.now.lines class.at)) net.0 in
+    let size = subst (IsWithin greatest_line_value) (sym value)
+    (lined_within c.args.self.now c.args.pricing.now c.args.selection j class.at are.blocks_are are.few_blocks own.place.place c.requires.by_lines) in
     let small = c.in-Some.ensures.small in let a = small.welfare_at_least in let b = small.welfare_at_most in
-    let size = c.line_value.ensures.size in let d = size.at_least in let e = size.at_most in
-    let line = to_z-of_z w64 c.line_value.result (omega (arith, ints, d, e)) in
+    let d = size.at_least in let e = size.at_most in
+    let line = to_z-of_z w64 c.value.result (omega (arith, ints, d, e)) in
     let worth = to_z-of_z w64 c.in-Some.point.welfare (omega (arith, ints, a, b)) in
     omega (arith, ints, line, worth, a, b, d, e)
 
@@ -111,10 +124,10 @@ overflow_sub-total-in-loop-class g c =
     let range = range_read c.args.self.now c.args.selection class.at _ net.0 in
     let joint = c.in-Some.ensures.welfare _ _ _ own.is.curve_is range.0 range.1
     ∙ ap (joint_welfare (class_orders c.args.self.now class.at)) net.0 ∙ joint_here c.args.self.now c.args.selection class.at in
-    let line = c.line_value.ensures.value ∙ ap (line_value (line_in c.args.pricing.now.lines class.at)) net.0 in
-    let lowered = one_lowered c.args.self.now c.args.pricing.now c.args.selection j class.at (to_z w64 c.loop-class.total-bits) c.line_value.result
+    let line = c.value.ensures ∙ ap (line_value (line_in c.args.pricing.now.lines class.at)) net.0 in
+    let lowered = one_lowered c.args.self.now c.args.pricing.now c.args.selection j class.at (to_z w64 c.loop-class.total-bits) c.value.result
     c.in-Some.point.welfare are.few_periods are.blocks_are are.few_blocks own.place.place c.requires.by_lines (sym joint)
-    (record { at_least = c.in-Some.ensures.small.welfare_at_least; at_most = c.in-Some.ensures.small.welfare_at_most }) line c.line_value.ensures.size
+    (record { at_least = c.in-Some.ensures.small.welfare_at_least; at_most = c.in-Some.ensures.small.welfare_at_most }) line
     c.loop-class.invariant.lowered in
     lowered.0
 
@@ -132,10 +145,10 @@ returns-then-total-least-clause-none g c none w e =
     let range = range_read c.args.self.now c.args.selection class.at _ net.0 in
     let joint = c.in-Some.ensures.welfare _ _ _ own.is.curve_is range.0 range.1
     ∙ ap (joint_welfare (class_orders c.args.self.now class.at)) net.0 ∙ joint_here c.args.self.now c.args.selection class.at in
-    let line = c.line_value.ensures.value ∙ ap (line_value (line_in c.args.pricing.now.lines class.at)) net.0 in
-    let lowered = one_lowered c.args.self.now c.args.pricing.now c.args.selection j class.at (to_z w64 c.loop-class.total-bits) c.line_value.result
+    let line = c.value.ensures ∙ ap (line_value (line_in c.args.pricing.now.lines class.at)) net.0 in
+    let lowered = one_lowered c.args.self.now c.args.pricing.now c.args.selection j class.at (to_z w64 c.loop-class.total-bits) c.value.result
     c.in-Some.point.welfare are.few_periods are.blocks_are are.few_blocks own.place.place c.requires.by_lines (sym joint)
-    (record { at_least = c.in-Some.ensures.small.welfare_at_least; at_most = c.in-Some.ensures.small.welfare_at_most }) line c.line_value.ensures.size
+    (record { at_least = c.in-Some.ensures.small.welfare_at_least; at_most = c.in-Some.ensures.small.welfare_at_most }) line
     c.loop-class.invariant.lowered in
     let most = most_lowered c.args.self.now c.args.pricing.now c.args.selection (j + 1) _ w c.requires.by_lines lowered.1 e in
     let less = c.if-total-least.true in
@@ -161,10 +174,10 @@ loop-class-preserved g c =
     let range = range_read c.args.self.now c.args.selection class.at _ net.0 in
     let joint = c.in-Some.ensures.welfare _ _ _ own.is.curve_is range.0 range.1
     ∙ ap (joint_welfare (class_orders c.args.self.now class.at)) net.0 ∙ joint_here c.args.self.now c.args.selection class.at in
-    let line = c.line_value.ensures.value ∙ ap (line_value (line_in c.args.pricing.now.lines class.at)) net.0 in
-    let lowered = one_lowered c.args.self.now c.args.pricing.now c.args.selection j class.at (to_z w64 c.loop-class.total-bits) c.line_value.result
+    let line = c.value.ensures ∙ ap (line_value (line_in c.args.pricing.now.lines class.at)) net.0 in
+    let lowered = one_lowered c.args.self.now c.args.pricing.now c.args.selection j class.at (to_z w64 c.loop-class.total-bits) c.value.result
     c.in-Some.point.welfare are.few_periods are.blocks_are are.few_blocks own.place.place c.requires.by_lines (sym joint)
-    (record { at_least = c.in-Some.ensures.small.welfare_at_least; at_most = c.in-Some.ensures.small.welfare_at_most }) line c.line_value.ensures.size
+    (record { at_least = c.in-Some.ensures.small.welfare_at_least; at_most = c.in-Some.ensures.small.welfare_at_most }) line
     c.loop-class.invariant.lowered in
     let price = c.in-Some.point.price in
     let small : IsWithin (last_period * greatest_price) price =
