@@ -13,14 +13,15 @@ import images
 import journals
 import kills
 import streams
-from device import EVERY, INPUT, OUTPUT, SECONDS, SYNC, Refusal
+from device import DESK, EVERY, INPUT, OUTPUT, SECONDS, STREAM, SYNC, WRITE, Refusal
 from images import HEAD, MOST, is_at_rest, marked_in
 from journals import CLOSE, rules
 from shared.printed import Printed
 
 DAY = b"day,24,,,,,,,\n"
 NO_JOURNAL, TOO_LONG = b"file: the file isn't a desk's journal\n", b"file: the file has more than %d bytes\n" % MOST
-NO_FILE, FULL = b"file: it isn't a regular file with one name\n", b"file: the journal is full\n"
+NO_FILE, FULL = b"file: it isn't a regular file with one name, or FILE-wal next to it isn't\n", b"file: the journal is full\n"
+OWN_OUTPUT = b"file: standard output goes to it\n"
 DATABASE, NOT_WRITTEN = b"file: a database's files have its name\n", b"file: its lines aren't as a desk writes them\n"
 NO_LINES = b"file: its lines aren't a journal: "
 NOBODY = 65_534
@@ -29,6 +30,7 @@ BATCH = 65_536  # bytes of a read
 READS = 70_000  # more than 16 bits count
 LINES = 300_000  # of an input that comes in by as many reads
 LENGTHS = [round(1.5**power) for power in range(1, 29)]  # of lines, up to one that is too long
+PATHS = (1_001, 1_024, 2_500, 4_000)  # bytes of long paths
 MEMORY = 256 << 20  # bytes of addresses, for the longest inputs
 USAGE = b"command line\nUsage: dam-desk "
 HELP = b"""\
@@ -98,6 +100,7 @@ def run(counts, desk, dam, whole):
     files.longest_file()
     files.cut_lines()
     files.closed_pipe()
+    files.own_output()
     files.full()
     files.half_a_line()
     files.long_batches()
@@ -182,13 +185,19 @@ class Files:
 
     def long_path(self):
         """A file under a long path with spaces and letters outside ASCII, and by its name alone."""
-        folder = self.desk.folder() / "Märkte von morgen" / ("día " * 40 + "2026")
-        folder.mkdir(parents=True)
-        file = folder / "ein Tag.desk"
-        self.check("a long path", self.given([file], DAY + CLOSE), 0, b"day,24\n1,done\n", b"")
-        self.check("the journal under a long path", self.given(["--journal", file]), 0, DAY + CLOSE, b"")
-        self.check("the same file by its name", self.given([file.name], b"", cwd=folder), 0, b"day,24\n1,done\n", b"")
-        self.check("its journal by its name", self.given(["--journal", file.name], cwd=folder), 0, DAY + CLOSE, b"")
+        for length in (0, *PATHS):
+            folder = self.desk.folder() / "Märkte von morgen" / ("día " * 40 + "2026")
+            folder.mkdir(parents=True)
+            while (missing := length - len(os.fsencode(folder)) - len("/ein Tag.desk")) > 0:
+                folder /= "A" * (missing - 1 if missing < 202 else 100)
+                folder.mkdir()
+            file = folder / "ein Tag.desk"
+            about = f"a path of {len(os.fsencode(file)):,} bytes"
+            self.counts.check(about, length in (0, len(os.fsencode(file))))
+            self.check(about, self.given([file], DAY + CLOSE), 0, b"day,24\n1,done\n", b"")
+            self.check(f"the journal under {about}", self.given(["--journal", file]), 0, DAY + CLOSE, b"")
+            self.check("the same file by its name", self.given([file.name], b"", cwd=folder), 0, b"day,24\n1,done\n", b"")
+            self.check("its journal by its name", self.given(["--journal", file.name], cwd=folder), 0, DAY + CLOSE, b"")
 
     def link(self):
         """A link to a file is followed; so two desks have one file."""
@@ -225,8 +234,8 @@ class Files:
 
     def words(self):
         """Command lines that aren't the desk's."""
-        lines = [[], ["a", "b"], ["--journal"], ["--journal", "a", "b"], ["--journal"] * 3, ["--other"], ["-h"], ["-"], ["--help", "a"],
-                 [NO_TEXT], ["--journal", NO_TEXT]]  # fmt: skip
+        lines = [[], ["a", "b"], ["a", "--journal"], ["--journal"], ["--journal", "a", "b"], ["--journal"] * 3, ["--other"], ["-h"], ["-"],
+                 ["--help", "a"], [NO_TEXT], ["--journal", NO_TEXT]]  # fmt: skip
         for words in lines:
             folder = self.desk.folder()
             got = self.given(words, cwd=folder)
@@ -284,6 +293,15 @@ class Files:
             marked = marked_in(file.read_bytes())
             self.counts.check(f"a closed stream {stream}: {marked}", marked in (b"", b"+" + DAY + b"+" + CLOSE))
 
+    def own_output(self):
+        """A file that is the desk's own output, which would destroy it."""
+        for mode in ("ab", "r+b"):
+            file = desk_file(self.desk.folder(), lines(DAY))
+            with file.open(mode) as output:
+                ran = subprocess.run([*self.desk.words, str(file)], input=CLOSE, stdout=output, stderr=subprocess.PIPE)
+            got = Printed(ran.returncode, file.read_bytes(), ran.stderr)
+            self.check(f"an output to the file itself, opened as {mode}", got, 1, lines(DAY), OWN_OUTPUT)
+
     def full(self):
         """A journal at its limit takes a close, and then nothing."""
         rng = random.Random("full")
@@ -325,7 +343,7 @@ class Files:
             self.counts.check(f"and that one then: {rest!r}", rest == b"1,done\n")
 
     def long_batches(self):
-        """A file as the input comes in by reads of 65,536 bytes, and each of these is a batch of two syncs."""
+        """A file as the input comes in by reads of 65,536 bytes, and each of these is a batch of two syncs, two writes and one output."""
         text = DAY + b"cancel,ABCDEFGH,NAME-NUMBER1,,,,,,\n" * 6_000
         counted = []
         for given in (b"", text):
@@ -333,9 +351,12 @@ class Files:
             path = desk_file(folder, given)
             with path.open("rb") as source:
                 events = self.desk.run(folder / "day.desk", source=source).events
-            counted.append(sum(event.kind == SYNC for event in events))
-        most = 2 * -(-len(text) // BATCH)
-        self.counts.check(f"{counted[1] - counted[0]} syncs of {len(text)} bytes, at most {most}", 0 < counted[1] - counted[0] <= most)
+            kinds = [event.kind for event in events if event.target in (DESK, STREAM)]
+            counted.append([kinds.count(kind) for kind in (SYNC, WRITE, OUTPUT)])
+        most = -(-len(text) // BATCH)
+        for kind, without, made, each in zip((SYNC, WRITE, OUTPUT), *counted, (2, 2, 1)):
+            about = f"{made - without} calls {kind} for {len(text):,} bytes, at most {each * most}"
+            self.counts.check(about, 0 < made - without <= each * most)
         again = self.desk.run(folder / "day.desk")
         outputs = sum(event.kind == OUTPUT for event in again.events)
         self.counts.check(f"{outputs} writes of {len(again.stdout)} bytes at an opening", outputs == 1 and len(again.stdout) > BATCH)

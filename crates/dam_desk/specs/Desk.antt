@@ -134,7 +134,7 @@ pub record Finishes (state : State) (given first : List ℕ) (old new : Option (
   pub written : Appends old new (first ++ (answers ++ end_answer (next last.answered) begun))
   pub safe : (file : List ℕ) → outcomes file → OpensTo last.journal file
 
--- The entries of the journal are a legal history. A reader of its text gets its commands, and so `dam replay` prints its replies, and
+-- The entries of the journal are a legal history of its commands. However its text is read, `dam replay` prints the journal's replies, and
 -- `dam clear` clears its book.
 pub record IsLegalAndUnambiguous (journal : Journal) : Type 0 where
   pub legal : IsLegalHistory journal.periods (entries_of journal.periods journal.commands)

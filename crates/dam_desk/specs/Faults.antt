@@ -80,6 +80,7 @@ store_status fault = 4
 -- the same for the file's fault
 abbrev pub file_status : FileFault → ℕ
 file_status files.NotAFile = 1
+file_status files.OwnOutput = 1
 file_status files.Database = 1
 file_status fault = 4
 

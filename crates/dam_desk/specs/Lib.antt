@@ -1,4 +1,5 @@
 pub mod Limits
+pub mod CommandLine
 pub mod InputLines
 pub mod Answers
 pub mod DeskJournal

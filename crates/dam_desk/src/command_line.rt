@@ -1,4 +1,8 @@
 //! The command line.
+ghost use Rattle.std.specs.Prelude.{◌≡◌, map, MatchOption};
+ghost use Rattle.std.specs.String.{string_bytes};
+ghost use Rattle.dam_desk.specs.CommandLine.{AskFor, is_option};
+ghost use Rattle.dam_desk.specs.declared.command_line.Job.{Job};
 
 use std::alloc::AllocError;
 use std::env;
@@ -37,12 +41,23 @@ pub(crate) fn words(rt: &HostRuntime) -> Result<Option<Vec<String>>, AllocError>
     Ok(Some(words.collect::<Vec<String>>(rt.alloc())?))
 }
 
-/// The job for which the words ask, if they are in order.
-pub(crate) fn job_of(words: &[String]) -> Option<Job<'_>> {
+/// The job for which the words ask, if they ask for one.
+pub(crate) fn job_of(words: &[String]) -> Option<Job<'_>>
+    ensures { MatchOption result
+        ((job : Job) → ¬ (AskFor (map string_bytes words.now) job))
+        (AskFor (map string_bytes words.now)) }
+{
     match words {
         [word] if word.as_str() == "--help" => Some(Job::Help),
-        [file] if !file.as_str().starts_with("-") => Some(Job::Serve(file.as_str())),
+        [file] if !is_option(file.as_str()) => Some(Job::Serve(file.as_str())),
         [word, file] if word.as_str() == "--journal" => Some(Job::Journal(file.as_str())),
         _ => None,
     }
+}
+
+/// Whether the word is an option.
+fn is_option(word: &str) -> bool
+    ensures { result ≡ is_option word.now }
+{
+    word.as_bytes().starts_with(b"-")
 }

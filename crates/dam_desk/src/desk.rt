@@ -9,7 +9,7 @@ ghost use Rattle.dam_desk.specs.Faults.{IsEndFault, SaysCount, is_failed_sync, i
 
 use crate::device::Sink;
 use crate::fault::{DeskFault, InputLineFault};
-use crate::fault_line::write_fault;
+use crate::fault_line::append_fault_line;
 use crate::intake::Intake;
 use crate::laws::journals_grow;
 use crate::output::write_text;
@@ -90,7 +90,7 @@ impl<D: Disk> Desk<D> {
     }
 
     /// If the input ended inside a line, writes this line's answer: the fault `CutShort`. The file isn't changed.
-    pub(crate) fn answer_cut_short<W: Write>(&self, writer: &mut Sink<W>) -> Result<(), DeskFault>
+    pub(crate) fn write_end_answer<W: Write>(&self, writer: &mut Sink<W>) -> Result<(), DeskFault>
         requires { writer.old.failed ≡ false }
         ensures ok { (begun : List ℕ) → self.now.intake.line ≡ kept_bytes begun
             → OnOk result (Appends writer.old.taken writer.new.taken
@@ -114,7 +114,7 @@ impl<D: Disk> Desk<D> {
         let alloc = self.intake.alloc;
         let mut text = Vec::new(alloc);
         let number = self.intake.answered.saturating_add(1);
-        write_fault(alloc, &mut text, number, InputLineFault::CutShort)?;
+        append_fault_line(alloc, &mut text, number, InputLineFault::CutShort)?;
         write_text(writer, text.as_slice())
     }
 

@@ -81,7 +81,7 @@ impl Day {
     }
 
     /// Applies the command to the book as the entry of this number, and appends the line of its reply.
-    pub(crate) fn apply_and_reply(
+    pub(crate) fn apply_and_append_reply(
         &mut self,
         number: u32,
         command: &Command,
@@ -102,8 +102,8 @@ impl Day {
         Ok(reply)
     }
 
-    /// Applies the command as `apply_and_reply` does, and adds its entry.
-    pub(crate) fn apply_and_keep(
+    /// Applies the command as `apply_and_append_reply` does, and adds its entry.
+    pub(crate) fn apply_and_append_entry(
         &mut self,
         number: u32,
         command: &Command,
@@ -123,7 +123,7 @@ impl Day {
             ≡ replies.old.items ++ reply_line number (reply_to self.old.book command.now)) }
     {
         let packed = PackedCommand::of(self.alloc, command)?;
-        let reply = self.apply_and_reply(number, command, replies)?;
+        let reply = self.apply_and_append_reply(number, command, replies)?;
         entries.push(PackedEntry::new(number, packed, reply))?;
         Ok(())
     }

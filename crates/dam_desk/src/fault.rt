@@ -125,7 +125,7 @@ pub(crate) fn status(fault: &DeskFault) -> u8
     ensures { result ≡ fault_status fault.now }
 {
     match fault {
-        DeskFault::File(FileFault::NotAFile | FileFault::Database)
+        DeskFault::File(FileFault::NotAFile | FileFault::OwnOutput | FileFault::Database)
         | DeskFault::NotAJournal(_)
         | DeskFault::Respelled
         | DeskFault::Store(StoreFault::NotAStore | StoreFault::TooLong | StoreFault::Full) => 1,

@@ -23,7 +23,7 @@ fn fault_word(alloc: Global, fault: InputLineFault) -> Result<String, AllocError
 }
 
 /// Appends the answer to the line of this number, which has the fault.
-pub(crate) fn write_fault(
+pub(crate) fn append_fault_line(
     alloc: Global,
     text: &mut Vec<u8>,
     number: u64,

@@ -5,14 +5,12 @@ ghost use Rattle.std.specs.Prelude.{◌≡◌};
 ghost use Rattle.std.specs.Process.{exit_status};
 ghost use Rattle.dam_desk.specs.Faults.{fault_status};
 
-mod answering;
 mod command_line;
 mod desk;
 mod desk_day;
 mod device;
 mod fault;
 mod fault_line;
-mod held;
 mod input_line;
 mod intake;
 mod laws;
@@ -23,17 +21,21 @@ mod reading;
 mod reopened;
 mod run;
 mod serve;
+mod stored_journal;
 mod text_lines;
 
 use command_line::{Job, USAGE, job_of, words};
 use dam_book::Seed;
+use dam_store::FileFault;
 use device::{Sink, Source};
 use fault::{DeskFault, status};
-use held::{held_text, read_file_bytes};
 use output::write_text;
 use run::serve_file;
 use sqlite_std_file::Wary;
+use std::fs;
+use std::os::unix::fs::MetadataExt;
 use std::process::ExitCode;
+use stored_journal::{read_file_bytes, stored_journal_text};
 
 /// The status of a command line that is refused.
 const REFUSED_LINE: u8 = 2;
@@ -41,38 +43,52 @@ const REFUSED_LINE: u8 = 2;
 fn main(rt: HostRuntime) -> ExitCode {
     let words = match words(&rt) {
         Ok(Some(words)) => words,
-        Ok(None) => return refuse(&rt),
-        Err(fault) => return report(&rt, &DeskFault::from(fault)),
+        Ok(None) => return print_refusal(&rt),
+        Err(fault) => return print_fault(&rt, &DeskFault::from(fault)),
     };
     let done = match job_of(words.as_slice()) {
         Some(Job::Serve(path)) => serve_standard(&rt, path),
         Some(Job::Journal(path)) => print_journal(&rt, path),
         Some(Job::Help) => write_text(&mut Sink::new(rt.stdout()), USAGE.as_bytes()),
-        None => return refuse(&rt),
+        None => return print_refusal(&rt),
     };
     match done {
         Ok(()) => ExitCode::SUCCESS,
-        Err(fault) => report(&rt, &fault),
+        Err(fault) => print_fault(&rt, &fault),
     }
 }
 
 /// Serves the journal in a file, from standard input to standard output.
 fn serve_standard(rt: &HostRuntime, path: &str) -> Result<(), DeskFault> {
+    if is_own_output(rt, path) {
+        return Err(DeskFault::File(FileFault::OwnOutput));
+    }
     let (mut input, mut output) = (Source::new(rt.stdin()), Sink::new(rt.stdout()));
     let ended = serve_file(rt, path, Wary, &mut input, &mut output)?;
     ended.done
+}
+
+/// Whether standard output goes to the file at `path`: the answers would destroy the journal.
+fn is_own_output(rt: &HostRuntime, path: &str) -> bool {
+    match fs::metadata(rt, "/dev/stdout") {
+        Ok(output) if output.is_file() => match fs::metadata(rt, path) {
+            Ok(file) => output.dev() == file.dev() && output.ino() == file.ino(),
+            Err(_) => false,
+        },
+        _ => false,
+    }
 }
 
 /// Prints the journal that a file holds. It doesn't lock the file or change it. A file that a desk refuses has the same fault
 /// here.
 fn print_journal(rt: &HostRuntime, path: &str) -> Result<(), DeskFault> {
     let bytes = read_file_bytes(rt, path)?;
-    let text = held_text(rt.alloc(), Seed::drawn(rt), bytes.as_slice())?;
+    let text = stored_journal_text(rt.alloc(), Seed::drawn(rt), bytes.as_slice())?;
     write_text(&mut Sink::new(rt.stdout()), text.as_slice())
 }
 
 /// Prints the fault's line, and gives its status.
-fn report(rt: &HostRuntime, fault: &DeskFault) -> ExitCode
+fn print_fault(rt: &HostRuntime, fault: &DeskFault) -> ExitCode
     ensures { exit_status result ≡ fault_status fault.now }
 {
     let _ = eprintln!(rt; "{fault}");
@@ -80,7 +96,7 @@ fn report(rt: &HostRuntime, fault: &DeskFault) -> ExitCode
 }
 
 /// Prints the usage for a refused command line, and gives its status.
-fn refuse(rt: &HostRuntime) -> ExitCode
+fn print_refusal(rt: &HostRuntime) -> ExitCode
     ensures { exit_status result ≡ 2 }
 {
     let _ = eprint!(rt; "command line\n{USAGE}");

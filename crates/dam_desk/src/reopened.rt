@@ -43,7 +43,7 @@ impl FromJournal for Reopened {
         runs_grow();
         self.records.put_command(command)?;
         self.day
-            .apply_and_reply(number, command, &mut self.replies)?;
+            .apply_and_append_reply(number, command, &mut self.replies)?;
         Ok(())
     }
 }

@@ -72,7 +72,7 @@ pub(crate) fn serve<D: Disk, R: Read, W: Write>(
             Err(_) => return Err(DeskFault::Read),
         };
         if count == 0 {
-            return match desk.answer_cut_short(writer) {
+            return match desk.write_end_answer(writer) {
                 Ok(()) => Ok(()),
                 Err(fault) => Err(fault.with_bytes_before(printed)),
             };

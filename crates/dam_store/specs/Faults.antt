@@ -38,6 +38,11 @@ of_open opening.HotJournal = files.Database
 of_open opening.OutOfMemory = files.Memory
 of_open (opening.Io error) = if is_not_a_file error then files.NotAFile else of_io error
 
+-- why a file isn't opened: there are no random bytes, or its opening has an error
+abbrev pub IsOpeningFault : FileFault → Type 0
+IsOpeningFault (files.NoRandomBytes error) = Unit {0}
+IsOpeningFault fault = (error : OpenError) × (fault ≡ of_open error)
+
 -- a call of the disk failed
 abbrev pub is_failure : StoreFault → Bool
 is_failure (Read error) = true

@@ -1,7 +1,7 @@
 ghost use Rattle.std.specs.Prelude.{◌≡◌, ◌++◌, [], ◌∷◌, ◌==◌, false, length, take, drop, IfOk, IfErr, OnOk, OnErr};
 ghost use Rattle.dam_store.specs.FileLines.{HaveNoNewline, IsLine, has_byte, marked, marked_lines};
 ghost use Rattle.dam_store.specs.inside.Shape.{IsBatch};
-ghost use Rattle.dam_store.specs.declared.fault.BatchFault.TheVariants.{NotALine};
+ghost use Rattle.dam_store.specs.declared.fault.BatchFault.TheVariants.{NotALine, Memory};
 
 use crate::fault::BatchFault;
 use std::alloc::{AllocError, Global};
@@ -42,6 +42,7 @@ impl Batch {
         ensures line { OnOk result (IsLine line.now) }
         ensures err { OnErr result (self.new ≡ self.old) }
         ensures not_a_line { IfErr result (λ fault. fault ≡ NotALine → ¬ (IsLine line.now)) }
+        ensures memory { IfErr result (λ fault. fault ≡ Memory → IsLine line.now) }
     {
         if line.contains(&b'\n') || line.contains(&0) {
             return Err(BatchFault::NotALine);
@@ -50,14 +51,6 @@ impl Batch {
             return Err(BatchFault::Memory);
         }
         Ok(())
-    }
-
-    /// Removes all lines, and keeps the memory.
-    pub fn clear(&mut self)
-        ensures { self.new ≡ [] }
-    {
-        self.bytes.truncate(1);
-        self.bytes[0] = b'-';
     }
 
     /// Whether there are no lines.

@@ -1,5 +1,6 @@
-ghost use Rattle.std.specs.Prelude.{◌≡◌, IsTrue, IfOk};
+ghost use Rattle.std.specs.Prelude.{◌≡◌, IsTrue, IfOk, IfErr};
 ghost use Rattle.sqlite_disk.specs.Disk.{Only};
+ghost use Rattle.dam_store.specs.Faults.{IsOpeningFault};
 
 use crate::fault::FileFault;
 use sqlite_disk::Disk;
@@ -17,6 +18,7 @@ pub fn open_file<S: Start>(rt: &HostRuntime, path: &str, start: S) -> Result<Fil
     ensures synced { IfOk result
         (λ file. Only S.Start.db (⟦<FileFrom<S> as Disk>⟧.may_leave file)) }
     ensures no_fault { IfOk result (λ file. ⟦<FileFrom<S> as Disk>⟧.faults file ≡ 0) }
+    ensures fault { IfErr result IsOpeningFault }
 {
     // `open` draws a key too, but its error doesn't say that this failed.
     let _drawn = RandomState::new(rt).map_err(FileFault::NoRandomBytes)?;

@@ -38,7 +38,7 @@ fn keep_after_lines(file: &mut Vec<u8>, end: Option<usize>)
 }
 
 /// Syncs the file, and reads it. Returns the bytes from the end of its lines on, and the lines.
-fn read_synced<D: Disk>(alloc: Global, disk: &mut D) -> Result<(Vec<u8>, FileLines), StoreFault>
+fn sync_and_read<D: Disk>(alloc: Global, disk: &mut D) -> Result<(Vec<u8>, FileLines), StoreFault>
     requires usable { IsTrue (D.Disk.is_usable disk.old) }
     ensures synced { OnOk result (IsSynced D.Disk disk.new) }
     ensures rest { IfOk result (λ found. IsRest D.Disk disk.new found.1.end found.0.items) }
@@ -99,7 +99,7 @@ impl<D: Disk> Found<D> {
         ensures clean { IfOk result (λ found. IsTrue (D.Disk.is_clean (found_on found))
             → IsTrue (D.Disk.is_clean disk)) }
     {
-        match read_synced(alloc, &mut disk) {
+        match sync_and_read(alloc, &mut disk) {
             Ok((rest, lines)) => Ok(Found {
                 text: lines.text,
                 disk,

@@ -67,7 +67,7 @@ fn write_first_mark<D: Disk>(disk: &mut D, bytes: &[u8]) -> Result<(), StoreFaul
 }
 
 /// Makes a file whole that never was.
-fn create<D: Disk>(disk: &mut D, bytes: &[u8]) -> Result<(), StoreFault>
+fn write_head_line<D: Disk>(disk: &mut D, bytes: &[u8]) -> Result<(), StoreFault>
     requires read { IsReadWhole D.Disk disk.old bytes.now }
     requires unmade { is_unmade bytes.now ≡ true }
     ensures synced { OnOk result (IsSynced D.Disk disk.new) }
@@ -198,7 +198,7 @@ pub(crate) fn repair<D: Disk>(
             Ok(end)
         }
         None => {
-            create(disk, &rest)?;
+            write_head_line(disk, &rest)?;
             Ok(HEAD_LINE.len())
         }
     }

@@ -110,37 +110,37 @@ returns-clause-faulty g c state begun is =
       served_so_far c.loop-chunk.desk state (begun ++ so_far.0) c.args.replies.now old now now Read 0 so_far.2.takes tt [] (inl refl) (Appends-nil now),
     )
 
-pub returns-in-Ok-answer_cut_short-clause-done : goal.returns-in-Ok-answer_cut_short-clause-done
-returns-in-Ok-answer_cut_short-clause-done g c state begun is =
+pub returns-in-Ok-write_end_answer-clause-done : goal.returns-in-Ok-write_end_answer-clause-done
+returns-in-Ok-write_end_answer-clause-done g c state begun is =
     let so_far = c.loop-chunk.invariant.taken state begun is in
     let takes = so_far.2.takes in
     let old = c.args.writer.now.taken in
     let mid = c.loop-chunk.writer.taken in
-    let new = c.answer_cut_short.new.writer.taken in
+    let new = c.write_end_answer.new.writer.taken in
     let room : 0 < length c.read.new.buf = omega (arith, c.read.auto.buf, c.loop-chunk.invariant.chunk) in (
       so_far.0,
       all_given c.args.reader.now.unread c.loop-chunk.reader.unread c.read.new.self.unread so_far.0
           c.read.new.buf c.in-Ok.count so_far.1 c.in-Ok.ensures.bytes.0 c.if-count-eq0.true (c.in-Ok.ensures.bytes.1 c.if-count-eq0.true room),
       finishes c.loop-chunk.desk state (begun ++ so_far.0) c.args.replies.now old mid new takes
           (subst (λ (n : ℕ). Appends mid new (end_answer (next n) takes.begun)) takes.now.intake.answered
-          (c.in-Ok-answer_cut_short.ensures.ok takes.begun takes.now.intake.line)),
+          (c.in-Ok-write_end_answer.ensures.ok takes.begun takes.now.intake.line)),
     )
 
-pub returns-in-Err-answer_cut_short-clause-faulty : goal.returns-in-Err-answer_cut_short-clause-faulty
-returns-in-Err-answer_cut_short-clause-faulty g c state begun is =
+pub returns-in-Err-write_end_answer-clause-faulty : goal.returns-in-Err-write_end_answer-clause-faulty
+returns-in-Err-write_end_answer-clause-faulty g c state begun is =
     let so_far = c.loop-chunk.invariant.taken state begun is in
     let takes = so_far.2.takes in
     let old = c.args.writer.now.taken in
     let mid = c.loop-chunk.writer.taken in
-    let new = c.answer_cut_short.new.writer.taken in
+    let new = c.write_end_answer.new.writer.taken in
     let ending = end_answer (next takes.last.answered) takes.begun in
-    let part = c.in-Err-answer_cut_short.ensures.err takes.begun takes.now.intake.line in
-    let said = says_after (length (c.args.replies.now ++ takes.answers)) part.0 c.loop-chunk.printed c.in-Err-answer_cut_short.fault so_far.2.count part.2 in (
+    let part = c.in-Err-write_end_answer.ensures.err takes.begun takes.now.intake.line in
+    let said = says_after (length (c.args.replies.now ++ takes.answers)) part.0 c.loop-chunk.printed c.in-Err-write_end_answer.fault so_far.2.count part.2 in (
       so_far.0,
       nothing_more c.args.reader.now.unread c.loop-chunk.reader.unread c.read.new.self.unread so_far.0
           c.read.new.buf c.in-Ok.count so_far.1 c.in-Ok.ensures.bytes.0 c.if-count-eq0.true,
       subst (λ (why : DeskFault). Served state (begun ++ so_far.0) c.args.replies.now why old new (MayLeave c.loop-chunk.desk)) (sym c.with_bytes_before.ensures)
-          (served_so_far c.loop-chunk.desk state (begun ++ so_far.0) c.args.replies.now old mid new (fault_after c.loop-chunk.printed c.in-Err-answer_cut_short.fault) part.0
+          (served_so_far c.loop-chunk.desk state (begun ++ so_far.0) c.args.replies.now old mid new (fault_after c.loop-chunk.printed c.in-Err-write_end_answer.fault) part.0
           takes said ending (inr (takes.begun, takes.split, refl))
           (subst (λ (n : ℕ). Appends mid new (take part.0 (end_answer (next n) takes.begun))) takes.now.intake.answered part.1)),
     )
@@ -180,14 +180,14 @@ pub returns-clause-answered : goal.returns-clause-answered
 returns-clause-answered g c state begun is failed =
     let so_far = c.loop-chunk.invariant.taken state begun is in (so_far.0, so_far.1, so_far.2.takes)
 
-pub returns-in-Err-answer_cut_short-clause-cause : goal.returns-in-Err-answer_cut_short-clause-cause
-returns-in-Err-answer_cut_short-clause-cause g c state begun is =
+pub returns-in-Err-write_end_answer-clause-cause : goal.returns-in-Err-write_end_answer-clause-cause
+returns-in-Err-write_end_answer-clause-cause g c state begun is =
     let before = g.D.Disk.faults (disk_of c.args.desk.now.store) in
     let after = g.D.Disk.faults (disk_of c.loop-chunk.desk.store) in
     let clean = g.D.Disk.is_clean (disk_of c.loop-chunk.desk.store) in
     subst (IsEndFault clean before after) (sym c.with_bytes_before.ensures)
-    (end_after clean before after c.loop-chunk.printed c.in-Err-answer_cut_short.fault
-    (subst (λ (n : ℕ). IsEndFault clean before n c.in-Err-answer_cut_short.fault) (sym c.loop-chunk.invariant.no_fault) (c.in-Err-answer_cut_short.ensures.cause clean before)))
+    (end_after clean before after c.loop-chunk.printed c.in-Err-write_end_answer.fault
+    (subst (λ (n : ℕ). IsEndFault clean before n c.in-Err-write_end_answer.fault) (sym c.loop-chunk.invariant.no_fault) (c.in-Err-write_end_answer.ensures.cause clean before)))
 
 pub returns-in-Err-serve_batch-clause-cause : goal.returns-in-Err-serve_batch-clause-cause
 returns-in-Err-serve_batch-clause-cause g c state begun is =
@@ -214,10 +214,10 @@ returns-in_err-write_text-clause-devices g c =
     c.in_err-write_text.field-0.0 c.from_residual.result c.from_residual.ensures.1 c.in_err-write_text.ensures.fault c.requires.reader
     c.in_err-write_text.ensures.cause
 
-pub returns-in-Err-answer_cut_short-clause-devices : goal.returns-in-Err-answer_cut_short-clause-devices
-returns-in-Err-answer_cut_short-clause-devices g c =
-    devices_after c.read.new.self c.answer_cut_short.new.writer c.loop-chunk.printed c.in-Err-answer_cut_short.fault c.with_bytes_before.result
-    c.with_bytes_before.ensures c.in-Err-answer_cut_short.ensures.no_read c.in-Ok.ensures.cause c.in-Err-answer_cut_short.ensures.device
+pub returns-in-Err-write_end_answer-clause-devices : goal.returns-in-Err-write_end_answer-clause-devices
+returns-in-Err-write_end_answer-clause-devices g c =
+    devices_after c.read.new.self c.write_end_answer.new.writer c.loop-chunk.printed c.in-Err-write_end_answer.fault c.with_bytes_before.result
+    c.with_bytes_before.ensures c.in-Err-write_end_answer.ensures.no_read c.in-Ok.ensures.cause c.in-Err-write_end_answer.ensures.device
 
 pub returns-in-Err-serve_batch-clause-devices : goal.returns-in-Err-serve_batch-clause-devices
 returns-in-Err-serve_batch-clause-devices g c =

@@ -7,10 +7,10 @@ use Rattle.dam_desk.proofs.intake.Intake.enter_line.Goals as goal
 
 pub returns-clause-step : goal.returns-clause-step
 returns-clause-step c before journal text at line =
-    on_ok_weaker c.answer.result (λ answered. record {
+    on_ok_weaker c.enter_said.result (λ answered. record {
       said = c.in_ok-said.said;
       says = subst (λ (d : Option ℕ). Says d text c.in_ok-said.said) (periods_same c.args.self.now.day journal at.day) (c.in_ok-said.ensures text line);
       answer = answered.answer
           ∙ ap (λ (n : ℕ). c.args.self.now.answers.items ++ answer_to n journal c.in_ok-said.said) c.saturating_add-self.ensures;
       at = answered.at;
-    }) (c.answer.ensures.step before journal (record { day = at.day; text = at.text }))
+    }) (c.enter_said.ensures.step before journal (record { day = at.day; text = at.text }))

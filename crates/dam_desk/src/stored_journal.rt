@@ -23,7 +23,11 @@ pub(crate) fn read_file_bytes(rt: &HostRuntime, path: &str) -> Result<Vec<u8>, D
 }
 
 /// The text of the journal to which a file's bytes open. A file on which no desk is opened has the same fault here.
-pub(crate) fn held_text(alloc: Global, seed: Seed, file: &[u8]) -> Result<Vec<u8>, DeskFault>
+pub(crate) fn stored_journal_text(
+    alloc: Global,
+    seed: Seed,
+    file: &[u8],
+) -> Result<Vec<u8>, DeskFault>
     ensures text { IfOk result (λ text. (journal : Option Journal)
         × OpensTo journal file.now × (text.items ≡ desk_journal_text journal)) }
     ensures fault { IfErr result (IsFileFault file.now) }

@@ -4,7 +4,7 @@ use Rattle.dam_store.specs.FileLines.{has_byte}
 use Rattle.dam_desk.specs.DeskJournal.{AreAnswers, answer_to, desk_journal_text, next, state_after}
 use Rattle.dam_desk.proofs.Runs.{answers_snoc}
 use Rattle.dam_desk.proofs.Texts.{all_snoc, line_more, none_both}
-use Rattle.dam_desk.proofs.intake.Intake.end_line.Goals as goal
+use Rattle.dam_desk.proofs.intake.Intake.finish_line.Goals as goal
 
 pub returns : goal.returns
 returns c state given after none read =

@@ -12,7 +12,7 @@ use Rattle.dam_desk.specs.declared.fault.DeskFault.TheVariants.{Memory}
 use Rattle.dam_desk.proofs.Desks.{written_part}
 use Rattle.dam_desk.proofs.Ends.{err_is}
 use Rattle.dam_desk.proofs.Lists.{end_of_none, end_of_some}
-use Rattle.dam_desk.proofs.desk.Desk.answer_cut_short.Goals as goal
+use Rattle.dam_desk.proofs.desk.Desk.write_end_answer.Goals as goal
 
 pub returns-then-is_empty-clause-ok : goal.returns-then-is_empty-clause-ok
 returns-then-is_empty-clause-ok g c begun line =
@@ -24,7 +24,7 @@ pub returns-clause-ok : goal.returns-clause-ok
 returns-clause-ok g c begun line =
     let some : ¬ (length (kept_bytes begun) ≡ 0) = λ none. eqb-false (length c.bytes.result.now) 0 (sym c.is_empty.ensures ∙ c.if-is_empty.false)
     (ap length (c.bytes.ensures ∙ line) ∙ none) in
-    let text = c.as_slice.ensures.value ∙ c.in_ok-write_fault.ensures
+    let text = c.as_slice.ensures.value ∙ c.in_ok-append_fault_line.ensures
     ∙ ap (λ (t : List ℕ). t ++ fault_line c.saturating_add-number.result CutShort) c.new-text.ensures.items
     ∙ ap (λ (n : ℕ). fault_line n CutShort) c.saturating_add-number.ensures
     ∙ sym (end_of_some (next c.args.self.now.intake.answered) begun some) in
@@ -35,7 +35,7 @@ pub returns-clause-err : goal.returns-clause-err
 returns-clause-err g c begun line =
     let some : ¬ (length (kept_bytes begun) ≡ 0) = λ none. eqb-false (length c.bytes.result.now) 0 (sym c.is_empty.ensures ∙ c.if-is_empty.false)
     (ap length (c.bytes.ensures ∙ line) ∙ none) in
-    let text = c.as_slice.ensures.value ∙ c.in_ok-write_fault.ensures
+    let text = c.as_slice.ensures.value ∙ c.in_ok-append_fault_line.ensures
     ∙ ap (λ (t : List ℕ). t ++ fault_line c.saturating_add-number.result CutShort) c.new-text.ensures.items
     ∙ ap (λ (n : ℕ). fault_line n CutShort) c.saturating_add-number.ensures
     ∙ sym (end_of_some (next c.args.self.now.intake.answered) begun some) in
@@ -44,6 +44,6 @@ returns-clause-err g c begun line =
     subst (λ (t : List ℕ). IfErr c.write_text.result (λ fault. (count : ℕ) × Appends old new (take count t) × SaysCount count fault)) text
     (written_part old new c.as_slice.result.now c.write_text.result c.write_text.ensures.fault)
 
-pub returns-in_err-write_fault-clause-err : goal.returns-in_err-write_fault-clause-err
-returns-in_err-write_fault-clause-err g c begun line =
+pub returns-in_err-append_fault_line-clause-err : goal.returns-in_err-append_fault_line-clause-err
+returns-in_err-append_fault_line-clause-err g c begun line =
     err_is c.from_residual.result _ Memory c.from_residual.ensures.1 (0, Appends-nil c.args.writer.now.taken, tt)

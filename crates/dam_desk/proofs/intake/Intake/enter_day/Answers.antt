@@ -1,5 +1,5 @@
 use Rattle.std.proofs.lemmas.Result.{on_ok_weaker}
-use Rattle.dam_desk.proofs.intake.Intake.answer_day.Goals as goal
+use Rattle.dam_desk.proofs.intake.Intake.enter_day.Goals as goal
 
 pub returns-in_default-clause-step : goal.returns-in_default-clause-step
 returns-in_default-clause-step c before journal at =

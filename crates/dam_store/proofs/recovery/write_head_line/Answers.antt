@@ -2,7 +2,7 @@ use Rattle.std.proofs.Common.{◌∷◌, [], drop, length, sym, ◌∙◌}
 use Rattle.dam_store.specs.FileLines.{StandsFor, after_first}
 use Rattle.dam_store.proofs.Steps.{crash_step, seen_step}
 use Rattle.dam_store.proofs.Unmade.{head_torn, head_written, first_torn, first_written, made_at_rest, unmade_tail}
-use Rattle.dam_store.proofs.recovery.create.Goals as goal
+use Rattle.dam_store.proofs.recovery.write_head_line.Goals as goal
 
 pub returns-in_err-write_and_sync-clause-crash : goal.returns-in_err-write_and_sync-clause-crash
 returns-in_err-write_and_sync-clause-crash g c clean file left =
