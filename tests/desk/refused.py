@@ -209,7 +209,7 @@ def cut_off(desk, given, bytes_):
         return ran, answers.read(), file
 
 
-def real(counts, desk, given):
+def real(counts, desk, dam, given):
     """Refusals by the system itself: a file that may not grow, and a device that is full."""
     for bytes_ in (0, 1, 5, 13, 20, 200):
         ran, file = limited(desk, given, bytes_)
@@ -217,14 +217,17 @@ def real(counts, desk, given):
         counts.check(f"a file of at most {bytes_} bytes: {ran}", (ran.returncode, ran.stdout, ran.stderr.decode()) == (MACHINE, b"", line))
         again = desk.run(file, given.batches)
         counts.check(f"a file of at most {bytes_} bytes, opened again", again.stdout.endswith(given.journal.printed(len(given.journal))))
-    printed = given.journal.printed(len(given.journal))
-    for bytes_ in (0, 1, 7, len(printed) - 1):
-        ran, answers, file = cut_off(desk, given, bytes_)
+    whole = given.journal.printed(len(given.journal))
+    many = journals.batched(dam, "refused many", journals.drawn, 9_000)
+    for answered, bytes_ in [*[(given, it) for it in (0, 1, 7, len(whole) - 1)], *[(many, it) for it in (65_536, 65_537, 90_000)]]:
+        printed = answered.journal.printed(len(answered.journal))
+        ran, answers, file = cut_off(desk, answered, bytes_)
         line = f"device: write after {bytes_} bytes\n"
-        counts.check(f"answers cut off after {bytes_} bytes: {ran}, {answers}",
+        counts.check(f"answers cut off after {bytes_} bytes: {ran.returncode}, {ran.stderr}, {answers[-80:]}",
                      (ran.returncode, answers, ran.stderr.decode()) == (MACHINE, printed[:bytes_], line))
         again = desk.run(file)
-        counts.check(f"answers cut off after {bytes_} bytes, opened again", again.stdout == printed)
+        is_right = printed.startswith(again.stdout) and len(again.stdout) > bytes_ and (answered is many or again.stdout == printed)
+        counts.check(f"answers cut off after {bytes_} bytes, opened again", is_right)
     file = desk.folder() / "day.desk"
     with open("/dev/full", "wb") as full:
         ran = desk.run(file, given.batches, stdout=full)
@@ -284,6 +287,6 @@ def run(counts, desk, dam, whole):
             print("\n".join(f"differs: {line}" for line in wrong[: crashes.SHOWN]), end="\n" if wrong else "", flush=True)
             runs, files = runs + row.runs, files + row.files
     given = next(iter(inputs(dam, False)))[1]
-    real(counts, desk, given)
+    real(counts, desk, dam, given)
     random_bytes(counts, desk, given)
     print(f"refusals: {runs:,} runs with a call refused, {files:,} files that a crash may leave after them", flush=True)
