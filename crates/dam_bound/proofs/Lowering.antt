@@ -22,7 +22,7 @@ use Rattle.dam_bound.specs.ClassCurves.{class_orders, day_value, least_net_in, m
 use Rattle.dam_bound.specs.Prices.{over_gains, line_in, IsByLines}
 use Rattle.dam_bound.specs.Sums.{class_places, over_places, at_places}
 use Rattle.dam_bound.specs.declared.pricing.Pricing.{Pricing}
-use Rattle.dam_bound.specs.inside.Numbers.{AreCounts, weighted, greatest_line_value}
+use Rattle.dam_bound.specs.inside.Numbers.{AreCounts, weighted_sum, greatest_line_value}
 use Rattle.dam_bound.proofs.AtPlaces.{value_small, net_small}
 use Rattle.dam_bound.proofs.ByClass.{joint_of, whole_of, has_whole, from_classes}
 use Rattle.dam_bound.proofs.ClassPlaces.{over_most, over_within, over_from, over_next, take_get, is_place, few_places, few_taken}
@@ -33,7 +33,7 @@ use Rattle.dam_bound.proofs.Worth.{worth}
 
 -- ---- the net volume of the selection
 pub counted : (n : ℕ) (counts nets : List ℤ) (sel : List Bool) → length counts ≡ n → length nets ≡ n
-    → ((i : ℕ) (d : ℤ) → i < n → get_or counts i d ≡ cond (accepts sel i) (pos 1) (pos 0)) → weighted counts nets ≡ over_gains nets sel
+    → ((i : ℕ) (d : ℤ) → i < n → get_or counts i d ≡ cond (accepts sel i) (pos 1) (pos 0)) → weighted_sum counts nets ≡ over_gains nets sel
 counted zero [] [] sel l m each = refl
 counted zero (w ∷ counts) nets sel l m each = absurd (omega (arith, l))
 counted zero [] (x ∷ nets) sel l m each = absurd (omega (arith, m))
@@ -57,7 +57,7 @@ counted (suc n) (w ∷ counts) (x ∷ nets) (false ∷ sel) l m each =
 
 pub net_is : (problem : ProblemState) (sel : List Bool) (c : ℕ) (counts nets : List ℤ) → length problem.blocks ≤ most_blocks
     → nets ≡ at_places most_blocks (net_volume_of_block (c + 1)) problem.blocks → length nets ≡ most_blocks → AreCounts sel counts
-    → weighted counts nets ≡ net_volume problem.blocks sel (c + 1)
+    → weighted_sum counts nets ≡ net_volume problem.blocks sel (c + 1)
 net_is problem sel c counts nets few are long is =
     counted most_blocks counts nets sel is.long long is.each
     ∙ ap (λ (xs : List ℤ). over_gains xs sel) are
@@ -253,7 +253,7 @@ one_lowered problem pricing sel j c total line u few blocks few_blocks at is joi
 -- the net volume of a class, as the code has it
 pub net_read : (problem : ProblemState) (sel : List Bool) (c : ℕ) (counts nets : List ℤ) (w net : ℤ) → length problem.blocks ≤ most_blocks
     → nets ≡ at_places most_blocks (net_volume_of_block (c + 1)) problem.blocks → length nets ≡ most_blocks → AreCounts sel counts
-    → w ≡ weighted counts nets → IsWithin (2 * greatest_net) w → net ≡ to_z w32 (of_z w32 w)
+    → w ≡ weighted_sum counts nets → IsWithin (2 * greatest_net) w → net ≡ to_z w32 (of_z w32 w)
     → (to_z w64 (of_z w64 net) ≡ net_volume problem.blocks sel (c + 1)) × (net ≡ net_volume problem.blocks sel (c + 1))
 net_read problem sel c counts nets w net few are long is value small shown =
     let same = shown ∙ net_narrow w small ∙ value ∙ net_is problem sel c counts nets few are long is in

@@ -11,7 +11,7 @@ use Rattle.std.proofs.lemmas.List.{drop_all}
 use Rattle.dam_book.specs.Limits.{greatest_volume, most_blocks, last_period}
 use Rattle.dam_hour.specs.Limits.{greatest_price, greatest_value}
 use Rattle.dam_blocks.specs.Magnitude.{IsWithin}
-use Rattle.dam_bound.specs.inside.Numbers.{weighted}
+use Rattle.dam_bound.specs.inside.Numbers.{weighted_sum}
 use Rattle.dam_blocks.specs.Selection.{accepts}
 use Rattle.dam_bound.specs.Prices.{over_gains, over_open}
 use Rattle.dam_bound.proofs.Accepted.{if_accepted}
@@ -46,7 +46,7 @@ pub open_from : (gains : List ℤ) (places : List ℕ) (i p : ℕ) → slice_get
     → over_open gains (drop i places) ≡ int_max (get_or gains p (pos 0)) (pos 0) +ℤ over_open gains (drop (i + 1) places)
 open_from gains places i p at = ap (over_open gains) (drop_at places i p at)
 
--- ---- how large products and weighted sums are
+-- ---- how large products and weighted_sum sums are
 pub times_within : (m n : ℕ) (x y : ℤ) → IsWithin m x → IsWithin n y → IsWithin (m * n) (x *ℤ y)
 times_within m n (pos a) (pos b) u v =
     let c = u.at_most in let e = v.at_most in
@@ -66,7 +66,7 @@ times_within m n (negsuc a) (negsuc b) u v =
     record { at_least = omega (arith, ints, h); at_most = omega (arith, ints, h) }
 
 pub weighted_from : (weights xs : List ℤ) (i : ℕ) (c d : ℤ) → i < length weights → i < length xs
-    → weighted (drop i weights) (drop i xs) ≡ get_or weights i c *ℤ get_or xs i d +ℤ weighted (drop (suc i) weights) (drop (suc i) xs)
+    → weighted_sum (drop i weights) (drop i xs) ≡ get_or weights i c *ℤ get_or xs i d +ℤ weighted_sum (drop (suc i) weights) (drop (suc i) xs)
 weighted_from [] xs i c d l m = absurd (omega (arith, l))
 weighted_from (w ∷ weights) [] i c d l m = absurd (omega (arith, m))
 weighted_from (w ∷ weights) (x ∷ xs) zero c d l m = refl

@@ -12,7 +12,7 @@ ghost use Rattle.dam_bound.specs.inside.Counted.{counted_if};
 use crate::class_making::{add_class_curves, values_of};
 use crate::class_prices::ClassPrices;
 use crate::families::descendants_of_each;
-use crate::numbers::{acceptance_weights, add_priced, doubled_weights, weighted};
+use crate::numbers::{acceptance_weights, add_priced_nets, doubled_weights, weighted_sum};
 use crate::pricing::Pricing;
 use dam_blocks::{Problem, Selection};
 use dam_book::MOST_BLOCKS;
@@ -91,11 +91,11 @@ impl<A: Allocator, B: Allocator> ClassCurves<'_, A, B> {
         pricing.base = 0;
         pricing.gains = self.values;
         for class in &self.classes {
-            let middle = weighted(&weights, &class.nets).div_euclid(2);
+            let middle = weighted_sum(&weights, &class.nets).div_euclid(2);
             let line = self.curves.line_near(class.curve, i64::from(middle));
             pricing.base += line.surplus;
             pricing.lines[class.at as usize] = line;
-            add_priced(&mut pricing.gains, &class.nets, line.price);
+            add_priced_nets(&mut pricing.gains, &class.nets, line.price);
         }
     }
 
@@ -121,7 +121,7 @@ impl<A: Allocator, B: Allocator> ClassCurves<'_, A, B> {
         let counts = acceptance_weights(selection);
         let mut total = pricing.bound(selection, &[]);
         for class in &self.classes {
-            let net = i64::from(weighted(&counts, &class.nets));
+            let net = i64::from(weighted_sum(&counts, &class.nets));
             let Some(point) = self.curves.point(class.curve, net) else {
                 return None;
             };

@@ -5,7 +5,7 @@ ghost use Rattle.std.specs.Prelude.{◌≡◌, ◌*◌, ◌<◌, ◌≤◌, ℕ,
 ghost use Rattle.dam_book.specs.Limits.{most_blocks, last_period, greatest_volume};
 ghost use Rattle.dam_hour.specs.Limits.{greatest_net, greatest_price, greatest_value};
 ghost use Rattle.dam_blocks.specs.Magnitude.{IsWithin};
-ghost use Rattle.dam_bound.specs.inside.Numbers.{AreNumbersWithin, AreWeights, AreCounts, weighted, AreRaised};
+ghost use Rattle.dam_bound.specs.inside.Numbers.{AreNumbersWithin, AreWeights, AreCounts, weighted_sum, AreRaised};
 
 use dam_blocks::Selection;
 use dam_book::MOST_BLOCKS;
@@ -39,10 +39,10 @@ pub(crate) fn doubled_weights(accepted: Selection, left: &[u8]) -> [i32; MOST_BL
 
 /// The net volumes of the blocks, each times its weight, added up.
 #[inline(always)]
-pub(crate) fn weighted(weights: &[i32; MOST_BLOCKS], nets: &[i32; MOST_BLOCKS]) -> i32
+pub(crate) fn weighted_sum(weights: &[i32; MOST_BLOCKS], nets: &[i32; MOST_BLOCKS]) -> i32
     requires weights { AreWeights weights.now }
     requires nets { AreNumbersWithin greatest_volume nets.now }
-    ensures value { result ≡ weighted weights.now nets.now }
+    ensures value { result ≡ weighted_sum weights.now nets.now }
     ensures size { IsWithin (2 * greatest_net) result }
 {
     let mut total = 0;
@@ -54,7 +54,7 @@ pub(crate) fn weighted(weights: &[i32; MOST_BLOCKS], nets: &[i32; MOST_BLOCKS]) 
 
 /// Adds the price times its net volume to each block's gain.
 #[inline(always)]
-pub(crate) fn add_priced(gains: &mut [i64; MOST_BLOCKS], nets: &[i32; MOST_BLOCKS], price: i32)
+pub(crate) fn add_priced_nets(gains: &mut [i64; MOST_BLOCKS], nets: &[i32; MOST_BLOCKS], price: i32)
     requires gains { (n : ℕ) × (n ≤ last_period)
         × AreNumbersWithin (n * (last_period * greatest_value)) gains.old }
     requires nets { AreNumbersWithin greatest_volume nets.now }

@@ -19,7 +19,7 @@ use std::marker::Model;
 /// The greatest number of hints that a curve has for each of its segments, besides one for the whole curve.
 const HINTS: usize = 8;
 
-/// The hints of a curve. A wrong hint only costs time (`place_at_net_near`).
+/// The hints of a curve. A wrong hint only costs time (`segment_place_near`).
 #[derive(Clone, Copy)]
 pub(crate) struct Hints {
     /// The place of the first.
@@ -134,7 +134,7 @@ fn point_in(segments: &[Segment], net: i64, near: usize) -> Point
     ensures at_least { neg_ℤ (pos (last_period * greatest_price)) ≤ℤ result.price }
     ensures at_most { result.price ≤ℤ pos (last_period * greatest_price) }
 {
-    let segment = segments[place_at_net_near(segments, net, near)];
+    let segment = segments[segment_place_near(segments, net, near)];
     Point {
         welfare: segment.line().value(net),
         price: segment.price_at(net),
@@ -167,7 +167,7 @@ fn line_in(segments: &[Segment], net: i64, near: usize) -> Line
         → IsCurve periods least most segments.now → IsAbove periods least most result }
     ensures small { IsSmallLine last_period result }
 {
-    let place = place_before_end(place_at_net_near(segments, net, near), segments.len());
+    let place = place_before_end(segment_place_near(segments, net, near), segments.len());
     segments[place].line()
 }
 
@@ -306,7 +306,7 @@ impl Curve {
 }
 
 /// The place of the last segment that holds at the net volume, looked for from a place near by, which may be any.
-fn place_at_net_near(segments: &[Segment], net: i64, near: usize) -> usize
+fn segment_place_near(segments: &[Segment], net: i64, near: usize) -> usize
     requires some { 0 < length segments.now }
     requires first { (d : Segment) → net ≤ℤ (slice_index_or segments.now 0 d).most }
     requires last { (d : Segment)

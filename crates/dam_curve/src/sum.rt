@@ -176,7 +176,7 @@ fn joint_segment(a: Segment, b: Segment, most: i32) -> Segment
 }
 
 /// The place of the last segment that holds at the net volume.
-fn place_at_net(segments: &[Segment], net: i32) -> usize
+fn segment_place_at(segments: &[Segment], net: i32) -> usize
     requires some { 0 < length segments.now }
     requires first { (d : Segment) → net ≤ℤ (slice_index_or segments.now 0 d).most }
     ensures inside { result < length segments.now }
@@ -239,8 +239,8 @@ fn add_segments<A: Allocator>(
     if a[a.len() - 1].most > at || b[b.len() - 1].most > at {
         return Ok(());
     }
-    let mut left = place_at_net(a, at);
-    let mut right = place_at_net(b, at);
+    let mut left = segment_place_at(a, at);
+    let mut right = segment_place_at(b, at);
     while left + 1 < a.len() && right + 1 < b.len() {
         sum.push(joint_segment(a[left], b[right], at))?;
         at = a[left + 1].most.max(b[right + 1].most);

@@ -1,4 +1,4 @@
--- A worker's whole share of a search.
+-- A worker's whole part of a search.
 use Rattle.std.specs.Prelude.{◌≡◌, ℕ, ◌-◌, ◌^◌, ◌<◌, ◌≤◌, max, true, List, [], map, length, All}
 use Rattle.dam_blocks.specs.Problem.{ProblemState}
 use Rattle.dam_blocks.specs.Selection.{choice}

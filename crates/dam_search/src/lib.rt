@@ -53,5 +53,5 @@ pub use prefix_walk::walk_by_prefixes;
 pub use priced_problem::PricedProblem;
 pub use view::View;
 pub use whole_search::search;
-pub use worker::work;
+pub use worker::walk_drawn_pieces;
 pub use worker_seat::WorkerSeat;

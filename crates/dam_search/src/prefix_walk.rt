@@ -42,7 +42,7 @@ impl<A: Allocator, B: Allocator> PrefixWalk<'_, A, B> {
 
     /// Takes the selection of a prefix that decides every block, and offers its welfare, if it is eligible, has at
     /// least the welfare that was read, and is the best so far.
-    fn try_selection<I: Incumbent>(&self, prefix: &Prefix, incumbent: &mut I, found: &mut WalkState)
+    fn offer_if_best<I: Incumbent>(&self, prefix: &Prefix, incumbent: &mut I, found: &mut WalkState)
         requires full { length self.now.problem.now.blocks ≡ length prefix.now }
         requires offered { welfare_found found.old.best ≤ I.greatest_offer incumbent.old }
         ensures finds { Finds self.now.problem.now prefix.now found.old.best found.new.best }
@@ -103,7 +103,7 @@ impl<A: Allocator, B: Allocator> PrefixWalk<'_, A, B> {
         }
         found.visited += 1;
         if prefix.depth() == self.problem.block_count() {
-            self.try_selection(prefix, incumbent, found);
+            self.offer_if_best(prefix, incumbent, found);
             return true;
         }
         found.read = incumbent.read();

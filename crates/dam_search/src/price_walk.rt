@@ -95,7 +95,7 @@ fn is_passed(node: &Node, found: &WalkState) -> bool
 impl<A: Allocator, P: PricedProblem> PriceWalk<'_, A, P> {
     /// Takes the selection of a node that leaves no place, and offers its welfare, if it is eligible and the best so
     /// far.
-    fn try_selection<I: Incumbent>(
+    fn offer_if_best<I: Incumbent>(
         &self,
         selection: Selection,
         pricing: &Pricing,
@@ -266,7 +266,7 @@ impl<A: Allocator, P: PricedProblem> PriceWalk<'_, A, P> {
     {
         dam_blocks::laws::ranking_is_total();
         let Some((place, left)) = node.left.split_first() else {
-            self.try_selection(node.accepted, pricing, incumbent, found);
+            self.offer_if_best(node.accepted, pricing, incumbent, found);
             return;
         };
         let place = usize::from(*place);

@@ -9,7 +9,7 @@ use crate::worker_seat::WorkerSeat;
 use dam_plan::{Nodes, Turnstile};
 use std::alloc::{AllocError, Allocator};
 
-/// A worker's whole share of a search: it walks each piece that it draws, until a draw finds
+/// A worker's whole part of a search: it walks each piece that it draws, until a draw finds
 /// none left.
 ///
 /// It answers for just the pieces that its seat drew, in the order of the draws, with the limit
@@ -20,7 +20,7 @@ use std::alloc::{AllocError, Allocator};
 /// thread of its own. It gives a fresh seat, made for the pieces of a cutting of this depth. Every piece is
 /// answered only if all seats of the words have worked and none was refused memory. A worker waits for
 /// nothing but the turnstile.
-pub fn work<A: Allocator, W: PieceWalk, T: Turnstile>(
+pub fn walk_drawn_pieces<A: Allocator, W: PieceWalk, T: Turnstile>(
     alloc: A,
     walk: &W,
     depth: usize,

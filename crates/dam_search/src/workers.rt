@@ -12,7 +12,7 @@ use crate::collect::piece_count;
 use crate::incumbent::Incumbent;
 use crate::piece_walk::PieceWalk;
 use crate::words::{ClosedWords, close_words, new_words};
-use crate::worker::work;
+use crate::worker::walk_drawn_pieces;
 use crate::worker_seat::WorkerSeat;
 use dam_blocks::Problem;
 use dam_plan::{Nodes, Turnstile};
@@ -44,7 +44,7 @@ pub(crate) struct Task<'a, W: PieceWalk> {
 }
 
 /// A seat for each worker, split off the first one.
-fn seats_for<'a>(
+fn split_seats<'a>(
     first: &mut WorkerSeat<'a>,
     alloc: Global,
     workers: u8,
@@ -76,14 +76,14 @@ fn work_at_seat<'a, W: PieceWalk, T: Turnstile>(
         seat.entry.seat.table_id result }
 {
     let mut seat = seat;
-    let answers = work(
+    let answers = walk_drawn_pieces(
         task.alloc, task.walk, task.depth, task.nodes, &mut seat, turnstile,
     );
     WorkedSeat { seat, answers }
 }
 
 /// Runs the workers, each on a thread of its own if threads can be made.
-fn work_all<'a, R: Threads + Sync, W: PieceWalk + Sync, T: Turnstile + Sync>(
+fn work_on_threads<'a, R: Threads + Sync, W: PieceWalk + Sync, T: Turnstile + Sync>(
     rt: &R,
     task: &Task<W>,
     turnstile: &T,
@@ -155,8 +155,8 @@ fn walk_with_workers<'a, R: Threads + Sync, W: PieceWalk + Sync, T: Turnstile + 
         task.now.workers (view_of first.new.seat) answers.items) }
 {
     let answers = Vec::with_capacity(task.alloc, first.piece_count() as usize)?;
-    let seats = seats_for(first, task.alloc, task.workers)?;
-    let worked = work_all(rt, task, turnstile, seats)?;
+    let seats = split_seats(first, task.alloc, task.workers)?;
+    let worked = work_on_threads(rt, task, turnstile, seats)?;
     join_seats(task, first, worked, answers)
 }
 

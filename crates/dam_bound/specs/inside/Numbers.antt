@@ -24,9 +24,9 @@ pub record AreCounts (selection : List Bool) (counts : List ℤ) : Type 0 where
   pub each : (i : ℕ) (d : ℤ) → i < most_blocks → slice_index_or counts i d ≡ (if accepts selection i then pos 1 else pos 0)
 
 -- each number times its weight, added up
-abbrev pub weighted : List ℤ → List ℤ → ℤ
-weighted (weight ∷ weights) (x ∷ xs) = weight *ℤ x +ℤ weighted weights xs
-weighted _ _ = pos 0
+abbrev pub weighted_sum : List ℤ → List ℤ → ℤ
+weighted_sum (weight ∷ weights) (x ∷ xs) = weight *ℤ x +ℤ weighted_sum weights xs
+weighted_sum _ _ = pos 0
 
 -- each gain is raised by the price times the block's net volume
 pub record AreRaised (price : ℤ) (nets before after : List ℤ) : Type 0 where

@@ -3,9 +3,9 @@ use Rattle.std.proofs.Common.{◌≡◌, suc, ◌+◌, ℕ, pos, drop, get_or, a
 use Rattle.std.proofs.lemmas.Int.{ints}
 use mir.Syntax.{w32}
 use mir.Val.{to_z}
-use Rattle.dam_bound.specs.inside.Numbers.{weighted}
+use Rattle.dam_bound.specs.inside.Numbers.{weighted_sum}
 use Rattle.dam_bound.proofs.PlaceSums.{weighted_from, weight_added}
-use Rattle.dam_bound.proofs.numbers.weighted.Goals as goal
+use Rattle.dam_bound.proofs.numbers.weighted_sum.Goals as goal
 
 pub overflow_add-total : goal.overflow_add-total
 overflow_add-total c =
@@ -23,7 +23,7 @@ loop-place-preserved c =
     let long = c.requires.weights.long in let as_long = c.requires.nets.long in
     let step = weighted_from c.args.weights.now c.args.nets.now i (pos 0) (pos 0) (omega (arith, test, long)) (omega (arith, test, as_long)) in
     let number : suc i ≡ i + 1 = omega arith in
-    let next = ap (λ (n : ℕ). weighted (drop n c.args.weights.now) (drop n c.args.nets.now)) number in
+    let next = ap (λ (n : ℕ). weighted_sum (drop n c.args.weights.now) (drop n c.args.nets.now)) number in
     let so_far = c.loop-place.invariant.so_far in let is = more.1 in
     let low = more.2.at_least in let high = more.2.at_most in
     record {

@@ -2,11 +2,11 @@
 use Rattle.std.proofs.Common.{◌≡◌, ◌*◌, ◌+ℤ◌, drop}
 use Rattle.dam_book.specs.Limits.{greatest_volume}
 use Rattle.dam_blocks.specs.Magnitude.{IsWithin}
-use Rattle.dam_bound.specs.inside.Numbers.{weighted}
-use Rattle.dam_bound.proofs.numbers.weighted.Given as goal
+use Rattle.dam_bound.specs.inside.Numbers.{weighted_sum}
+use Rattle.dam_bound.proofs.numbers.weighted_sum.Given as goal
 
 abbrev pub invariant-loop-place : goal.invariant-loop-place
 invariant-loop-place l = record {
   size : IsWithin (l.place * (2 * greatest_volume)) l.total;
-  so_far : l.total +ℤ weighted (drop l.place l.weights) (drop l.place l.nets) ≡ weighted l.weights l.nets;
+  so_far : l.total +ℤ weighted_sum (drop l.place l.weights) (drop l.place l.nets) ≡ weighted_sum l.weights l.nets;
 }

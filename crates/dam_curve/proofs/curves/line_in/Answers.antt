@@ -5,8 +5,8 @@ use Rattle.dam_curve.proofs.ListsOfSegments.{any_segment, under_at}
 use Rattle.dam_curve.proofs.LookingUp.{small_line, small_wide, within_segments}
 use Rattle.dam_curve.proofs.curves.line_in.Goals as goal
 
-pub place_at_net_near-requires-clause-last : goal.place_at_net_near-requires-clause-last
-place_at_net_near-requires-clause-last c =
+pub segment_place_near-requires-clause-last : goal.segment_place_near-requires-clause-last
+segment_place_near-requires-clause-last c =
     (within_segments c.args.segments.now c.args.net (to_z w64 (of_z w64 c.args.net)) (search rules) c.requires.some c.requires.bottom
     c.requires.top).last
 

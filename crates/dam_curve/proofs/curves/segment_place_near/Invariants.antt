@@ -1,7 +1,7 @@
 -- First down to a segment that holds at the net volume, then up to the last one.
 use Rattle.std.proofs.Common.{◌-◌, ◌<◌, ◌≤ℤ◌, length, slice_index_or}
 use Rattle.dam_curve.specs.declared.segment.Segment.{Segment}
-use Rattle.dam_curve.proofs.curves.place_at_net_near.Given as goal
+use Rattle.dam_curve.proofs.curves.segment_place_near.Given as goal
 
 abbrev pub invariant-loop-place : goal.invariant-loop-place
 invariant-loop-place l = l.place < length l.segments

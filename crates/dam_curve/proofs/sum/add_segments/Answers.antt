@@ -8,32 +8,32 @@ use Rattle.dam_curve.proofs.sum.add_segments.Goals.{then-a-at-via-then-a-at, the
 use Rattle.dam_curve.proofs.sum.add_segments.Goals.{then-loop-left-test+else-right-b, else-loop-left-test}
 use Rattle.dam_curve.proofs.sum.add_segments.Goals as goal
 
-pub place_at_net-left-requires-clause-first : goal.place_at_net-left-requires-clause-first
-place_at_net-left-requires-clause-first g c d =
+pub segment_place_at-left-requires-clause-first : goal.segment_place_at-left-requires-clause-first
+segment_place_at-left-requires-clause-first g c d =
     (under_first c.args.a.now c.args.b.now (to_z w32 (of_z w32 c.min-at.result)) any_segment d
     (search rules) (search rules) (search rules)).0
 
-pub place_at_net-right-requires-clause-first : goal.place_at_net-right-requires-clause-first
-place_at_net-right-requires-clause-first g c d =
+pub segment_place_at-right-requires-clause-first : goal.segment_place_at-right-requires-clause-first
+segment_place_at-right-requires-clause-first g c d =
     (under_first c.args.a.now c.args.b.now (to_z w32 (of_z w32 c.min-at.result)) any_segment d
     (search rules) (search rules) (search rules)).1
 
 pub loop-left-init : goal.loop-left-init
 loop-left-init g c =
     rw c.clear.ensures.items
-    (none_added c.args.a.now c.args.b.now (to_z w32 (of_z w32 c.min-at.result)) c.place_at_net-left.result c.place_at_net-right.result
-    (place_from c.args.a.now (to_z w32 (of_z w32 c.min-at.result)) c.place_at_net-left.result
-    any_segment c.place_at_net-left.ensures.inside (search rules))
-    (place_from c.args.b.now (to_z w32 (of_z w32 c.min-at.result)) c.place_at_net-right.result
-    any_segment c.place_at_net-right.ensures.inside (search rules))
+    (none_added c.args.a.now c.args.b.now (to_z w32 (of_z w32 c.min-at.result)) c.segment_place_at-left.result c.segment_place_at-right.result
+    (place_from c.args.a.now (to_z w32 (of_z w32 c.min-at.result)) c.segment_place_at-left.result
+    any_segment c.segment_place_at-left.ensures.inside (search rules))
+    (place_from c.args.b.now (to_z w32 (of_z w32 c.min-at.result)) c.segment_place_at-right.result
+    any_segment c.segment_place_at-right.ensures.inside (search rules))
     (bottom_over c.args.b.now (to_z w32 (of_z w32 c.min-at.result)) any_segment (search rules)
     (search rules))
-    (stands_from c.args.a.now (to_z w32 (of_z w32 c.min-at.result)) c.place_at_net-left.result c.place_at_net-left.ensures.holds
-    (λ d l. (let less = c.place_at_net-left.ensures.last d l in omega (arith, ints, less))))
-    (stands_from c.args.b.now (to_z w32 (of_z w32 c.min-at.result)) c.place_at_net-right.result c.place_at_net-right.ensures.holds
-    (λ d l. (let less = c.place_at_net-right.ensures.last d l in omega (arith, ints, less))))
-    (last_from c.args.a.now (to_z w32 (of_z w32 c.min-at.result)) c.place_at_net-left.result c.place_at_net-left.ensures.last)
-    (last_from c.args.b.now (to_z w32 (of_z w32 c.min-at.result)) c.place_at_net-right.result c.place_at_net-right.ensures.last))
+    (stands_from c.args.a.now (to_z w32 (of_z w32 c.min-at.result)) c.segment_place_at-left.result c.segment_place_at-left.ensures.holds
+    (λ d l. (let less = c.segment_place_at-left.ensures.last d l in omega (arith, ints, less))))
+    (stands_from c.args.b.now (to_z w32 (of_z w32 c.min-at.result)) c.segment_place_at-right.result c.segment_place_at-right.ensures.holds
+    (λ d l. (let less = c.segment_place_at-right.ensures.last d l in omega (arith, ints, less))))
+    (last_from c.args.a.now (to_z w32 (of_z w32 c.min-at.result)) c.segment_place_at-left.result c.segment_place_at-left.ensures.last)
+    (last_from c.args.b.now (to_z w32 (of_z w32 c.min-at.result)) c.segment_place_at-right.result c.segment_place_at-right.ensures.last))
 
 pub joint_segment-requires : goal.joint_segment-requires
 joint_segment-requires g c = (

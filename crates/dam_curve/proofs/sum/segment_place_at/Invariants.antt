@@ -1,7 +1,7 @@
 -- The segment at `place` holds at the net volume.
 use Rattle.std.proofs.Common.{◌-◌, ◌<◌, ◌≤ℤ◌, length, slice_index_or}
 use Rattle.dam_curve.specs.declared.segment.Segment.{Segment}
-use Rattle.dam_curve.proofs.sum.place_at_net.Given as goal
+use Rattle.dam_curve.proofs.sum.segment_place_at.Given as goal
 
 abbrev pub invariant-loop-place : goal.invariant-loop-place
 invariant-loop-place l = record {

@@ -6,7 +6,7 @@ use Rattle.dam_search.specs.declared.view.View.{View}
 use Rattle.dam_search.specs.Piece.{welfare_found}
 use Rattle.dam_search.specs.Work.{AreAnswersOf}
 use Rattle.dam_search.proofs.Seats.{none_yet, one_more, past_end, as_many, one_drawn, next_view}
-use Rattle.dam_search.proofs.worker.work.Goals as goal
+use Rattle.dam_search.proofs.worker.walk_drawn_pieces.Goals as goal
 
 pub loop-piece-init : goal.loop-piece-init
 loop-piece-init g c = record {

@@ -30,8 +30,8 @@ nothing = record {
   nets = [];
 }
 
-pub weighted-requires-clause-nets : goal.weighted-requires-clause-nets
-weighted-requires-clause-nets g c =
+pub weighted_sum-requires-clause-nets : goal.weighted_sum-requires-clause-nets
+weighted_sum-requires-clause-nets g c =
     (own_class _ _ _ _ _ c.deref-class-items.result.now c.loop-class.class-index nothing c.self.invariant c.deref-class-items.ensures.value
     c.loop-class-test.true).small
 
@@ -54,8 +54,8 @@ point-requires g c =
     let class = get_or c.deref-class-items.result.now j nothing in
     let own = own_class c.args.self.now _ _ _ _ c.deref-class-items.result.now j nothing are c.deref-class-items.ensures.value
     c.loop-class-test.true in
-    let net = net_read c.args.self.now c.args.selection class.at c.acceptance_weights-counts.result class.nets c.weighted.result c.from-net.result
-    are.few_blocks own.is.nets_are own.small.long c.acceptance_weights-counts.ensures.counts c.weighted.ensures.value c.weighted.ensures.size
+    let net = net_read c.args.self.now c.args.selection class.at c.acceptance_weights-counts.result class.nets c.weighted_sum.result c.from-net.result
+    are.few_blocks own.is.nets_are own.small.long c.acceptance_weights-counts.ensures.counts c.weighted_sum.ensures.value c.weighted_sum.ensures.size
     c.from-net.ensures in
     let range = range_read c.args.self.now c.args.selection class.at _ net.0 in
     (_, _, _, own.is.curve_is, range.0, range.1)
@@ -68,8 +68,8 @@ returns-in_default-clause-none g c none w e =
     let class = get_or c.deref-class-items.result.now j nothing in
     let own = own_class c.args.self.now _ _ _ _ c.deref-class-items.result.now j nothing are c.deref-class-items.ensures.value
     c.loop-class-test.true in
-    let net = net_read c.args.self.now c.args.selection class.at c.acceptance_weights-counts.result class.nets c.weighted.result c.from-net.result
-    are.few_blocks own.is.nets_are own.small.long c.acceptance_weights-counts.ensures.counts c.weighted.ensures.value c.weighted.ensures.size
+    let net = net_read c.args.self.now c.args.selection class.at c.acceptance_weights-counts.result class.nets c.weighted_sum.result c.from-net.result
+    are.few_blocks own.is.nets_are own.small.long c.acceptance_weights-counts.ensures.counts c.weighted_sum.ensures.value c.weighted_sum.ensures.size
     c.from-net.ensures in
     let range = range_read c.args.self.now c.args.selection class.at _ net.0 in
     let joint = c.point.ensures.welfare _ _ _ own.is.curve_is range.0 range.1
@@ -98,8 +98,8 @@ overflow_sub-total g c =
     let class = get_or c.deref-class-items.result.now j nothing in
     let own = own_class c.args.self.now _ _ _ _ c.deref-class-items.result.now j nothing are c.deref-class-items.ensures.value
     c.loop-class-test.true in
-    let net = net_read c.args.self.now c.args.selection class.at c.acceptance_weights-counts.result class.nets c.weighted.result c.from-net.result
-    are.few_blocks own.is.nets_are own.small.long c.acceptance_weights-counts.ensures.counts c.weighted.ensures.value c.weighted.ensures.size
+    let net = net_read c.args.self.now c.args.selection class.at c.acceptance_weights-counts.result class.nets c.weighted_sum.result c.from-net.result
+    are.few_blocks own.is.nets_are own.small.long c.acceptance_weights-counts.ensures.counts c.weighted_sum.ensures.value c.weighted_sum.ensures.size
     c.from-net.ensures in
     let value = c.value.ensures ∙ ap (line_value (line_in c.args.pricing.now.lines class.at)) net.0 in
     let size = subst (IsWithin greatest_line_value) (sym value)
@@ -118,8 +118,8 @@ overflow_sub-total-in-loop-class g c =
     let class = get_or c.deref-class-items.result.now j nothing in
     let own = own_class c.args.self.now _ _ _ _ c.deref-class-items.result.now j nothing are c.deref-class-items.ensures.value
     c.loop-class-test.true in
-    let net = net_read c.args.self.now c.args.selection class.at c.acceptance_weights-counts.result class.nets c.weighted.result c.from-net.result
-    are.few_blocks own.is.nets_are own.small.long c.acceptance_weights-counts.ensures.counts c.weighted.ensures.value c.weighted.ensures.size
+    let net = net_read c.args.self.now c.args.selection class.at c.acceptance_weights-counts.result class.nets c.weighted_sum.result c.from-net.result
+    are.few_blocks own.is.nets_are own.small.long c.acceptance_weights-counts.ensures.counts c.weighted_sum.ensures.value c.weighted_sum.ensures.size
     c.from-net.ensures in
     let range = range_read c.args.self.now c.args.selection class.at _ net.0 in
     let joint = c.in-Some.ensures.welfare _ _ _ own.is.curve_is range.0 range.1
@@ -139,8 +139,8 @@ returns-then-total-least-clause-none g c none w e =
     let class = get_or c.deref-class-items.result.now j nothing in
     let own = own_class c.args.self.now _ _ _ _ c.deref-class-items.result.now j nothing are c.deref-class-items.ensures.value
     c.loop-class-test.true in
-    let net = net_read c.args.self.now c.args.selection class.at c.acceptance_weights-counts.result class.nets c.weighted.result c.from-net.result
-    are.few_blocks own.is.nets_are own.small.long c.acceptance_weights-counts.ensures.counts c.weighted.ensures.value c.weighted.ensures.size
+    let net = net_read c.args.self.now c.args.selection class.at c.acceptance_weights-counts.result class.nets c.weighted_sum.result c.from-net.result
+    are.few_blocks own.is.nets_are own.small.long c.acceptance_weights-counts.ensures.counts c.weighted_sum.ensures.value c.weighted_sum.ensures.size
     c.from-net.ensures in
     let range = range_read c.args.self.now c.args.selection class.at _ net.0 in
     let joint = c.in-Some.ensures.welfare _ _ _ own.is.curve_is range.0 range.1
@@ -168,8 +168,8 @@ loop-class-preserved g c =
     let class = get_or c.deref-class-items.result.now j nothing in
     let own = own_class c.args.self.now _ _ _ _ c.deref-class-items.result.now j nothing are c.deref-class-items.ensures.value
     c.loop-class-test.true in
-    let net = net_read c.args.self.now c.args.selection class.at c.acceptance_weights-counts.result class.nets c.weighted.result c.from-net.result
-    are.few_blocks own.is.nets_are own.small.long c.acceptance_weights-counts.ensures.counts c.weighted.ensures.value c.weighted.ensures.size
+    let net = net_read c.args.self.now c.args.selection class.at c.acceptance_weights-counts.result class.nets c.weighted_sum.result c.from-net.result
+    are.few_blocks own.is.nets_are own.small.long c.acceptance_weights-counts.ensures.counts c.weighted_sum.ensures.value c.weighted_sum.ensures.size
     c.from-net.ensures in
     let range = range_read c.args.self.now c.args.selection class.at _ net.0 in
     let joint = c.in-Some.ensures.welfare _ _ _ own.is.curve_is range.0 range.1

@@ -22,8 +22,8 @@ loop-class-init g c =
     (subst (λ (p : ProblemState). c.self.inside.values ≡ at_places most_blocks (day_value p) p.blocks) c.self.view_is
     c.self.invariant.values_are)
 
-pub weighted-requires-clause-nets : goal.weighted-requires-clause-nets
-weighted-requires-clause-nets g c =
+pub weighted_sum-requires-clause-nets : goal.weighted_sum-requires-clause-nets
+weighted_sum-requires-clause-nets g c =
     (own_class _ _ _ _ _ c.deref-class-items.result.now c.loop-class.class-index nothing c.self.invariant c.deref-class-items.ensures.value
     c.loop-class-test.true).small
 
@@ -48,8 +48,8 @@ bounds-pricing-class g c =
     (own_class _ _ _ _ _ c.deref-class-items.result.now c.loop-class.class-index nothing c.self.invariant
     c.deref-class-items.ensures.value c.loop-class-test.true).place.below
 
-pub add_priced-requires-clause-gains : goal.add_priced-requires-clause-gains
-add_priced-requires-clause-gains g c =
+pub add_priced_nets-requires-clause-gains : goal.add_priced_nets-requires-clause-gains
+add_priced_nets-requires-clause-gains g c =
     let are = subst (λ (p : ProblemState). AreClassCurves p c.self.inside.curves c.self.inside.classes.items c.self.inside.values
     c.self.inside.families.items) c.self.view_is c.self.invariant in
     let own = own_class _ _ _ _ _ c.deref-class-items.result.now c.loop-class.class-index nothing c.self.invariant
@@ -61,8 +61,8 @@ add_priced-requires-clause-gains g c =
           c.loop-class.pricing.gains c.loop-class.pricing.lines are.few_periods are.blocks_are c.loop-class.invariant,
     )
 
-pub add_priced-requires-clause-nets : goal.add_priced-requires-clause-nets
-add_priced-requires-clause-nets g c =
+pub add_priced_nets-requires-clause-nets : goal.add_priced_nets-requires-clause-nets
+add_priced_nets-requires-clause-nets g c =
     (own_class _ _ _ _ _ c.deref-class-items.result.now c.loop-class.class-index nothing c.self.invariant c.deref-class-items.ensures.value
     c.loop-class-test.true).small
 
@@ -75,13 +75,13 @@ loop-class-preserved g c =
     let line = c.line_near-line.result in
     let own = own_class c.args.self.now _ _ _ _ c.deref-class-items.result.now j nothing are c.deref-class-items.ensures.value
     c.loop-class-test.true in
-    line_more c.args.self.now j class line c.loop-class.pricing.base _ c.loop-class.pricing.gains c.add_priced.new.gains c.loop-class.pricing.lines
+    line_more c.args.self.now j class line c.loop-class.pricing.base _ c.loop-class.pricing.gains c.add_priced_nets.new.gains c.loop-class.pricing.lines
     are.few_periods own.place own.is.nets_are
     (record { above = c.line_near-line.ensures.above _ _ _ own.is.curve_is; small = c.line_near-line.ensures.small })
     (base_added c.args.self.now j 0 c.loop-class.pricing.base c.loop-class.pricing.gains c.loop-class.pricing.lines line own.place.index
     c.loop-class.invariant c.line_near-line.ensures.small).1
-    (subst (λ (p : ℤ). AreRaised p class.nets c.loop-class.pricing.gains c.add_priced.new.gains) (price_narrow line c.line_near-line.ensures.small)
-    c.add_priced.ensures)
+    (subst (λ (p : ℤ). AreRaised p class.nets c.loop-class.pricing.gains c.add_priced_nets.new.gains) (price_narrow line c.line_near-line.ensures.small)
+    c.add_priced_nets.ensures)
     c.loop-class.invariant
 
 pub returns : goal.returns

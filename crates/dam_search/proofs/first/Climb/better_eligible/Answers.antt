@@ -24,5 +24,5 @@ returns-clause-eligible g c =
     let welfare = with_rows problem relaxed selection w c.args.self.now.same c.in-Some.ensures.some.0 in
     let is = eligible_leaf problem relaxed selection c.has_loss.result w c.args.self.now.same c.requires.long c.if-has_loss.false
     c.has_loss.ensures (c.admissible.ensures.0 (search rules)) welfare (c.balanced_selections_have_prices.ensures problem selection w c.use_invariant.ensures welfare) in
-    subst (λ (z : ℤ). IsEligible problem c.best_from_parts.result.selection z) (sym (c.best_from_parts.ensures.welfare ∙ value))
-    (subst (λ (xs : List Bool). IsEligible problem xs w) (sym c.best_from_parts.ensures.selection) is)
+    subst (λ (z : ℤ). IsEligible problem c.solution_of.result.selection z) (sym (c.solution_of.ensures.welfare ∙ value))
+    (subst (λ (xs : List Bool). IsEligible problem xs w) (sym c.solution_of.ensures.selection) is)

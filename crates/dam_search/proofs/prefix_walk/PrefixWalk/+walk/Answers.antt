@@ -57,25 +57,25 @@ pub returns-then-depth-block_count-clause-walked : goal.returns-then-depth-block
 returns-then-depth-block_count-clause-walked g t c =
     let problem = c.args.self.now.problem.now in let prefix = c.args.prefix.now in let found = c.args.found.now in
     let left = length problem.blocks - length prefix in let told = g.I.Incumbent.greatest_read in
-    let going = c.requires.going in let after = c.try_selection.new.found in
-    let visited : after.visited ≡ found.visited + 1 = c.try_selection.ensures.visited in
+    let going = c.requires.going in let after = c.offer_if_best.new.found in
+    let visited : after.visited ≡ found.visited + 1 = c.offer_if_best.ensures.visited in
     let full : left ≡ 0 = omega (arith, c.depth.ensures.value, c.block_count.ensures.value, c.if-depth-block_count.true) in
     let within = unmet found.visited c.args.nodes going.within c.if-found-nodes.false in
     record {
-      finds = c.try_selection.ensures.finds;
-      covers = λ done. c.try_selection.ensures.covers;
+      finds = c.offer_if_best.ensures.finds;
+      covers = λ done. c.offer_if_best.ensures.covers;
       spends =
           subst (λ (n : ℕ). Spends problem prefix left (told c.args.incumbent.now) c.args.nodes found.visited n true) (sym visited)
           (spends_one problem prefix left (told c.args.incumbent.now) c.args.nodes found.visited within);
       needed = λ done. needed_one problem prefix left after.read found.visited after.visited visited (inl full);
       reads =
           subst (λ (n : ℕ). ReadsIncumbent left found.visited after.visited found.read n (told c.args.incumbent.now)
-          (told c.try_selection.new.incumbent))
-          (sym c.try_selection.ensures.read)
+          (told c.offer_if_best.new.incumbent))
+          (sym c.offer_if_best.ensures.read)
           (reads_nothing left found.visited after.visited found.read (told c.args.incumbent.now)
-          (told c.try_selection.new.incumbent) going.read
-          c.try_selection.ensures.greatest_read (inr full));
-      offered = c.try_selection.ensures.offered;
+          (told c.offer_if_best.new.incumbent) going.read
+          c.offer_if_best.ensures.greatest_read (inr full));
+      offered = c.offer_if_best.ensures.offered;
     }
 
 pub returns-in_default-clause-walked : goal.returns-in_default-clause-walked

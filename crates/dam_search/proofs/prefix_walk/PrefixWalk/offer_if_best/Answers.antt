@@ -3,9 +3,9 @@ use Rattle.std.proofs.Common.{inl, inr, ◌≡◌, pos, List, Bool, Some, ◌∙
 use Rattle.std.proofs.lemmas.Int.{ints}
 use Rattle.dam_blocks.specs.Eligible.{IsEligible}
 use Rattle.dam_search.proofs.Ranks.{finds_nothing, ranks_with_itself, matched_as}
-use Rattle.dam_search.proofs.prefix_walk.PrefixWalk.try_selection.Goals.{then-welfare-found-via-then-welfare-found}
-use Rattle.dam_search.proofs.prefix_walk.PrefixWalk.try_selection.Goals.{then-welfare-found-via-else-welfare-found+then-not-ranks_above_found}
-use Rattle.dam_search.proofs.prefix_walk.PrefixWalk.try_selection.Goals as goal
+use Rattle.dam_search.proofs.prefix_walk.PrefixWalk.offer_if_best.Goals.{then-welfare-found-via-then-welfare-found}
+use Rattle.dam_search.proofs.prefix_walk.PrefixWalk.offer_if_best.Goals.{then-welfare-found-via-else-welfare-found+then-not-ranks_above_found}
+use Rattle.dam_search.proofs.prefix_walk.PrefixWalk.offer_if_best.Goals as goal
 
 pub returns-in_default-clause-finds : goal.returns-in_default-clause-finds
 returns-in_default-clause-finds g c = finds_nothing c.args.self.now.problem.now c.args.prefix.now c.args.found.now.best

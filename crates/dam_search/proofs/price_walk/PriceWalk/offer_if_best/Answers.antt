@@ -6,7 +6,7 @@ use mir.Val.{SFits}
 use Rattle.dam_blocks.specs.Eligible.{IsEligible}
 use Rattle.dam_search.specs.Piece.{IsMatched}
 use Rattle.dam_search.proofs.Opens.{walked_nothing, covers_leaf, one_welfare, no_eligible_loss, eligible_leaf, with_rows, walked_leaf}
-use Rattle.dam_search.proofs.price_walk.PriceWalk.try_selection.Goals as goal
+use Rattle.dam_search.proofs.price_walk.PriceWalk.offer_if_best.Goals as goal
 
 unadmitted : (b : Bool) → b ≡ false → IsTrue b → ⊥
 unadmitted true e t = absurd (cc)

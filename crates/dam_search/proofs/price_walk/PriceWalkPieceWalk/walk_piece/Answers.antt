@@ -12,18 +12,18 @@ both_hold own depth most nodes e = (grind (arith, nat_tests), grind (arith, nat_
 pub walk_by_prices-requires-clause-depth : goal.walk_by_prices-requires-clause-depth
 walk_by_prices-requires-clause-depth g c =
     let by = c.args.self.now in
-    let suits = both_hold by.depth c.args.depth (node_count (length by.problem.now.blocks - c.args.depth)) _ c.requires.suits in
+    let suits = both_hold by.depth _ (node_count (length by.problem.now.blocks - _)) _ c.requires.suits in
     subst (λ (n : ℕ). n ≤ length by.problem.now.blocks) (sym suits.0) c.requires.depth
 
 pub walk_by_prices-requires-clause-piece : goal.walk_by_prices-requires-clause-piece
 walk_by_prices-requires-clause-piece g c =
     let by = c.args.self.now in
-    let suits = both_hold by.depth c.args.depth (node_count (length by.problem.now.blocks - c.args.depth)) _ c.requires.suits in
+    let suits = both_hold by.depth _ (node_count (length by.problem.now.blocks - _)) _ c.requires.suits in
     subst (λ (n : ℕ). c.args.piece < 2 ^ n) (sym suits.0) c.requires.piece
 
 pub returns-clause-walked : goal.returns-clause-walked
 returns-clause-walked g c =
     let by = c.args.self.now in let walk = c.walk_by_prices.ensures in let a = c.walk_by_prices.result in
-    let suits = both_hold by.depth c.args.depth (node_count (length by.problem.now.blocks - c.args.depth)) _ c.requires.suits in
-    walked_whole by.problem.now c.args.depth _ c.args.piece a walk.piece c.requires.piece
+    let suits = both_hold by.depth _ (node_count (length by.problem.now.blocks - _)) _ c.requires.suits in
+    walked_whole by.problem.now _ _ c.args.piece a walk.piece c.requires.piece
     (subst (λ (n : ℕ). IsSound by.problem.now (choice n c.args.piece) a.best a.read a.done) suits.0 walk.sound) walk.done suits.1

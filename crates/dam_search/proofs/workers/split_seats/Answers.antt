@@ -6,7 +6,7 @@ use Rattle.dam_search.specs.declared.worker_seat.WorkerSeat.{WorkerSeat}
 use Rattle.dam_search.specs.declared.view.View.{View}
 use Rattle.dam_search.specs.Words.{new_view, cut_left}
 use Rattle.dam_search.specs.inside.Seats.{IsNewSeat}
-use Rattle.dam_search.proofs.workers.seats_for.Goals as goal
+use Rattle.dam_search.proofs.workers.split_seats.Goals as goal
 
 fewer : (v : View) (a b : ℕ) → a ≡ b → record v { seats_left = a } ≡ record v { seats_left = b }
 fewer v a b e = ap (λ (n : ℕ). record v { seats_left = n }) e

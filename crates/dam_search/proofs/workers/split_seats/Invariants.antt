@@ -3,7 +3,7 @@ use Rattle.std.proofs.Common.{◌≡◌, ◌-◌, ◌≤◌, vec_len, vec_capaci
 use Rattle.std.specs.List.{All}
 use Rattle.dam_search.specs.declared.worker_seat.WorkerSeat.{WorkerSeat}
 use Rattle.dam_search.specs.inside.Seats.{IsNewSeat}
-use Rattle.dam_search.proofs.workers.seats_for.Given as goal
+use Rattle.dam_search.proofs.workers.split_seats.Given as goal
 
 abbrev pub invariant-loop : goal.invariant-loop
 invariant-loop l = record {
