@@ -2,6 +2,7 @@
 
 import csv
 import io
+import re
 import tempfile
 import time
 import tracemalloc
@@ -445,7 +446,7 @@ class Unlike(unittest.TestCase):
 
     def test_percentages(self):
         """Excel shows a price of 0.95 as 95%, so either may be meant."""
-        codes = "0%", "[Red]0.0%;-0.0%", "# %", "0 [$%]", "[$%-409]0", "0\\%", "0&quot;%&quot;", "0_%"
+        codes = "0%", "[Red]0.0%;-0.0%", "# %", "0 [$%]", "[$%-409]0", "0.00\\%", "0.00&quot;%&quot;", "0.00_%"
         formats = "".join(f'<numFmt numFmtId="{164 + at}" formatCode="{code}"/>' for at, code in enumerate(codes))
         # a number may have zeros, a sign and blanks before it
         numbers = "9", "10", "09", "+10", " 9&#10;", "0164", *map(str, range(164, 164 + len(codes)))
@@ -536,6 +537,55 @@ class Unlike(unittest.TestCase):
             _, said = self.shown(code, number)
             self.assertIn(f"'{number}' is a number that Excel shows in another way", said or "", code)
 
+    def test_numbers_with_more_digits_than_are_shown(self):
+        """A format may round, also to a fraction or with a power of ten. The digits of a float beyond the 15th are none."""
+        said = "line 2, column price_eur_mwh: '{}' is a number that Excel shows as {}: give its cell the format General"
+        for code, number, other in (
+            ("0", "0.4", "0"), ("0", "0.5", "1"), ("0.00", "12.345", "12.35"), ("0.0", "-0.25", "-0.3"), ("#,##0", "1234.5", "1235"),
+            ("0.00;[Red]-0.0", "-1.25", "-1.3"), ("0.0#", "1.125", "1.13"), ("0.0&quot; EUR.MWh&quot;", "1.25", "1.3"), ("# ?/?", "12.34", "37/3"),
+            ("0.00E+00", "1234", "1230"), ("##0.0E+0", "1234.5", "1200"), (".0E+0", "0.25", "0.3"), ("0E-0", "15", "20"), ("0;-0;0.00", "0.1", "0"),
+            ("[&gt;9]0;0.00", "5.25", "5"), ("_-* #,##0.0_-;-* #,##0.0_-;_-* &quot;-&quot;??_-;_-@_-", "3.25", "3.3"), ("0.0E0", "5", ""),
+            ("0.00", "12.34", None), ("0.00", "0.1", None), ("#,##0.0", "1234.5", None), ("0.0", "0.30000000000000004", None), ("0", "5.0", None),
+            ("0.00;[Red]-0.00", "-1.25", None), ("# ?/?", "0.4", None), ("# ??/??", "12.34", None), ("0.00E+00", "1230", None), ("General", "12.34", None),
+            ("##0.0E+0", "1200", None), ("0.00", "2900.1000000000004", None), ("0.??", "1.25", None), ("0.00&quot; EUR&quot;", "1.25", None),
+            ("General&quot; EUR&quot;", "1.25", None), ("0.00;-0.0", "1.25", None), ("0.0000", "1.25", None), ("[$€-407] #,##0.00", "1234.5", None),
+            ("0.00\\ [$MW]", "1.25", None), ("@", "12.34", None), ("0;0.00", "0", None), ("0.00_);[Red]\\(0.00\\)", "-1.25", None),
+        ):  # fmt: skip
+            with self.subTest(code, number=number):
+                found, fault = self.shown(code, number)
+                if other == "":
+                    self.assertIn("'5' is a number that Excel shows in another way", fault)
+                else:
+                    self.assertEqual((fault, found is None), (said.format(number, other), True) if other else (None, False))
+
+    def test_own_formats_that_round(self):
+        """Excel has formats of its own, by their numbers; and each column is read alike."""
+        numbers = 0, 1, 2, 3, 4, 7, 11, 12, 13, 37, 39, 43, 48
+        cells = "".join(f'<xf numFmtId="{number}"/>' for number in numbers)
+        styles = {"xl/styles.xml": f'<styleSheet xmlns="{made.MAIN[0]}"><cellXfs>{cells}</cellXfs></styleSheet>'.encode()}
+        shown = dict(zip(numbers, (None, "13", "12.57", "13", "12.57", "12.57", "12.6", "88/7", "88/7", "13", "12.57", "12.57", "12.6")))
+        for style, number in enumerate(numbers):
+            for letter in "ABEFGHI":
+                _, fault = self.read(styles, **{letter: f'<c s="{style}"><v>12.571</v></c>'})
+                said = f"line 2, column {self.COLUMNS[letter]}: '12.571' is a number that Excel shows as {shown[number]}: give its cell the format General"
+                self.assertEqual(fault == said, number != 0, (number, fault))
+        _, fault = self.read(styles, J='<c s="1"><v>12.571</v></c>')
+        self.assertIsNone(fault)
+
+    def test_a_sheet_that_hides_zeros(self):
+        """Excel shows each zero of such a sheet as an empty cell."""
+        view = b"<sheetViews><sheetView/><sheetView showZeros='%s'><pane/><selection/><extLst/></sheetView></sheetViews><cols/><sheetData>"
+        price, text = order(2, "K1").replace(b'<c r="E2" t="str"><v>1</v>', b'<c r="E2"><v>0</v>'), order(2, "K1")
+        fault = "'0' is a zero that its sheet hides: show the sheet's zeros (in Excel's advanced options)"
+        for value, row, said in ((b"0", price, fault), (b" false", price, fault), (b"1", price, None), (b"0", text, None)):
+            heads = made.OPEN.replace(b"<sheetData>", view % value)
+            with self.subTest(value, row=row):
+                if said:
+                    with self.assertRaisesRegex(order_table.BadOrders, re.escape(f"line 2, column price_eur_mwh: {said}")):
+                        order_table.read_tables([("", made.of_sheet(heads, row, made.CLOSE))], 24)
+                else:
+                    self.assertEqual(len(order_table.read_tables([("", made.of_sheet(heads, row, made.CLOSE))], 24).submits), 1)
+
     def test_names_of_many_digits(self):
         """Excel shows 123456789012 as 1.23457E+11, unless its format is 0."""
         formats = "".join(f'<xf numFmtId="{number}"/>' for number in (0, 49, 164, 1, 165))
@@ -616,7 +666,7 @@ class Unlike(unittest.TestCase):
         formats = ("0%", "&quot;X&quot;@", "d.m", "0", "General")
         changed = "".join(f'<dxf><font/><numFmt numFmtId="{170 + at}" formatCode="{code}"/><fill/></dxf>' for at, code in enumerate(formats))
         styles = f'<styleSheet xmlns="{made.MAIN[0]}"><dxfs><dxf><font/></dxf>{changed}</dxfs></styleSheet>'
-        for number, is_read in (("0", True), ("1", False), (" 02", False), ("3", False), ("4", True), ("5", True), ("9", True)):
+        for number, is_read in (("0", True), ("1", False), (" 02", False), ("3", False), ("4", False), ("5", True), ("9", True)):
             close = made.CLOSE.replace(b"</sheetData>", f"</sheetData>{condition.format(0)}{condition.format(number)}".encode())
             data = made.of_sheet(made.OPEN, order(2, "K1"), close, **{"xl/styles.xml": styles.encode()})
             with self.subTest(number):

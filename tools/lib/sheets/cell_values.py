@@ -29,16 +29,11 @@ class BadOrders(Exception):
         self.more = more
 
 
-def unlike_words(cell):
-    """The words on a cell of a workbook that isn't what Excel shows."""
-    return f"{text.quoted(cell)} is {cell.kind}: {cell.remedy}"
-
-
 def refuse_unlike(cell, is_name):
     """Refuses a cell of a workbook that isn't what Excel shows: a formula without its value, another number or text, or in a column of
     names also a date."""
     if isinstance(cell, (Uncomputed, Percentage, Changed, Styled)) or is_name and isinstance(cell, Unlike):
-        raise BadOrders(unlike_words(cell))
+        raise BadOrders(cell.fault())
 
 
 @functools.lru_cache(MOST_KEPT)

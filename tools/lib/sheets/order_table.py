@@ -41,7 +41,7 @@ def find_columns(line, header, needed, further):
         if name in places or name in further and names.index(name) < at - 1:
             wrong.append(f"line {line}, column {at}: the column {text.quoted(name)} appears twice")
         elif isinstance(cell, Uncomputed):
-            wrong.append(f"line {line}, column {at}: {cell_values.unlike_words(cell)}")
+            wrong.append(f"line {line}, column {at}: {cell.fault()}")
         elif name in ORDER + RESULT:
             places[name] = at - 1
         elif name in further or WHAT in further and name in REPLY:

@@ -5,6 +5,8 @@ import bisect
 import functools
 import re
 
+from ..base import text
+
 COLUMN = re.compile(r"[A-Z]{1,3}")
 ESCAPE = re.compile(r"_x(?![dD][89a-fA-F])([0-9a-fA-F]{4})_")  # a character, but no half of one
 
@@ -14,6 +16,10 @@ class Unlike(str):
 
     __slots__ = ()
     kind, remedy = "", "make the cell one of text"
+
+    def fault(self):
+        """The words on the cell."""
+        return f"{text.quoted(self)} is {self.kind}: {self.remedy}"
 
 
 class Date(Unlike):
@@ -43,6 +49,21 @@ class Changed(Unlike):
 class Repeated(Changed):
     __slots__ = ()
     kind, remedy = "a number that fills its cell again and again", "give its cell another horizontal alignment"
+
+
+class Hidden(Changed):
+    __slots__ = ()
+    kind, remedy = "a zero that its sheet hides", "show the sheet's zeros (in Excel's advanced options)"
+
+
+class Rounded(Changed):
+    """A number, and the one that Excel shows instead, with a blank between them."""
+
+    __slots__ = ()
+
+    def fault(self):
+        number, shown = self.split()
+        return f"{text.quoted(number)} is a number that Excel shows as {shown}: {self.remedy}"
 
 
 class Styled(Unlike):
@@ -111,7 +132,7 @@ class Kept:
 
 
 # The kinds of cells: before each cell of a packed row stands a half of a character, which no text has, and says its kind.
-CELLS = str, int, StyledString, Uncomputed, Date, Formatted, Percentage, Changed, Repeated, Styled, Shortened, Truth
+CELLS = str, int, StyledString, Uncomputed, Date, Formatted, Percentage, Changed, Repeated, Hidden, Rounded, Styled, Shortened, Truth
 HALVES = {kind: chr(0xD800 + at) for at, kind in enumerate(CELLS)}
 PACKED = re.compile("([\ud800-\udfff])([^\ud800-\udfff]*)")
 

@@ -5,7 +5,7 @@ import math
 import re
 
 from ..base import text
-from .cells import Date, Kept, Numbers, Rows, Styled, StyledString, Truth, Uncomputed, name_of, number_of, trimmed, unescaped
+from .cells import Date, Hidden, Kept, Numbers, Rows, Styled, StyledString, Truth, Uncomputed, name_of, number_of, trimmed, unescaped
 from .limits import LAST_COLUMN, LAST_ROW, MOST_CELLS, MOST_ELEMENTS, MOST_TEXT, BadWorkbook, broken, size_of, too_many
 from .part import ANY_OTHERS, BLANK, EXTENSIONS, Texts, unsigned
 from .styles import digits_of, general
@@ -61,7 +61,9 @@ class Sheet(Texts):
     ROOT = "worksheet"
     PLACES = {
         "": ROOT,
-        ROOT: "sheetData sheetCalcPr mergeCells conditionalFormatting* extLst",
+        ROOT: "sheetViews sheetData sheetCalcPr mergeCells conditionalFormatting* extLst",
+        "sheetViews": "sheetView* extLst",
+        "sheetView": EXTENSIONS,
         "sheetData": "row*",
         "row": "c* extLst",
         "c": "f v is extLst",
@@ -73,10 +75,11 @@ class Sheet(Texts):
         "cfRule": EXTENSIONS,
     }
     BETWEEN = {ROOT: {ANY_OTHERS, *(
-        "sheetPr dimension sheetViews sheetFormatPr cols sheetProtection protectedRanges scenarios autoFilter sortState"
+        "sheetPr dimension sheetFormatPr cols sheetProtection protectedRanges scenarios autoFilter sortState"
         " dataConsolidate customSheetViews phoneticPr dataValidations hyperlinks printOptions pageMargins pageSetup"
         " headerFooter rowBreaks colBreaks customProperties cellWatches ignoredErrors smartTags drawing legacyDrawing legacyDrawingHF"
         " drawingHF picture oleObjects controls webPublishItems tableParts").split()},
+        "sheetView": {ANY_OTHERS, *"pane selection pivotSelection".split()},
         "conditionalFormatting": {ANY_OTHERS}, "cfRule": {ANY_OTHERS, *"formula colorScale dataBar iconSet".split()}}  # fmt: skip
     REFUSED = {"numFmt"}  # in an extension: the format of a condition
 
@@ -88,7 +91,7 @@ class Sheet(Texts):
         self.row = self.column = self.count_of_cells = self.size = 0
         self.cells = None  # of a row; None outside
         self.first_formula = None  # its row and its column
-        self.has_data = False
+        self.has_data = self.hides_zeros = False
 
     def wrong(self, words):
         column = name_of(self.column) if self.column else ""
@@ -96,6 +99,9 @@ class Sheet(Texts):
         if self.row and self.cells is None and self.within[-1] == "sheetData":
             place = f", after row {self.row}"
         return BadWorkbook(f"{self.place}{place}: {words}")
+
+    def open_sheetView(self, attributes):
+        self.hides_zeros = self.hides_zeros or truth_of(attributes, "showZeros") == "FALSE"
 
     def open_sheetData(self, _):
         self.has_data = True
@@ -219,6 +225,8 @@ class Sheet(Texts):
         if not NUMBER.fullmatch(value) or not math.isfinite(float(value)):
             raise self.wrong(f"{text.quoted(value)} isn't a number")
         made = self.format()
+        if self.hides_zeros and not float(value):
+            return Hidden("0")
         if made is Date:
             return Date(self.date(float(value)))
         return made(int(value) if WHOLE.fullmatch(value) else digits_of(float(value)))

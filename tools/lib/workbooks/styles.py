@@ -4,15 +4,21 @@ import decimal
 import functools
 import re
 import unicodedata
+from fractions import Fraction
 
 from ..base import text
-from .cells import Changed, Date, Formatted, Percentage, Repeated, Shortened
+from .cells import Changed, Date, Formatted, Percentage, Repeated, Rounded, Shortened
 from .limits import LONGEST_FORMAT, MOST_FORMATS, MOST_OF_FORMATS, MOST_OWN_FORMATS, broken, too_many
 from .part import ANY_OTHERS, BLANK, Part, unsigned
 
-# The numbers of Excel's own formats of dates and times, and what in another format isn't one: texts, and a condition or colour.
+# The numbers of Excel's own formats: of all digits, of dates and times, of percentages, and of some digits.
+GENERAL_FORMATS, GENERAL_CODES = (0, 49), ("general", "@")
 DATE_FORMATS = {*range(14, 23), *range(27, 37), *range(45, 48), *range(50, 59), *range(71, 82)}
-PERCENT_FORMATS = 9, 10, 67, 68  # the numbers of Excel's own
+PERCENT_FORMATS = 9, 10, 67, 68
+ROUNDING_FORMATS = {
+    "0": (1,), "#,##0": (3, 5, 6, 37, 38, 41, 42, 59, 61), "0.00": (2, 4, 7, 8, 39, 40, 43, 44, 60, 62),
+    "0.00E+00": (11,), "# ?/?": (12, 69), "# ??/??": (13, 70), "##0.0E+0": (48,),
+}  # fmt: skip
 MOST_DIGITS = 11  # that Excel shows of a number in the format General
 PIECE = re.compile(r'"[^"]*"|\\.|_.|\*.|\[[^\]\[]*\]|(?i:general)|[Ee][+-]|.')  # of a format
 GENERAL = "\1"  # in place of the piece General
@@ -29,6 +35,7 @@ IN_BRACKETS = re.compile(r"\([^()]*\)")
 # A sign in words before or after a number: a bracket, or a minus that doesn't join words.
 SIGN_BEFORE = re.compile(rf"[()]|^{OTHER}*-|-{OTHER}*$|(?<!{LETTER})-(?={LETTER})")
 SIGN_AFTER = re.compile(rf"[()]|^{OTHER}*-(?!{LETTER})|-{OTHER}*$")
+# What in a format isn't one of a date: texts, and a condition or colour.
 NO_DATE = re.compile(r'"[^"]*"|\\.|_.|\*.|\[(?!(?:h+|m+|s+)\])[^\]\[]*\]', re.IGNORECASE)
 
 
@@ -36,10 +43,6 @@ def general(number):
     """The text of a number that has no format, or that of texts."""
     words = str(number)
     return Shortened(words) if sum(map(str.isdigit, words)) > MOST_DIGITS else words
-
-
-# The formats, and their numbers in Excel, that show a number as it is.
-PLAIN_FORMATS, PLAIN_CODES = {0: general, 1: str, 49: general}, {"general": general, "0": str, "@": general}
 
 
 def digits_of(number):
@@ -89,6 +92,8 @@ def code_of(piece):
         return "\0" if words.strip(SEPARATORS) else ""
     if piece.lower() == "general":
         return GENERAL
+    if piece in "Ee":
+        return "\0"  # (E+ or E- begins a power of ten)
     return piece[0] if len(piece) == 1 or piece[0] in "Ee" else ""
 
 
@@ -157,22 +162,50 @@ def changes(code):
 
 
 def of_sections(code):
-    """How a format shows a number if it changes some."""
+    """How a format shows a number. Of a name, 0 alone shows all characters."""
     positive, negative, zero = changes(code)
+    rounds = list(map(rounding, sections_of(code)[:3]))
+    of_negative, of_others = rounds[1:2] or rounds, rounds if re.search(r"\[[<>=]", code) else rounds[:1]
 
     def shown(words):
         number = decimal.Decimal(words)
-        return (Changed if (positive if number > 0 else negative if number < 0 else zero) else Formatted)(words)
+        if positive if number > 0 else negative if number < 0 else zero:
+            return Changed(words)
+        for rounded in of_negative if number < 0 else of_others:
+            if (other := rounded(number)) != number:
+                return Rounded(f"{words} {other + 0}")
+        return (str if code.strip() == "0" else Formatted)(words)
 
-    return shown if positive or negative or zero else Formatted
+    return shown
+
+
+def rounding(pieces):
+    """The function that rounds a number to the digits of a section of a format, or to its fractions."""
+    code = "".join(map(code_of, pieces))
+    digits, *power = re.split("[Ee]", code, 1)
+    whole, places, below = (len(re.findall(DIGIT, part)) for part in (*digits.partition(".")[::2], code.partition("/")[2]))
+
+    def rounded(number):
+        if GENERAL in code or not number:
+            return number
+        if below:
+            return Fraction(number).limit_denominator(10**below - 1)
+        first = 0 if not power else number.adjusted() // whole * whole if whole else number.adjusted() + 1
+        last = decimal.Decimal(1).scaleb(first - places)
+        return number if number.normalize().as_tuple().exponent >= first - places else number.quantize(last, decimal.ROUND_HALF_UP)
+
+    return rounded
 
 
 def shown_by(code):
     """How a format shows a number."""
-    if code.strip().lower() in PLAIN_CODES:
-        return PLAIN_CODES[code.strip().lower()]
+    if code.strip().lower() in GENERAL_CODES:
+        return general
     is_date = re.search("[dmyhs]", NO_DATE.sub("", code).split(";")[0], re.IGNORECASE)
     return Date if is_date else Percentage if is_percentage(code) else of_sections(code)
+
+
+ROUNDING = [(numbers, of_sections(code)) for code, numbers in ROUNDING_FORMATS.items()]
 
 
 def number_in(attributes):
@@ -185,7 +218,7 @@ def number_in(attributes):
 
 
 class Styles(Part):
-    """For each format of cells how it shows a number: as a `Date`, `Percentage`, `Formatted`, `general`, or as it is (`str`)."""
+    """For each format of cells how it shows a number: as a `Date`, a `Percentage`, `general`, or by its sections."""
 
     ROOT = "styleSheet"
     PLACES = {
@@ -207,7 +240,8 @@ class Styles(Part):
     def __init__(self):
         super().__init__()
         self.codes = {}  # of the workbook's own formats, by their numbers
-        self.shown = {**PLAIN_FORMATS, **dict.fromkeys(DATE_FORMATS, Date), **dict.fromkeys(PERCENT_FORMATS, Percentage)}
+        kinds = (GENERAL_FORMATS, general), (DATE_FORMATS, Date), (PERCENT_FORMATS, Percentage), *ROUNDING
+        self.shown = {number: shown for numbers, shown in kinds for number in numbers}
         self.formats, self.filled, self.own, self.characters = [], set(), 0, 0
         self.styled = set()  # the numbers of formats that show texts in another way
         self.conditions, self.conditional = 0, set()  # how many formats of conditions there are, and those that change what is shown
@@ -224,7 +258,7 @@ class Styles(Part):
             raise too_many(MOST_OF_FORMATS, "characters in its number formats")
         shown, is_plain = shown_by(code), shows_texts(code)
         if self.within[-2] == "dxf":
-            if shown not in (str, general) or not is_plain:
+            if shown is not general or not is_plain:
                 self.conditional.add(self.conditions - 1)
             return
         number = number_in(attributes)
