@@ -9,9 +9,10 @@
 
    For memory, MOST is no limit: if it isn't 0, each reading of the clock is MOST milliseconds later than the one before.
 
-   Three kinds refuse nothing. held counts the starts of threads during which the program holds a block of at least MOST bytes. clock
-   counts the readings of the clock, and has each of them MOST milliseconds later than the one before. peak counts no calls: the number
-   is the most bytes of blocks that the program held at once, and a block that moves counts twice while it does. */
+   Four kinds refuse nothing. held counts the starts of threads during which the program holds a block of at least MOST bytes, and beside
+   the calls for memory that got a block then. clock counts the readings of the clock, and has each of them MOST milliseconds later than
+   the one before. peak counts no calls: the number is the most bytes of blocks that the program held at once, and a block that moves
+   counts twice while it does. */
 
 #define _GNU_SOURCE
 #include <dlfcn.h>
@@ -41,9 +42,9 @@ typedef int join_thread(pthread_t, void **);
 typedef int give_entropy(void *, size_t);
 typedef ssize_t give_random(void *, size_t, unsigned);
 
-enum kind { NONE, MEMORY, THREAD, RANDOM, READ, WRITE, REPORT, HELD, CLOCK, PEAK };
+enum kind { NONE, MEMORY, THREAD, RANDOM, READ, WRITE, REPORT, HELD, BESIDE, CLOCK, PEAK };
 
-static const char *const names[] = {"none", "memory", "thread", "random", "read", "write", "report", "held", "clock", "peak"};
+static const char *const names[] = {"none", "memory", "thread", "random", "read", "write", "report", "held", "beside", "clock", "peak"};
 
 static enum kind chosen = NONE;
 static unsigned long first, last, most;
@@ -98,7 +99,7 @@ static bool refuses_memory(void) {
 }
 
 static bool is_large(void *block) {
-    return chosen == HELD && malloc_usable_size(block) >= most;
+    return (chosen == HELD || chosen == BESIDE) && malloc_usable_size(block) >= most;
 }
 
 static size_t size_of(void *block) {
@@ -109,6 +110,8 @@ static size_t size_of(void *block) {
 static void *held(void *block) {
     if (growths != NULL)
         ++*growths;
+    if (large > 0)
+        refuses(BESIDE);
     large += is_large(block);
     if (chosen != PEAK)
         return block;

@@ -348,6 +348,12 @@ def texts(runs):
         for least, is_held in [(len(text), False), (1, True)]:
             _, started = runs.program.run(words, text, Refusal("held", most=least))
             runs.check(f"{word} starts {started} threads with a block of {least} bytes or more", (started > 0) == is_held)
+    # as often as a run that has the text, and then comes to a fault
+    for word, data, faulty in [("clear", AUCTION, OPEN_AUCTION), ("day", OPEN_AUCTION, AUCTION)]:
+        for workers in map(str, range(1, shapes.MOST_WORKERS + 1)):
+            beside = Refusal("beside", most=1 << 20)
+            (_, made), (_, least) = (runs.program.run([word, "--workers", workers], it + b"\n" * (1 << 20), beside) for it in (data, faulty))
+            runs.check(f"{word} --workers {workers} asks for memory {made} times with its text, and not {least}", made == least)
 
 
 def reads(runs):

@@ -127,6 +127,18 @@ class Isolation(unittest.TestCase):
                 surroundings.isolate_environment()
                 self.assertEqual(dict(os.environ), {"HOME": "/", "DASK": "1", "LANGUAGE": "C"})
 
+    def test_settings_of_other_libraries_are_removed(self):
+        """Nobody writes to the library that one of them names, so a tool that loads it doesn't end. Another one prints."""
+        os.mkfifo(self.folder / "a.so")
+        words = ("table", AUCTION, AUCTION_RESULTS, "--quiet", "--rows", "orders", "-o", self.folder / "a.xlsx")
+        for given in ({"ACC_PROFLIB": str(self.folder / "a.so")}, {"ACC_PROFLIB": "./a.so"}, {"OMP_DISPLAY_ENV": "TRUE"}, {"PILLOW_ALIGNMENT": "a"}):
+            self.assertEqual(self.ran(*words, seconds=60, **given), (0, b"", b""), given)
+        threads = {"OMP_NUM_THREADS": "2", "OPENBLAS_NUM_THREADS": "1"}
+        others = {"_PYTHON_SYSCONFIGDATA_NAME": "antigravity", "FLEXIBLAS": "a.so", "MKL_VERBOSE": "1", "TQDM_MININTERVAL": "a", "SSL_CERT_FILE": "a"}
+        with mock.patch.dict(os.environ, {"HOME": "/", **threads, **others}, clear=True):
+            surroundings.isolate_environment()
+            self.assertEqual(dict(os.environ), {"HOME": "/", "LANGUAGE": "C", **threads})
+
     def dask_settings(self, **found):
         """Writes a file of settings for a user whose home is the working folder."""
         folder = self.folder / ".config" / "dask"
