@@ -28,7 +28,8 @@ all_read blocks place family are j l =
 
 unmet : (b met : Bool) → met ≡ false → (b ≡ true → IsTrue met) → b ≡ false
 unmet false met e h = refl
-unmet true met e h = absurd (let t = h refl in cc)
+unmet true true e h = absurd (cc)
+unmet true false e h = absurd (let t = h refl in cc)
 
 pub none_met : (blocks : List Block) (place : ℕ) (family : List Bool) (met : Bool)
     → ((at : ℕ) → accepts family at ≡ (nat_lt at (length blocks) && descends blocks place at)) → met ≡ false
