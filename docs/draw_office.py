@@ -36,21 +36,21 @@ async def take(url, path):
     """A picture of the page in which GAS has filled in a block."""
     from shared import browser
 
-    async with browser.opened(url) as page:
-        await page.look(WIDTH, "light", HEIGHT)
-        await page.until("document.querySelector('#demo-names button')")
-        await page.run("[...document.querySelectorAll('#demo-names button')].find((one) => one.textContent === 'GAS').click()")
-        await page.until("byId('order-form').checkVisibility()")
-        await page.run("document.querySelector('input[value=block]').click()")
+    async with browser.open_in_browser(url) as page:
+        await page.set_screen(WIDTH, "light", HEIGHT)
+        await page.wait_until("document.querySelector('#demo-names button')")
+        await page.evaluate("[...document.querySelectorAll('#demo-names button')].find((one) => one.textContent === 'GAS').click()")
+        await page.wait_until("byId('order-form').checkVisibility()")
+        await page.evaluate("document.querySelector('input[value=block]').click()")
         for name, words in FILLED.items():
-            await page.run(f"byId('{name}').focus()")
-            await page.type(words)
+            await page.evaluate(f"byId('{name}').focus()")
+            await page.type_text(words)
         for name, period in PERIODS.items():
-            await page.run(f"byId('{name}').value = '{period}'")
-        await page.run("byId('side').value = 'sell'")
-        await page.run("byId('fill').click()")
-        await page.run("document.activeElement.blur(); scrollTo(0, 0)")
-        await page.picture(path)
+            await page.evaluate(f"byId('{name}').value = '{period}'")
+        await page.evaluate("byId('side').value = 'sell'")
+        await page.evaluate("byId('fill').click()")
+        await page.evaluate("document.activeElement.blur(); scrollTo(0, 0)")
+        await page.write_picture(path)
 
 
 def keep(path):

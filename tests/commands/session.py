@@ -12,8 +12,8 @@ from lib.base.place import CLONED
 from lib.base.rules import VERSION
 from lib.tool import command, modules
 from scenes import CLONE, INSTALLED, PAGES
-from shared.ports import free_port
-from shared.shown import blocks, spans
+from shared.ports import find_free_port
+from shared.shown import blocks_of_page, code_spans
 
 SECONDS = 200  # that the commands of a page may take
 BROWSER = """#!/bin/sh
@@ -55,7 +55,7 @@ def environment(home, more, root=Path("/")):
     browser.write_text(BROWSER)
     browser.chmod(0o755)
     kept = {name: os.environ[name] for name in ("LANG", "LC_ALL", "TZ") if name in os.environ}
-    own = {"HOME": str(inside(home, root)), "BROWSER": f"{inside(browser, root)} %s", "PORT": str(free_port()), "VERSION": VERSION}
+    own = {"HOME": str(inside(home, root)), "BROWSER": f"{inside(browser, root)} %s", "PORT": str(find_free_port()), "VERSION": VERSION}
     return {**kept, **own, **more}
 
 
@@ -110,7 +110,7 @@ def edited(commands, edits):
 
 def steps(name, text, form):
     """The steps of a page. Each text of its scene has to be on the page: one that isn't there any more is a fault."""
-    scene, found, within = PAGES[name], blocks(text), spans(text)
+    scene, found, within = PAGES[name], blocks_of_page(text), code_spans(text)
     lines = [line for block in found for line in block.commands.splitlines()] + list(scene.spans)
     for what, missing in (
         ("the line left out", [words for words in scene.left_out if not any(line.startswith(words) for line in lines)]),

@@ -44,7 +44,7 @@ def main():
         begun = time.monotonic(), processor_time()
         PARTS[name].run(counts, desk, dam, whole)
         print(f"{name}: {time.monotonic() - begun[0]:.0f} s, {processor_time() - begun[1]:.0f} s of a processor", flush=True)
-    return counts.end()
+    return counts.print_totals()
 
 
 if __name__ == "__main__":

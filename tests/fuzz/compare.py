@@ -11,7 +11,7 @@ if sys.version_info < (3, 10):
     sys.exit("fuzz: it needs Python 3.10 or newer")
 sys.path.insert(0, str(Path(__file__).resolve().parents[1]))
 
-from shared.printed import Printed, wrong_of_journal
+from shared.printed import Printed, faults_of_journal
 from lib.audit import best
 from lib.base import rules
 from lib.journal import book, journal
@@ -156,7 +156,7 @@ def day_differences(data, got):
     if got.status or got.stderr or texts is None:
         return ["there is no text of a day"]
     written, published = texts
-    wrong, run = wrong_of_journal(given, written)
+    wrong, run = faults_of_journal(given, written)
     right = run and wanted_results(run)
     if right is not None and published != right.stdout:
         wrong.append("its results aren't those of its journal")

@@ -33,7 +33,7 @@ from lib.journal import book, journal
 from lib.results import results, selection
 from lib.sheets import kinds
 from lib.tool import command
-from shared.arguments import of_cases
+from shared.arguments import parser_of_cases
 from shared.counts import Counts
 
 MOST_BLOCKS = 6
@@ -43,7 +43,7 @@ RIGHT, WRONG, UNREAD, ENCODING = command.DONE, command.DIFFERS, command.NO_INPUT
 
 
 def arguments():
-    parser = of_cases("tests/fuzz/doctored.py", __doc__, "cases", 5_000)
+    parser = parser_of_cases("tests/fuzz/doctored.py", __doc__, "cases", 5_000)
     parser.add_argument("--keep", metavar="FOLDER", help="keeps each pair on which the audit is wrong here")
     return parser.parse_args()
 
@@ -258,7 +258,7 @@ def main():
                     for name, content in (("csv", data), ("txt", text)):
                         Path(args.keep, f"{re.sub('[^A-Za-z0-9]', '-', args.seed)}-{number}.{name}").write_bytes(content)
     print(f"by status: {', '.join(f'{seen[status]} with {status}' for status in sorted(seen))}")
-    return Counts(args.count - failed, failed).end()
+    return Counts(args.count - failed, failed).print_totals()
 
 
 if __name__ == "__main__":

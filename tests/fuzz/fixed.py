@@ -85,7 +85,7 @@ def main():
     for command, words, text in inputs():
         wrong = compare.differences(program, command, words, text)
         counts.check(f"{' '.join([command, *words])} of {len(text)} bytes that end with {text[-20:]!r}: {''.join(wrong[:1])}", not wrong)
-    return counts.end()
+    return counts.print_totals()
 
 
 sys.exit(main())

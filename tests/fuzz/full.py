@@ -224,7 +224,7 @@ def main():
     for case in cases(size):
         wrong = wrong_of(program, case, size)
         counts.check(f"{case.name}: {'; '.join(map(str, wrong))}", not wrong)
-    return counts.end()
+    return counts.print_totals()
 
 
 if __name__ == "__main__":

@@ -19,7 +19,7 @@ sys.path.insert(0, str(Path(__file__).resolve().parent))  # an isolated Python l
 
 import compare
 import days
-from shared.arguments import of_cases
+from shared.arguments import parser_of_cases
 from shared.counts import Counts
 from lib.audit import better
 from lib.journal import book, journal
@@ -33,7 +33,7 @@ FEW_BLOCKS = 12  # of a day, without numpy
 
 
 def arguments():
-    parser = of_cases("tests/fuzz/selections.py", __doc__, "cases", 200)
+    parser = parser_of_cases("tests/fuzz/selections.py", __doc__, "cases", 200)
     parser.add_argument("--blocks", type=int, help="how many blocks are submitted (any number up to 24)")
     parser.add_argument("--wait", type=float, default=compare.SECONDS, help="how many seconds the program may take to answer (60)")
     kinds = parser.add_mutually_exclusive_group()
@@ -145,7 +145,7 @@ def main():
         counts.check(f"{name}: {wrong}", wrong is None)
     for kind in sorted(kind for kind in altered if kind):
         print(f"{altered[kind]} altered to an eligible selection {kind}")
-    return counts.end()
+    return counts.print_totals()
 
 
 command.run("fuzz", main)

@@ -22,7 +22,7 @@ sys.dont_write_bytecode = True
 sys.path[:0] = [str(Path(__file__).resolve().parents[2] / folder) for folder in ("tools", "tests")]
 
 from lib.sheets import order_table, sheets
-from shared.arguments import of_cases
+from shared.arguments import parser_of_cases
 from shared.counts import Counts
 
 MOST_SECONDS, MOST_MEMORY, MOST_BYTES = 10, 42 * 2**20, 5 * 10**6
@@ -621,7 +621,7 @@ def told(data, words):
 
 
 def main():
-    parser = of_cases("tests/fuzz/workbooks.py", __doc__, "cases", 2_000, has_program=False)
+    parser = parser_of_cases("tests/fuzz/workbooks.py", __doc__, "cases", 2_000, has_program=False)
     parser.add_argument("--large", action="store_true", help="also all workbooks that take memory or time")
     args = parser.parse_args()
     counts = Counts()
@@ -634,7 +634,7 @@ def main():
         wrong = limited(data, words) or (len(data) > MOST_BYTES and f"the case has {len(data)} bytes")
         seconds = sum(resource.getrusage(resource.RUSAGE_CHILDREN)[:2]) - began
         counts.check(f"{name}: {wrong} ({seconds:.1f} s)", not wrong)
-    return counts.end()
+    return counts.print_totals()
 
 
 if __name__ == "__main__":

@@ -4,7 +4,7 @@ import re
 import threading
 
 from preload import Refusal
-from shared.printed import Printed, wrong_of_journal
+from shared.printed import Printed, faults_of_journal
 from lib.journal import journal
 from lib.results import results
 
@@ -41,7 +41,7 @@ class Answer:
         if parted is None:
             return False
         written, published = parted
-        wrong, _ = wrong_of_journal(journal.read_journal(self.data), written)
+        wrong, _ = faults_of_journal(journal.read_journal(self.data), written)
         cleared, _ = self.program.run(["clear"], written, NOTHING_REFUSED)
         return not wrong and cleared == Printed(0, published, b"")
 

@@ -64,7 +64,7 @@ def is_command(record):
 
 def worked_cases():
     """The worked cases for the built program: each with its name, its words and its input."""
-    return [(case.name, case.words, case.stdin) for case in cases.every()]
+    return [(case.name, case.words, case.stdin) for case in cases.read_every()]
 
 
 AUCTION = records("auction-day.csv")
@@ -475,7 +475,7 @@ def main():
         shapes.compare(runs, shapes.HERE, shapes.costs_of(runs))
     else:
         runs.leave_out("names that collide, many cancels, full books, and shapes: valgrind, which counts instructions, is missing", 4)
-    return runs.end()
+    return runs.print_totals()
 
 
 sys.exit(main())

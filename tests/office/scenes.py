@@ -17,7 +17,7 @@ import hostile
 import loads
 from served import TOOL, TOP, OfficeFault, day_of, served
 from shared import browser
-from shared.ports import free_port
+from shared.ports import find_free_port
 
 from dam_tools.office import Asked, Office
 from lib.base import rules
@@ -338,7 +338,7 @@ def demo(args, counts):
     """The demo, without a browser: its page, its tokens, a close at once, results."""
     import described
 
-    port = free_port()
+    port = find_free_port()
     words = [*TOOL, "demo", "--no-browser", "--port", str(port), "--dam", args.dam, "--desk", args.desk]
     with subprocess.Popen(words, stdout=subprocess.PIPE, stderr=subprocess.DEVNULL, text=True) as process:
         try:
@@ -423,7 +423,7 @@ def check_alerts(office, counts):
 
 
 def page(args, counts):
-    if browser.found() is None:
+    if browser.find_browser() is None:
         counts.leave_out("the page: chromium is missing")
         return
     import scene_of_page

@@ -8,7 +8,7 @@ import subprocess
 
 from lib.base.place import TOOLS
 from lib.base.rules import VERSION
-from shared.pages import links
+from shared.pages import read_links
 from shared.site import Site
 
 import installed
@@ -19,7 +19,7 @@ def check_links(counts, at):
     """Every link of a packaged page leads to a file that is packaged, and to a heading."""
     pages, seen = sorted((at / "share/doc/dam").rglob("*.md")), 0
     for page in pages:
-        for link, wrong in links(page):
+        for link, wrong in read_links(page):
             counts.check(f"packaged {page.name}: {link}: {wrong}", wrong is None)
             seen += 1
     counts.check(f"{len(pages)} packaged pages with {seen} links", len(pages) > 40 and seen > 300)
@@ -29,7 +29,7 @@ def check_manual(counts, at):
     """The packaged site of the manual is whole, has installed commands, and nobody but its owner can change it."""
     folder = at / "share/doc/dam/html"
     shown = Site(folder)
-    faults = list(shown.faults())
+    faults = list(shown.read_faults())
     counts.check(f"the manual: {faults[:10]}", not faults and len(shown.pages) > 60)
     guide = shown.pages[shown.folder / "docs/GUIDE.html"]
     cloned = [block for block in guide.blocks if re.search(r"(?<![\w./-])(\./dam\b|tools/)", block)]

@@ -3,7 +3,7 @@
 import argparse
 
 
-def of_cases(prog, about, cases, count, has_program=True):
+def parser_of_cases(prog, about, cases, count, has_program=True):
     """The parser of a run that draws `count` cases if nothing else is said; each depends only on the seed and its number."""
     form = argparse.RawDescriptionHelpFormatter
     parser = argparse.ArgumentParser(prog=prog, description=about, formatter_class=form, allow_abbrev=False)

@@ -16,18 +16,18 @@ NAMES = ("chromium", "chromium-browser", "google-chrome")
 START_SECONDS, WAIT_SECONDS, STEP = 60, 60, 0.05
 
 
-def found():
+def find_browser():
     return next((path for path in map(shutil.which, NAMES) if path), None)
 
 
-class Page:
+class BrowserTab:
     """A tab. Faults of its scripts, and what its policy refuses, are gathered in `faults`."""
 
     def __init__(self, socket):
         self.socket, self.numbers, self.answers, self.faults = socket, itertools.count(1), {}, []
-        self.reader = asyncio.create_task(self.read())
+        self.reader = asyncio.create_task(self.read_messages())
 
-    async def read(self):
+    async def read_messages(self):
         async for message in self.socket:
             value = json.loads(message.data)
             if "id" in value:
@@ -37,7 +37,7 @@ class Page:
             elif value["method"] == "Log.entryAdded" and value["params"]["entry"]["level"] == "error":
                 self.faults.append(f"{value['params']['entry']['text']} {value['params']['entry'].get('url', '')}")
 
-    async def call(self, method, **params):
+    async def call_browser(self, method, **params):
         number = next(self.numbers)
         self.answers[number] = asyncio.get_running_loop().create_future()
         await self.socket.send_json({"id": number, "method": method, "params": params})
@@ -46,55 +46,55 @@ class Page:
             raise RuntimeError(f"{method}: {answer['error']}")
         return answer["result"]
 
-    async def run(self, script):
+    async def evaluate(self, script):
         """The value of an expression in the page."""
-        found = await self.call("Runtime.evaluate", expression=script, awaitPromise=True, returnByValue=True)
+        found = await self.call_browser("Runtime.evaluate", expression=script, awaitPromise=True, returnByValue=True)
         if "exceptionDetails" in found:
             raise RuntimeError(f"{script}: {found['exceptionDetails']}")
         return found["result"].get("value")
 
-    async def until(self, script):
+    async def wait_until(self, script):
         """Waits until an expression is true, also while another page is opened."""
         with contextlib.suppress(asyncio.TimeoutError):
             async with asyncio.timeout(WAIT_SECONDS):
-                while not await self.holds(script):
+                while not await self.is_true(script):
                     await asyncio.sleep(STEP)
                 return
         raise AssertionError(
-            f"it never is so: {script}; the page says: {await self.run('document.getElementById(`message`)?.textContent')}"
+            f"it never is so: {script}; the page says: {await self.evaluate('document.getElementById(`message`)?.textContent')}"
         )
 
-    async def holds(self, script):
+    async def is_true(self, script):
         try:
-            return await self.run(f"Boolean({script})")
+            return await self.evaluate(f"Boolean({script})")
         except RuntimeError as fault:
             if "navigated" not in str(fault):
                 raise
             return False
 
-    async def look(self, width, scheme, height=900):
-        await self.call("Emulation.setDeviceMetricsOverride", width=width, height=height, deviceScaleFactor=1, mobile=width < 500)
-        await self.call("Emulation.setEmulatedMedia", features=[{"name": "prefers-color-scheme", "value": scheme}])
+    async def set_screen(self, width, scheme, height=900):
+        await self.call_browser("Emulation.setDeviceMetricsOverride", width=width, height=height, deviceScaleFactor=1, mobile=width < 500)
+        await self.call_browser("Emulation.setEmulatedMedia", features=[{"name": "prefers-color-scheme", "value": scheme}])
 
-    async def picture(self, path):
-        found = await self.call("Page.captureScreenshot", captureBeyondViewport=True)
+    async def write_picture(self, path):
+        found = await self.call_browser("Page.captureScreenshot", captureBeyondViewport=True)
         Path(path).write_bytes(base64.b64decode(found["data"]))
 
-    async def type(self, text):
-        await self.call("Input.insertText", text=text)
+    async def type_text(self, text):
+        await self.call_browser("Input.insertText", text=text)
 
-    async def key(self, name, code):
+    async def press_key(self, name, code):
         for kind in ("keyDown", "keyUp"):
             text = {"text": "\r"} if name == "Enter" and kind == "keyDown" else {}
-            await self.call("Input.dispatchKeyEvent", type=kind, key=name, code=name, windowsVirtualKeyCode=code, **text)
+            await self.call_browser("Input.dispatchKeyEvent", type=kind, key=name, code=name, windowsVirtualKeyCode=code, **text)
 
 
 @contextlib.asynccontextmanager
-async def opened(url):
+async def open_in_browser(url):
     """A tab with a page."""
     with tempfile.TemporaryDirectory(ignore_cleanup_errors=True) as room:
         words = [
-            found(),
+            find_browser(),
             "--headless=new",
             "--no-sandbox",
             "--disable-gpu",
@@ -112,11 +112,11 @@ async def opened(url):
                 async with session.get(f"http://127.0.0.1:{port.read_text().split()[0]}/json") as answer:
                     tab = next(one for one in await answer.json(content_type=None) if one["type"] == "page")
                 async with session.ws_connect(tab["webSocketDebuggerUrl"], max_msg_size=0) as socket:
-                    page = Page(socket)
+                    page = BrowserTab(socket)
                     for domain in ("Page", "Runtime", "Log", "DOM"):
-                        await page.call(f"{domain}.enable")
-                    await page.call("Page.navigate", url=url)
-                    await page.until("location.href !== 'about:blank' && document.readyState === 'complete'")
+                        await page.call_browser(f"{domain}.enable")
+                    await page.call_browser("Page.navigate", url=url)
+                    await page.wait_until("location.href !== 'about:blank' && document.readyState === 'complete'")
                     yield page
         finally:
             process.terminate()

@@ -39,7 +39,7 @@ ESCAPED = {"n": "\n", "r": "\r", "\\": "\\", "": ""}
 UNPLAIN = re.compile(r"^[=-](?=[=-] )| $|[^ -z|}~]|\\")
 
 
-class Fault(Exception):
+class CaseFault(Exception):
     """The fault of a file of cases; a first argument is the number of the line."""
 
 
@@ -68,11 +68,11 @@ class Case(NamedTuple):
     status: int
 
     @property
-    def printed(self):
+    def right_stdout(self):
         """The right standard output; the first, if several texts are."""
         return self.stdout.texts[0]
 
-    def differences(self, status, stdout, stderr):
+    def wrong_parts(self, status, stdout, stderr):
         """The wrong parts of a run."""
         found = {"stdout": self.stdout.is_right(stdout), "status": status == self.status, "stderr": self.stderr.is_right(stderr)}
         return [what for what, is_right in found.items() if not is_right]
@@ -84,64 +84,64 @@ class Part(NamedTuple):
     value: str
     lines: list  # each with its number
 
-    def filled(self, row):
-        return Part(self.number, self.kind, filled(self.number, self.value, row), [(at, filled(at, line, row)) for at, line in self.lines])
+    def with_cells(self, row):
+        return Part(self.number, self.kind, with_cells_of_row(self.number, self.value, row), [(at, with_cells_of_row(at, line, row)) for at, line in self.lines])
 
 
-class Reader:
+class CaseReader:
     """Reads a file of cases: `found` has them by their names."""
 
     def __init__(self, path):
         self.file, self.found = path.stem, {}
-        first, *blocks = blocks_of(path.read_bytes().decode("latin-1"))
-        usual = parts_of(first)
+        first, *blocks = parse_blocks(path.read_bytes().decode("latin-1"))
+        usual = parse_parts(first)
         for number, name, lines in blocks:
-            parts = parts_of((number, name, lines))
-            for row in rows_of([it for it in parts if it.kind == "table"]):
-                its = [it.filled(row) for it in parts if it.kind != "table"]
+            parts = parse_parts((number, name, lines))
+            for row in parse_rows([it for it in parts if it.kind == "table"]):
+                its = [it.with_cells(row) for it in parts if it.kind != "table"]
                 its += [it for it in usual if it.kind not in {own.kind for own in its}]
-                self.add(number, filled(number, name, row), its)
+                self.add_case(number, with_cells_of_row(number, name, row), its)
 
-    def add(self, number, name, parts):
+    def add_case(self, number, name, parts):
         kinds = [it.kind for it in parts]
         twice = [it for it in kinds if kinds.count(it) > 1 and it not in STREAMS or {f"{it} begins", f"{it} ends"} & {*kinds}]
         if twice or name in self.found or "args" not in kinds:
-            raise Fault(number, f"{name} has no arguments, is there already, or has a part twice")
+            raise CaseFault(number, f"{name} has no arguments, is there already, or has a part twice")
         values = {"status": "0", **{it.kind: it.value for it in parts}}
         if not values["status"].isdigit():
-            raise Fault(number, f"the status of {name} is no number: {values['status']}")
-        runs = [line.split() for it in parts if it.kind == "runs" for at, text in it.lines for line in repeated(at, text)]
-        stdin = [self.text(it) for it in parts if it.kind == "stdin"] or [b""]
-        out, error = (self.printed(stream, parts) for stream in STREAMS)
+            raise CaseFault(number, f"the status of {name} is no number: {values['status']}")
+        runs = [line.split() for it in parts if it.kind == "runs" for at, text in it.lines for line in parse_repeats(at, text)]
+        stdin = [self.read_text_of(it) for it in parts if it.kind == "stdin"] or [b""]
+        out, error = (self.parse_expected(stream, parts) for stream in STREAMS)
         self.found[name] = Case(f"{self.file}/{name}", values["args"].split(), runs or [[]], stdin[0], out, error, int(values["status"]))
 
-    def printed(self, stream, parts):
-        its = [(it.kind, self.text(it)) for it in parts if it.kind.split()[0] == stream]
+    def parse_expected(self, stream, parts):
+        its = [(it.kind, self.read_text_of(it)) for it in parts if it.kind.split()[0] == stream]
         texts, ends = [text for kind, text in its if kind == stream], dict(its)
         return Expected(texts or [b""], ends.get(f"{stream} begins", b""), ends.get(f"{stream} ends", b""))
 
-    def text(self, part):
+    def read_text_of(self, part):
         """The text of a part."""
         if not part.value:
-            return b"".join(unescaped(at, line) for at, text in part.lines for line in repeated(at, text))
+            return b"".join(parse_escapes(at, line) for at, text in part.lines for line in parse_repeats(at, text))
         if part.lines:
-            raise Fault(part.number, "a text from elsewhere, with lines below it")
+            raise CaseFault(part.number, "a text from elsewhere, with lines below it")
         how, _, where = part.value.partition(" ")
         if how == "from" and (TOP / where).is_file():
             return (TOP / where).read_bytes()
         file, slash, name = where[len("in ") :].rpartition("/")
-        found = self.found if not slash else named(file) if path_of(file).is_file() else {}
+        found = self.found if not slash else read_named(file) if path_of(file).is_file() else {}
         if how != "as" or name not in found:
-            raise Fault(part.number, f"there is no text {part.value}")
+            raise CaseFault(part.number, f"there is no text {part.value}")
         return found[name].stdin if part.kind == "stdin" else getattr(found[name], part.kind.split()[0]).texts[0]
 
 
-def blocks_of(text):
+def parse_blocks(text):
     """The text before the first case, and the cases: each the number of its line, its name, and the lines below it."""
     found = [(0, "", [])]
     for number, line in enumerate(text.split("\n"), 1):
         if not PLAIN.fullmatch(line):
-            raise Fault(number, "a byte outside of printable ASCII, or a blank at the end: these have to be escaped")
+            raise CaseFault(number, "a byte outside of printable ASCII, or a blank at the end: these have to be escaped")
         if line.startswith("== "):
             found.append((number, line[3:], []))
         else:
@@ -149,14 +149,14 @@ def blocks_of(text):
     return found
 
 
-def parts_of(block):
+def parse_parts(block):
     """The parts of a case, without empty lines at their end."""
     found = []
     for number, line in block[2]:
         if line.startswith("-- "):
             kind = next((it for it in KINDS if f"{line} ".startswith(f"-- {it} ")), None)
             if not kind:
-                raise Fault(number, f"there is no part {line[3:]}")
+                raise CaseFault(number, f"there is no part {line[3:]}")
             found.append(Part(number, kind, line[3 + len(kind) :].strip(), []))
         elif found:
             found[-1].lines.append((number, line))
@@ -164,96 +164,96 @@ def parts_of(block):
         while part.lines and not part.lines[-1][1]:
             part.lines.pop()
         if part.lines and part.kind in ("args", "status"):
-            raise Fault(part.number, f"lines below `-- {part.kind}`")
+            raise CaseFault(part.number, f"lines below `-- {part.kind}`")
     return found
 
 
-def rows_of(tables):
+def parse_rows(tables):
     """The rows of a case's table, each with its cells by their columns; one row without cells, if there is no table."""
     if not tables:
         return [{}]
     (_, columns), *rows = [(number, re.split("  +", line)) for number, line in tables[0].lines] or [(0, [])]
     if len(tables) > 1 or not rows:
-        raise Fault(tables[-1].number, "a second table, or one without rows")
+        raise CaseFault(tables[-1].number, "a second table, or one without rows")
     for number, cells in rows:
         if len(cells) != len(columns):
-            raise Fault(number, f"{len(cells)} cells below {len(columns)} columns")
+            raise CaseFault(number, f"{len(cells)} cells below {len(columns)} columns")
     return [dict(zip(columns, cells)) for _, cells in rows]
 
 
-def filled(number, text, row):
+def with_cells_of_row(number, text, row):
     """The text with a row's cells."""
 
     def cell(brace):
         if brace[1] not in row and not TIMES.fullmatch(brace[0]):
-            raise Fault(number, f"neither a column nor a range: {brace[0]}")
+            raise CaseFault(number, f"neither a column nor a range: {brace[0]}")
         return row.get(brace[1], brace[0])
 
     return BRACE.sub(cell, text)
 
 
-def repeated(number, line):
+def parse_repeats(number, line):
     """The lines for which a line stands that has ranges and numbers of times."""
     texts = TIMES.split(line)
     counts = zip(texts[1::4], texts[2::4], texts[3::4])
     ranges = [[""] * int(times) if times else range(int(least), int(most) + 1) for least, most, times in counts]
     if not all(ranges):
-        raise Fault(number, f"a line that stands for none: {line}")
+        raise CaseFault(number, f"a line that stands for none: {line}")
     for numbers in product(*ranges):
         yield texts[0] + "".join(f"{number}{text}" for number, text in zip(numbers, texts[4::4]))
 
 
-def unescaped(number, line):
+def parse_escapes(number, line):
     """The bytes for which a line stands."""
 
     def byte(escape):
         word = escape[1]
         if word not in ESCAPED and len(word) < 3:
-            raise Fault(number, f"there is no escape {escape[0]}")
+            raise CaseFault(number, f"there is no escape {escape[0]}")
         return ESCAPED[word] if word in ESCAPED else chr(int(word[1:], 16))
 
     is_cut = (len(line) - len(line.rstrip("\\"))) % 2 == 1
     return ESCAPE.sub(byte, line).encode("latin-1") + (b"" if is_cut else b"\n")
 
 
-def read(path):
+def read_cases(path):
     """The cases of a file by their names, in its order."""
     try:
-        return Reader(Path(path)).found
-    except Fault as fault:
+        return CaseReader(Path(path)).found
+    except CaseFault as fault:
         if len(fault.args) == 1:
             raise
-        raise Fault(f"{path}:{fault.args[0]}: {fault.args[1]}") from None
+        raise CaseFault(f"{path}:{fault.args[0]}: {fault.args[1]}") from None
 
 
-def named(file):
+def read_named(file):
     """The cases of a file of tests/cases/, by their names."""
-    return read(path_of(file))
+    return read_cases(path_of(file))
 
 
 def path_of(file):
     return FOLDER / f"{file}.txt"
 
 
-def files():
+def list_files():
     return sorted(FOLDER.glob("*.txt"))
 
 
-def every():
+def read_every():
     """All cases of tests/cases/."""
-    return [case for path in files() for case in read(path).values()]
+    return [case for path in list_files() for case in read_cases(path).values()]
 
 
-def written(name, words, stdin, stdout=b"", stderr=b"", status=0):
+def case_text(name, words, stdin, stdout=b"", stderr=b"", status=0):
     """A case as it stands in a file."""
     lines = [f"== {name}", f"-- args {' '.join(words)}".rstrip()]
     for kind, text in ("stdin", stdin), ("stdout", stdout), ("stderr", stderr):
         if text:
-            lines += [f"-- {kind}", *escaped(text)]
+            lines += [f"-- {kind}", *escaped_lines(text)]
     return "\n".join([*lines, f"-- status {status}", ""])
 
 
-def escaped(text):
+def escaped_lines(text):
     """The lines that stand for a text."""
     *whole, rest = text.decode("latin-1").split("\n")
     lines = [UNPLAIN.sub(lambda it: "\\\\" if it[0] == "\\" else f"\\x{ord(it[0]):02x}", line) for line in (*whole, rest)]

@@ -6,21 +6,21 @@ LINK = re.compile(r"\]\(([^)#\s]*)(?:#([^)\s]*))?\)")
 FENCE = re.compile(r"^```.*?^```$", re.MULTILINE | re.DOTALL)
 
 
-def prose(page):
+def read_prose(page):
     return FENCE.sub("", page.read_text(encoding="utf-8"))
 
 
-def anchors(page):
+def read_anchors(page):
     """The names of a page's headings in links."""
-    heads = re.findall(r"^#+ (.*)$", prose(page), re.MULTILINE)
+    heads = re.findall(r"^#+ (.*)$", read_prose(page), re.MULTILINE)
     return {re.sub(r"[^\w\- ]", "", head.lower()).replace(" ", "-") for head in heads}
 
 
-def links(page):
+def read_links(page):
     """Each link of a page to a file or a heading, with its fault, or None."""
-    for path, anchor in LINK.findall(prose(page)):
+    for path, anchor in LINK.findall(read_prose(page)):
         target = (page.parent / path).resolve() if path else page
         wrong = None if target.exists() else "no such file"
-        if anchor and not wrong and anchor not in anchors(target):
+        if anchor and not wrong and anchor not in read_anchors(target):
             wrong = "no such heading"
         yield f"{path}#{anchor}" if anchor else path, wrong

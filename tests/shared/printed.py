@@ -11,7 +11,7 @@ class Printed(NamedTuple):
     stderr: bytes
 
 
-def by_participant(commands):
+def commands_by_participant(commands):
     """Each participant's commands, in their order."""
     lists = {}
     for command in commands:
@@ -19,7 +19,7 @@ def by_participant(commands):
     return lists
 
 
-def wrong_of_journal(given, written):
+def faults_of_journal(given, written):
     """The faults of the journal that a day printed for the one given. Any order is right that keeps each participant's own, with the
     close at its end. And the journal as it is read; None if it can't be."""
     try:
@@ -29,7 +29,7 @@ def wrong_of_journal(given, written):
     wrong = []
     if journal.journal_text(run).encode() != written:
         wrong.append("its journal isn't in the written form")
-    if run.periods != given.periods or by_participant(run.commands[:-1]) != by_participant(given.commands):
+    if run.periods != given.periods or commands_by_participant(run.commands[:-1]) != commands_by_participant(given.commands):
         wrong.append("its journal doesn't have each participant's commands in their order")
     if run.commands[-1:] != [journal.Close()]:
         wrong.append("its journal doesn't end with the close")

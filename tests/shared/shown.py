@@ -16,15 +16,15 @@ class Block(NamedTuple):
     quoted: str
 
 
-def blocks(text):
+def blocks_of_page(text):
     return [Block(*found.groups()) for found in BLOCK.finditer(text)]
 
 
-def spans(text):
+def code_spans(text):
     """The words that stand as code within sentences and tables."""
     return [" ".join(found.split()) for found in re.findall(r"`([^`]+)`", FENCE.sub("", text))]
 
 
-def pairs(text):
+def quoted_pairs(text):
     """Each block of a shell's commands with the output that the page quotes."""
-    return [(block.commands, block.quoted) for block in blocks(text) if block.kind == "sh"]
+    return [(block.commands, block.quoted) for block in blocks_of_page(text) if block.kind == "sh"]

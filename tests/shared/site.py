@@ -12,7 +12,7 @@ FETCHED = {("script", "src"), ("img", "src"), ("link", "href"), ("iframe", "src"
 OF_STYLES = re.compile(r"@import\s+[\"']?([^\"';)\s]+)|url\(\s*[\"']?([^\"')]+)")
 
 
-class Page(HTMLParser):
+class SitePage(HTMLParser):
     """A page: the names of its places, its links, the files that it fetches, the pages before and after it, its blocks of text, and how
     many items of lists and tables its article has."""
 
@@ -38,7 +38,7 @@ class Page(HTMLParser):
         if found.get("rel") in ("prev", "next"):
             self.neighbours[found["rel"]] = found.get("href")
         self.fetches += [value for name, value in pairs if value and (tag, name.removeprefix("xlink:")) in FETCHED]
-        self.fetches += styles(found.get("style") or "")
+        self.fetches += fetched_by_style(found.get("style") or "")
 
     handle_startendtag = handle_starttag
 
@@ -50,12 +50,12 @@ class Page(HTMLParser):
         if self.is_block:
             self.blocks[-1] += data
 
-    def texts(self):
+    def block_texts(self):
         """The blocks of text, without the line ends around them."""
         return {block.strip("\n") for block in self.blocks}
 
 
-def styles(text):
+def fetched_by_style(text):
     """The files that a style fetches, but for those that it has in itself."""
     found = (one or other for one, other in OF_STYLES.findall(text))
     return [url for url in found if not url.startswith("data:") and not url.startswith("#")]
@@ -64,12 +64,12 @@ def styles(text):
 class Site:
     def __init__(self, folder):
         self.folder = Path(folder).resolve()
-        self.pages = {path: Page(path) for path in sorted(self.folder.rglob("*.html"))}
+        self.pages = {path: SitePage(path) for path in sorted(self.folder.rglob("*.html"))}
 
-    def name(self, path):
+    def relative_name(self, path):
         return path.relative_to(self.folder).as_posix()
 
-    def wrong(self, page, url):
+    def fault_of_link(self, page, url):
         """Why a link of a page leads nowhere in the site, if it doesn't."""
         parts = urlsplit(url)
         if parts.scheme or parts.netloc:
@@ -83,14 +83,14 @@ class Site:
             return "no such place"
         return None
 
-    def faults(self):
+    def read_faults(self):
         """Each link, fetched file and place of the site that is wrong, with its page."""
         for page in self.pages.values():
             for url in [*page.links, *page.fetches]:
-                if wrong := self.wrong(page, url):
-                    yield f"{self.name(page.path)}: {url}: {wrong}"
-            yield from (f"{self.name(page.path)}: two places are named {name}" for name in page.twice)
+                if wrong := self.fault_of_link(page, url):
+                    yield f"{self.relative_name(page.path)}: {url}: {wrong}"
+            yield from (f"{self.relative_name(page.path)}: two places are named {name}" for name in page.twice)
         for path in sorted(self.folder.rglob("*.css")):
-            for url in styles(path.read_text(encoding="utf-8")):
+            for url in fetched_by_style(path.read_text(encoding="utf-8")):
                 if urlsplit(url).scheme or not (path.parent / url).is_file():
-                    yield f"{self.name(path)}: {url}: not in the site"
+                    yield f"{self.relative_name(path)}: {url}: not in the site"

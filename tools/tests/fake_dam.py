@@ -11,7 +11,7 @@ sys.dont_write_bytecode = True
 import support  # noqa: F401 (it makes lib and the fuzzer's modules found)
 
 import compare
-from shared.printed import Printed, by_participant
+from shared.printed import Printed, commands_by_participant
 from lib.base import rules
 from lib.journal import book, journal
 from lib.results import results, selection
@@ -23,7 +23,7 @@ NOMINAL = b"period,1,%d" % MIDDLE
 
 def shuffled(commands):
     """The participants' commands in some order that keeps each one's own."""
-    lists, rng = list(by_participant(commands).values()), random.Random(1)
+    lists, rng = list(commands_by_participant(commands).values()), random.Random(1)
     while any(lists):
         yield rng.choice([own for own in lists if own]).pop(0)
 

@@ -58,12 +58,12 @@ def new_folder(case):
 
 def cases(file):
     """The worked cases of a file, by their names."""
-    return worked.named(file)
+    return worked.read_named(file)
 
 
 def cleared_cases():
     """The name, the journal and the results of each worked clearing."""
-    return [(name, case.stdin, case.printed) for name, case in cases("clear").items() if case.status == 0]
+    return [(name, case.stdin, case.right_stdout) for name, case in cases("clear").items() if case.status == 0]
 
 
 def printed(example):

@@ -132,7 +132,7 @@ class Results(unittest.TestCase):
             found = selection.outcome(chain, accepted)
             self.assertEqual(selection.losses_of(chain, accepted, found.surpluses), losers)
         case = support.cases("clear")["rescue-not-upwards"]
-        wrong = "\n".join(differences(case.stdin, case.printed.replace(b"K2,rejected", b"K2,accepted")))
+        wrong = "\n".join(differences(case.stdin, case.right_stdout.replace(b"K2,rejected", b"K2,accepted")))
         self.assertIn("block A,K2: it is accepted and loses 500", wrong)
         self.assertNotIn("with those", wrong)
 
@@ -172,7 +172,7 @@ class Results(unittest.TestCase):
 
     def test_a_selection_that_balances_nowhere_is_refused(self):
         case = support.cases("clear")["too-large-block"]
-        wrong = differences(case.stdin, case.printed.replace(b"rejected", b"accepted"))
+        wrong = differences(case.stdin, case.right_stdout.replace(b"rejected", b"accepted"))
         self.assertIn("period 1: no execution balances", wrong[0])
 
 
@@ -180,7 +180,7 @@ class Text(unittest.TestCase):
     def test_replies_and_faults_of_the_worked_cases(self):
         for name, case in support.cases("replay").items():
             with self.subTest(name):
-                self.assertEqual(self.replies(case.stdin), (case.printed, case.stderr.texts[0]))
+                self.assertEqual(self.replies(case.stdin), (case.right_stdout, case.stderr.texts[0]))
 
     def replies(self, data):
         try:

@@ -19,7 +19,7 @@ import clearing
 import figures
 from lib.tool import modules
 
-PEER, THIN = TOP / "bench" / "peer.py", worked.named("thin")
+PEER, THIN = TOP / "bench" / "peer.py", worked.read_named("thin")
 
 
 class Timed(clearing.TimedBook):
@@ -78,7 +78,7 @@ class Peers(unittest.TestCase):
             with self.subTest(case.name), tempfile.NamedTemporaryFile() as journal:
                 Path(journal.name).write_bytes(case.stdin)
                 ran = subprocess.run([sys.executable, PEER, peer, journal.name, "60"], capture_output=True, text=True, check=True)
-                self.assertIn(f"\nwelfare,{ran.stdout}", case.printed.decode())
+                self.assertIn(f"\nwelfare,{ran.stdout}", case.right_stdout.decode())
                 self.assertRegex(ran.stderr, rf"\A{peer} \d+\n\Z")
 
     def test_highs_finds_the_same_welfare(self):

@@ -22,7 +22,7 @@ class Cases(unittest.TestCase):
 
     def read(self, text):
         self.path.write_text(text, encoding="latin-1")
-        return worked.read(self.path)
+        return worked.read_cases(self.path)
 
     def one(self, text):
         (case,) = self.read(f"== a\n-- args b\n{text}").values()
@@ -79,9 +79,9 @@ z\\
 
     def test_texts_from_elsewhere(self):
         self.assertEqual(self.one("-- stdin from examples/first-day.csv\n").stdin, (TOP / "examples/first-day.csv").read_bytes())
-        paradox = worked.named("clear")["paradox"]
+        paradox = worked.read_named("clear")["paradox"]
         case = self.one("-- stdin as in clear/paradox\n-- stdout as in clear/paradox\n")
-        self.assertEqual((case.stdin, case.printed), (paradox.stdin, paradox.printed))
+        self.assertEqual((case.stdin, case.right_stdout), (paradox.stdin, paradox.right_stdout))
 
     def test_faults_have_their_place(self):
         for text, number, why in (
@@ -112,29 +112,29 @@ z\\
             ("-- table\nb\n1\n-- table\nb\n2\n", 6, "a second table"),
         ):
             with self.subTest(text):
-                with self.assertRaises(worked.Fault) as fault:
+                with self.assertRaises(worked.CaseFault) as fault:
                     self.one(text)
                 place, _, said = str(fault.exception).partition(": ")
                 self.assertEqual((place, why in said), (f"{self.path}:{number}", True), said)
-        with self.assertRaisesRegex(worked.Fault, ":1: a has no arguments"):
+        with self.assertRaisesRegex(worked.CaseFault, ":1: a has no arguments"):
             self.read("== a\n-- stdin\nb\n")
 
     def test_a_case_is_read_as_it_was_written(self):
         rng = random.Random(1)
         for _ in range(500):
             texts = [b"".join(rng.choice(PIECES) for _ in range(rng.randrange(8))) for _ in range(3)]
-            case = self.read(worked.written("n", ["replay", "--x"], *texts, rng.randrange(4)))["n"]
-            self.assertEqual([case.stdin, case.printed, case.stderr.texts[0]], texts)
-            self.assertEqual(self.read(worked.written("n", case.words, *texts, case.status))["n"], case)
+            case = self.read(worked.case_text("n", ["replay", "--x"], *texts, rng.randrange(4)))["n"]
+            self.assertEqual([case.stdin, case.right_stdout, case.stderr.texts[0]], texts)
+            self.assertEqual(self.read(worked.case_text("n", case.words, *texts, case.status))["n"], case)
 
     def test_what_differs(self):
         case = self.one("-- stdout\nx\n-- stdout\ny\n-- stderr begins\nz\n-- status 3\n")
-        self.assertEqual(case.differences(3, b"y\n", b"z\nmore"), [])
-        self.assertEqual(case.differences(0, b"xy\n", b"zz\n"), ["stdout", "status", "stderr"])
+        self.assertEqual(case.wrong_parts(3, b"y\n", b"z\nmore"), [])
+        self.assertEqual(case.wrong_parts(0, b"xy\n", b"zz\n"), ["stdout", "status", "stderr"])
         case = self.one("-- stdout begins\nx\ny\n-- stdout ends\ny\nz\n-- stderr ends\nz\n")
-        self.assertEqual(case.differences(0, b"x\ny\nw\ny\nz\n", b"more\nz\n"), [])
+        self.assertEqual(case.wrong_parts(0, b"x\ny\nw\ny\nz\n", b"more\nz\n"), [])
         for out in (b"x\ny\nw\nyz\n", b"x\nw\ny\nz\n", b"x\ny\nw\ny\nz"):
-            self.assertEqual(case.differences(0, out, b"z\nmore"), ["stdout", "stderr"])
+            self.assertEqual(case.wrong_parts(0, out, b"z\nmore"), ["stdout", "stderr"])
 
     def test_the_runner(self):
         program = self.path.with_name("program")
@@ -148,7 +148,7 @@ z\\
         said = f"run-cases: {self.path}:1: a has no arguments, is there already, or has a part twice\n"
         self.assertEqual((ran.returncode, ran.stdout, ran.stderr), (1, "", said))
         shown = subprocess.run([sys.executable, TOP / "tests/run-cases", "--print", "clear/paradox"], capture_output=True)
-        self.assertEqual(shown.stdout, worked.named("clear")["paradox"].stdin)
+        self.assertEqual(shown.stdout, worked.read_named("clear")["paradox"].stdin)
 
     def test_the_runner_on_a_mix_up(self):
         for words, said in (
@@ -166,10 +166,10 @@ z\\
                 self.assertNotIn("Traceback", ran.stderr)
 
     def test_the_cases_of_the_repository(self):
-        names = [case.name for case in worked.every()]
+        names = [case.name for case in worked.read_every()]
         self.assertEqual(len(names), len(set(names)))
-        used = re.findall(r"^-- stdout from (tests/cases/.*)$", "".join(path.read_text() for path in worked.files()), re.MULTILINE)
-        self.assertEqual({TOP / path for path in used} | {*worked.files()}, {*worked.FOLDER.iterdir()})
+        used = re.findall(r"^-- stdout from (tests/cases/.*)$", "".join(path.read_text() for path in worked.list_files()), re.MULTILINE)
+        self.assertEqual({TOP / path for path in used} | {*worked.list_files()}, {*worked.FOLDER.iterdir()})
 
 
 TESTS = """

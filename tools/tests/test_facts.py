@@ -185,7 +185,7 @@ class Facts(unittest.TestCase):
         lines = [(line, int(number)) for cell, number in rows for line in re.findall(r"`([a-z]+(?:: [^`]*)?)`", cell)]
         patterns = {re.sub(r"<\\?\w+\\?>", r"\\d+", re.escape(line)): number for line, number in lines}
         counted = set()
-        for case in worked.every():
+        for case in worked.read_every():
             line = case.stderr.texts[0].decode().rstrip("\n")
             if line and case.stderr.is_whole:
                 fitting = {number for pattern, number in patterns.items() if re.fullmatch(pattern, line)}

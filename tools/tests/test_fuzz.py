@@ -99,7 +99,7 @@ class Fuzz(unittest.TestCase):
             else:
                 status, out = called("run", folder, *words, defect=defect)
             kept = [path.read_bytes() for path in sorted(found.glob("*.csv"))] if found.is_dir() else []
-            cases = [support.worked.read(path)[path.stem] for path in sorted(found.glob("*.txt"))] if found.is_dir() else []
+            cases = [support.worked.read_cases(path)[path.stem] for path in sorted(found.glob("*.txt"))] if found.is_dir() else []
             self.assertEqual([case.stdin for case in cases], kept)
             return status, out, kept
 

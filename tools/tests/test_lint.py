@@ -247,7 +247,7 @@ class CommandLine(unittest.TestCase):
                 found = lint.faults(case.stdin, "replay")
                 self.assertEqual(any(not one.refusal for one in found), case.status != 0)
                 if case.status == 0:
-                    self.assertEqual(len(found), case.printed.count(b",refused,"))
+                    self.assertEqual(len(found), case.right_stdout.count(b",refused,"))
 
     def test_statuses(self):
         self.assertEqual(tool("lint", "-", data=GOOD), (command.DONE, b"nothing is wrong\n", ""))

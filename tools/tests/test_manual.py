@@ -30,7 +30,7 @@ if modules.has_module("aiohttp"):
 
 MISSING = site.missing()
 NEEDS_MKDOCS = unittest.skipIf(MISSING, f"{' and '.join(MISSING)} missing")
-NO_BROWSER = "python3-aiohttp is missing" if not modules.has_module("aiohttp") else None if browser.found() else "chromium is missing"
+NO_BROWSER = "python3-aiohttp is missing" if not modules.has_module("aiohttp") else None if browser.find_browser() else "chromium is missing"
 SECONDS = 60  # that the index of the search may take
 WIDTHS = {1_280: "dark", 390: "light"}
 SCHEMES = {"dark": "slate", "light": "default"}
@@ -125,7 +125,7 @@ class Made(unittest.TestCase):
 
     def test_every_link_leads_somewhere_within(self):
         self.assertGreater(sum(len(page.links) for page in self.site.pages.values()), 5_000)
-        self.assertEqual(list(self.site.faults()), [])
+        self.assertEqual(list(self.site.read_faults()), [])
 
     def test_scripts_fetch_nothing_from_elsewhere(self):
         """The theme would have fetched fonts, and pages name other addresses only in examples."""
@@ -136,7 +136,7 @@ class Made(unittest.TestCase):
     def test_the_next_pages_lead_through_all_of_it(self):
         page, seen, last = self.page("README.md"), [], None
         while page:
-            seen.append(self.site.name(page.path))
+            seen.append(self.site.relative_name(page.path))
             self.assertLessEqual(len(seen), len(self.site.pages))
             before = page.neighbours.get("prev")
             self.assertEqual(before and (page.path.parent / before).resolve(), last, seen[-1])
@@ -154,7 +154,7 @@ class Made(unittest.TestCase):
             blocks = [re.sub(rf"^{block[1]}", "", block[3], flags=re.MULTILINE).strip("\n") for block in pages.FENCED.finditer(text)]
             sentences = pages.FENCED.sub("", pages.COMMENT.sub("", text))
             with self.subTest(name):
-                self.assertEqual([block for block in blocks if block not in made.texts()], [])
+                self.assertEqual([block for block in blocks if block not in made.block_texts()], [])
                 self.assertEqual(made.items, len(ITEM.findall(sentences)))
                 self.assertEqual(made.tables, len(re.findall(r"^ *\|[-|]+\|$", sentences, re.MULTILINE)))
 
@@ -164,7 +164,7 @@ class Made(unittest.TestCase):
             made = self.page(f"{navigation.DEFINITIONS}/{crate}.md")
             with self.subTest(name, crate=crate):
                 self.assertIn(name, made.places)
-                self.assertIn(repository.definitions(crate, module)[name].strip("\n"), made.texts())
+                self.assertIn(repository.definitions(crate, module)[name].strip("\n"), made.block_texts())
             seen += 1
         self.assertGreater(seen, 400)
         self.assertIn("definitions/dam_hour.html#IsBest", self.page("docs/THEOREM.md").links)
@@ -208,9 +208,9 @@ class Quiet(http.server.SimpleHTTPRequestHandler):
 
 async def shown(page, url):
     """Opens a page as for the first time."""
-    await page.run("localStorage.clear()")
-    await page.call("Page.navigate", url=url)
-    await page.until(f"location.href === '{url}' && document.readyState === 'complete'")
+    await page.evaluate("localStorage.clear()")
+    await page.call_browser("Page.navigate", url=url)
+    await page.wait_until(f"location.href === '{url}' && document.readyState === 'complete'")
 
 
 async def searched(page, words):
@@ -218,40 +218,40 @@ async def searched(page, words):
     again."""
     for _ in range(SECONDS):
         for text in ("", words):
-            await page.run("document.querySelector('[data-md-component=search-query]').select()")
-            await page.type(text)
-            await page.key("Shift", 16)  # it looks when a key is let go
+            await page.evaluate("document.querySelector('[data-md-component=search-query]').select()")
+            await page.type_text(text)
+            await page.press_key("Shift", 16)  # it looks when a key is let go
         for _ in range(10):
-            if await page.run("(() => { const link = document.querySelector('.md-search-result__link'); link?.click(); return !!link; })()"):
+            if await page.evaluate("(() => { const link = document.querySelector('.md-search-result__link'); link?.click(); return !!link; })()"):
                 return
             await asyncio.sleep(0.1)
-    seen = await page.run("[location.href, document.querySelector('.md-search-result__meta').textContent.trim()]")
+    seen = await page.evaluate("[location.href, document.querySelector('.md-search-result__meta').textContent.trim()]")
     raise AssertionError(f"the search finds nothing: {seen}, {page.faults}")
 
 
 async def read(case, top, widths):
     """Reads the site at some widths, light or dark: pages don't scroll sideways, the search finds, and the navigation leads on."""
-    async with browser.opened(f"{top}index.html") as page:
+    async with browser.open_in_browser(f"{top}index.html") as page:
         for width in widths:
-            await page.look(width, scheme := WIDTHS[width])
+            await page.set_screen(width, scheme := WIDTHS[width])
             for name in WIDE:
                 await shown(page, top + re.sub(r"README\.md$", "index.md", name).replace(".md", ".html"))
-                case.assertEqual(await page.run("document.body.dataset.mdColorScheme"), SCHEMES[scheme], name)
-                case.assertLessEqual(await page.run("document.documentElement.scrollWidth"), width, name)
+                case.assertEqual(await page.evaluate("document.body.dataset.mdColorScheme"), SCHEMES[scheme], name)
+                case.assertLessEqual(await page.evaluate("document.documentElement.scrollWidth"), width, name)
             await shown(page, f"{top}docs/GUIDE.html")
-            await page.run("document.querySelector('label[for=__search]').click()")
-            await page.run("document.querySelector('[data-md-component=search-query]').focus()")
+            await page.evaluate("document.querySelector('label[for=__search]').click()")
+            await page.evaluate("document.querySelector('[data-md-component=search-query]').focus()")
             await searched(page, "paradoxically rejected")
-            await page.until("location.pathname.endsWith('/docs/RULES.html') && document.readyState === 'complete'")
-            await page.until("document.querySelector('article mark')")
-            await page.run("document.querySelector('a[rel=next]').click()")
-            await page.until("location.pathname.endsWith('/docs/MARKET.html') && document.readyState === 'complete'")
+            await page.wait_until("location.pathname.endsWith('/docs/RULES.html') && document.readyState === 'complete'")
+            await page.wait_until("document.querySelector('article mark')")
+            await page.evaluate("document.querySelector('a[rel=next]').click()")
+            await page.wait_until("location.pathname.endsWith('/docs/MARKET.html') && document.readyState === 'complete'")
             if width < 500:
-                await page.run("document.querySelector('label[for=__drawer]').click()")
+                await page.evaluate("document.querySelector('label[for=__drawer]').click()")
             link = "[...document.querySelectorAll('nav a')].find((one) => one.textContent.trim() === 'What if')"
-            case.assertTrue(await page.run(f"{link}.checkVisibility()"))
-            await page.run(f"{link}.click()")
-            await page.until("location.pathname.endsWith('/docs/WHATIF.html') && document.readyState === 'complete'")
+            case.assertTrue(await page.evaluate(f"{link}.checkVisibility()"))
+            await page.evaluate(f"{link}.click()")
+            await page.wait_until("location.pathname.endsWith('/docs/WHATIF.html') && document.readyState === 'complete'")
         case.assertEqual(page.faults, [])
 
 

@@ -110,7 +110,7 @@ class Market(unittest.TestCase):
             for when, lines in ("before", before), ("after", after):
                 with self.subTest(name, when=when):
                     case = cases("market")[f"{name}-{when}"]
-                    self.assertEqual(missing(lines, case.printed.decode().splitlines()), [])
+                    self.assertEqual(missing(lines, case.right_stdout.decode().splitlines()), [])
         self.assertEqual({name for name, _, _ in CASES}, {name.rpartition("-")[0] for name in cases("market")})
 
     def test_the_examples_come_out(self):

@@ -13,7 +13,7 @@ from support import AUCTION, AUCTION_RESULTS, SUNNY, TOP, book, journal, printed
 
 from lib.audit import best
 from lib.crates.specs import Repository
-from shared.pages import links, prose
+from shared.pages import read_links, read_prose
 
 CRATES = sorted(path for path in (TOP / "crates").iterdir() if (path / "src").is_dir())
 PAGES = [TOP / "README.md", TOP / "CHANGELOG.md", *sorted((TOP / "docs").glob("*.md")), *sorted((TOP / "crates").glob("*/*.md"))]
@@ -100,7 +100,7 @@ def sections(page):
 
 def rows_of_words(page):
     """Each row of `IN_A_ROW` words in a sentence or cell of a page."""
-    for part in re.sub(r"\]\([^)]*\)", "", prose(page)).replace("`", "").split("|"):
+    for part in re.sub(r"\]\([^)]*\)", "", read_prose(page)).replace("`", "").split("|"):
         words = re.findall(r"[\w'.:/-]+", part)
         for at in range(len(words) - IN_A_ROW + 1):
             yield " ".join(words[at : at + IN_A_ROW])
@@ -109,13 +109,13 @@ def rows_of_words(page):
 class Pages(unittest.TestCase):
     def test_links_lead_to_a_file_and_a_heading(self):
         for page in PAGES:
-            for link, wrong in links(page):
+            for link, wrong in read_links(page):
                 with self.subTest(page=page.name, link=link):
                     self.assertIsNone(wrong)
 
     def test_cells_of_tables_are_short(self):
         for page in PAGES:
-            for line in prose(page).splitlines():
+            for line in read_prose(page).splitlines():
                 if line.startswith("|"):
                     for cell in line.strip("|").split("|"):
                         with self.subTest(page=page.name, cell=cell[:40]):
@@ -123,7 +123,7 @@ class Pages(unittest.TestCase):
 
     def test_tables_have_a_head(self):
         for page in PAGES:
-            for table in re.findall(r"(?:^\|.*\n)+", prose(page), re.MULTILINE):
+            for table in re.findall(r"(?:^\|.*\n)+", read_prose(page), re.MULTILINE):
                 with self.subTest(page=page.name, table=table[:40]):
                     self.assertRegex(table, r"\A\|.*\n\|[-|]+\n\|")
 
@@ -180,7 +180,7 @@ class Pages(unittest.TestCase):
         """In sentences, 'what' only asks; headings, tables, quotes and the pages with examples of the rule are left out."""
         for page in PAGES:
             if page.name not in OTHER_PAGES:
-                lines = (line for line in prose(page).splitlines() if not line.lstrip().startswith(("|", "#", "- [")))
+                lines = (line for line in read_prose(page).splitlines() if not line.lstrip().startswith(("|", "#", "- [")))
                 text = WRITTEN.sub("", "\n".join(lines))
                 text = re.sub(r"`[^`]*`|\]\([^)]*\)|\[[^\]]*\?\]", "", text)
                 for sentence in re.split(r"(?<=[.:;?])\s", text):

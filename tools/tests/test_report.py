@@ -93,7 +93,7 @@ class Page(unittest.TestCase):
     def test_the_page_is_whole_and_stands_alone(self):
         for name in ("auction-day", "empty", "too-large-block"):
             case = support.cases("clear")[name]
-            text = self.page(case.stdin, case.printed, [1, 2])
+            text = self.page(case.stdin, case.right_stdout, [1, 2])
             read = Reader(text)
             with self.subTest(name):
                 self.assertEqual((read.wrong, text.startswith("<!doctype html>\n")), ([], True))
@@ -259,7 +259,7 @@ class Page(unittest.TestCase):
 
     def test_results_that_cannot_be_are_shown_as_wrong(self):
         case = support.cases("clear")["too-large-block"]
-        text = self.page(case.stdin, case.printed.replace(b"rejected", b"accepted"), [1])
+        text = self.page(case.stdin, case.right_stdout.replace(b"rejected", b"accepted"), [1])
         self.assertIn("period 1: no execution balances", text)
         worse = results_of(AUCTION.read_bytes(), frozenset({0}))
         self.assertRegex(self.page(AUCTION.read_bytes(), worse), r"the welfare would be [0-9.,]+ EUR greater")

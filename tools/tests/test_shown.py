@@ -12,7 +12,7 @@ from support import TOP
 
 from lib.journal import book, journal
 from shared.counts import Counts
-from shared.shown import pairs
+from shared.shown import quoted_pairs
 
 sys.path.insert(0, str(TOP / "tests" / "commands"))
 
@@ -104,7 +104,7 @@ class Shown(unittest.TestCase):
     def test_each_number_of_trust_is_printed(self):
         checked = 0
         for section in re.split(r"^## ", TRUST.read_text(), flags=re.MULTILINE):
-            printed = set().union(*(numbers(quoted or "") for _, quoted in pairs(section)))
+            printed = set().union(*(numbers(quoted or "") for _, quoted in quoted_pairs(section)))
             said = numbers(HIDDEN.sub("", section))
             with self.subTest(section.splitlines()[0]):
                 self.assertLessEqual(said, printed)
