@@ -8,9 +8,11 @@ mod advice;
 mod progress;
 mod run;
 
-ghost use Rattle.std.specs.Prelude.{◌≡◌, IfErr};
+ghost use Rattle.std.specs.Prelude.{◌≡◌, map, IfErr, IfOk};
 ghost use Rattle.std.specs.Process.{exit_status};
+ghost use Rattle.std.specs.String.{string_bytes};
 ghost use Rattle.dam_engines.specs.Fault.{fault_status};
+ghost use Rattle.dam_line.specs.Line.{AsksFor};
 ghost use Rattle.dam_cli.specs.Status.{IsEndedStatus, IsLineStatus, IsNoHelp, run_status};
 
 use advice::{asks_version, file_in, rule_of};
@@ -30,7 +32,11 @@ use std::time::Clock;
 const REFUSED_LINE: u8 = 2;
 
 fn main(rt: HostRuntime) -> ExitCode {
-    let job = match read_job_or_answer(&rt) {
+    let words = match words(&rt) {
+        Ok(words) => words,
+        Err(fault) => return help_or_refuse(&rt, &fault, &[]),
+    };
+    let job = match read_job_or_answer(&rt, words.as_slice()) {
         Ok(job) => job,
         Err(status) => return status,
     };
@@ -67,18 +73,14 @@ fn end_run<R: Wait + Eprint + Clock>(
     }
 }
 
-/// The job that the program's words ask for. If they ask for none, prints the help or the refusal; the error is then the exit
-/// status.
-fn read_job_or_answer(rt: &HostRuntime) -> Result<Job, ExitCode>
-    ensures { IfErr result (λ status. IsEndedStatus (exit_status status)) }
+/// The job that the words ask for. If they ask for none, prints the help or the refusal; the error is then the exit status.
+fn read_job_or_answer(rt: &HostRuntime, words: &[String]) -> Result<Job, ExitCode>
+    ensures job { IfOk result (AsksFor (map string_bytes words.now)) }
+    ensures ended { IfErr result (λ status. IsEndedStatus (exit_status status)) }
 {
-    let words = match words(rt) {
-        Ok(words) => words,
-        Err(fault) => return Err(help_or_refuse(rt, &fault, &[])),
-    };
-    match read_words(rt.alloc(), words.as_slice()) {
+    match read_words(rt.alloc(), words) {
         Ok(job) => Ok(job),
-        Err(fault) => Err(help_or_refuse(rt, &fault, words.as_slice())),
+        Err(fault) => Err(help_or_refuse(rt, &fault, words)),
     }
 }
 
