@@ -36,7 +36,7 @@ SECONDS = 1_200  # for a run of some seconds, on a machine that has much else to
 DRAWN = Refusal("random")
 FIXED = Refusal("random", first=1, error=errno.ENOSYS)
 # Each engine by its words, and the two calls of the gate that take a seed by those of `dam_refusals`; those of `OPEN` take no close.
-ENGINES = [["replay"], ["clear"], ["day"], ["clear", "--nodes", "20"], ["clear", "--workers", "1"], ["day", "--cut", "0"]]
+ENGINES = [["replay"], ["clear"], ["day"], ["clear", "--nodes", "20"], ["clear", "--workers", "1"], ["day", "--workers", "1", "--cut", "0"]]
 GATES = {"begin_seeded": [], "run_commands": ["threads"]}
 OPEN = [*(words for words in ENGINES if words[0] == "day"), *GATES.values()]
 LOOKS = 49.7  # millions of instructions of the calls of `dam_refusals` up to a full journal, each with a look after it

@@ -351,8 +351,8 @@ def texts(runs):
     # as often as a run that has the text, and then comes to a fault
     for word, data, faulty in [("clear", AUCTION, OPEN_AUCTION), ("day", OPEN_AUCTION, AUCTION)]:
         for workers in map(str, range(1, shapes.MOST_WORKERS + 1)):
-            beside = Refusal("beside", most=1 << 20)
-            (_, made), (_, least) = (runs.program.run([word, "--workers", workers], it + b"\n" * (1 << 20), beside) for it in (data, faulty))
+            tried = (([word, "--workers", workers], it + b"\n" * (1 << 20), Refusal("beside", most=1 << 20)) for it in (data, faulty))
+            (_, made), (_, least) = (runs.program.run(*it) for it in tried)
             runs.check(f"{word} --workers {workers} asks for memory {made} times with its text, and not {least}", made == least)
 
 

@@ -40,6 +40,7 @@ WHOLE = full.Size(rules.MOST_HOURLY, rules.MOST_BLOCKS, rules.MOST_RECORDS)
 LONG_TEXT = 2 << 20
 THIN = 240  # hourly orders of a thin market
 MOST_WORKERS = 8  # of a plan
+SIDES = ["buy", "sell"]
 KINDS = ["base", "peaks", "shaped", "odd", "random", "mixed", "wide"]
 FAMILIES = ["market", "paradox", "spread", "nearties", "links", "groups", "ties"]
 
@@ -59,11 +60,11 @@ class Shape(NamedTuple):
         return volumes(self.periods if self.is_wide else 1, lambda period: volume + period % 3)
 
     def hour(self, number, cents=5_000, name=None):
-        side, period = ("buy", "sell")[number % 2], 1 + number % self.periods
+        side, period = SIDES[number % 2], 1 + number % self.periods
         return f"submit,{self.who},{name or self.named(number)},hour,{side},{cents + number % 50},{period}:{5 + number % 9},,\n"
 
     def block(self, number, cents=4_900, name=None, parent="", group="", volumes=None):
-        side = ("sell", "buy")[number % 2]
+        side = SIDES[(number + 1) % 2]
         found = name or self.named(9_000 + number)
         return f"submit,{self.who},{found},block,{side},{cents + number % 200},{volumes or self.volumes()},{parent},{group}\n"
 
@@ -256,6 +257,37 @@ def blocks():
     yield "clear of a crowded period up to a node", Run([*CLEAR, "--nodes", "1"], journal(crowded()), (UNFINISHED,))
 
 
+def one_sided():
+    """Yields the clearings of books without the hourly orders of a side, and blocks with a volume of their own in each period."""
+    for (kind, count), side in itertools.product((("shaped", 16), ("shaped", 20), ("random", 20)), SIDES):
+        data = made("make_blocks.py", kind, 20, 1, 1, count, THIN, "free").splitlines(keepends=True)
+        kept = b"".join(line for line in data if f",hour,{side},".encode() not in line)
+        yield f"clear: {count} {kind} blocks without an hourly {side}", Run(CLEAR, kept)
+
+
+def walks():
+    """Yields searches by relaxed welfares: of books whose blocks are all accepted, and of books with large net volumes of either sign."""
+    limited = [*CLEAR, "--nodes", "500"]
+    for periods, count in ((24, 13), (24, rules.MOST_BLOCKS), (rules.GREATEST_PERIOD, rules.MOST_BLOCKS)):
+        shape = SHORT._replace(periods=periods, is_wide=True)
+        places = [(at, SIDES[at % 2], 6_000 - at % 2 * 2_000, 1 + at // 2) for at in range(2 * periods)]
+        hours = [f"submit,A,H-{at},hour,{side},{cents},{period}:500,,\n" for at, side, cents, period in places]
+        accepted = [f"submit,A,K-{at},block,sell,-500,{shape.volumes(1)},,\n" for at in range(count)]
+        yield f"clear, limited: {count} accepted blocks, {periods} periods", Run(limited, journal(hours + accepted, True, periods))
+    for side in SIDES:
+        yield f"clear, limited: large {side} blocks", Run(limited, journal(large(side)), (0, UNFINISHED))
+
+
+def large(side):
+    """A book of blocks of one side and of hourly orders with large volumes, nearly all in one period."""
+    rng, periods = random.Random("large volumes"), [1] * 3_500 + [2, 3, 4] * 60
+    for at, period in enumerate(periods):
+        yield f"submit,A,N-{at},hour,{rng.choice(SIDES)},{rng.randint(4_000, 8_000)},{period}:{rng.randint(1_000, 90_000)},,\n"
+    for at in range(rules.MOST_BLOCKS):
+        cents, found = rng.randint(5_600, 6_400), volumes(4, lambda _: rng.randint(30_000, rules.GREATEST_VOLUME))
+        yield f"submit,A,K-{at},block,{side},{cents},{found},,\n"
+
+
 def filled(begin, part, end=b""):
     """A long text, with that part as often as it fits."""
     return begin + part * ((LONG_TEXT - len(begin) - len(end)) // len(part)) + end
@@ -265,7 +297,8 @@ def long_texts():
     """Yields the runs on long texts: most aren't journals."""
     day, close = b"day,24,,,,,,,\n", b"close,,,,,,,,\n"
     yield "replay of empty lines", Run(REPLAY, filled(day, b"\n", close))
-    yield "replay of empty lines that end with CR", Run(REPLAY, filled(day.replace(b"\n", b"\r"), b"\r", close))
+    for words, end in ((REPLAY, close), (CLEAR, close), (DAY, b"")):
+        yield f"{words[0]} of empty lines that end with CR", Run(words, filled(day.replace(b"\n", b"\r"), b"\r", end))
     faulty = {
         "a text without a day": filled(b"", b"x\n"),
         "one long field": filled(day, b"A"),
@@ -280,9 +313,12 @@ def long_texts():
 
 
 def texts():
-    """Yields the runs on a text in each form, and on one with a fault in its last record."""
-    for shape in (SHORT, LONG):
-        text = journal(list(shape.first()), True, shape.periods)
+    """Yields the runs on a text in each form, and on one with a fault in its last record; and on a full book in one form."""
+    for words in (CLEAR, DAY):
+        text = journal(map(SHORT.hour, range(FULL_HOURS)), words == CLEAR)
+        yield f"{words[0]} of {FULL_HOURS:,} orders: CR LF", Run(words, text.replace(b"\n", b"\r\n"))
+    for shape, words in itertools.product((SHORT, LONG), (REPLAY, CLEAR, DAY)):
+        text = journal(list(shape.first()), words != DAY, shape.periods)
         fields = [line.split(b",") for line in text.splitlines()]
         forms = {
             "CR LF": text.replace(b"\n", b"\r\n"),
@@ -290,13 +326,13 @@ def texts():
             "empty lines": text.replace(b"\n", b"\n\n\n"),
         }
         for about, data in forms.items():
-            yield f"replay {shape.periods}: {about}", Run(REPLAY, data)
-        yield f"replay {shape.periods}: a fault", Run(REPLAY, text[:-1] + b",\n", (1,))
+            yield f"{words[0]} {shape.periods}: {about}", Run(words, data)
+        yield f"{words[0]} {shape.periods}: a fault", Run(words, text[:-1] + b",\n", (1,))
 
 
 def every():
-    books = [days(), full_books(), participants(), small_books(), closes(), gaps(), by_workers(), searches(), blocks()]
-    return dict(itertools.chain(*books, texts(), long_texts()))
+    books = [days(), full_books(), participants(), small_books(), closes(), gaps(), by_workers(), searches(), blocks(), one_sided()]
+    return dict(itertools.chain(*books, walks(), texts(), long_texts()))
 
 
 class Cost(NamedTuple):
