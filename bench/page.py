@@ -46,13 +46,15 @@ PICTURES = {
     "is left out.\n\n"
     "![Nodes of each family by the number of blocks, compared with 2^n](growth.svg)\n"
 }
+CIRCUMSTANCES = {1: "ran on {}", 2: "measured {}", 3: "had {}", 5: "used `{}`"}  # by columns of runs.csv
 UNITS = {"ns": 1e-9, "us": 1e-6, "ms": 1e-3}  # of a second
 HEAD = """# Measured figures
 
 `bench/run` runs the benchmarks and writes this page. Times are medians of several runs. In `blocks` and `thin`, a program that takes over a
 second runs once, as does an office's whole day. Compared programs run alternately. `A compared with B` is A's time, rate or memory divided
-by B's. Each part's script describes its method. The load is averaged over the minute before. The baseline and the twin are
-[plain Rust programs](../crates/NOTES.md#words).
+by B's. Each part's script describes its method, [make_blocks.py](../bench/make_blocks.py) the kinds of books and their spread, and
+[make_family.py](../bench/make_family.py) the families. `cut 8` cuts a search into up to 256 pieces. The baseline and the twin are
+[plain Rust programs](../crates/NOTES.md#words). The load is the minute's before.
 
 A part's CSV file has all figures with a target ([some set later](../bench/NOTES.md)). This page shows some, and missed targets by kind;
 `grep MISSED bench/measured/*.csv` prints all.
@@ -182,12 +184,12 @@ def read_section(part):
     return "\n".join(filter(None, [f"## `bench/run {part}`\n", words, table_of_part(part, rows), table_of_names(TOGETHER, rows), PICTURES.get(part)]))
 
 
-def read_row_of_run(part, date, commit, load, notes):
+def read_row_of_run(part, load, notes):
     """The row of a part's run, with its figures and how many of its targets are missed; of the load the mean of the last minute."""
     rows = read_rows(KEPT / f"{part}.csv")
     counts = collections.Counter(holds for _, _, _, holds, _ in rows)
     wrong = f"{counts['MISSED']} of {counts['MISSED'] + counts['holds']}"
-    return [part, f"[{len(rows)}](../bench/measured/{part}.csv)", wrong, date, commit, load.split(" ")[0] or "unknown", notes]
+    return [part, f"[{len(rows)}](../bench/measured/{part}.csv)", wrong, load.split(" ")[0] or "unknown", notes]
 
 
 def sentences_by_value(runs, column, words):
@@ -204,14 +206,14 @@ def sentences_by_value(runs, column, words):
 def read_page():
     runs = read_rows(KEPT / "runs.csv")
     notes = list(dict.fromkeys(note for run in runs for note in run[6].split("; ") if note))
-    lines = [read_row_of_run(*run[:3], run[4], " ".join(f"({notes.index(note) + 1})" for note in run[6].split("; ") if note)) for run in runs]
-    when = markdown_table(["Part", "Figures", "Targets missed", "Day", "Commit", "Load", "Notes"], lines)
+    lines = [read_row_of_run(run[0], run[4], " ".join(f"({notes.index(note) + 1})" for note in run[6].split("; ") if note)) for run in runs]
+    when = markdown_table(["Part", "Figures", "Targets missed", "Load", "Notes"], lines)
     notes = "; ".join(f"({number}) {note}" for number, note in enumerate(notes, 1))
-    circumstances = sentences_by_value(runs, 3, "ran on {}") + sentences_by_value(runs, 5, "used the kit `{}`")
+    circumstances = "".join(sentences_by_value(runs, column, words) for column, words in CIRCUMSTANCES.items())
     circumstances += f"Notes: {notes}.\n" if notes else ""
     wrong = [[run[0], *each] for run in runs for each in rows_of_missed(read_rows(KEPT / f"{run[0]}.csv"))]
     wrong = markdown_table(["Part", "Missed", "How many", "Figures", "Target", "Worst"], wrong) if wrong else "None.\n"
-    return "\n".join([HEAD, when, textwrap.fill(circumstances, 140) + "\n", "## Missed targets\n", wrong, *map(read_section, (run[0] for run in runs))])
+    return "\n".join([HEAD, when, textwrap.fill(circumstances, 140, break_on_hyphens=False) + "\n", "## Missed targets\n", wrong, *map(read_section, (run[0] for run in runs))])
 
 
 def main():
