@@ -30,7 +30,8 @@ pub returns-clause-welfare : goal.returns-clause-welfare
 returns-clause-welfare c ps least most is =
     let net : to_z w64 (of_z w64 c.args.net) ≡ c.args.net = search rules in
     let own : to_z w64 (of_z w64 c.value.result) ≡ c.value.result = search rules in
-    ap (λ (z : ℤ). Some z) (own ∙ c.value.ensures ∙ ap (λ (line : Line). line_value line c.args.net) c.line.ensures)
+    let value = ap (λ (line : Line). line_value line (to_z w64 (of_z w64 c.args.net))) c.line.ensures in
+    ap (λ (z : ℤ). Some z) (own ∙ c.value.ensures ∙ value)
     ∙ value_at (joint_welfare ps) c.args.segments.now (to_z w64 (of_z w64 c.args.net)) c.segment_place_near.result
     any_segment is.are_segments
     (within_segments c.args.segments.now c.args.net (to_z w64 (of_z w64 c.args.net)) net c.requires.some c.requires.bottom c.requires.top)
