@@ -98,8 +98,8 @@ def code_of(piece):
 
 
 def is_changed(pieces):
-    """Whether a section of a format shows another number: if it adds digits, a point or a comma, or anything between digits, or shows a
-    thousandth, digits in reverse, or none."""
+    """Whether a section of a format shows another number: if it adds digits, a point or a comma, or anything between digits, or shows two
+    points, a thousandth, digits in reverse, or none."""
     words = list(map(added, pieces))
     if any(each.isnumeric() or each == REVERSED for each in "".join(words)):
         return True
@@ -109,7 +109,7 @@ def is_changed(pieces):
     found = DIGITS.search(code)
     if not found or re.search(rf"[^0#?.,/E{SEPARATORS}]", found[0][1:-1]) or "," in code[found.end() :]:
         return True
-    return bool(re.search("[1-9]|[0#?],+(?![0#?,])", code))
+    return bool(re.search(r"[1-9]|[0#?],+(?![0#?,])|\..*\.", code))
 
 
 def without_letters(words):
