@@ -6,8 +6,8 @@ use Rattle.std.specs.Fmt.{signed_decimal}
 use Rattle.std.specs.List.{list_any}
 use Rattle.std.specs.Str.{bytes_eq}
 use Rattle.dam_book.specs.Limits.{lowest_price, highest_price, greatest_volume}
-use Rattle.dam_results.specs.declared.journal.JournalFault.{JournalFault}
-use Rattle.dam_results.specs.declared.journal.JournalFault.TheVariants.{BadField}
+use Rattle.dam_results.specs.declared.journal_reading.JournalFault.{JournalFault}
+use Rattle.dam_results.specs.declared.journal_reading.JournalFault.TheVariants.{BadField}
 use Rattle.dam_cli.specs.declared.advice.Rule.{Rule}
 use Rattle.dam_cli.specs.declared.advice.Rule.TheVariants.{Plain, Within}
 

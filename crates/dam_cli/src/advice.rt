@@ -4,7 +4,7 @@
 ghost use Rattle.std.specs.Prelude.{◌≡◌, ◌≤◌, ◌↔◌, pos, false, map, IfSome, IsSome, option_map};
 ghost use Rattle.std.specs.List.{list_any};
 ghost use Rattle.std.specs.String.{string_bytes};
-ghost use Rattle.dam_results.specs.declared.journal.JournalFault.{JournalFault};
+ghost use Rattle.dam_results.specs.declared.journal_reading.JournalFault.{JournalFault};
 ghost use Rattle.dam_engines.specs.Fault.{fault_status, input_status};
 ghost use Rattle.dam_book.specs.Limits.{lowest_price, highest_price, greatest_volume};
 ghost use Rattle.dam_cli.specs.Advice.{BeginsWithField, NamesItsField, ShowsRange, ShowsItsLimits, rule_text};

@@ -5,7 +5,7 @@ use Rattle.std.specs.List.{join_with_byte}
 use Rattle.dam_book.specs.declared.command.Command.{Command}
 use Rattle.dam_results.specs.Journal.{ReadsAs}
 use Rattle.dam_results.specs.Records.{day_row}
-use Rattle.dam_results.specs.declared.journal.JournalFault.{JournalFault}
+use Rattle.dam_results.specs.declared.journal_reading.JournalFault.{JournalFault}
 use Rattle.dam_desk.specs.InputLines.{AreOfOne, IsSameFault, record_of, text_after}
 use Rattle.dam_desk.specs.declared.fault.InputLineFault.{InputLineFault}
 

@@ -3,8 +3,8 @@ use Rattle.std.proofs.Common.{◌≡◌, ◌⊎◌, inl, inr, ℕ, List, [], ◌
 use Rattle.dam_book.specs.declared.command.Command.{Command}
 use Rattle.dam_results.specs.Faults.{IsJournalFault}
 use Rattle.dam_results.specs.Journal.{ReadsAs}
-use Rattle.dam_results.specs.declared.journal.JournalFault.{JournalFault}
-use Rattle.dam_results.specs.declared.journal.JournalFault.TheVariants as journal
+use Rattle.dam_results.specs.declared.journal_reading.JournalFault.{JournalFault}
+use Rattle.dam_results.specs.declared.journal_reading.JournalFault.TheVariants as journal
 use Rattle.dam_desk.specs.InputLines.{IsDayLine, IsInputLineFault, IsSameFault, Says, record_of, text_after}
 use Rattle.dam_desk.specs.declared.fault.InputLineFault.{InputLineFault}
 use Rattle.dam_desk.specs.declared.reading.Said.{Said}

@@ -6,8 +6,8 @@ use Rattle.dam_book.specs.declared.command.Command.{Command}
 use Rattle.dam_results.specs.Faults.{IsJournalFault}
 use Rattle.dam_results.specs.Journal.{ReadsAs}
 use Rattle.dam_results.specs.Written.{written}
-use Rattle.dam_results.specs.declared.journal.JournalFault.{JournalFault}
-use Rattle.dam_results.specs.declared.journal.JournalFault.TheVariants as journal
+use Rattle.dam_results.specs.declared.journal_reading.JournalFault.{JournalFault}
+use Rattle.dam_results.specs.declared.journal_reading.JournalFault.TheVariants as journal
 use Rattle.dam_store.specs.Faults.{is_failed_sync as store_failed_sync, is_failed_write as store_failed_write, is_failure, IsRefused}
 use Rattle.dam_store.specs.FileLines.{StandsFor, text_of}
 use Rattle.dam_store.specs.declared.fault.FileFault.{FileFault}

@@ -9,9 +9,9 @@ use Rattle.dam_search.specs.declared.fault.SearchFault.{SearchFault}
 use Rattle.dam_search.specs.declared.fault.SearchFault.TheVariants.{Memory as MemoryOfSearch, Collected as IsFaulty, Unfinished as IsCut}
 use Rattle.dam_book.specs.declared.command.Command.{Command}
 use Rattle.dam_results.specs.Limits.{most_bytes}
-use Rattle.dam_results.specs.declared.journal.JournalFault.{JournalFault}
-use Rattle.dam_results.specs.declared.journal.JournalFault.TheVariants.{TooLong, NotAscii, TooManyRecords, NotDay, FieldCount, BadField}
-use Rattle.dam_results.specs.declared.journal.JournalFault.TheVariants.{Memory as MemoryOfJournal}
+use Rattle.dam_results.specs.declared.journal_reading.JournalFault.{JournalFault}
+use Rattle.dam_results.specs.declared.journal_reading.JournalFault.TheVariants.{TooLong, NotAscii, TooManyRecords, NotDay, FieldCount, BadField}
+use Rattle.dam_results.specs.declared.journal_reading.JournalFault.TheVariants.{Memory as MemoryOfJournal}
 use Rattle.dam_results.specs.Journal.{IsMadeFrom, ReadsAs}
 use Rattle.dam_results.specs.Faults.{IsJournalFault}
 use Rattle.dam_engines.specs.declared.fault.RunFault.{RunFault}

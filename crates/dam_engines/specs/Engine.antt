@@ -2,7 +2,7 @@
 use Rattle.std.specs.Prelude.{◌≢◌, ◌≤◌, ◌+◌, ℕ, List, Option, Result, Ok, Err, length, take}
 use Rattle.std.specs.Io.KnownBytes.{Appends}
 use Rattle.dam_book.specs.declared.command.Command.{Command}
-use Rattle.dam_results.specs.declared.journal.JournalFault.TheVariants.{Memory as MemoryOfJournal}
+use Rattle.dam_results.specs.declared.journal_reading.JournalFault.TheVariants.{Memory as MemoryOfJournal}
 use Rattle.dam_results.specs.Limits.{most_bytes}
 use Rattle.dam_results.specs.Journal.{IsMadeFrom}
 use Rattle.dam_results.specs.Faults.{IsJournalFault}

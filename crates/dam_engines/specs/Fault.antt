@@ -1,8 +1,8 @@
 -- The faults of a run: their lines, and the statuses that the program ends with.
 use Rattle.std.specs.Prelude.{ℕ, List, ◌++◌, decimal, codes}
-use Rattle.dam_results.specs.declared.journal.JournalFault.{JournalFault}
-use Rattle.dam_results.specs.declared.journal.JournalFault.TheVariants.{TooLong, NotAscii, TooManyRecords, NotDay, FieldCount, BadField}
-use Rattle.dam_results.specs.declared.journal.JournalFault.TheVariants.{Memory as MemoryOfJournal}
+use Rattle.dam_results.specs.declared.journal_reading.JournalFault.{JournalFault}
+use Rattle.dam_results.specs.declared.journal_reading.JournalFault.TheVariants.{TooLong, NotAscii, TooManyRecords, NotDay, FieldCount, BadField}
+use Rattle.dam_results.specs.declared.journal_reading.JournalFault.TheVariants.{Memory as MemoryOfJournal}
 use Rattle.dam_blocks.specs.declared.problem.ProblemFault.{ProblemFault}
 use Rattle.dam_blocks.specs.declared.problem.ProblemFault.TheVariants.{StillOpen as OpenBook, Memory as MemoryOfProblem}
 use Rattle.dam_gate.specs.declared.settlement.Mismatch.{Mismatch as Unmatched}

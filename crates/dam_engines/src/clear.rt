@@ -81,7 +81,7 @@ fn run_of_journal(alloc: Global, seed: Seed, text: &[u8]) -> Result<Run, RunFaul
 }
 
 /// The results text of a closed book. The answer to an open one is `StillOpen`, before any memory is asked for.
-pub fn clear_book<H: Threads + Sync, T: Watch + Sync>(
+pub(crate) fn clear_book<H: Threads + Sync, T: Watch + Sync>(
     rt: &H,
     alloc: Global,
     book: &Book,

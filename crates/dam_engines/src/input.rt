@@ -10,7 +10,7 @@ use std::alloc::Global;
 use std::io::Read;
 
 /// The most bytes that are read: one more than a journal may have, which shows that it has too many.
-pub const MOST_READ: usize = MOST_BYTES + 1;
+pub(crate) const MOST_READ: usize = MOST_BYTES + 1;
 
 /// The number of bytes that are asked for at a time.
 const CHUNK: usize = 65_536;
@@ -19,7 +19,7 @@ const CHUNK: usize = 65_536;
 ///
 /// The first failure of the reader ends it, and so does the first read of no bytes. No byte after the first `MOST_READ`
 /// is asked for.
-pub fn read_input<R: Read>(alloc: Global, reader: &mut Source<R>) -> Result<Vec<u8>, RunFault>
+pub(crate) fn read_input<R: Read>(alloc: Global, reader: &mut Source<R>) -> Result<Vec<u8>, RunFault>
     requires { reader.old.failed ≡ false }
     ensures text { IfOk result (λ text.
         IfSome reader.old.unread (λ given. text.items ≡ take most_read given)) }

@@ -15,9 +15,9 @@ use Rattle.dam_book.specs.declared.order.Order.TheVariants.{Hour, Block}
 use Rattle.dam_book.specs.declared.command.Command.{Command}
 use Rattle.dam_book.specs.declared.command.Command.TheVariants.{Submit, Amend, Cancel, Close}
 use Rattle.dam_results.specs.Limits.{most_bytes, most_records}
-use Rattle.dam_results.specs.declared.journal.JournalFault.{JournalFault}
-use Rattle.dam_results.specs.declared.journal.JournalFault.TheVariants.{TooLong, NotAscii, TooManyRecords, NotDay, FieldCount, BadField}
-use Rattle.dam_results.specs.declared.journal.JournalFault.TheVariants.{Memory}
+use Rattle.dam_results.specs.declared.journal_reading.JournalFault.{JournalFault}
+use Rattle.dam_results.specs.declared.journal_reading.JournalFault.TheVariants.{TooLong, NotAscii, TooManyRecords, NotDay, FieldCount, BadField}
+use Rattle.dam_results.specs.declared.journal_reading.JournalFault.TheVariants.{Memory}
 use Rattle.dam_results.specs.Records.{Fields, day_row, row_of, records_of, kind_field, optional_text, side_word}
 use Rattle.dam_results.specs.Rules.{FieldRule, OneOf, NameOrEmpty, Obeys, IsLeastBroken, word, day_rules, hour_rules, block_rules}
 use Rattle.dam_results.specs.Rules.{amend_rules, cancel_rules, close_rules, command_rules, submit_of, submit_rules}

@@ -6,9 +6,9 @@ use Rattle.std.proofs.lemmas.List.{map-append, length-map, length-append, length
 use Rattle.dam_book.specs.Book.{is_day}
 use Rattle.dam_book.specs.declared.command.Command.{Command}
 use Rattle.dam_results.specs.Limits.{most_records}
-use Rattle.dam_results.specs.declared.journal.JournalFault.{JournalFault}
-use Rattle.dam_results.specs.declared.journal.JournalFault.TheVariants.{TooLong, NotAscii, TooManyRecords, NotDay, FieldCount, BadField}
-use Rattle.dam_results.specs.declared.journal.JournalFault.TheVariants.{Memory}
+use Rattle.dam_results.specs.declared.journal_reading.JournalFault.{JournalFault}
+use Rattle.dam_results.specs.declared.journal_reading.JournalFault.TheVariants.{TooLong, NotAscii, TooManyRecords, NotDay, FieldCount, BadField}
+use Rattle.dam_results.specs.declared.journal_reading.JournalFault.TheVariants.{Memory}
 use Rattle.dam_results.specs.Records.{Fields, day_row, row_of, kind_field}
 use Rattle.dam_results.specs.Journal.{AreRecords, IsCommand}
 use Rattle.dam_results.specs.inside.Reader.{most_kept, TakesFirst}

@@ -2,7 +2,7 @@
 use Rattle.std.proofs.Common.{◌≡◌, ◌<◌, ◌≤◌, ℕ, zero, suc, List, [], ◌∷◌, length, get_or, refl, arith}
 use Rattle.dam_results.specs.Records.{kind_field}
 use Rattle.dam_results.specs.inside.Reader.{bytes_of, fields_of}
-use Rattle.dam_results.specs.declared.records.Field.{Field}
+use Rattle.dam_results.specs.declared.csv_records.Field.{Field}
 use Rattle.dam_results.specs.inside.NineFields.{field_or_empty}
 
 -- the field at a place of a list

@@ -4,9 +4,9 @@ use Rattle.std.proofs.Common.{subst, ◌∙◌, arith}
 use Rattle.std.proofs.Math.Nat.{lt_of_not-le}
 use Rattle.std.proofs.lemmas.List.{length-append}
 use Rattle.dam_results.specs.Limits.{most_bytes}
-use Rattle.dam_results.specs.declared.journal.JournalFault.{JournalFault}
-use Rattle.dam_results.specs.declared.journal.JournalFault.TheVariants.{TooLong, NotAscii, TooManyRecords, NotDay, FieldCount, BadField}
-use Rattle.dam_results.specs.declared.journal.JournalFault.TheVariants.{Memory}
+use Rattle.dam_results.specs.declared.journal_reading.JournalFault.{JournalFault}
+use Rattle.dam_results.specs.declared.journal_reading.JournalFault.TheVariants.{TooLong, NotAscii, TooManyRecords, NotDay, FieldCount, BadField}
+use Rattle.dam_results.specs.declared.journal_reading.JournalFault.TheVariants.{Memory}
 use Rattle.dam_results.specs.Records.{Fields, records_of}
 use Rattle.dam_results.specs.Rules.{FieldRule, IsLeastBroken, rules_of}
 use Rattle.dam_results.specs.Journal.{first_non_ascii}

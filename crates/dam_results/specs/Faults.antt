@@ -3,9 +3,9 @@
 use Rattle.std.specs.Prelude.{◌≡◌, ◌≢◌, ◌<◌, ◌≤◌, ◌⊎◌, ℕ, ◌+◌, List, [], ◌∷◌, ◌++◌, length, codes, Some, None}
 use Rattle.dam_book.specs.declared.command.Command.{Command}
 use Rattle.dam_results.specs.Limits.{most_bytes, most_records}
-use Rattle.dam_results.specs.declared.journal.JournalFault.{JournalFault}
-use Rattle.dam_results.specs.declared.journal.JournalFault.TheVariants.{TooLong, NotAscii, TooManyRecords, NotDay, FieldCount, BadField}
-use Rattle.dam_results.specs.declared.journal.JournalFault.TheVariants.{Memory}
+use Rattle.dam_results.specs.declared.journal_reading.JournalFault.{JournalFault}
+use Rattle.dam_results.specs.declared.journal_reading.JournalFault.TheVariants.{TooLong, NotAscii, TooManyRecords, NotDay, FieldCount, BadField}
+use Rattle.dam_results.specs.declared.journal_reading.JournalFault.TheVariants.{Memory}
 use Rattle.dam_results.specs.Records.{Fields, records_of, kind_field}
 use Rattle.dam_results.specs.Rules.{rules_of, IsLeastBroken}
 use Rattle.dam_results.specs.Journal.{AreRecords, first_non_ascii}

@@ -1,6 +1,6 @@
 -- A journal that is written command by command.
 use Rattle.std.specs.Prelude.{ℕ, List}
-use Rattle.dam_results.specs.declared.writer.JournalWriter.{JournalWriter}
+use Rattle.dam_results.specs.declared.journal_writing.JournalWriter.{JournalWriter}
 use Rattle.dam_results.specs.inside.Writer.{Wrote}
 
 -- it has written this text, and no part of a next record

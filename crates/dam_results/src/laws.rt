@@ -2,8 +2,8 @@
 //! that it rests on.
 ghost use Rattle.std.specs.Prelude.{◌≡◌, ◌≢◌, ◌⊎◌, ℕ, List};
 ghost use Rattle.dam_book.specs.declared.command.Command.{Command};
-ghost use Rattle.dam_results.specs.declared.journal.JournalFault.{JournalFault};
-ghost use Rattle.dam_results.specs.declared.journal.JournalFault.TheVariants.{Memory};
+ghost use Rattle.dam_results.specs.declared.journal_reading.JournalFault.{JournalFault};
+ghost use Rattle.dam_results.specs.declared.journal_reading.JournalFault.TheVariants.{Memory};
 ghost use Rattle.dam_results.specs.Limits.{most_bytes, most_records};
 ghost use Rattle.dam_results.specs.Journal.{ReadsAs};
 ghost use Rattle.dam_results.specs.Faults.{IsJournalFault};

@@ -20,35 +20,35 @@
 #![tactic(auto)]
 
 mod clearing;
+mod command_fields;
+mod csv_records;
 mod from_journal;
-mod journal;
+mod journal_reading;
+mod journal_writing;
 pub mod laws;
 mod limits;
 mod lines;
 pub mod market;
 mod nine_fields;
-mod outcome;
-mod packed;
+mod packed_journal;
 mod publish;
 mod published;
 pub mod publishing_laws;
-mod record;
-mod records;
 mod replay;
-mod replies;
+mod replies_writing;
 mod results_writing;
+mod row_results;
 mod run;
 pub mod spelling_laws;
-mod writer;
 
 pub use from_journal::FromJournal;
-pub use journal::{JournalFault, JournalRead, read_into, read_journal};
+pub use journal_reading::{JournalFault, JournalRead, read_into, read_journal};
+pub use journal_writing::{JournalWriter, journal_text, packed_journal_text};
 pub use limits::{MOST_BYTES, MOST_RECORDS};
-pub use packed::{PackedJournal, read_packed_journal};
+pub use packed_journal::{PackedJournal, read_packed_journal};
 pub use publish::results;
 pub use published::{PeriodResult, Results, RowResult};
-pub use replay::{replay_commands, replay_text};
-pub use replies::{replies_text, write_reply_line};
+pub use replay::replay_text;
+pub use replies_writing::{replies_text, write_reply_line};
 pub use results_writing::results_text;
 pub use run::{Run, book_of_text, run_of_text};
-pub use writer::{JournalWriter, journal_text, packed_journal_text};

@@ -2,7 +2,7 @@ ghost use Rattle.std.specs.Prelude.{◌≡◌, ◌≢◌, length, MatchOption};
 ghost use Rattle.dam_results.specs.inside.Reader.{fields_of};
 ghost use Rattle.dam_results.specs.inside.NineFields.{field_or_empty, fields_in};
 
-use crate::records::Field;
+use crate::csv_records::Field;
 
 /// The fields of a record that has nine, each named for its content in a submit.
 #[derive(Clone, Copy)]

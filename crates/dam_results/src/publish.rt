@@ -3,8 +3,8 @@ ghost use Rattle.dam_blocks.specs.Eligible.{IsEligible};
 ghost use Rattle.dam_results.specs.Published.{ArePublished};
 
 use crate::clearing::clear_day;
-use crate::outcome::outcomes;
 use crate::published::Results;
+use crate::row_results::row_results;
 use dam_blocks::{Problem, Solution};
 use std::alloc::{AllocError, Allocator};
 
@@ -24,7 +24,7 @@ pub fn results<A: Allocator + Copy, B: Allocator>(
 {
     let Solution { selection, welfare } = best;
     let clearing = clear_day(alloc, problem, best)?;
-    let rows = outcomes(alloc, problem, selection, &clearing)?;
+    let rows = row_results(alloc, problem, selection, &clearing)?;
     Ok(Results {
         welfare,
         periods: clearing.periods,

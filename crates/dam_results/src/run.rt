@@ -7,7 +7,7 @@ ghost use Rattle.dam_results.specs.Faults.{IsJournalFault};
 ghost use Rattle.dam_results.specs.Run.{HasRefused, IsRun};
 
 use crate::from_journal::FromJournal;
-use crate::journal::{JournalFault, read_into};
+use crate::journal_reading::{JournalFault, read_into};
 use dam_book::laws::runs_grow;
 use dam_book::{Book, Command, DayLength, Reply, Seed};
 use std::alloc::{AllocError, Global};

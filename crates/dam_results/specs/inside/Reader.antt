@@ -6,9 +6,9 @@ use Rattle.csv.specs.Writing.{comma, quote_mark}
 use Rattle.csv.specs.declared.parser.State.{State}
 use Rattle.csv.specs.declared.parser.State.TheVariants as st
 use Rattle.dam_results.specs.Records.{Fields, records_of}
-use Rattle.dam_results.specs.declared.records.Field.{Field}
-use Rattle.dam_results.specs.declared.records.Field.TheVariants.{Part, Joined}
-use Rattle.dam_results.specs.declared.records.Records.{Records}
+use Rattle.dam_results.specs.declared.csv_records.Field.{Field}
+use Rattle.dam_results.specs.declared.csv_records.Field.TheVariants.{Part, Joined}
+use Rattle.dam_results.specs.declared.csv_records.Records.{Records}
 
 -- fields that are kept of a record: one more than a valid record has
 abbrev pub most_kept : ℕ

@@ -1,0 +1,305 @@
+ghost use Rattle.std.specs.Prelude.{◌≡◌, ◌≤◌, ◌++◌, ◌∷◌, [], ℕ, List, true, length, map, IfOk, OnOk};
+ghost use Rattle.std.specs.Option.{option_copied};
+ghost use Rattle.csv.specs.Writing.{default_writer, row_text};
+ghost use Rattle.dam_book.specs.Price.{IsPrice};
+ghost use Rattle.dam_book.specs.Volumes.{IsVolumes};
+ghost use Rattle.dam_book.specs.Terms.{IsHourOrder};
+ghost use Rattle.dam_book.specs.Fields.{price_text, volumes_text};
+ghost use Rattle.dam_book.specs.Book.{is_day, commands_of};
+ghost use Rattle.dam_book.specs.Limits.{most_entries};
+ghost use Rattle.dam_book.specs.declared.command.Command.{Command};
+ghost use Rattle.dam_results.specs.Records.{optional_text, side_word, day_row};
+ghost use Rattle.dam_results.specs.Journal.{ReadsAs};
+ghost use Rattle.dam_results.specs.Written.{row_line};
+ghost use Rattle.dam_results.specs.Writer.{HasWritten};
+ghost use Rattle.dam_results.specs.Written;
+ghost use Rattle.dam_results.specs.inside.Writer.{Wrote, PutsCommand, PutsCommands};
+
+use csv::{Writer, WriterBuilder};
+use dam_book::{
+    BlockOrder, Command, DayLength, Entry, HourOrder, Name, Order, PackedEntry, Participant, Price,
+    Side, Volumes, write_pair, write_price, write_volumes,
+};
+use itoa::Buffer;
+use std::alloc::{AllocError, Global};
+
+fn side_field<'a>(side: Side) -> &'a [u8]
+    ensures { result.now ≡ side_word side }
+{
+    match side {
+        Side::Buy => b"buy",
+        Side::Sell => b"sell",
+    }
+}
+
+fn price_field(alloc: Global, price: Price) -> Result<Vec<u8>, AllocError>
+    ensures { IfOk result (λ field. IsPrice price × (field.items ≡ price_text price)) }
+{
+    let _in_range = price.get(); // for the proof: a price is within its limits
+    let mut field = Vec::new(alloc);
+    write_price(&mut field, price)?;
+    Ok(field)
+}
+
+fn volumes_field(alloc: Global, volumes: &Volumes) -> Result<Vec<u8>, AllocError>
+    ensures { IfOk result (λ field.
+        IsVolumes volumes.now × (field.items ≡ volumes_text volumes.now)) }
+{
+    let _valid = volumes.pairs(); // for the proof: volumes are within their limits
+    let mut field = Vec::new(alloc);
+    write_volumes(&mut field, volumes)?;
+    Ok(field)
+}
+
+fn name_field(name: Option<&Name>) -> &[u8]
+    ensures { result.now ≡ optional_text (option_copied name.entry) }
+{
+    match name {
+        None => b"",
+        Some(name) => name.as_bytes(),
+    }
+}
+
+// The period and the volume of an hourly order; no list of volumes is made for it, which would have room
+// for every period of a day.
+fn pair_field(alloc: Global, order: &HourOrder) -> Result<Vec<u8>, AllocError>
+    ensures { IfOk result (λ field. IsHourOrder order.now
+        × (field.items ≡ volumes_text ((order.now.period, order.now.qty) ∷ []))) }
+{
+    let mut field = Vec::new(alloc);
+    write_pair(&mut field, (order.period(), order.qty()))?;
+    Ok(field)
+}
+
+fn put_row(out: &mut Writer<Vec<u8>>, row: &[&[u8]]) -> Result<(), AllocError>
+    ensures { OnOk result ((text : List ℕ) → Wrote out.old text
+        → Wrote out.new (text ++ row_text default_writer (map (λ f. f.now) row.now))) }
+{
+    if out.write_fields(row).is_err() {
+        return Err(AllocError);
+    }
+    Ok(())
+}
+
+fn put_day(out: &mut Writer<Vec<u8>>, periods: DayLength) -> Result<(), AllocError>
+    ensures line { OnOk result ((text : List ℕ) → Wrote out.old text
+        → Wrote out.new (text ++ row_line (day_row periods))) }
+    ensures valid { is_day periods ≡ true }
+{
+    let mut number = Buffer::new();
+    let periods = number.format(periods.get()).as_bytes();
+    put_row(out, &[b"day", periods, b"", b"", b"", b"", b"", b"", b""])
+}
+
+fn put_hourly_order(
+    alloc: Global,
+    out: &mut Writer<Vec<u8>>,
+    who: &Participant,
+    name: &Name,
+    order: &HourOrder,
+) -> Result<(), AllocError>
+    ensures { OnOk result (PutsCommand out.old out.new
+        (Command.Submit who.now name.now (Order.Hour order.now))) }
+{
+    let price = price_field(alloc, order.price())?;
+    let volumes = pair_field(alloc, order)?;
+    put_row(
+        out,
+        &[
+            b"submit",
+            who.as_bytes(),
+            name.as_bytes(),
+            b"hour",
+            side_field(order.side()),
+            price.as_slice(),
+            volumes.as_slice(),
+            b"",
+            b"",
+        ],
+    )
+}
+
+fn put_block<'a>(
+    alloc: Global,
+    out: &mut Writer<Vec<u8>>,
+    who: &'a Participant,
+    name: &'a Name,
+    order: &'a BlockOrder,
+) -> Result<(), AllocError>
+    ensures { OnOk result (PutsCommand out.old out.new
+        (Command.Submit who.entry.now name.entry.now (Order.Block order.entry.now))) }
+{
+    let price = price_field(alloc, order.price())?;
+    let volumes = volumes_field(alloc, order.volumes())?;
+    put_row(
+        out,
+        &[
+            b"submit",
+            who.as_bytes(),
+            name.as_bytes(),
+            b"block",
+            side_field(order.side()),
+            price.as_slice(),
+            volumes.as_slice(),
+            name_field(order.parent()),
+            name_field(order.group()),
+        ],
+    )
+}
+
+fn put_command(
+    alloc: Global,
+    out: &mut Writer<Vec<u8>>,
+    command: &Command,
+) -> Result<(), AllocError>
+    ensures { OnOk result (PutsCommand out.old out.new command.now) }
+{
+    match command {
+        Command::Submit {
+            who,
+            name,
+            order: Order::Hour(order),
+        } => put_hourly_order(alloc, out, who, name, order),
+        Command::Submit {
+            who,
+            name,
+            order: Order::Block(order),
+        } => put_block(alloc, out, who, name, order),
+        Command::Amend {
+            who,
+            name,
+            price,
+            volumes,
+        } => {
+            let price = price_field(alloc, *price)?;
+            let volumes = volumes_field(alloc, volumes)?;
+            let (who, name) = (who.as_bytes(), name.as_bytes());
+            let (price, volumes) = (price.as_slice(), volumes.as_slice());
+            put_row(
+                out,
+                &[b"amend", who, name, b"", b"", price, volumes, b"", b""],
+            )
+        }
+        Command::Cancel { who, name } => {
+            let (who, name) = (who.as_bytes(), name.as_bytes());
+            put_row(out, &[b"cancel", who, name, b"", b"", b"", b"", b"", b""])
+        }
+        Command::Close => put_row(out, &[b"close", b"", b"", b"", b"", b"", b"", b"", b""]),
+    }
+}
+
+fn put_entries(
+    alloc: Global,
+    out: &mut Writer<Vec<u8>>,
+    entries: &[Entry],
+) -> Result<(), AllocError>
+    ensures { OnOk result (PutsCommands out.old out.new (commands_of entries.now)) }
+{
+    for entry in entries {
+        put_command(alloc, out, &entry.command)?;
+    }
+    Ok(())
+}
+
+fn put_packed_entries(
+    alloc: Global,
+    out: &mut Writer<Vec<u8>>,
+    entries: &[PackedEntry],
+) -> Result<(), AllocError>
+    ensures { OnOk result (PutsCommands out.old out.new (commands_of entries.now)) }
+{
+    for entry in entries {
+        let command = entry.command().command();
+        put_command(alloc, out, &command)?;
+    }
+    Ok(())
+}
+
+/// Begins a writer, and writes the record of the day.
+fn begin_writer(alloc: Global, periods: DayLength) -> Result<Writer<Vec<u8>>, AllocError>
+    ensures day { IfOk result (λ out. Wrote out (row_line (day_row periods))) }
+    ensures valid { is_day periods ≡ true }
+{
+    let mut out = WriterBuilder::new().from_writer(Vec::new(alloc));
+    put_day(&mut out, periods)?;
+    Ok(out)
+}
+
+/// The text that the writer has written.
+fn written_text(out: Writer<Vec<u8>>) -> Result<Vec<u8>, AllocError>
+    ensures { IfOk result (λ text. (written : List ℕ) → Wrote out written
+        → text.items ≡ written) }
+{
+    match out.into_inner() {
+        Ok(text) => Ok(text),
+        Err(_) => Err(AllocError),
+    }
+}
+
+/// The written journal: the record of the day, and then the record of each entry's command, also if
+/// it was refused. The fields of a record are joined by commas, with no quotes, and each record ends
+/// in one LF.
+///
+/// It fails only if memory runs out.
+pub fn journal_text(
+    alloc: Global,
+    periods: DayLength,
+    entries: &[Entry],
+) -> Result<Vec<u8>, AllocError>
+    requires { length entries.now ≤ most_entries }
+    ensures text { IfOk result (λ text. text.items ≡ Written.journal_text periods entries.now) }
+    ensures reads { IfOk result (λ text. ReadsAs text.items periods (commands_of entries.now)) }
+{
+    let mut out = begin_writer(alloc, periods)?;
+    put_entries(alloc, &mut out, entries)?;
+    written_text(out)
+}
+
+/// The written journal of packed entries, as `journal_text` writes it.
+pub fn packed_journal_text(
+    alloc: Global,
+    periods: DayLength,
+    entries: &[PackedEntry],
+) -> Result<Vec<u8>, AllocError>
+    requires { length entries.now ≤ most_entries }
+    ensures text { IfOk result (λ text. text.items ≡ Written.journal_text periods entries.now) }
+    ensures reads { IfOk result (λ text. ReadsAs text.items periods (commands_of entries.now)) }
+{
+    let mut out = begin_writer(alloc, periods)?;
+    put_packed_entries(alloc, &mut out, entries)?;
+    written_text(out)
+}
+
+/// The written journal of a day, which grows by the record of one command after another. A contract sees the text so far.
+#[derive(Drop)]
+pub struct JournalWriter {
+    alloc: Global,
+    pub(crate) out: Writer<Vec<u8>>,
+}
+
+impl JournalWriter {
+    /// A journal with the record of its day, and no command yet.
+    pub fn begin(alloc: Global, periods: DayLength) -> Result<JournalWriter, AllocError>
+        ensures { IfOk result (λ writer. HasWritten writer (Written.written periods [])) }
+    {
+        let out = begin_writer(alloc, periods)?;
+        Ok(JournalWriter { alloc, out })
+    }
+
+    /// Adds the record of a command.
+    pub fn put_command(&mut self, command: &Command) -> Result<(), AllocError>
+        ensures { OnOk result ((periods : ℕ) → (commands : List Command)
+            → HasWritten self.old (Written.written periods commands)
+            → HasWritten self.new (Written.written periods (commands ++ command.now ∷ []))) }
+    {
+        put_command(self.alloc, &mut self.out, command)
+    }
+
+    /// The text.
+    pub fn into_text(self) -> Result<Vec<u8>, AllocError>
+        ensures { IfOk result (λ text. (written : List ℕ) → HasWritten self written
+            → text.items ≡ written) }
+    {
+        written_text(self.out)
+    }
+}
