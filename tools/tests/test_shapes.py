@@ -10,7 +10,7 @@ FUNCTION = re.compile(r"^(    )?pub fn (\w+)", re.M)
 EXPORTED = re.compile(r"^pub use [\w:]+(?:::\{([^}]*)\}|::(\w+));", re.M)
 # Calls that no length of a day, name or number of volumes reaches: on the faults of a run, single prices, reasons, seeds, and the system's
 # random bytes. The last one ends a run's writing, and every run on a shape makes it.
-SHAPELESS = {"dam_engines": {"fault_line", "short_line", "status", "write_text"}, "dam_book": {"at", "drawn", "highest", "lowest", "word"}}
+SHAPELESS = {"dam_engines": {"fault_line", "fixed_fault_line", "status", "write_text"}, "dam_book": {"at", "drawn", "highest", "lowest", "word"}}
 
 
 def exported(crate):

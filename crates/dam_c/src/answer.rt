@@ -2,7 +2,7 @@ ghost use Rattle.std.specs.Prelude.{◌≡◌, ◌++◌, codes, MatchResult};
 ghost use Rattle.dam_engines.specs.Fault.{fault_status, fault_text};
 ghost use Rattle.dam_c.specs.Answer.{HoldsText};
 
-use dam_engines::{RunFault, short_line, status};
+use dam_engines::{RunFault, fixed_fault_line, status};
 
 /// The answer of an export.
 #[repr(C)]
@@ -40,7 +40,7 @@ pub(crate) fn write_answer(made: Result<Vec<u8>, RunFault>, buffer: &mut [u8]) -
         },
         Err(fault) => DamAnswer {
             status: status(&fault),
-            length: copy_to_buffer(short_line(&fault).as_str().as_bytes(), buffer),
+            length: copy_to_buffer(fixed_fault_line(&fault).as_str().as_bytes(), buffer),
         },
     }
 }

@@ -17,7 +17,7 @@ ghost use Rattle.dam_cli.specs.Status.{IsEndedStatus, IsLineStatus, IsNoHelp, ru
 
 use advice::{asks_version, file_in, rule_of};
 use dam_book::Seed;
-use dam_engines::{RunFault, Sink, Source, short_line, status, write_text};
+use dam_engines::{RunFault, Sink, Source, fixed_fault_line, status, write_text};
 use dam_line::{Job, LineFault, read_words};
 use progress::Progress;
 use run::run_job;
@@ -32,15 +32,15 @@ use std::time::Clock;
 const REFUSED_LINE: u8 = 2;
 
 fn main(rt: HostRuntime) -> ExitCode {
-    let words = match words(&rt) {
+    let words = match read_program_words(&rt) {
         Ok(words) => words,
-        Err(fault) => return help_or_refuse(&rt, &fault, &[]),
+        Err(fault) => return print_help_or_refusal(&rt, &fault, &[]),
     };
-    let job = match read_job_or_answer(&rt, words.as_slice()) {
+    let job = match read_job_or_print(&rt, words.as_slice()) {
         Ok(job) => job,
         Err(status) => return status,
     };
-    say_terminal_input(&rt);
+    print_terminal_hint(&rt);
     let progress = Progress::new(&rt, rt.stderr().is_terminal());
     let (mut input, mut output) = (Source::new(rt.stdin()), Sink::new(rt.stdout()));
     let seed = Seed::drawn(&rt);
@@ -53,11 +53,11 @@ fn main(rt: HostRuntime) -> ExitCode {
         &mut output,
         &progress,
     );
-    end_run(&rt, &progress, done)
+    print_end(&rt, &progress, done)
 }
 
 /// The exit status of a run that ended so. Prints the fault's line or, at a terminal, how many commands were refused.
-fn end_run<R: Wait + Eprint + Clock>(
+fn print_end<R: Wait + Eprint + Clock>(
     rt: &HostRuntime,
     progress: &Progress<'_, R>,
     done: Result<(), RunFault>,
@@ -69,23 +69,23 @@ fn end_run<R: Wait + Eprint + Clock>(
             progress.say_refused();
             ExitCode::SUCCESS
         }
-        Err(fault) => report(rt, &fault),
+        Err(fault) => print_fault(rt, &fault),
     }
 }
 
 /// The job that the words ask for. If they ask for none, prints the help or the refusal; the error is then the exit status.
-fn read_job_or_answer(rt: &HostRuntime, words: &[String]) -> Result<Job, ExitCode>
+fn read_job_or_print(rt: &HostRuntime, words: &[String]) -> Result<Job, ExitCode>
     ensures job { IfOk result (AsksFor (map string_bytes words.now)) }
     ensures ended { IfErr result (λ status. IsEndedStatus (exit_status status)) }
 {
     match read_words(rt.alloc(), words) {
         Ok(job) => Ok(job),
-        Err(fault) => Err(help_or_refuse(rt, &fault, words)),
+        Err(fault) => Err(print_help_or_refusal(rt, &fault, words)),
     }
 }
 
 /// The program's words, without its name.
-fn words(rt: &HostRuntime) -> Result<Vec<String>, LineFault>
+fn read_program_words(rt: &HostRuntime) -> Result<Vec<String>, LineFault>
     ensures { IfErr result IsNoHelp }
 {
     let alloc = rt.alloc();
@@ -113,7 +113,7 @@ fn not_utf8_fault(alloc: Global) -> LineFault
 }
 
 /// At a terminal, prints that the program reads the journal from it; otherwise it would seem to hang.
-fn say_terminal_input(rt: &HostRuntime) {
+fn print_terminal_hint(rt: &HostRuntime) {
     if rt.stdin().is_terminal() && rt.stderr().is_terminal() {
         let _ = eprintln!(rt; "dam: reading a journal from this terminal; end it with Ctrl-D");
     }
@@ -121,10 +121,12 @@ fn say_terminal_input(rt: &HostRuntime) {
 
 /// Prints the fault's line, which needs no memory, and gives its status. At a terminal a second line says which rule the
 /// input breaks.
-fn report(rt: &HostRuntime, fault: &RunFault) -> ExitCode
+fn print_fault(rt: &HostRuntime, fault: &RunFault) -> ExitCode
     ensures { exit_status result ≡ fault_status fault.now }
 {
-    let _ = rt.stderr().write_all(short_line(fault).as_str().as_bytes());
+    let _ = rt
+        .stderr()
+        .write_all(fixed_fault_line(fault).as_str().as_bytes());
     if let Some(rule) = rule_of(fault) {
         if rt.stderr().is_terminal() {
             let _ = eprintln!(rt; "dam: {rule}");
@@ -134,24 +136,24 @@ fn report(rt: &HostRuntime, fault: &RunFault) -> ExitCode
 }
 
 /// Answers words that ask for no job: prints the help if they ask for it, or why they are refused. Returns the exit status.
-fn help_or_refuse(rt: &HostRuntime, fault: &LineFault, words: &[String]) -> ExitCode
+fn print_help_or_refusal(rt: &HostRuntime, fault: &LineFault, words: &[String]) -> ExitCode
     ensures { IsLineStatus fault.now (exit_status result) }
 {
     match fault {
         LineFault::Refused { help: true, text } => {
             match write_text(&mut Sink::new(rt.stdout()), text.as_bytes()) {
                 Ok(()) => ExitCode::SUCCESS,
-                Err(fault) => report(rt, &fault),
+                Err(fault) => print_fault(rt, &fault),
             }
         }
-        LineFault::Refused { help: false, text } => refuse(rt, text.as_str(), words),
-        LineFault::Memory => report(rt, &RunFault::Memory),
+        LineFault::Refused { help: false, text } => print_refusal(rt, text.as_str(), words),
+        LineFault::Memory => print_fault(rt, &RunFault::Memory),
     }
 }
 
 /// Prints why the words are refused. At a terminal a last line may follow: if the words ask for the version, the
 /// command that prints it; otherwise, if one of them may be a journal's file, how it is read.
-fn refuse(rt: &HostRuntime, text: &str, words: &[String]) -> ExitCode
+fn print_refusal(rt: &HostRuntime, text: &str, words: &[String]) -> ExitCode
     ensures { exit_status result ≡ 2 }
 {
     let _ = eprint!(rt; "command line\n{text}");

@@ -65,14 +65,14 @@ fn clear_text<H: Threads + Sync, T: Watch + Sync>(
         IsMadeFrom (AreResultsWithin plan) text.items results.items) }
     ensures fault { IfErr result (IsRunFault (IsClearFault plan) text.items) }
 {
-    let run = run_of_journal(alloc, seed, text.as_slice())?;
+    let run = run_journal(alloc, seed, text.as_slice())?;
     drop(text);
     watch.commands_refused(run.refused);
     clear_book(rt, alloc, &run.book, plan, watch)
 }
 
 /// Runs the journal of a text. A text that is too long may have been cut after the first byte too many.
-fn run_of_journal(alloc: Global, seed: Seed, text: &[u8]) -> Result<Run, RunFault>
+fn run_journal(alloc: Global, seed: Seed, text: &[u8]) -> Result<Run, RunFault>
     ensures done { IfOk result (λ found. (periods : ℕ) × (commands : List Command)
         × ReadsAs text.now periods commands × (found.book ≡ run periods commands)) }
     ensures fault { IfErr result (IsTextFault text.now) }

@@ -57,12 +57,12 @@ pub fn run_day<H: Threads + Wait + Sync, R: Read, W: Write, T: Watch + Sync, U: 
     ensures asked { reader.new.asked ≤ reader.old.asked + most_asked reader.old.unread }
 {
     let text = read_input(alloc, reader)?;
-    let day = day_text(rt, alloc, seed, text, plan, watch, entrance)?;
+    let day = run_day_of_text(rt, alloc, seed, text, plan, watch, entrance)?;
     write_text(writer, day.as_slice())
 }
 
 /// The printed text of a day of the commands of a journal's text. The journal's text is freed before they are entered.
-fn day_text<H: Threads + Wait + Sync, T: Watch + Sync, U: Turnstile + Sync>(
+fn run_day_of_text<H: Threads + Wait + Sync, T: Watch + Sync, U: Turnstile + Sync>(
     rt: &H,
     alloc: Global,
     seed: Seed,
@@ -77,7 +77,7 @@ fn day_text<H: Threads + Wait + Sync, T: Watch + Sync, U: Turnstile + Sync>(
     let journal = read_packed_journal(alloc, text.as_slice())?;
     drop(text);
     let commands = journal.commands.as_slice();
-    day_text_of_commands(
+    run_day_of_commands(
         rt,
         alloc,
         seed,
@@ -90,7 +90,7 @@ fn day_text<H: Threads + Wait + Sync, T: Watch + Sync, U: Turnstile + Sync>(
 }
 
 /// Runs a day of the commands at a gate, clears its book, and returns the text to print.
-fn day_text_of_commands<H: Threads + Wait + Sync, T: Watch + Sync, U: Turnstile + Sync>(
+fn run_day_of_commands<H: Threads + Wait + Sync, T: Watch + Sync, U: Turnstile + Sync>(
     rt: &H,
     alloc: Global,
     seed: Seed,
@@ -104,7 +104,7 @@ fn day_text_of_commands<H: Threads + Wait + Sync, T: Watch + Sync, U: Turnstile 
     ensures fault { IfErr result (IsCommandsFault plan periods commands.now) }
 {
     let settled = enter_and_settle(rt, alloc, seed, periods, commands, entrance)?;
-    cleared_day_text(rt, alloc, settled.journal(), plan, watch)
+    clear_to_day_text(rt, alloc, settled.journal(), plan, watch)
 }
 
 /// Runs a day of the commands at a gate. A command's place is counted from 0, a record's number
@@ -135,7 +135,7 @@ fn enter_and_settle<H: Threads + Wait + Sync, U: Turnstile + Sync>(
 }
 
 /// Clears the journal's book, and returns the written journal, the line `results`, and the results text.
-fn cleared_day_text<H: Threads + Sync, T: Watch + Sync>(
+fn clear_to_day_text<H: Threads + Sync, T: Watch + Sync>(
     rt: &H,
     alloc: Global,
     journal: &Journal,

@@ -139,7 +139,7 @@ pub(crate) fn fault_text(fault: &RunFault) -> ArrayString<ROOM>
 }
 
 /// The line that the program prints on standard error, with its line feed. It needs no memory.
-pub fn short_line(fault: &RunFault) -> ArrayString<ROOM>
+pub fn fixed_fault_line(fault: &RunFault) -> ArrayString<ROOM>
     ensures { result.bytes ≡ fault_text fault.now ++ codes "\n" }
 {
     let mut line = fault_text(fault);

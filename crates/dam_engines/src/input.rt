@@ -19,7 +19,10 @@ const CHUNK: usize = 65_536;
 ///
 /// The first failure of the reader ends it, and so does the first read of no bytes. No byte after the first `MOST_READ`
 /// is asked for.
-pub(crate) fn read_input<R: Read>(alloc: Global, reader: &mut Source<R>) -> Result<Vec<u8>, RunFault>
+pub(crate) fn read_input<R: Read>(
+    alloc: Global,
+    reader: &mut Source<R>,
+) -> Result<Vec<u8>, RunFault>
     requires { reader.old.failed ≡ false }
     ensures text { IfOk result (λ text.
         IfSome reader.old.unread (λ given. text.items ≡ take most_read given)) }

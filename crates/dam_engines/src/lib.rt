@@ -4,7 +4,7 @@
 //! [`run_replay`] prints the reply of the order book to each command, [`run_clear`] the results of the closed book, and
 //! [`run_day`] the journal of a day whose participants enter their commands at the same time, and its results. If a run
 //! prints nothing or only the first bytes of its text, its [`RunFault`] says why; [`fault_line`] is the line that a
-//! person reads, [`short_line`] the same without an allocation, and [`status`] the number that a program ends with.
+//! person reads, [`fixed_fault_line`] the same without an allocation, and [`status`] the number that a program ends with.
 //!
 //! ```
 //! let plan = Plan::new(2, 3, MOST_NODES)?; // workers, depth of the cutting, nodes of a piece
@@ -50,7 +50,7 @@ pub use clear::run_clear;
 pub use day::run_day;
 pub use device::{Sink, Source};
 pub use fault::{RunFault, status};
-pub use fixed_line::{fault_line, short_line};
+pub use fixed_line::{fault_line, fixed_fault_line};
 pub use output::write_text;
 pub use replay::{replies_of, run_replay};
 pub use watch::Watch;

@@ -12,7 +12,7 @@ ghost use Rattle.dam_gate.specs.inside.Entering.{AreGivers, IsUnsettled};
 use crate::account::Account;
 use crate::entering::enter_before_close;
 use crate::gate::{Gate, GateFault, PassFault};
-use crate::givers::{check_room, givers};
+use crate::givers::{check_room, find_givers};
 use crate::journal::Journal;
 use crate::opening::{Answered, GateName, Opening};
 use crate::pass::Pass;
@@ -112,7 +112,7 @@ fn learn_from_all<J: GateName>(pass: &mut Pass<J>, others: &[Pass<J>])
 }
 
 /// The accounts of the passes and then of the operator's, with their parts of the gate's count of entries.
-fn accounts_of<J: GateName>(
+fn into_accounts_and_parts<J: GateName>(
     alloc: Global,
     passes: Vec<Pass<J>>,
     operator: Pass<J>,
@@ -160,10 +160,10 @@ fn run_at_own_gate<J: GateName + Send + Sync, R: Threads + Wait + Sync, T: Turns
 {
     let gate = Gate::<J, &R>::for_day(rt, alloc, opening, periods, seed)?;
     let passes = enter_before_close(rt, alloc, &gate, turnstile, participants, commands)?;
-    let mut operator = gate.operator(rt)?;
+    let mut operator = gate.issue_operator_pass(rt)?;
     learn_from_all(&mut operator, &passes);
     let closed = gate.close_into_locked(&mut operator)?;
-    let (accounts, mut parts) = accounts_of(alloc, passes, operator)?;
+    let (accounts, mut parts) = into_accounts_and_parts(alloc, passes, operator)?;
     let journal = closed.into_audited_journal(&mut parts);
     let settled = settle_journal(alloc, journal, &accounts)?;
     Ok(SettledDay { settled, accounts })
@@ -235,7 +235,7 @@ pub fn run_packed<R: Threads + Wait + Sync, T: Turnstile + Sync>(
     ensures day { IfOk result (IsSettledDay periods commands.now) }
     ensures fault { IfErr result (IsDayFault commands.now) }
 {
-    let participants = givers(alloc, commands)?;
+    let participants = find_givers(alloc, commands)?;
     let opening = Opening::with_passes(periods.get(), participants.len() as u8 + 1);
     run_at_own_gate::<Brand, R, T>(
         rt,

@@ -95,7 +95,7 @@ fn have_all_entered<J: GateName>(passes: &[Pass<J>], all_places: &[CommandPlaces
 }
 
 /// A pass for the participant, with room for this number of receipts.
-fn pass_for<J: GateName, H: Wait + Drop>(
+fn issue_pass_with_room<J: GateName, H: Wait + Drop>(
     rt: &impl Wait,
     gate: &Gate<J, H>,
     who: &Participant,
@@ -104,13 +104,13 @@ fn pass_for<J: GateName, H: Wait + Drop>(
     ensures ok { IfOk result (λ pass. pass ≡ knowing_nothing (Some who.now)) }
     ensures err { IfErr result (λ fault. fault ≡ DayFault.Memory) }
 {
-    let mut pass = gate.pass(rt, who.copy())?;
+    let mut pass = gate.issue_pass(rt, who.copy())?;
     pass.reserve_receipts(receipts)?;
     Ok(pass)
 }
 
 /// A pass for each participant, with room for the receipts of its commands.
-fn passes_for<J: GateName, H: Wait + Drop>(
+fn issue_passes<J: GateName, H: Wait + Drop>(
     rt: &impl Wait,
     alloc: Global,
     gate: &Gate<J, H>,
@@ -124,7 +124,7 @@ fn passes_for<J: GateName, H: Wait + Drop>(
     let mut passes = Vec::with_capacity(alloc, participants.len() + 1)?;
     for who in participants {
         let receipts = places_of(all_places, passes.len()).len();
-        passes.push(pass_for(rt, gate, who, receipts)?)?;
+        passes.push(issue_pass_with_room(rt, gate, who, receipts)?)?;
     }
     Ok(passes)
 }
@@ -153,7 +153,7 @@ pub(crate) fn enter_before_close<
 {
     let all_places = find_all_places(alloc, participants, commands)?;
     let all_places = all_places.as_slice();
-    let mut passes = passes_for(rt, alloc, gate, participants, all_places)?;
+    let mut passes = issue_passes(rt, alloc, gate, participants, all_places)?;
     // So that a journal which grows isn't copied.
     gate.reserve_entries(rt, commands.len() + 1)?;
     enter_all(rt, gate, turnstile, &mut passes, commands, all_places);

@@ -151,14 +151,14 @@ impl<J: GateName, R: Wait + Drop> Gate<J, R> {
     }
 
     /// A pass for a participant, who may have several.
-    pub fn pass(&self, rt: &impl Wait, who: Participant) -> Result<Pass<J>, PassFault>
+    pub fn issue_pass(&self, rt: &impl Wait, who: Participant) -> Result<Pass<J>, PassFault>
         ensures { IfOk result (λ pass. pass ≡ knowing_nothing (Some who)) }
     {
         self.locked.lock(rt).issue_pass(Some(who))
     }
 
     /// A pass for the operator, who alone closes.
-    pub fn operator(&self, rt: &impl Wait) -> Result<Pass<J>, PassFault>
+    pub fn issue_operator_pass(&self, rt: &impl Wait) -> Result<Pass<J>, PassFault>
         ensures { IfOk result (λ pass. pass ≡ knowing_nothing None) }
     {
         self.locked.lock(rt).issue_pass(None)

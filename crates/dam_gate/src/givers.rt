@@ -55,7 +55,7 @@ fn add_giver(
 }
 
 /// The participants who give the commands, by first occurrence, if the day takes the commands.
-pub(crate) fn givers(
+pub(crate) fn find_givers(
     alloc: Global,
     commands: &[PackedCommand],
 ) -> Result<Vec<Participant>, DayFault>

@@ -4,10 +4,10 @@
 //! ```
 //! // in a function that is generic in the gate's name `J`, with `opening: Opening` among its arguments
 //! let gate = Gate::<J, &R>::begin(rt, alloc, opening)?;
-//! let mut pass = gate.pass(rt, who)?; // one a participant; each may go to a thread of its own
+//! let mut pass = gate.issue_pass(rt, who)?; // one a participant; each may go to a thread of its own
 //! let entry = gate.call(rt, &mut pass, submit)?;
 //! let look = pass.look(who, name); // takes no lock, and waits for nobody
-//! let mut operator = gate.operator(rt)?;
+//! let mut operator = gate.issue_operator_pass(rt)?;
 //! let _closed = gate.call(rt, &mut operator, Command::Close)?;
 //!
 //! let journal = gate.finish();

@@ -9,13 +9,13 @@ use clap::{Arg, ArgAction, Command, value_parser};
 use std::alloc::{AllocError, Global};
 
 /// The command that prints the book's reply to each command of a journal.
-pub const REPLAY: &str = "replay";
+pub(crate) const REPLAY: &str = "replay";
 
 /// The command that prints the results of a journal's closed book.
-pub const CLEAR: &str = "clear";
+pub(crate) const CLEAR: &str = "clear";
 
 /// The command that runs the commands of a journal as a day with participants, and prints its journal and its results.
-pub const DAY: &str = "day";
+pub(crate) const DAY: &str = "day";
 
 /// The way in which the program gets its journal.
 const USAGE: &str = "dam replay < JOURNAL
@@ -133,7 +133,7 @@ fn with_subcommands<'a>(alloc: Global, command: Command<'a>) -> Result<Command<'
 }
 
 /// The program's command.
-pub fn program_command<'a>(alloc: Global) -> Result<Command<'a>, AllocError>
+pub(crate) fn program_command<'a>(alloc: Global) -> Result<Command<'a>, AllocError>
     ensures { IfOk result (λ c. app_of c ≡ program) }
 {
     let command = Command::new(alloc, "dam")

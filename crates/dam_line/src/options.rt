@@ -16,7 +16,7 @@ pub struct NumberOption {
 }
 
 /// The number of workers.
-pub const WORKERS: NumberOption = NumberOption {
+pub(crate) const WORKERS: NumberOption = NumberOption {
     name: "workers",
     least: 1,
     most: MOST_WORKERS as u32,
@@ -27,7 +27,7 @@ pub const WORKERS: NumberOption = NumberOption {
 };
 
 /// The number of blocks that the cutting decides.
-pub const CUT: NumberOption = NumberOption {
+pub(crate) const CUT: NumberOption = NumberOption {
     name: "cut",
     least: 0,
     most: MOST_CUT as u32,
@@ -38,7 +38,7 @@ pub const CUT: NumberOption = NumberOption {
 };
 
 /// The most nodes of one piece that may be visited.
-pub const NODES: NumberOption = NumberOption {
+pub(crate) const NODES: NumberOption = NumberOption {
     name: "nodes",
     least: 1,
     most: MOST_NODES,

@@ -50,8 +50,8 @@ impl<J: GateName> Passes<J> {
     ) -> Result<usize, Stop> {
         for _ in 0..TRIES {
             let given = match holder {
-                Some(who) => gate.pass(rt, who.copy()),
-                None => gate.operator(rt),
+                Some(who) => gate.issue_pass(rt, who.copy()),
+                None => gate.issue_operator_pass(rt),
             };
             match given {
                 Ok(pass) => {

@@ -126,7 +126,7 @@ fn has_given_all<J: GateName, H: Wait + Drop>(
     who: &Participant,
 ) -> bool {
     let used = Some(PassFault::PassesUsed);
-    gate.pass(rt, who.copy()).err() == used && gate.operator(rt).err() == used
+    gate.issue_pass(rt, who.copy()).err() == used && gate.issue_operator_pass(rt).err() == used
 }
 
 /// Makes the calls that a gate of this opening refuses for who makes them. The answer is the number of entries of the

@@ -5,7 +5,7 @@ use Rattle.dam_gate.specs.Limits.{most_participants}
 use Rattle.dam_gate.specs.Pass.{is_close}
 use Rattle.dam_gate.specs.Day.{givers_of}
 use Rattle.dam_gate.specs.inside.Entering.{AreGivers}
-use Rattle.dam_gate.proofs.givers.givers.Given as goal
+use Rattle.dam_gate.proofs.givers.find_givers.Given as goal
 
 abbrev pub invariant-loop-place : goal.invariant-loop-place
 invariant-loop-place l = record {

@@ -3,7 +3,7 @@ use Rattle.std.proofs.Common.{◌≡◌, ◌+◌, ◌++◌, length, map}
 use Rattle.std.specs.Vec.Iter.{into_iter_items}
 use Rattle.dam_gate.specs.Pass.{Knowledge}
 use Rattle.dam_gate.specs.Settled.{receipts_of}
-use Rattle.dam_gate.proofs.day.accounts_of.Given as goal
+use Rattle.dam_gate.proofs.day.into_accounts_and_parts.Given as goal
 
 abbrev pub invariant-loop-pass : goal.invariant-loop-pass
 invariant-loop-pass g l = record {

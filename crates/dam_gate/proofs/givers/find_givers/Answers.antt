@@ -10,7 +10,7 @@ use Rattle.dam_gate.specs.Pass.{is_close}
 use Rattle.dam_gate.specs.Day.{AreTaken, IsDayFault, givers_of}
 use Rattle.dam_gate.specs.inside.Entering.{AreGivers}
 use Rattle.dam_gate.proofs.Days.{givers-more, no_close-more, order-more, passed_on, refused-at}
-use Rattle.dam_gate.proofs.givers.givers.Goals as goal
+use Rattle.dam_gate.proofs.givers.find_givers.Goals as goal
 
 pub loop-place-preserved : goal.loop-place-preserved
 loop-place-preserved c =

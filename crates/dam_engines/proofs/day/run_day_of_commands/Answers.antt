@@ -4,7 +4,7 @@ use Rattle.std.proofs.lemmas.Result.{err_from_is_err_and}
 use Rattle.dam_gate.specs.Journal.{JournalState}
 use Rattle.dam_engines.specs.Clear.{IsBookFault}
 use Rattle.dam_engines.proofs.DayFaults.{journal_fault-day}
-use Rattle.dam_engines.proofs.day.day_text_of_commands.Goals as goal
+use Rattle.dam_engines.proofs.day.run_day_of_commands.Goals as goal
 
 pub returns-in_err-settled-clause-fault : goal.returns-in_err-settled-clause-fault
 returns-in_err-settled-clause-fault g c =
@@ -14,7 +14,7 @@ returns-in_err-settled-clause-fault g c =
 pub returns-clause-fault : goal.returns-clause-fault
 returns-clause-fault g c =
     let day = c.in_ok-settled in
-    journal_fault-day c.args.plan c.args.periods c.args.commands.now day.settled c.cleared_day_text.result
+    journal_fault-day c.args.plan c.args.periods c.args.commands.now day.settled c.clear_to_day_text.result
     day.ensures.taken day.ensures.day day.ensures.journal day.ensures.periods
-    (subst (λ (j : JournalState). IfErr c.cleared_day_text.result (IsBookFault c.args.plan j.book)) c.journal.ensures.value
-    c.cleared_day_text.ensures.fault)
+    (subst (λ (j : JournalState). IfErr c.clear_to_day_text.result (IsBookFault c.args.plan j.book)) c.journal.ensures.value
+    c.clear_to_day_text.ensures.fault)
