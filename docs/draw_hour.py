@@ -76,7 +76,7 @@ def draw_demand(axes, canvas, row, price):
 
 
 def main():
-    modules.need("matplotlib")
+    modules.refuse_missing("matplotlib")
     from lib.pictures import canvas
 
     sys.stdout.buffer.write(canvas.picture(figure(), "svg"))

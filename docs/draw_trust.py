@@ -115,7 +115,7 @@ def say_effect(day):
     found = effect(day, accepted)
     name = f"{' '.join(BLOCK)}, {text.shown_volume(max(found.volumes)).removesuffix('.0')} MW"
     yield f"{name:<20}{'rejected':>10}{'accepted':>12}"
-    for number, *prices in zip(found.periods, *found.prices):
+    for number, *prices in zip(found.periods, *found.read_prices):
         yield f"price of hour {number:<4}" + "".join(f"{text.eur_per_mwh(price):>12}" for price in prices)
     yield f"{'their average':<18}" + "".join(f"{text.shown_price(average):>12}" for average in found.averages())
     yield f"{'its limit':<18}" + f"{text.eur_per_mwh(found.limit):>12}" * 2
@@ -141,7 +141,7 @@ def draw_effect(day):
     with canvas.matplotlib.rc_context(canvas.STYLE):
         drawn, axes = canvas.pyplot.subplots(figsize=(canvas.BROAD * 0.7, 3))
         looks = {"color": canvas.COLOURS["sell"], "linewidth": 2.2}, {"color": canvas.COLOURS["ink"], "linewidth": 1.6, "linestyle": "--"}
-        for prices, look, words in zip(found.prices, looks, ("UNIT-7 is rejected", "UNIT-7 is accepted")):
+        for prices, look, words in zip(found.read_prices, looks, ("UNIT-7 is rejected", "UNIT-7 is accepted")):
             axes.stairs([canvas.eur(price) for price in prices], edges, baseline=None, label=f"price if {words}", **look)
         axes.axhline(canvas.eur(found.limit), color=canvas.COLOURS["soft"], linewidth=1)
         axes.annotate(f"its limit: {canvas.eur(found.limit):g}", (edges[0], canvas.eur(found.limit)), (3, 4), textcoords="offset points")
@@ -186,7 +186,7 @@ def main():
     if not words[1:]:
         print(*say(problem()), sep="\n")
         return
-    modules.need("matplotlib")
+    modules.refuse_missing("matplotlib")
     from lib.pictures import canvas
 
     sys.stdout.buffer.write(canvas.picture(draw(problem()), "svg"))

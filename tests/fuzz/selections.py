@@ -136,7 +136,7 @@ def main():
     args = arguments()
     modules.restart_with("numpy")
     if args.families or args.books or args.thin or (args.blocks or 0) > FEW_BLOCKS:
-        modules.need("numpy")
+        modules.refuse_missing("numpy")
     args.most_blocks = MOST_BLOCKS if modules.has_module("numpy") else FEW_BLOCKS
     program, counts, altered = compare.Program(args.program, args.wait), Counts(), {}
     for name, data in inputs(args):

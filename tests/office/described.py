@@ -11,7 +11,7 @@ from lib.base import rules
 from lib.office import web
 from lib.seal import heads
 
-API, DEMO = (json.loads(web.description(is_demo)) for is_demo in (False, True))
+API, DEMO = (json.loads(web.openapi_text(is_demo)) for is_demo in (False, True))
 RANDOM = 60  # requests of a day
 WAIT_SECONDS = 20  # for the office to take requests again
 TYPES = {"string": str, "integer": int, "number": (int, float), "boolean": bool, "array": list, "object": dict}

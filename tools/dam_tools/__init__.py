@@ -193,7 +193,7 @@ def clear_many(
         raise ValueError(f"nodes should be from 1 to {by_library.MOST_NODES}")
     if executor is None and (timeout is not None or where() is None):
         program = by_program.program_of(program)
-    call = functools.partial(engine.answer, nodes=nodes or by_library.MOST_NODES, timeout=timeout)
+    call = functools.partial(engine.run_clear, nodes=nodes or by_library.MOST_NODES, timeout=timeout)
     return days_of(journals, quiet, lambda texts: engine.answers(texts, jobs, executor, program, call))
 
 

@@ -20,8 +20,7 @@ try:
     import aiohttp
     import jinja2
     from lib.seal import sealing, signing
-    from lib.office import clearing, folder, gate, observed, setup
-    from lib.office import serve as serving
+    from lib.office import folder, day_writer, observed, programs, publishing, setup
     from lib.office.desk import Desk, Ended
 except ImportError:  # without python3-aiohttp and the like
     aiohttp = None
@@ -43,8 +42,8 @@ class Disk:
 
 
 class DeskInMemory:
-    """A desk as the gate sees it, on a disk that outlives it. Of a batch at which it ends, a beginning is on the disk, and a shorter one is
-    answered."""
+    """A desk as the writer sees it, on a disk that outlives it. Of a batch at which it ends, a beginning is on the disk, and a shorter one
+    is answered."""
 
     def __init__(self, disk, periods):
         self.disk, self.book = disk, book.Book(periods)
@@ -67,10 +66,10 @@ class DeskInMemory:
         if kept is not None:
             raise Ended("as planned")
 
-    async def ended(self):
+    async def wait_for_end(self):
         await self.end.wait()
 
-    async def why(self):
+    async def wait_for_fault(self):
         return Ended("as planned")
 
     async def close(self):
@@ -86,12 +85,12 @@ def opener(disk):
         desk = disk.desk = DeskInMemory(disk, periods)
         return desk, list(disk.records), desk.replies
 
-    return mock.patch.object(Desk, "opened", opened)
+    return mock.patch.object(Desk, "open", opened)
 
 
 async def published(given):
     """In place of the programs after a close."""
-    given.files.file(folder.RESULTS).write_bytes(b"")
+    given.files.path_of(folder.RESULTS).write_bytes(b"")
 
 
 class Office(unittest.IsolatedAsyncioTestCase):
@@ -105,23 +104,23 @@ class Office(unittest.IsolatedAsyncioTestCase):
         self.addCleanup(room.cleanup)
         self.office = folder.Folder(Path(room.name, "office"))
         for name in ("FIRST_PAUSE", "LONGEST_PAUSE", "TICK", "ROOM_PAUSE"):
-            patch = mock.patch.object(gate, name, 0.001)
+            patch = mock.patch.object(day_writer, name, 0.001)
             patch.start()
             self.addCleanup(patch.stop)
-        self.publish = clearing.publish
-        patch = mock.patch.object(clearing, "publish", published)
+        self.publish = publishing.write_missing_files
+        patch = mock.patch.object(publishing, "write_missing_files", published)
         patch.start()
         self.addCleanup(patch.stop)
 
     def make(self, periods=24, closes=None, names=NAMES, share=1_000):
         setup.make_office(self.office)
         setup.make_day(self.office, folder.Terms(DAY, periods, closes or FUTURE, "UTC", dict.fromkeys(names, share)))
-        self.key = self.office.key()
+        self.key = self.office.read_key()
 
-    def gate(self, clock=None, log=None):
-        programs = serving.Programs("dam", "dam-desk")
-        files = folder.DayFolder(self.office.file(folder.DAYS) / DAY)
-        return gate.Gate(files, self.key, programs, clock or gate.Clock(), log or observed.Log(io.StringIO()), observed.Counts())
+    def writer(self, clock=None, log=None):
+        files = folder.DayFolder(self.office.path_of(folder.DAYS) / DAY)
+        found, log = programs.Programs("dam", "dam-desk"), log or observed.Log(io.StringIO())
+        return day_writer.DayWriter(files, self.key, found, clock or day_writer.Clock(), log, observed.Counts())
 
     @contextlib.asynccontextmanager
     async def running(self, given):

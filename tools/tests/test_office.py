@@ -22,7 +22,7 @@ from lib.tool import command
 
 try:
     from lib.seal import sealing
-    from lib.office import clearing, folder, gate, observed, web
+    from lib.office import folder, day_writer, observed, published, web
     from lib.office.desk import Desk, Ended
 except ImportError:  # without python3-aiohttp and the like, whose tests are skipped
     pass
@@ -41,7 +41,7 @@ class Crashes(Office):
             try:
                 given = held[0]
                 entries = await asyncio.wait_for(asyncio.shield(given.submit(who, first, commands(*many))), 5)
-            except (gate.Refused, asyncio.TimeoutError) as fault:
+            except (day_writer.Refused, asyncio.TimeoutError) as fault:
                 self.assertNotIn(getattr(fault, "fault", None), ("NumberUsed", "NumberAhead", "Malformed"))
                 self.assertIsNone(given.fault)
                 await asyncio.sleep(0.001)
@@ -57,7 +57,7 @@ class Crashes(Office):
 
     async def run_with_crashes(self, seed, periods):
         rng, disk, acknowledged = random.Random(f"office {seed}"), Disk(), {}
-        held = [self.gate()]
+        held = [self.writer()]
         with opener(disk):
             tasks = [asyncio.create_task(held[0].run())]
             clients = [
@@ -72,8 +72,8 @@ class Crashes(Office):
                     tasks[-1].cancel()
                     await asyncio.gather(tasks[-1], return_exceptions=True)
                     for one in [*held[0].waiting, *(one for _, one in held[0].entering)]:
-                        gate.fail(one.done, gate.Refused("Unreached", "no answer came"))
-                    held[0] = self.gate()
+                        day_writer.fail_future(one.done, day_writer.Refused("Unreached", "no answer came"))
+                    held[0] = self.writer()
                     tasks.append(asyncio.create_task(held[0].run()))
             sent = dict(zip(NAMES, await asyncio.wait_for(asyncio.gather(*clients), SECONDS)))
             tasks[-1].cancel()
@@ -98,12 +98,12 @@ class Crashes(Office):
         self.make()
         disk = Disk()
         with opener(disk):
-            async with self.running(self.gate()) as given:
+            async with self.running(self.writer()) as given:
                 entries = await given.submit("GAS", 1, commands("submit,GAS,A,hour,buy,1,1:1,,", "cancel,GAS,B,,,,,,"))
                 before = [heads.line_of(given.ledger.receipt(entry)) for entry in entries]
                 await given.submit("A", 1, commands("cancel,A,B,,,,,,"))
                 self.assertEqual([heads.line_of(given.ledger.receipt(entry)) for entry in entries], before)
-            async with self.running(self.gate()) as given:
+            async with self.running(self.writer()) as given:
                 again = await given.submit("GAS", 1, commands("submit,GAS,A,hour,buy,1,1:1,,", "cancel,GAS,B,,,,,,"))
                 self.assertEqual([heads.line_of(given.ledger.receipt(entry)) for entry in again], before)
         self.assertEqual(len(disk.records), 3)
@@ -113,11 +113,11 @@ class Crashes(Office):
         self.make()
         disk, rights = Disk(), [True]
         with opener(disk):
-            async with self.running(self.gate()) as given:
+            async with self.running(self.writer()) as given:
                 await given.submit("GAS", 1, commands("cancel,GAS,A,,,,,,"))
                 waiting = given.submit("GAS", 2, commands("cancel,GAS,B,,,,,,"), lambda: rights[0])
                 rights[0] = False
-                with self.assertRaises(gate.Refused) as caught:
+                with self.assertRaises(day_writer.Refused) as caught:
                     await waiting
                 self.assertEqual(caught.exception.fault, "Token")
                 self.assertEqual(await given.submit("GAS", 1, commands("cancel,GAS,A,,,,,,"), lambda: rights[0]), [1])
@@ -132,14 +132,14 @@ class Crashes(Office):
 
         faults = [command.Stop("damaged"), OSError(errno.EMFILE, "too many open files")]
         with opener(disk):
-            given = self.gate()
+            given = self.writer()
             task = asyncio.create_task(given.run())
             await given.is_ready.wait()
             waiting = [given.submit(who, 1, commands(f"cancel,{who},A,,,,,,"), unreadable) for who in ("GAS", "LONGNAME")]
             behind = given.submit("A", 1, commands("cancel,A,A,,,,,,"))
-            given.close()
+            given.begin_close()
             for one in waiting:
-                with self.assertRaises(gate.Refused) as caught:
+                with self.assertRaises(day_writer.Refused) as caught:
                     await one
                 self.assertEqual((caught.exception.fault, await behind), ("Unavailable", [1]))
             await task
@@ -147,35 +147,35 @@ class Crashes(Office):
 
     def test_a_statement_is_kept_as_it_is_sent(self):
         self.make()
-        files = self.office.days()[DAY]
-        found = clearing.Published(files)
-        self.assertIsNone(found.statement_text("GAS"))
+        files = self.office.list_days()[DAY]
+        found = published.Published(files)
+        self.assertIsNone(found.read_statement_text("GAS"))
         rows = [{"participant": who, "code": "tie", "why": "would gain 1.00 EUR at the prices, but x"} for who in ("GAS", "A")]
-        files.file(folder.STATEMENT).write_text(json.dumps({"day": {"welfare_eur": 1, "periods": 24}, "rows": rows}))
-        files.file(folder.RESULTS).write_bytes(b"")
-        first = found.statement_text("GAS")
+        files.path_of(folder.STATEMENT).write_text(json.dumps({"day": {"welfare_eur": 1, "periods": 24}, "rows": rows}))
+        files.path_of(folder.RESULTS).write_bytes(b"")
+        first = found.read_statement_text("GAS")
         self.assertEqual((json.loads(first)["day"], len(json.loads(first)["rows"])), ({"periods": 24}, 1))
-        self.assertIs(found.statement_text("GAS"), first)
-        with mock.patch.object(clearing, "MOST_TEXTS", 1):
-            found.statement_text("A")
+        self.assertIs(found.read_statement_text("GAS"), first)
+        with mock.patch.object(published, "MOST_TEXTS", 1):
+            found.read_statement_text("A")
             self.assertEqual(len(found.texts), 1)
-        files.file(folder.OPEN_JOURNAL).write_bytes(b"")
-        self.assertEqual(json.loads(found.statement_text("GAS")), {"day": {"welfare_eur": 1, "periods": 24}, "rows": rows[:1]})
+        files.path_of(folder.OPEN_JOURNAL).write_bytes(b"")
+        self.assertEqual(json.loads(found.read_statement_text("GAS")), {"day": {"welfare_eur": 1, "periods": 24}, "rows": rows[:1]})
 
     def test_the_statements_of_a_full_day_take_little_memory(self):
         self.make()
-        files = self.office.days()[DAY]
+        files = self.office.list_days()[DAY]
         volumes = [period + 0.5 for period in range(100)]
         rows = [{"participant": "GAS", "code": None, "why": None, "volume_mw": volumes} for _ in range(2_000)]
-        files.file(folder.STATEMENT).write_text(json.dumps({"day": {}, "rows": rows}))
-        files.file(folder.RESULTS).write_bytes(b"")
-        found = clearing.Published(files)
+        files.path_of(folder.STATEMENT).write_text(json.dumps({"day": {}, "rows": rows}))
+        files.path_of(folder.RESULTS).write_bytes(b"")
+        found = published.Published(files)
         tracemalloc.start()
         self.addCleanup(tracemalloc.stop)
-        self.assertEqual(json.loads(found.statement_text("A"))["rows"], [])
-        kept, size = tracemalloc.get_traced_memory()[0], files.file(folder.STATEMENT).stat().st_size
+        self.assertEqual(json.loads(found.read_statement_text("A"))["rows"], [])
+        kept, size = tracemalloc.get_traced_memory()[0], files.path_of(folder.STATEMENT).stat().st_size
         self.assertLess(kept, 2 * size)
-        self.assertEqual(json.loads(found.statement_text("GAS"))["rows"], rows)
+        self.assertEqual(json.loads(found.read_statement_text("GAS"))["rows"], rows)
 
     async def test_many_receipts_are_written_in_turns(self):
         self.make()
@@ -187,11 +187,11 @@ class Crashes(Office):
                 await asyncio.sleep(0)
 
         with opener(Disk()):
-            async with self.running(self.gate()) as given:
+            async with self.running(self.writer()) as given:
                 await given.submit("GAS", 1, commands(*(f"cancel,GAS,{number},,,,,," for number in range(100))))
                 task = asyncio.create_task(others())
                 with mock.patch.object(heads, "line_of", lambda value: seen.add(turns[0]) or b"\n"):
-                    answer = await web.Web.receipts(None, given, list(range(1, 101)))
+                    answer = await web.Web.answer_receipts(None, given, list(range(1, 101)))
                 task.cancel()
         self.assertEqual(len(answer.body), 100)
         self.assertGreater(len(seen), 10)
@@ -200,27 +200,27 @@ class Crashes(Office):
         self.make()
         disk = Disk()
         with opener(disk):
-            async with self.running(self.gate()) as given:
+            async with self.running(self.writer()) as given:
                 await given.submit("GAS", 1, commands("cancel,GAS,A,,,,,,", "cancel,GAS,B,,,,,,"))
                 disk.records.pop()
                 disk.ends.append((0, 0))
-                with self.assertRaises(gate.Refused) as caught:
+                with self.assertRaises(day_writer.Refused) as caught:
                     await given.submit("GAS", 3, commands("cancel,GAS,C,,,,,,"))
                 self.assertEqual(caught.exception.fault, "Unavailable")
                 self.assertIn("doesn't begin with the 2 entries", given.fault)
                 self.assertEqual(given.state, "stopped")
                 self.assertFalse(given.is_ready.is_set())
-                with self.assertRaises(gate.Refused):
+                with self.assertRaises(day_writer.Refused):
                     given.submit("GAS", 3, commands("cancel,GAS,C,,,,,,"))
 
     async def test_an_idle_desk_that_ends_is_opened_again(self):
         self.make()
         disk, log = Disk(), io.StringIO()
         with opener(disk):
-            async with self.running(self.gate(log=observed.Log(log))) as given:
+            async with self.running(self.writer(log=observed.Log(log))) as given:
                 await given.submit("GAS", 1, commands("cancel,GAS,A,,,,,,"))
                 self.assertTrue(given.is_healthy)
-                with mock.patch.object(Desk, "opened", side_effect=Ended("unreadable")):
+                with mock.patch.object(Desk, "open", side_effect=Ended("unreadable")):
                     disk.desk.end.set()
                     await self.until(lambda: "unreadable" in log.getvalue())
                     self.assertFalse(given.is_healthy)
@@ -239,10 +239,10 @@ class Crashes(Office):
             self.setUp()
             self.make()
             disk = Disk()
-            disk.ends = [(0, 0)] * gate.MOST_ENDS
-            with opener(disk), mock.patch.object(folder.DayFolder, "need_room", need_room):
-                async with self.running(self.gate()) as given:
-                    with self.assertRaises(gate.Refused):
+            disk.ends = [(0, 0)] * day_writer.MOST_ENDS
+            with opener(disk), mock.patch.object(folder.DayFolder, "require_room", need_room):
+                async with self.running(self.writer()) as given:
+                    with self.assertRaises(day_writer.Refused):
                         await given.submit("GAS", 1, commands("cancel,GAS,A,,,,,,"))
                     await given.is_ready.wait()
                     await asyncio.sleep(0.02)
@@ -257,10 +257,10 @@ class Crashes(Office):
     async def test_a_batch_at_which_the_desk_always_ends_is_answered(self):
         self.make()
         disk = Disk()
-        disk.ends = [(0, 0)] * gate.MOST_ENDS
+        disk.ends = [(0, 0)] * day_writer.MOST_ENDS
         with opener(disk):
-            async with self.running(self.gate()) as given:
-                with self.assertRaises(gate.Refused) as caught:
+            async with self.running(self.writer()) as given:
+                with self.assertRaises(day_writer.Refused) as caught:
                     await given.submit("GAS", 1, commands("cancel,GAS,A,,,,,,"))
                 self.assertEqual(caught.exception.fault, "Unavailable")
                 await given.submit("GAS", 1, commands("cancel,GAS,A,,,,,,"))
@@ -276,14 +276,14 @@ class Crashes(Office):
             disk = Disk()
             disk.ends = [ends]
             with opener(disk):
-                given = self.gate()
+                given = self.writer()
                 task = asyncio.create_task(given.run())
                 await given.is_ready.wait()
                 first = given.submit("GAS", 1, commands(records[0]))
                 while not given.entering:
                     await asyncio.sleep(0)
                 second = given.submit("GAS", 2, commands(records[1]))
-                given.close()
+                given.begin_close()
                 self.assertEqual(await asyncio.gather(first, second), [[1], [2]])
                 await task
             self.assertEqual((disk.records, disk.openings), ([*records, "close,,,,,,,,"], 2))
@@ -305,7 +305,7 @@ class Opening(unittest.IsolatedAsyncioTestCase):
             Path(room, "journal").write_text(f"day,24,,,,,,,\n{records}")
             program.write_text(f'#!/bin/sh\n[ "$1" != --journal ] || exec cat {room}/journal\ncat "$1"\nexec cat > {room}/given\n')
             program.chmod(0o755)
-            desk, shown, replies = await asyncio.wait_for(Desk.opened(program, path, 24), LATEST)
+            desk, shown, replies = await asyncio.wait_for(Desk.open(program, path, 24), LATEST)
             await desk.close()
             given = Path(room, "given").read_text()
         self.assertEqual((shown, replies), (records.splitlines(), [f"refused,{reason}"] * len(shown)))
@@ -317,7 +317,7 @@ class Opening(unittest.IsolatedAsyncioTestCase):
             program.write_text("#!/bin/sh\nexec >&-\nexec sleep 3600\n")
             program.chmod(0o755)
             with mock.patch.multiple("lib.office.desk", ANSWER_SECONDS=0.5, END_SECONDS=0.5):
-                opening = asyncio.create_task(Desk.opened(program, Path(room, "day.desk"), 24))
+                opening = asyncio.create_task(Desk.open(program, Path(room, "day.desk"), 24))
                 ended, _ = await asyncio.wait([opening], timeout=LATEST)
                 opening.cancel()
         self.assertEqual(ended, {opening})

@@ -25,7 +25,7 @@ from lib.journal import journal
 from lib.seal import heads
 
 try:
-    from lib.office import clearing, folder, gate, guards, observed, requests, serve
+    from lib.office import folder, day_writer, guards, observed, published, requests, serve
     from lib.office import tables as reader
 except ImportError:  # without python3-aiohttp and the like, whose tests are skipped
     pass
@@ -52,9 +52,9 @@ class Requests(unittest.TestCase):
                     case _:
                         continue
                 line = journal.command_line(given)
-                self.assertEqual(requests.commands_of(json.dumps(value).encode(), requests.JSON, who), [given])
-                self.assertEqual(requests.commands_of(line.encode(), requests.RECORDS, who), [given])
-                self.assertEqual(requests.commands_of(f"{line}\r\n{line}\n".encode(), requests.RECORDS, who), [given, given])
+                self.assertEqual(requests.parse_commands(json.dumps(value).encode(), requests.JSON, who), [given])
+                self.assertEqual(requests.parse_commands(line.encode(), requests.RECORDS, who), [given])
+                self.assertEqual(requests.parse_commands(f"{line}\r\n{line}\n".encode(), requests.RECORDS, who), [given, given])
 
     def test_other_bodies_are_faults_with_their_place(self):
         right = {"what": "submit", "order": "A", "kind": "hour", "side": "buy", "price": 1, "volumes": [[1, 1]]}
@@ -84,33 +84,33 @@ class Requests(unittest.TestCase):
         ):
             with self.subTest(body=body[:80]):
                 with self.assertRaisesRegex(requests.BadRequest, words):
-                    requests.commands_of(body, kind, "GAS", 7)
+                    requests.parse_commands(body, kind, "GAS", 7)
 
     def test_a_long_body_is_a_fault_with_its_place(self):
         body = b"cancel,GAS,A,,,,,,\n" * 2_000 + b"cancel,GAS,a,,,,,,\n"
         with self.assertRaisesRegex(requests.BadRequest, "BadField in record 2001 field 3"):
-            requests.commands_of(body, requests.RECORDS, "GAS")
+            requests.parse_commands(body, requests.RECORDS, "GAS")
 
     def test_few_faults_of_a_long_body_are_looked_for(self):
         for body, words in ((b"a\r" * 8_191, "FieldCount in record 1$"), (b"a\n" * 21, "FieldCount in record 1$"), (b"a\n", "line 1")):
             with self.subTest(body=body[:80]), self.assertRaisesRegex(requests.BadRequest, words):
-                requests.commands_of(body, requests.RECORDS, "GAS")
+                requests.parse_commands(body, requests.RECORDS, "GAS")
 
     def test_sums_of_all_orders_are_published_with_the_journal(self):
         with tempfile.TemporaryDirectory() as room:
             files = folder.DayFolder(room)
             day = {"periods": 24, "hourly_surplus_eur": "1.00", "block_surplus_eur": "2.00"}
             for name, text in ((folder.RESULTS, ""), (folder.STATEMENT, json.dumps({"day": day, "rows": []}))):
-                files.file(name).write_text(text)
-            self.assertEqual(clearing.Published(files).statement("GAS")["day"], {"periods": 24})
-            files.file(folder.OPEN_JOURNAL).touch()
-            self.assertEqual(clearing.Published(files).statement("GAS")["day"], day)
+                files.path_of(name).write_text(text)
+            self.assertEqual(published.Published(files).read_statement("GAS")["day"], {"periods": 24})
+            files.path_of(folder.OPEN_JOURNAL).touch()
+            self.assertEqual(published.Published(files).read_statement("GAS")["day"], day)
 
     def test_tables(self):
         table = b"participant,order,kind,side,price_eur_mwh,periods,volume_mw\nGAS,A,hour,buy,12.50,8,30\n"
-        self.assertEqual(requests.table_records(table, "GAS", 24), (["submit,GAS,A,hour,buy,1250,8:300,,"], []))
+        self.assertEqual(requests.parse_table_records(table, "GAS", 24), (["submit,GAS,A,hour,buy,1250,8:300,,"], []))
         changes = b"what,participant,order,price_eur_mwh,periods,volume_mw\namend,GAS,A,12.50,8-9,30\ncancel,GAS,B,,,\n"
-        self.assertEqual(requests.table_records(changes, "GAS", 24)[0], ["amend,GAS,A,,,1250,8:300;9:300,,", "cancel,GAS,B,,,,,,"])
+        self.assertEqual(requests.parse_table_records(changes, "GAS", 24)[0], ["amend,GAS,A,,,1250,8:300;9:300,,", "cancel,GAS,B,,,,,,"])
         for data, words in (
             (table.replace(b"GAS", b"OIL"), "1 command of other participants than GAS: the first one is for A of OIL$"),
             (table[: table.index(b"GAS")], "^the table has no order below its first line$"),
@@ -121,7 +121,7 @@ class Requests(unittest.TestCase):
             (b"\xd0\xcf\x11\xe0\xa1\xb1\x1a\xe1" + "EncryptedPackage".encode("utf-16-le"), "password: save it without the password$"),
         ):
             with self.assertRaisesRegex(requests.BadRequest, words):
-                requests.table_records(data, "GAS", 24)
+                requests.parse_table_records(data, "GAS", 24)
 
     def test_only_the_first_faults_of_a_table_are_told(self):
         """However many it has, the answer is short."""
@@ -133,13 +133,13 @@ class Requests(unittest.TestCase):
             (heads.replace(",group", f"{',' * 4_001}group") + "\n" + ",".join(["x"] * 4_010), 4_000),
         ):
             with self.subTest(data=data[:80], count=count), self.assertRaises(requests.BadRequest) as caught:
-                requests.table_records(data.encode(), "GAS", 24)
+                requests.parse_table_records(data.encode(), "GAS", 24)
             lines = str(caught.exception).split("\n")
             self.assertEqual((len(lines), lines[-1]), (21, f"and {count - 20} more"))
 
     def test_a_table_links_to_orders_in_the_book(self):
         row = "participant,order,kind,side,price_eur_mwh,periods,volume_mw,parent\nGAS,KID%d,block,sell,50,15-16,5,BASE\n"
-        read = lambda *orders: requests.table_records((row % 2).encode(), "GAS", 24, orders)[0]
+        read = lambda *orders: requests.parse_table_records((row % 2).encode(), "GAS", 24, orders)[0]
         self.assertEqual(read(("BASE", "block")), ["submit,GAS,KID2,block,sell,5000,15:50;16:50,BASE,"])
         for orders, words in (
             ([], "line 2, column parent: you have no order BASE, neither in the book nor in a line above"),
@@ -152,20 +152,20 @@ class Requests(unittest.TestCase):
 
     def test_a_table_is_read_in_a_process_of_its_own(self):
         table = b"participant,order,kind,side,price_eur_mwh,periods,volume_mw\nGAS,A,block,buy,12.50,%d,30\n"
-        read = lambda data, periods=24: asyncio.run(reader.read(data, "GAS", periods))
+        read = lambda data, periods=24: asyncio.run(reader.run_for_table_records(data, "GAS", periods))
         self.assertEqual(read(table % 8), (["submit,GAS,A,block,buy,1250,8:300,,"], []))
         self.assertEqual(read(table % 100, 100)[0], ["submit,GAS,A,block,buy,1250,100:300,,"])
         with self.assertRaisesRegex(requests.BadRequest, "there is no period 100$"):
             read(table % 100, 96)
         child = (table % 8).replace(b"mw\n", b"mw,parent\n").replace(b",30\n", b",30,BASE\n")
-        linked = asyncio.run(reader.read(child, "GAS", 24, [("BASE", "block")]))
+        linked = asyncio.run(reader.run_for_table_records(child, "GAS", 24, [("BASE", "block")]))
         self.assertEqual(linked, (["submit,GAS,A,block,buy,1250,8:300,BASE,"], []))
         with self.assertRaisesRegex(requests.BadRequest, "you have no order BASE, neither in the book nor in a line above$"):
             read(child)
         with self.assertRaisesRegex(requests.BadRequest, "1 command of other"):
             read(table.replace(b"GAS", b"OIL") % 8)
         words = "can't be read within 0.001 s: it is too large, or the office is busy$"
-        with mock.patch.object(reader, "MOST_SECONDS", 0.001), self.assertRaisesRegex(gate.Refused, words):
+        with mock.patch.object(reader, "MOST_SECONDS", 0.001), self.assertRaisesRegex(day_writer.Refused, words):
             read(table % 8)
         with tempfile.TemporaryDirectory() as room:
             shutil.copytree(TOOLS / "lib", Path(room, "lib"), ignore=shutil.ignore_patterns("__pycache__"))
@@ -174,7 +174,7 @@ class Requests(unittest.TestCase):
             head, _, row = (table % 8).replace(b"block", b"hour").partition(b"\n")
             long = head + b"\n" + row.replace(b",A,", b",A%d,") * 4_000 % tuple(range(4_000))
             self.assertEqual(len(read(long)[0]), 4_000)
-            with mock.patch.object(reader, "__file__", str(path)), self.assertRaisesRegex(gate.Refused, "can't be read"):
+            with mock.patch.object(reader, "__file__", str(path)), self.assertRaisesRegex(day_writer.Refused, "can't be read"):
                 read(long)
 
     def test_until_the_journal_is_published_reasons_tell_of_own_orders_alone(self):
@@ -184,8 +184,8 @@ class Requests(unittest.TestCase):
             made = json.loads(tool("table", "--rows", "statement", "--json", "--quiet", *map(str, day))[1])
             for row in made["rows"]:
                 codes.add(row["code"])
-                shown = clearing.guarded(row)
-                if row["code"] not in clearing.HIDDEN:
+                shown = published.without_words_of_others(row)
+                if row["code"] not in published.HIDDEN:
                     self.assertEqual(shown, row)
                     continue
                 self.assertIn(shown["code"], (None, "group", "parent"))
@@ -194,17 +194,17 @@ class Requests(unittest.TestCase):
                 self.assertNotRegex(shown["why"].replace("EUR", ""), "[A-Z]{2,}")
         self.assertLessEqual({"would-lose", "group", "loses", "covered"}, codes)
         compared = {"group", "parent", "unbalanced", "would-lose", "less-welfare", "tie", "better"}  # with another selection
-        self.assertEqual(set(clearing.HIDDEN), compared)
-        for code, words in clearing.HIDDEN.items():
+        self.assertEqual(set(published.HIDDEN), compared)
+        for code, words in published.HIDDEN.items():
             for why in ("period 8 wouldn't balance: 1.0 MW would have no buyer", "with A and B-1 it would gain 8.00 EUR at the prices, but x"):
-                shown = clearing.guarded({"code": code, "why": why})["why"]
+                shown = published.without_words_of_others({"code": code, "why": why})["why"]
                 self.assertIn(shown, (words.removeprefix("but "), f"with A and B-1 it would gain 8.00 EUR at the prices, {words}"))
 
     def test_published_reasons_have_own_orders_by_name(self):
         why = "would gain 8.00 EUR at the prices, but if it were added, GAS,LONG would lose 1.00 EUR and OIL,A would lose 3 EUR"
-        self.assertEqual(clearing.own_names(why, "OIL"), why.replace("OIL,", ""))
-        self.assertEqual(clearing.own_names(why.replace("OIL", "COAL"), "OAL"), why.replace("OIL", "COAL"))
-        self.assertIsNone(clearing.own_names(None, "OIL"))
+        self.assertEqual(published.without_own_participant(why, "OIL"), why.replace("OIL,", ""))
+        self.assertEqual(published.without_own_participant(why.replace("OIL", "COAL"), "OAL"), why.replace("OIL", "COAL"))
+        self.assertIsNone(published.without_own_participant(None, "OIL"))
 
 
 class Answers(http.server.BaseHTTPRequestHandler):
@@ -435,7 +435,7 @@ class Connections(unittest.IsolatedAsyncioTestCase):
         self.counts = observed.Counts()
         self.runner = guards.Runner(application, self.counts)
         await self.runner.setup()
-        listener = guards.Listener(self.runner.server, serve.bound("127.0.0.1", 0), None, self.counts)
+        listener = guards.Listener(self.runner.server, serve.require_listening_socket("127.0.0.1", 0), None, self.counts)
         self.port = listener.socket.getsockname()[1]
         for step in (self.runner.cleanup, self.runner.server.shutdown, listener.close):
             self.addAsyncCleanup(step)

@@ -17,7 +17,7 @@ from lib.seal import heads
 from lib.tool import command
 
 try:
-    from lib.office import clearing, folder, gate, observed, operate, web
+    from lib.office import folder, day_writer, observed, operate, published, publishing, web
 except ImportError:  # without python3-aiohttp and the like, whose tests are skipped
     pass
 
@@ -25,22 +25,22 @@ except ImportError:  # without python3-aiohttp and the like, whose tests are ski
 class Closing(Office):
     def clock(self, now):
         self.now = now
-        return gate.Clock(lambda: self.now)
+        return day_writer.Clock(lambda: self.now)
 
     async def test_the_close_comes_once_after_all_that_came_in_time(self):
         self.make(closes=datetime.datetime.fromtimestamp(5_000, datetime.timezone.utc))
         disk, clock = Disk(), self.clock(4_999)
         with opener(disk):
-            given = self.gate(clock)
+            given = self.writer(clock)
             task = asyncio.create_task(given.run())
             await given.is_ready.wait()
             waiting = [given.submit(who, 1, commands(f"cancel,{who},A,,,,,,")) for who in NAMES]
             self.now = 5_000
-            with self.assertRaises(gate.Refused) as caught:
+            with self.assertRaises(day_writer.Refused) as caught:
                 given.submit("GAS", 2, commands("cancel,GAS,B,,,,,,"))
             self.assertEqual(caught.exception.fault, "Closed")
             self.now = 4_000  # set back: it doesn't open again
-            with self.assertRaises(gate.Refused):
+            with self.assertRaises(day_writer.Refused):
                 given.submit("GAS", 2, commands("cancel,GAS,B,,,,,,"))
             self.assertEqual(await asyncio.gather(*waiting), [[1], [2], [3]])
             await task
@@ -48,9 +48,9 @@ class Closing(Office):
             self.assertEqual(await given.submit("GAS", 1, commands("cancel,GAS,A,,,,,,")), [2])  # sent again, after the close
         self.assertEqual(disk.records, [*(f"cancel,{who},A,,,,,," for who in NAMES), "close,,,,,,,,"])
         with opener(disk):  # and not after a start with a clock that is set back either
-            given = self.gate(self.clock(4_000))
+            given = self.writer(self.clock(4_000))
             await given.run()
-            with self.assertRaises(gate.Refused) as caught:
+            with self.assertRaises(day_writer.Refused) as caught:
                 given.submit("GAS", 2, commands("cancel,GAS,B,,,,,,"))
             self.assertEqual(caught.exception.fault, "Closed")
         self.assertEqual(disk.records.count("close,,,,,,,,"), 1)
@@ -60,8 +60,8 @@ class Closing(Office):
         disk = Disk()
         disk.ends = [(0, 0), (1, 0)]  # the desk ends before the close, and after it is on the disk
         with opener(disk):
-            given = self.gate()
-            with self.assertRaises(gate.Refused):
+            given = self.writer()
+            with self.assertRaises(day_writer.Refused):
                 given.submit("GAS", 1, commands("cancel,GAS,A,,,,,,"))
             await given.run()
         self.assertEqual((disk.records, given.state), (["close,,,,,,,,"], "results"))
@@ -69,25 +69,25 @@ class Closing(Office):
     async def closed(self):
         """A closed day with its files."""
         self.make()
-        with opener(Disk()), mock.patch.object(clearing, "output", mock.AsyncMock(return_value=b"{}")):
-            given = self.gate()
+        with opener(Disk()), mock.patch.object(publishing, "run_for_output", mock.AsyncMock(return_value=b"{}")):
+            given = self.writer()
             task = asyncio.create_task(given.run())
             await given.is_ready.wait()
             await given.submit("GAS", 1, commands("cancel,GAS,A,,,,,,"))
-            given.close()
+            given.begin_close()
             await task
-            await clearing.sign(given)
-            await clearing.state(given)
+            await publishing.write_head(given)
+            await publishing.write_statement(given)
         return given
 
     async def shows_nothing(self):
         """A stopped day doesn't show the results, which may have been changed."""
-        again = self.gate()
+        again = self.writer()
         await again.run()
-        request, served = SimpleNamespace(path=f"/days/{DAY}/results"), SimpleNamespace(gate_of=lambda request: again)
-        served.unstopped_gate_of = functools.partial(web.Web.unstopped_gate_of, served)
+        request, served = SimpleNamespace(path=f"/days/{DAY}/results"), SimpleNamespace(require_writer=lambda request: again)
+        served.require_unstopped = functools.partial(web.Web.require_unstopped, served)
         for answer in (web.Web.answer_prices, web.Web.answer_published):
-            with self.assertRaises(gate.Refused) as caught:
+            with self.assertRaises(day_writer.Refused) as caught:
                 await answer(served, request)
             self.assertEqual(caught.exception.fault, "Unavailable")
 
@@ -96,7 +96,7 @@ class Closing(Office):
         kept = {name: files.read(name) for name in (folder.RESULTS, folder.STATEMENT, folder.SUMS)}
 
         async def fault():
-            again = self.gate()
+            again = self.writer()
             await again.run()
             return again.fault
 
@@ -107,36 +107,36 @@ class Closing(Office):
             (folder.SUMS, (b"", b"[]", b"{}", b"\xff", kept[folder.SUMS][:-9])),
         ):
             for damage in damages:
-                files.file(name).write_bytes(damage)
+                files.path_of(name).write_bytes(damage)
                 with self.subTest(name=name, damage=damage):
                     self.assertEqual(await fault(), f"{name} isn't as it was made")
                     await self.shows_nothing()
-            files.file(name).write_bytes(kept[name])
+            files.path_of(name).write_bytes(kept[name])
         self.assertIsNone(await fault())
-        files.drop(folder.SUMS)  # as before there were sums
+        files.remove(folder.SUMS)  # as before there were sums
         self.assertIsNone(await fault())
 
     async def test_a_statement_has_its_sum_at_any_crash(self):
         given = await self.closed()
-        kept, put = given.files.read(folder.SUMS), folder.put
-        given.files.drop(folder.SUMS)
-        given.files.drop(folder.STATEMENT)
+        kept, put = given.files.read(folder.SUMS), folder.write_synced
+        given.files.remove(folder.SUMS)
+        given.files.remove(folder.STATEMENT)
 
         def ends(path, data):
             if path.name == folder.STATEMENT:
                 raise OSError(errno.ENOSPC, "full")
             put(path, data)
 
-        with mock.patch.object(clearing, "output", mock.AsyncMock(return_value=b"{}")):
-            with mock.patch.object(folder, "put", ends), self.assertRaises(OSError):
-                await clearing.state(given)
+        with mock.patch.object(publishing, "run_for_output", mock.AsyncMock(return_value=b"{}")):
+            with mock.patch.object(folder, "write_synced", ends), self.assertRaises(OSError):
+                await publishing.write_statement(given)
             self.assertEqual((given.files.read(folder.SUMS), given.published.is_whole), (kept, False))
-            await clearing.state(given)
+            await publishing.write_statement(given)
         self.assertEqual((given.files.read(folder.SUMS), given.published.is_whole), (kept, True))
 
     async def test_a_published_day_is_that_of_its_head(self):
         given = await self.closed()
-        begins, ends, load = threading.Event(), threading.Event(), clearing.load
+        begins, ends, load = threading.Event(), threading.Event(), published.read_into_ledger
 
         def slow(*words):
             made = load(*words)
@@ -144,21 +144,21 @@ class Closing(Office):
             ends.wait()
             return made
 
-        with mock.patch.object(clearing, "load", slow):
-            again = self.gate()
+        with mock.patch.object(published, "read_into_ledger", slow):
+            again = self.writer()
             task = asyncio.create_task(again.run())
             await asyncio.to_thread(begins.wait)
             self.assertEqual((again.is_known.is_set(), again.ledger.size), (False, 0))  # no part of the journal is seen
-            with self.assertRaises(gate.Refused) as caught:
-                web.Web.need_known(None, again)
+            with self.assertRaises(day_writer.Refused) as caught:
+                web.Web.require_known(None, again)
             self.assertEqual(caught.exception.fault, "Unavailable")
             ends.set()
             await task
         self.assertTrue(again.is_known.is_set())
         self.assertEqual((again.fault, heads.line_of(again.ledger.head())), (None, given.files.read(folder.HEAD)))
-        journal_file, kept = given.files.file(folder.JOURNAL), given.files.read(folder.JOURNAL)
+        journal_file, kept = given.files.path_of(folder.JOURNAL), given.files.read(folder.JOURNAL)
         journal_file.write_bytes(kept.replace(b"GAS,A,", b"GAS,B,"))
-        again = self.gate()
+        again = self.writer()
         await again.run()
         self.assertIn("isn't of the journal", again.fault or "")
         replies = given.files.read(folder.REPLIES)
@@ -168,26 +168,26 @@ class Closing(Office):
         ):
             first = whole.replace(b"day,24", b"day,25")
             for damage in (None, b"", first, whole.replace(b"\n", b"\r\n"), whole[:-1], whole + b"\n", b"\n" + whole, *damages):
-                given.files.drop(name)
+                given.files.remove(name)
                 if damage is not None:
                     self.assertNotEqual(damage, whole)
-                    given.files.file(name).write_bytes(damage)
-                again = self.gate()
+                    given.files.path_of(name).write_bytes(damage)
+                again = self.writer()
                 await again.run()
                 with self.subTest(name=name, damage=damage):
                     self.assertEqual(again.fault, "journal.csv, replies.txt or head.json is missing or damaged")
-            given.files.file(name).write_bytes(whole)
-        again = self.gate()
+            given.files.path_of(name).write_bytes(whole)
+        again = self.writer()
         await again.run()
         self.assertIsNone(again.fault)
-        given.files.drop(folder.HEAD)
-        again = self.gate()
+        given.files.remove(folder.HEAD)
+        again = self.writer()
         await again.run()
         self.assertEqual(again.fault, "journal.csv, replies.txt or head.json is missing or damaged")
 
     async def test_a_day_whose_files_cant_be_made_isnt_right(self):
         self.make()
-        step, faults = clearing.sign, [OSError(errno.ENOSPC, "full")] * 2
+        step, faults = publishing.write_head, [OSError(errno.ENOSPC, "full")] * 2
 
         async def sign(given):
             if faults:
@@ -199,13 +199,13 @@ class Closing(Office):
             rights.append(given.is_healthy)
 
         rights, log = [], io.StringIO()
-        with opener(Disk()), mock.patch.object(clearing, "publish", self.publish), mock.patch.multiple(
-            clearing, FIRST_PAUSE=0.001, sign=sign, clear=made, state=made
+        with opener(Disk()), mock.patch.object(publishing, "write_missing_files", self.publish), mock.patch.multiple(
+            publishing, FIRST_PAUSE=0.001, write_head=sign, write_results=made, write_statement=made
         ):
-            given = self.gate(log=observed.Log(log))
+            given = self.writer(log=observed.Log(log))
             task = asyncio.create_task(given.run())
             await given.is_ready.wait()
-            given.close()
+            given.begin_close()
             await task
         self.assertEqual((rights, given.is_healthy), ([False, True, True], True))
         self.assertEqual([one.get("file") for one in map(json.loads, log.getvalue().splitlines()) if one["event"] == "not made"], ["head.json"] * 2)
@@ -216,23 +216,24 @@ class Closing(Office):
         disk = Disk()
 
         def states():
-            given.files.file(folder.DESK).touch()
-            with mock.patch.object(operate, "shown", mock.Mock()), mock.patch.object(operate.asyncio, "run", lambda _: ["day", *disk.records]):
-                return given.state, operate.state_of(given.files, "dam-desk")["state"]
+            given.files.path_of(folder.DESK).touch()
+            records = mock.patch.object(operate.asyncio, "run", lambda _: ["day", *disk.records])
+            with mock.patch.object(operate, "run_for_records", mock.Mock()), records:
+                return given.state, operate.read_day_state(given.files, "dam-desk")["state"]
 
-        with opener(disk), mock.patch.object(clearing, "publish", self.held):
-            given = self.gate()
+        with opener(disk), mock.patch.object(publishing, "write_missing_files", self.held):
+            given = self.writer()
             task = asyncio.create_task(given.run())
             await given.is_ready.wait()
             self.assertEqual(states(), ("open", "open"))
-            operate.request(given.files, folder.CLOSE_NOW)
-            given.close()
+            operate.leave_request(given.files, folder.CLOSE_NOW)
+            given.begin_close()
             self.assertEqual(states(), ("closing", "closing"))
             await self.until(lambda: given.ledger.is_closed)
             self.assertEqual(states(), ("closed", "closed"))
-            given.files.file(folder.RESULTS).write_bytes(b"")
+            given.files.path_of(folder.RESULTS).write_bytes(b"")
             self.assertEqual(states(), ("results", "results"))
-            self.assertIn("published", operate.publish(None, DAY, given.files))
+            self.assertIn("published", operate.leave_publish_request(None, DAY, given.files))
             self.assertEqual(states(), ("published", "published"))
             task.cancel()
             await asyncio.gather(task, return_exceptions=True)
@@ -242,7 +243,7 @@ class Closing(Office):
 
     def test_a_close_says_why_it_waits(self):
         self.make()
-        files = self.office.days()[DAY]
+        files = self.office.list_days()[DAY]
         for served, room, words in (
             (False, None, []),
             (True, None, [f"{DAY} has no head yet: the office's log says why"]),
@@ -252,15 +253,15 @@ class Closing(Office):
             with (
                 mock.patch.multiple(operate, CLOSE_SECONDS=0.2, TELL_SECONDS=0.02, STEP=0.001),
                 mock.patch.object(self.office, "is_served", lambda: served),
-                mock.patch.object(files, "need_room", mock.Mock(side_effect=room)),
-                mock.patch.object(command, "tell", lambda _, line: said.append(line)),
+                mock.patch.object(files, "require_room", mock.Mock(side_effect=room)),
+                mock.patch.object(command, "print_note", lambda _, line: said.append(line)),
             ):
                 if served:
                     with self.assertRaises(command.Stop) as caught:
-                        operate.close(self.office, DAY, files)
+                        operate.close_and_wait(self.office, DAY, files)
                     self.assertEqual(caught.exception.status, command.UNDECIDED)
                 else:
-                    self.assertIn("once the office is served", operate.close(self.office, DAY, files))
+                    self.assertIn("once the office is served", operate.close_and_wait(self.office, DAY, files))
             self.assertEqual(len(said), len(words))
             for line, part in zip(said, words):
                 self.assertIn(part, line)
@@ -270,11 +271,11 @@ class Closing(Office):
         self.make()
         disk = Disk()
         with opener(disk):
-            given = self.gate()
+            given = self.writer()
             task = asyncio.create_task(given.run())
             await given.is_ready.wait()
             await given.submit("GAS", 1, commands("cancel,GAS,A,,,,,,"))
-            operate.request(given.files, folder.CLOSE_NOW)
+            operate.leave_request(given.files, folder.CLOSE_NOW)
             await task
         self.assertEqual(disk.records, ["cancel,GAS,A,,,,,,", "close,,,,,,,,"])
 

@@ -14,7 +14,7 @@ from lib.tool import command
 
 try:
     from lib.seal import signing
-    from lib.office import folder, gate, newest, observed, operate
+    from lib.office import folder, day_writer, newest, observed, operate
     from lib.office.ledger import Contradiction, Ledger
 except ImportError:  # without python3-aiohttp and the like, whose tests are skipped
     pass
@@ -28,19 +28,19 @@ class SignedHeads(Office):
     async def entered(self, disk):
         self.make()
         with opener(disk):
-            async with self.running(self.gate()) as given:
+            async with self.running(self.writer()) as given:
                 await given.submit("GAS", 1, commands(*self.RECORDS))
-        return given.files.file(folder.SIGNED)
+        return given.files.path_of(folder.SIGNED)
 
     async def started(self, disk):
         """The fault of a start, after which the same records are in the desk's file as before."""
         records = list(disk.records)
         with opener(disk):
-            given = self.gate()
+            given = self.writer()
             task = asyncio.create_task(given.run())
             await self.until(lambda: given.fault or given.is_ready.is_set())
             if given.fault:
-                with self.assertRaises(gate.Refused):
+                with self.assertRaises(day_writer.Refused):
                     given.submit("GAS", 9, commands("cancel,GAS,Z,,,,,,"))
             task.cancel()
             await asyncio.gather(task, return_exceptions=True)
@@ -98,11 +98,11 @@ class SignedHeads(Office):
         self.make()
         full = mock.patch.object(newest.os, "replace", mock.Mock(side_effect=OSError(errno.ENOSPC, "No space left on device")))
         with opener(Disk()), mock.patch.object(newest, "PAUSE", 0.001):
-            async with self.running(self.gate()) as given:
+            async with self.running(self.writer()) as given:
                 with full:
                     await given.submit("GAS", 1, commands("cancel,GAS,A,,,,,,"))
                     await self.until(lambda: not given.is_healthy)
-                    with self.assertRaises(gate.Refused) as caught:
+                    with self.assertRaises(day_writer.Refused) as caught:
                         given.submit("GAS", 2, commands("cancel,GAS,B,,,,,,"))
                     self.assertEqual(caught.exception.fault, "Unavailable")
                     self.assertEqual(await given.submit("GAS", 1, commands("cancel,GAS,A,,,,,,")), [1])  # which is entered
@@ -111,25 +111,26 @@ class SignedHeads(Office):
                 with full:
                     await given.submit("GAS", 3, commands("cancel,GAS,C,,,,,,"))
                     await self.until(lambda: not given.is_healthy)
-                    given.close()  # which needs no head
+                    given.begin_close()  # which needs no head
                     await self.until(lambda: given.ledger.is_closed)
 
     async def test_a_stopped_day_says_so_and_isnt_closed(self):
         disk = Disk()
         await self.entered(disk)
         disk.records.pop()
-        with mock.patch.object(operate, "shown", mock.Mock()), mock.patch.object(operate.asyncio, "run", lambda _: ["day", *disk.records]):
-            self.assertEqual(operate.status(self.office, "dam-desk")["days"][0]["state"], "open")
-            with opener(disk), self.office.held():
-                given = self.gate()
+        records = mock.patch.object(operate.asyncio, "run", lambda _: ["day", *disk.records])
+        with mock.patch.object(operate, "run_for_records", mock.Mock()), records:
+            self.assertEqual(operate.read_status(self.office, "dam-desk")["days"][0]["state"], "open")
+            with opener(disk), self.office.holding():
+                given = self.writer()
                 await given.run()
-                found = operate.status(self.office, "dam-desk")
+                found = operate.read_status(self.office, "dam-desk")
                 self.assertEqual(found["days"][0]["state"], "stopped")
                 self.assertRegex(list(operate.status_lines(found))[2], "^  stopped: LostEntries: the desk's journal has 2 entries")
                 with self.assertRaisesRegex(command.Stop, f"^{DAY} is stopped, and wasn't closed: LostEntries"):
-                    operate.close(self.office, DAY, given.files)
+                    operate.close_and_wait(self.office, DAY, given.files)
             self.assertFalse(given.files.has(folder.CLOSE_NOW))
-            self.assertEqual(operate.status(self.office, "dam-desk")["days"][0]["state"], "open")
+            self.assertEqual(operate.read_status(self.office, "dam-desk")["days"][0]["state"], "open")
         disk.records.append(self.RECORDS[-1])
         self.assertIsNone(await self.started(disk))
         self.assertFalse(given.files.has(folder.STOPPED_DAY))
@@ -137,15 +138,15 @@ class SignedHeads(Office):
     async def test_an_opening_shows_the_entries_and_the_replies_that_were_answered(self):
         self.make()
         with opener(Disk()):
-            async with self.running(self.gate()) as given:
+            async with self.running(self.writer()) as given:
                 await given.submit("GAS", 1, commands(*self.RECORDS))
                 records, replies = map(list, zip(*((entry.record, entry.reply) for entry in given.ledger.seal.entries)))
-                given.ledger.take(records, replies)
+                given.ledger.take_journal(records, replies)
                 others = [record.replace("GAS", "OIL") for record in records], ["done"] * 3
                 self.assertNotIn("done", replies)
                 for changed in ((others[0], replies), (records, others[1]), (records[:2], replies[:2])):
                     with self.subTest(changed), self.assertRaisesRegex(Contradiction, "journal doesn't begin with the 3 entries"):
-                        given.ledger.take(*changed)
+                        given.ledger.take_journal(*changed)
                 self.assertEqual(given.ledger.size, 3)
 
     async def test_a_start_notes_the_head_of_the_journal_that_it_serves(self):
@@ -153,7 +154,7 @@ class SignedHeads(Office):
         path = await self.entered(disk)
         path.unlink()
         self.assertIsNone(await self.started(disk))
-        self.assertEqual(newest.read(path, self.key).size, 3)
+        self.assertEqual(newest.read_signed_head(path, self.key).size, 3)
 
     async def test_a_head_that_is_not_whole_is_named(self):
         """The journal can't be compared with it."""
@@ -161,7 +162,7 @@ class SignedHeads(Office):
         path = await self.entered(disk)
         for damage in (b"", b"{}", path.read_bytes()[:-9]):
             path.write_bytes(damage)
-            with mock.patch.object(gate.Gate, "log_event") as told:
+            with mock.patch.object(day_writer.DayWriter, "log_event") as told:
                 self.assertIsNone(await self.started(disk))
             told.assert_any_call("signed head not whole", file=folder.SIGNED)
 
@@ -175,13 +176,13 @@ class SignedHeads(Office):
     async def test_the_file_is_soon_the_newest_head_and_never_an_older_one(self):
         self.make()
         with opener(Disk()), mock.patch.object(newest, "PAUSE", 0.01):
-            async with self.running(self.gate()) as given:
+            async with self.running(self.writer()) as given:
                 for number, record in enumerate(self.RECORDS, 1):
                     await given.submit("GAS", number, commands(record))
                     await self.until(lambda: given.newest.written is not None and given.newest.written.size == number)
-                    found = newest.read(given.files.file(folder.SIGNED), self.key)
+                    found = newest.read_signed_head(given.files.path_of(folder.SIGNED), self.key)
                     self.assertEqual((found, found.root), (given.ledger.head(), given.ledger.seal.tree.root(number)))
-                given.newest.note(given.ledger.head(1))
+                given.newest.note_head(given.ledger.head(1))
                 self.assertEqual(given.newest.head.size, 3)
 
     async def test_an_orderly_end_has_the_head_of_a_batch_that_is_still_signed(self):
@@ -193,22 +194,22 @@ class SignedHeads(Office):
             await sign(*args)
 
         with opener(Disk()), mock.patch.object(Ledger, "sign_ahead", slow):
-            async with self.running(self.gate()) as given:
+            async with self.running(self.writer()) as given:
                 given.submit("GAS", 1, commands(*self.RECORDS))
                 await self.until(lambda: given.ledger.size == 3)
-        self.assertEqual(newest.read(given.files.file(folder.SIGNED), self.key).size, 3)
+        self.assertEqual(newest.read_signed_head(given.files.path_of(folder.SIGNED), self.key).size, 3)
 
     async def test_the_file_is_written_seldom_and_its_faults_are_logged_once(self):
         self.make()
         log = io.StringIO()
         with opener(Disk()):
-            async with self.running(self.gate(log=observed.Log(log))) as given:
-                given.files.file(f".{folder.SIGNED}").mkdir()
+            async with self.running(self.writer(log=observed.Log(log))) as given:
+                given.files.path_of(f".{folder.SIGNED}").mkdir()
                 with mock.patch.object(newest, "PAUSE", 0.001), mock.patch.object(os, "replace", wraps=os.replace) as replaced:
                     await given.submit("GAS", 1, commands(self.RECORDS[0]))
                     await asyncio.sleep(0.05)
                     self.assertEqual((log.getvalue().count("signed head not kept"), replaced.call_count), (1, 0))
-                    given.files.file(f".{folder.SIGNED}").rmdir()
+                    given.files.path_of(f".{folder.SIGNED}").rmdir()
                     await self.until(lambda: given.newest.written is not None)
                 with mock.patch.object(newest, "PAUSE", 60), mock.patch.object(os, "replace", wraps=os.replace) as replaced:
                     await self.until(given.newest.task.done)
@@ -216,12 +217,12 @@ class SignedHeads(Office):
                         await given.submit("GAS", number, commands(record))
                     await asyncio.sleep(0.05)
                     self.assertLessEqual(replaced.call_count, 1)
-        self.assertEqual(newest.read(given.files.file(folder.SIGNED), self.key).size, 3)  # at an orderly end
+        self.assertEqual(newest.read_signed_head(given.files.path_of(folder.SIGNED), self.key).size, 3)  # at an orderly end
 
 
 class Numbers(Office):
     async def refused(self, given, who, first, *records):
-        with self.assertRaises(gate.Refused) as caught:
+        with self.assertRaises(day_writer.Refused) as caught:
             await given.submit(who, first, commands(*records))
         return caught.exception.fault, caught.exception.more
 
@@ -230,7 +231,7 @@ class Numbers(Office):
         first, second, third = (f"cancel,GAS,{name},,,,,," for name in "ABC")
         disk = Disk()
         with opener(disk):
-            async with self.running(self.gate()) as given:
+            async with self.running(self.writer()) as given:
                 self.assertEqual(await self.refused(given, "GAS", 2, first), ("NumberAhead", {"next": 1}))
                 self.assertEqual(await given.submit("GAS", 1, commands(first, second)), [1, 2])
                 self.assertEqual(await given.submit("GAS", 1, commands(first, second)), [1, 2])
@@ -240,7 +241,7 @@ class Numbers(Office):
                 self.assertEqual(await self.refused(given, "GAS", 1, first, third), ("NumberUsed", {"number": 2, "next": 4}))
                 self.assertEqual(await self.refused(given, "GAS", 2, second, first, third), ("NumberUsed", {"number": 3, "next": 4}))
                 self.assertEqual(await self.refused(given, "GAS", 4, first, first, first), ("ShareUsed", {"next": 4}))
-                with self.assertRaisesRegex(gate.Refused, "^you may enter 5 commands on this day, and have entered 3$"):
+                with self.assertRaisesRegex(day_writer.Refused, "^you may enter 5 commands on this day, and have entered 3$"):
                     await given.submit("GAS", 4, commands(first, first, first))
                 self.assertEqual((await self.refused(given, "OTHER", 1, "cancel,OTHER,A,,,,,,"))[0], "ShareUsed")
                 self.assertEqual(await given.submit("A", 1, commands("cancel,A,A,,,,,,")), [4])
@@ -251,7 +252,7 @@ class Numbers(Office):
         self.make()
         first, second, third = (f"cancel,GAS,{name},,,,,," for name in "ABC")
         with opener(Disk()):
-            async with self.running(self.gate()) as given:
+            async with self.running(self.writer()) as given:
                 waiting = [
                     given.submit("GAS", number, commands(*records))
                     for number, *records in ((1, first), (1, first), (1, second), (2, second), (1, first, third), (3, third))

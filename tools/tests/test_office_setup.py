@@ -24,7 +24,7 @@ from lib.tool import command, modules
 
 try:
     from lib.seal import signing
-    from lib.office import clearing, demo, desk, folder, gate, guards, newest, observed, operate, setup, tokens, web
+    from lib.office import budgets, demo, desk, folder, day_writer, guards, newest, observed, operate, programs, setup, tokens, web
     from lib.office import serve as serving
 except ImportError:  # without python3-aiohttp and the like, whose tests are skipped
     pass
@@ -46,7 +46,7 @@ class Setup(Office):
         return argparse.Namespace(**{"day": DAY, "periods": 24, "close": "12:00", "zone": "Europe/Berlin", "participants": None, **words})
 
     def terms(self, **words):
-        return setup.terms_of(self.args(**words), {}, datetime.datetime(2026, 1, 1, tzinfo=datetime.timezone.utc))
+        return setup.require_terms(self.args(**words), {}, datetime.datetime(2026, 1, 1, tzinfo=datetime.timezone.utc))
 
     def test_the_close_is_on_the_day_before_in_its_zone(self):
         self.assertEqual(self.terms().closes.isoformat(), "2026-11-28T11:00:00+00:00")
@@ -84,7 +84,7 @@ class Setup(Office):
         self.assertEqual(tool("office", "init", path, "--day", "2099-11-29", *words)[:2], (command.NO_INPUT, b""))
         status, out, _ = tool("office", "init", path, "--day", "2099-11-30", *words)
         self.assertEqual((status, [line[:5] for line in out.splitlines()[-1:]]), (command.DONE, [b"WIND."]))
-        self.assertEqual(sorted(self.office.days()), ["2099-11-29", "2099-11-30"])
+        self.assertEqual(sorted(self.office.list_days()), ["2099-11-29", "2099-11-30"])
 
     def test_two_at_once_make_one_office(self):
         """The key that each prints is the stored one."""
@@ -92,7 +92,7 @@ class Setup(Office):
 
         def init():
             setup.make_office(self.office)
-            printed.append(self.office.public_text(self.office.key()))
+            printed.append(self.office.require_public_text(self.office.read_key()))
 
         def overtaken():
             if other.ident is None:
@@ -104,7 +104,7 @@ class Setup(Office):
         with mock.patch.object(signing, "new_key", overtaken):
             init()
             other.join()
-        self.assertEqual(printed, [self.office.file(folder.PUBLIC).read_text()] * 2)
+        self.assertEqual(printed, [self.office.path_of(folder.PUBLIC).read_text()] * 2)
 
     def test_two_at_once_make_one_day(self):
         """The other makes no token, which nobody would see."""
@@ -113,18 +113,18 @@ class Setup(Office):
 
         def make():
             try:
-                with setup.new_day(self.office, terms):
+                with setup.making_day(self.office, terms):
                     seen.append("a token")
             except command.Stop as fault:
                 seen.append(str(fault))
 
         other = threading.Thread(target=make)
-        with setup.new_day(self.office, terms):
+        with setup.making_day(self.office, terms):
             other.start()
             other.join(PAUSE)
         other.join()
         self.assertEqual(seen, ["there is a day 2026-11-30 already"])
-        self.assertEqual(sorted(os.listdir(self.office.file(folder.DAYS))), [DAY, "2026-11-30"])
+        self.assertEqual(sorted(os.listdir(self.office.path_of(folder.DAYS))), [DAY, "2026-11-30"])
 
     @property
     def table(self):
@@ -132,7 +132,7 @@ class Setup(Office):
 
     def participants(self, text):
         self.table.write_text(text)
-        return setup.participants_read(self.table)
+        return setup.read_participants(self.table)
 
     def test_tokens_that_can_not_be_printed(self):
         """The day is there, so it is said how the participants get others."""
@@ -147,35 +147,35 @@ class Setup(Office):
             os.close(stdout)
             said = b"%s was made; renew prints a new token for each participant whose token wasn't printed" % day.encode()
             self.assertEqual((ran.returncode, ran.stderr.splitlines()), (command.NO_INPUT, [b"office: " + said, *last]))
-            self.assertIn(day, self.office.days())
+            self.assertIn(day, self.office.list_days())
 
     def test_a_public_key_of_another_key_is_seen(self):
         """By a start, and by a further day before it is made and a token is printed."""
         self.participants("participant\nGAS\n")
         words = ["--close", "12:00", "--participants", self.office.path.parent / "p.csv"]
         self.assertEqual(tool("office", "init", self.office.path, "--day", "2099-11-29", *words)[0], command.DONE)
-        public = self.office.file(folder.PUBLIC)
+        public = self.office.path_of(folder.PUBLIC)
         kept = public.read_bytes()
         self.participants("participant\nGAS\nWIND\n")
         for other in (signing.public_text(signing.new_key()), b"", kept[:-30]):
             public.write_bytes(other)
             with self.subTest(other=other):
                 with self.assertRaisesRegex(command.Stop, "operator.pem.pub isn't the public key of operator.pem"):
-                    serving.Office(self.office, serving.Programs("dam", "dam-desk"), observed.Log(io.StringIO()))
+                    serving.Office(self.office, programs.Programs("dam", "dam-desk"), observed.Log(io.StringIO()))
                 status, out, err = tool("office", "init", self.office.path, "--day", "2099-11-30", *words)
                 self.assertEqual((status, out), (command.NO_INPUT, b""))
                 self.assertIn("isn't the public key of operator.pem", err)
-                self.assertEqual(list(self.office.days()), ["2099-11-29"])
+                self.assertEqual(list(self.office.list_days()), ["2099-11-29"])
         public.write_bytes(kept.replace(b"\n", b"\r\n"))
-        self.assertEqual(self.office.public_text(self.office.key()).split(), kept.decode().split())
+        self.assertEqual(self.office.require_public_text(self.office.read_key()).split(), kept.decode().split())
 
     def test_shares_never_exceed_the_journal(self):
         self.assertEqual(self.participants("participant\nA\nGAS\n"), {"A": None, "GAS": None})
         found = self.participants("participant,commands\nA,100\nGAS,\nOIL,\n")
-        self.assertEqual(setup.shares_of(found), {"A": 100, "GAS": 4_949, "OIL": 4_949})
-        self.assertLessEqual(sum(setup.shares_of(dict.fromkeys(map(str, range(7)))).values()), folder.MOST_COMMANDS)
+        self.assertEqual(setup.require_shares(found), {"A": 100, "GAS": 4_949, "OIL": 4_949})
+        self.assertLessEqual(sum(setup.require_shares(dict.fromkeys(map(str, range(7)))).values()), folder.MOST_COMMANDS)
         with self.assertRaises(command.Stop):
-            setup.shares_of({"A": 9_999, "B": None})
+            setup.require_shares({"A": 9_999, "B": None})
         for text in (
             "",
             "name\nA\n",
@@ -233,7 +233,7 @@ class Setup(Office):
         path = self.office.path.parent / "p.xlsx"
         path.write_bytes(b"PK\x03\x04\xff")
         with self.assertRaisesRegex(command.Stop, "p.xlsx: line 1: the Excel workbook can't be read"):
-            setup.participants_read(path)
+            setup.read_participants(path)
 
     def test_a_workbook_of_participants_is_read(self):
         if not modules.has_module("openpyxl"):
@@ -247,12 +247,12 @@ class Setup(Office):
         status, out, err = tool("office", "init", self.office.path, *words)
         self.assertEqual((status, err), (command.DONE, f"office: note: {path}: of 2 sheets, 'Sheet' was read\n"))
         self.assertEqual(list(json.loads(out)["tokens"]), ["A", "GAS"])
-        self.assertEqual(self.office.days()["2099-11-29"].terms().shares, {"A": 100, "GAS": 9_899})
+        self.assertEqual(self.office.list_days()["2099-11-29"].read_terms().shares, {"A": 100, "GAS": 9_899})
         made["Sheet"].append(["OIL", "=1+1"])
         made.save(path)
         said = "line 5, column commands: '=1\\+1' is a formula that was saved without its value: .*\n  of 2 sheets, 'Sheet' was read$"
         with self.assertRaisesRegex(command.Stop, said):
-            setup.participants_read(path)
+            setup.read_participants(path)
 
     def test_a_table_without_the_column_is_named(self):
         for text in ("GAS\nWIND\n", "name,commands\nGAS,1\n", "", "participants\nGAS\n"):
@@ -263,21 +263,21 @@ class Setup(Office):
         later = "2099-11-28", "2099-11-29"
         self.participants("participant\nA\nGAS\n")
         path = str(self.office.path.parent / "p.csv")
-        _, made = setup.init(self.office, self.args(day=later[0], participants=path))
+        _, made = setup.make_or_extend_office(self.office, self.args(day=later[0], participants=path))
         self.assertEqual(list(made), ["A", "GAS"])
         self.participants("participant\nA\nOIL\n")
-        terms, made = setup.init(self.office, self.args(day=later[1], participants=path))
+        terms, made = setup.make_or_extend_office(self.office, self.args(day=later[1], participants=path))
         self.assertEqual((list(made), list(terms.shares)), (["OIL"], ["A", "OIL"]))
-        self.assertEqual(list(self.office.days()), list(later))
+        self.assertEqual(list(self.office.list_days()), list(later))
         with self.assertRaisesRegex(command.Stop, "already"):
-            setup.init(self.office, self.args(day=later[1]))
-        self.assertEqual([path.name for path in self.office.file(folder.DAYS).iterdir() if path.name.startswith(".")], [])
+            setup.make_or_extend_office(self.office, self.args(day=later[1]))
+        self.assertEqual([path.name for path in self.office.path_of(folder.DAYS).iterdir() if path.name.startswith(".")], [])
 
     def test_the_demo_has_the_orders_of_the_guide_and_more(self):
         guide = (AUCTION.parent / "guide" / "1-hour.csv").read_text().splitlines()
         self.assertEqual(demo.GUIDE, [record for record in guide[1:-1] if ",GAS," not in record])
         found = commands(*demo.ORDERS)
-        shares = setup.shares_of(dict.fromkeys(demo.PARTICIPANTS))
+        shares = setup.require_shares(dict.fromkeys(demo.PARTICIPANTS))
         self.assertLessEqual({one.who for one in found}, set(shares) - {"GAS"})
         for side in ("buy", "sell"):
             self.assertEqual({one.order.volumes[0][0] for one in found if one.order.side == side}, set(range(1, 25)))
@@ -286,7 +286,7 @@ class Setup(Office):
         """Before the orders are in that are its own."""
         for seconds in ("0", "-1", "86401", "1.5", "x"):
             self.assertEqual(tool("office", "demo", "--no-browser", "--seconds", seconds)[0], command.COMMAND_LINE, seconds)
-        told = mock.Mock(is_ready=mock.Mock(wait=mock.AsyncMock()), submit=mock.AsyncMock(side_effect=gate.Refused("Closed", "closed")))
+        told = mock.Mock(is_ready=mock.Mock(wait=mock.AsyncMock()), submit=mock.AsyncMock(side_effect=day_writer.Refused("Closed", "closed")))
         with self.assertRaisesRegex(command.Stop, r"^the demo's own orders weren't entered \(closed\): give more --seconds$") as raised:
             asyncio.run(demo.enter_orders(told))
         self.assertEqual(raised.exception.status, command.COMMAND_LINE)
@@ -303,14 +303,14 @@ class Setup(Office):
         self.assertEqual(tool("office", "serve", self.office.path, "--host", "0.0.0.0")[0], command.COMMAND_LINE)
         said = f"office: {room} isn't the folder of an office: tools/office init makes one\n"
         self.assertEqual(tool("office", "serve", room), (command.NO_INPUT, b"", said))
-        held, aside = self.office.file(folder.PARTICIPANTS), self.office.file("aside")
+        held, aside = self.office.path_of(folder.PARTICIPANTS), self.office.path_of("aside")
         held.rename(aside)
         said = f"office: {held} is missing: put it back\n"
         self.assertEqual(tool("office", "serve", self.office.path), (command.NO_INPUT, b"", said))
         aside.rename(held)
         self.assertEqual(tool("office", "revoke", self.office.path, "OIL")[0], command.NO_INPUT)
         status, out, _ = tool("office", "renew", self.office.path, "GAS")
-        self.assertTrue(tokens.Register(self.office.file(folder.PARTICIPANTS)).knows("GAS", out.decode().strip()))
+        self.assertTrue(tokens.Register(self.office.path_of(folder.PARTICIPANTS)).is_token_of("GAS", out.decode().strip()))
         self.assertEqual(tool("office", "publish", self.office.path)[0], command.NO_INPUT)
         self.assertEqual(tool("office", "revoke", self.office.path, "GAS")[0], 0)
         words[1] = "2099-11-29"
@@ -325,7 +325,7 @@ class Setup(Office):
         """The first `--` ends the options, and each further one is a word: a day `--` isn't the only day, which could not be opened again."""
         self.participants("participant\nGAS\n")
         tool("office", "init", self.office.path, "--day", "2099-11-29", "--close", "12:00", "--participants", self.table)
-        (day,) = self.office.days().values()
+        (day,) = self.office.list_days().values()
         for name in ("close", "publish"):
             for words in ([self.office.path, "--", "--"], ["--", self.office.path, "--"]):
                 said = "office: there is no day --: there is 2099-11-29\n"
@@ -347,7 +347,7 @@ class Setup(Office):
         seen = []
         for name, *more in (["init", *words], ["revoke", "GAS"], ["renew", "GAS"], ["close"], ["status", "--desk", "true"], ["publish"]):
             if name == "publish":
-                (file,) = (files.file(folder.RESULTS) for files in self.office.days().values())
+                (file,) = (files.path_of(folder.RESULTS) for files in self.office.list_days().values())
                 file.touch()
             made = json.loads(tool("office", name, self.office.path, *more, "--json")[1])
             parts = [part for day in made.get("days", []) for part in (day, *(of_one for of_one in day["commands"].values()))]
@@ -373,16 +373,16 @@ class Setup(Office):
             f"{guards.MOST_AHEAD} requests ahead",
             f"{web.MOST_BODY >> 20} MiB a body",
             f"{guards.IDLE_SECONDS} s for a head, {web.BODY_SECONDS} s for its body, {guards.BUSY_SECONDS} s until its answer",
-            f"{web.COMMANDS_A_SECOND} commands and {web.READS_A_SECOND} other requests a second",
-            f"(at first {web.MOST_COMMANDS:,} and {web.MOST_READS})",
-            f"{web.LOOKS_A_SECOND} requests a second for each address (at first {web.MOST_LOOKS:,})",
-            f"after {web.MOST_GUESSES} wrong tokens of an address, one more a second",
+            f"{budgets.COMMANDS_A_SECOND} commands and {budgets.READS_A_SECOND} other requests a second",
+            f"(at first {budgets.MOST_COMMANDS:,} and {budgets.MOST_READS})",
+            f"{budgets.LOOKS_A_SECOND} requests a second for each address (at first {budgets.MOST_LOOKS:,})",
+            f"after {budgets.MOST_GUESSES} wrong tokens of an address, one more a second",
             f"A /{guards.NETWORK} of IPv6",
             f"all shares together are at most {folder.MOST_COMMANDS:,}",
         ):
             with self.subTest(words):
                 self.assertIn(words, text)
-        self.assertEqual(web.GUESSES_A_SECOND, 1)
+        self.assertEqual(budgets.GUESSES_A_SECOND, 1)
         self.assertIn(f"The file may lack the last {newest.PAUSE} s.", " ".join((TOP / "docs" / "OFFICE.md").read_text().split()))
 
     def test_a_fault_of_the_disk_names_the_file(self):
@@ -390,13 +390,13 @@ class Setup(Office):
         self.make()
         room = self.office.path.parent
         self.participants("participant\nGAS\n")
-        tokens.Register(self.office.file(folder.PARTICIPANTS)).add(["GAS"])
+        tokens.Register(self.office.path_of(folder.PARTICIPANTS)).write_new_participants(["GAS"])
         words = ["--day", "2099-11-28", "--close", "12:00", "--participants", room / "p.csv"]
-        day = self.office.file(folder.DAYS) / DAY
+        day = self.office.path_of(folder.DAYS) / DAY
         for path, asked in (
             (day / folder.TERMS, ["status", self.office.path, "--desk", "true"]),
-            (self.office.file(f"{folder.PARTICIPANTS}.lock"), ["renew", self.office.path, "GAS"]),
-            (self.office.file(f"{folder.PARTICIPANTS}.lock"), ["init", self.office.path, *words]),
+            (self.office.path_of(f"{folder.PARTICIPANTS}.lock"), ["renew", self.office.path, "GAS"]),
+            (self.office.path_of(f"{folder.PARTICIPANTS}.lock"), ["init", self.office.path, *words]),
         ):
             with contextlib.suppress(FileNotFoundError):
                 path.unlink()
@@ -417,10 +417,10 @@ class Setup(Office):
             self.assertEqual(command.status_and_message(caught.exception)[0], command.NO_INPUT)
             self.assertIn(f"{caught.exception.filename} can't be used: No space", command.status_and_message(caught.exception)[1])
         with mock.patch.object(os, "fsync", side_effect=full), self.assertRaises(OSError) as caught:
-            folder.sync(self.office.path)
+            folder.sync_folder(self.office.path)
         self.assertEqual(caught.exception.filename, str(self.office.path))
         with mock.patch.object(os, "fsync", side_effect=full), self.assertRaises(OSError) as caught:
-            folder.DayFolder(self.office.path).need_room()
+            folder.DayFolder(self.office.path).require_room()
         self.assertEqual(caught.exception.filename, str(self.office.path))
 
     def test_a_file_is_on_the_disk_before_it_has_its_name(self):
@@ -439,7 +439,7 @@ class Setup(Office):
         for old in (None, b"old"):
             calls.clear()
             with mock.patch.object(os, "fsync", synced), mock.patch.object(os, "rename", renamed):
-                folder.put(path, data)
+                folder.write_synced(path, data)
             made = calls[0][1]
             self.assertEqual(calls, [("sync", made, data), ("rename", made, path), ("sync", path.parent, False)], old)
 
@@ -447,16 +447,16 @@ class Setup(Office):
         self.make()
         later = "2026-11-30"
         setup.make_day(self.office, folder.Terms(later, 24, FUTURE, "UTC", dict.fromkeys(NAMES, 10)))
-        salts = self.office.days()[DAY].file(folder.SALTS)
+        salts = self.office.list_days()[DAY].path_of(folder.SALTS)
         kept = salts.read_bytes()
         salts.unlink()
         salts.mkdir()
         log = io.StringIO()
         with opener(Disk()), mock.patch.object(serving, "LOOK_SECONDS", 0.001):
-            served = serving.Office(self.office, serving.Programs("dam", "dam-desk"), observed.Log(log))
-            task = asyncio.create_task(served.run())
-            await self.until(lambda: later in served.gates)
-            await served.gates[later].is_ready.wait()
+            served = serving.Office(self.office, programs.Programs("dam", "dam-desk"), observed.Log(log))
+            task = asyncio.create_task(served.take_up_days_forever())
+            await self.until(lambda: later in served.writers)
+            await served.writers[later].is_ready.wait()
             await asyncio.sleep(0.02)
             self.assertFalse(served.is_healthy)
             said = [one for one in map(json.loads, log.getvalue().splitlines()) if one["event"] == "not served"]
@@ -464,35 +464,35 @@ class Setup(Office):
             self.assertIn(str(salts), said[0]["fault"])
             salts.rmdir()
             salts.write_bytes(kept)
-            await self.until(lambda: DAY in served.gates)
-            await served.gates[DAY].is_ready.wait()
+            await self.until(lambda: DAY in served.writers)
+            await served.writers[DAY].is_ready.wait()
             await self.until(lambda: served.is_healthy)
             task.cancel()
             await asyncio.gather(task, return_exceptions=True)
-            await served.stop()
+            await served.stop_days()
 
     async def looked(self):
         """The reasons why days aren't served, after one look, and the days that are."""
         with opener(Disk()):
-            served = serving.Office(self.office, serving.Programs("dam", "dam-desk"), observed.Log(io.StringIO()))
-            missed = served.look()
-            await served.stop()
-        return missed, list(served.gates)
+            served = serving.Office(self.office, programs.Programs("dam", "dam-desk"), observed.Log(io.StringIO()))
+            missed = served.take_up_days()
+            await served.stop_days()
+        return missed, list(served.writers)
 
     async def test_a_day_with_a_damaged_file_is_named_and_the_others_are_served(self):
         self.make()
         later = "2026-11-30"
         setup.make_day(self.office, folder.Terms(later, 24, FUTURE, "UTC", dict.fromkeys(NAMES, 10)))
-        files = self.office.days()[DAY]
+        files = self.office.list_days()[DAY]
         for name in (folder.TERMS, folder.SALTS):
             kept = files.read(name)
             for damage in (b"", b"{\n", b"[]\n", b"{}\n", b"\xff", kept[:40]):
-                files.file(name).write_bytes(damage)
+                files.path_of(name).write_bytes(damage)
                 missed, served = await self.looked()
                 with self.subTest(name=name, damage=damage):
                     self.assertEqual((list(missed), served), ([DAY], [later]))
-                    self.assertIn(f"{files.file(name)} can't be used: it isn't the ", missed[DAY])
-            files.file(name).write_bytes(kept)
+                    self.assertIn(f"{files.path_of(name)} can't be used: it isn't the ", missed[DAY])
+            files.path_of(name).write_bytes(kept)
         self.assertEqual(await self.looked(), ({}, [DAY, later]))
 
     async def test_a_day_whose_folder_cant_be_read_is_named_and_the_others_are_served(self):
@@ -503,7 +503,7 @@ class Setup(Office):
 
         def denied(files, name):
             if files.path.name == DAY:
-                raise PermissionError(errno.EACCES, "Permission denied", str(files.file(name)))
+                raise PermissionError(errno.EACCES, "Permission denied", str(files.path_of(name)))
             return has(files, name)
 
         with mock.patch.object(folder.DayFolder, "has", denied):
@@ -513,22 +513,22 @@ class Setup(Office):
 
     async def test_damaged_tokens_are_named_and_no_defect_of_a_request(self):
         self.make()
-        path, log = self.office.file(folder.PARTICIPANTS), io.StringIO()
-        token = tokens.Register(path).add(["GAS"])["GAS"]
+        path, log = self.office.path_of(folder.PARTICIPANTS), io.StringIO()
+        token = tokens.Register(path).write_new_participants(["GAS"])["GAS"]
         kept = path.read_bytes()
         asked = mock.Mock(match_info={"who": "GAS"}, headers={"Authorization": f"Bearer {token}"}, remote="127.0.0.1")
         with opener(Disk()), mock.patch.object(serving, "LOOK_SECONDS", 0.001):
-            served = serving.Office(self.office, serving.Programs("dam", "dam-desk"), observed.Log(log))
+            served = serving.Office(self.office, programs.Programs("dam", "dam-desk"), observed.Log(log))
             answers = web.Web(served, False, False)
-            task = asyncio.create_task(served.run())
-            await self.until(lambda: DAY in served.gates and served.gates[DAY].is_ready.is_set() and served.is_healthy)
-            self.assertEqual(answers.authorized_participant(asked), "GAS")
+            task = asyncio.create_task(served.take_up_days_forever())
+            await self.until(lambda: DAY in served.writers and served.writers[DAY].is_ready.is_set() and served.is_healthy)
+            self.assertEqual(answers.require_authorized(asked), "GAS")
             for damage in (b"{", b"[1]", None):
                 path.unlink(missing_ok=True)
                 if damage is not None:
                     path.write_bytes(damage)
-                with self.subTest(damage=damage), self.assertRaises(gate.Refused) as caught:
-                    answers.authorized_participant(asked)
+                with self.subTest(damage=damage), self.assertRaises(day_writer.Refused) as caught:
+                    answers.require_authorized(asked)
                 self.assertEqual(caught.exception.fault, "Unavailable")
                 await self.until(lambda: not served.is_healthy)
                 said = json.loads(log.getvalue().splitlines()[-1])
@@ -536,15 +536,15 @@ class Setup(Office):
                 self.assertIn(str(path), said["fault"])
                 path.write_bytes(kept)
                 await self.until(lambda: served.is_healthy)
-                self.assertEqual(answers.authorized_participant(asked), "GAS")
+                self.assertEqual(answers.require_authorized(asked), "GAS")
             task.cancel()
             await asyncio.gather(task, return_exceptions=True)
-            await served.stop()
+            await served.stop_days()
 
     def test_a_damaged_file_is_no_defect_of_the_tool(self):
         self.addCleanup(os.umask, os.umask(0o077))
         self.make()
-        terms, participants = self.office.days()[DAY].file(folder.TERMS), self.office.file(folder.PARTICIPANTS)
+        terms, participants = self.office.list_days()[DAY].path_of(folder.TERMS), self.office.path_of(folder.PARTICIPANTS)
         for path, kind in ((terms, "the terms of a day"), (participants, "the digests of the participants' tokens")):
             kept = path.read_bytes()
             for damage in (b"{", b"[" * 100_000, *others(json.loads(kept))):
@@ -558,7 +558,7 @@ class Setup(Office):
         """The fault names the member."""
         self.addCleanup(os.umask, os.umask(0o077))
         self.make()
-        path = self.office.days()[DAY].file(folder.TERMS)
+        path = self.office.list_days()[DAY].path_of(folder.TERMS)
         kept = path.read_bytes()
         value = json.loads(kept)
         periods, zone = "periods should be one of 23, 24, 25, 92, 96, 100, and is ", "zone should be a time zone of this system, and is "
@@ -602,7 +602,7 @@ class Setup(Office):
         with mock.patch("lib.tool.modules.has_zone", return_value=False):
             self.odd(path, kept, f'{zone}"UTC"', False)
         path.write_bytes(kept)
-        self.assertEqual(self.office.days()[DAY].terms().value(), value)
+        self.assertEqual(self.office.list_days()[DAY].read_terms().value(), value)
 
     def odd(self, path, data, words, by_status=True):
         """Terms whose fault has these words."""
@@ -610,7 +610,7 @@ class Setup(Office):
         said = f"{path} can't be used: it isn't the terms of a day: {words}"
         with self.subTest(words):
             with self.assertRaises(command.Stop) as fault:
-                self.office.days()[DAY].terms()
+                self.office.list_days()[DAY].read_terms()
             self.assertEqual(str(fault.exception), said)
             if by_status:
                 status, _, err = tool("office", "status", self.office.path, "--desk", "true")
@@ -621,7 +621,7 @@ class Setup(Office):
         self.make()
         later = "2026-11-30"
         setup.make_day(self.office, folder.Terms(later, 24, FUTURE, "UTC", dict.fromkeys(NAMES, 10)))
-        self.office.days()[DAY].file(folder.TERMS).write_bytes(b"{")
+        self.office.list_days()[DAY].path_of(folder.TERMS).write_bytes(b"{")
         status, out, err = tool("office", "status", self.office.path, "--desk", "true")
         self.assertEqual((status, out.decode().splitlines()[1]), (command.NO_INPUT, f"{DAY}: can't be read"))
         self.assertTrue(out.decode().splitlines()[2].startswith(f"{later}: open, 0 entries"))
@@ -636,10 +636,10 @@ class Setup(Office):
         later = "2026-11-30"
         with mock.patch.object(os, "geteuid", return_value=0), mock.patch.object(os, "chown") as chown:
             setup.make_day(self.office, folder.Terms(later, 24, FUTURE, "UTC", dict.fromkeys(NAMES, 10)))
-            with self.office.held():
+            with self.office.holding():
                 pass
-            tokens.Register(self.office.file(folder.PARTICIPANTS)).add(["GAS"])
-            operate.request(self.office.days()[later], folder.CLOSE_NOW)
+            tokens.Register(self.office.path_of(folder.PARTICIPANTS)).write_new_participants(["GAS"])
+            operate.leave_request(self.office.list_days()[later], folder.CLOSE_NOW)
         owner = os.stat(self.office.path)
         self.assertEqual({call.args[1:] for call in chown.call_args_list}, {(owner.st_uid, owner.st_gid)})
         given = [call.args[0] for call in chown.call_args_list]
@@ -650,7 +650,7 @@ class Setup(Office):
     def test_a_program_that_cant_be_run_is_seen_at_the_start(self):
         for dam, desk, missing in (("/nowhere/dam", "true", "dam"), ("true", "/nowhere/desk", "dam-desk"), ("true", __file__, "dam-desk")):
             with self.subTest(dam=dam, desk=desk), self.assertRaisesRegex(command.Stop, f"the program {missing} can't be run: ") as caught:
-                serving.programs(dam, desk)
+                programs.require_programs(dam, desk)
             self.assertEqual(caught.exception.status, command.FAILED)
 
     def test_a_program_that_isnt_dam_is_seen_at_the_start(self):
@@ -667,12 +667,12 @@ class Setup(Office):
             ("#!/nowhere/sh\n", "No such file or directory"),
         ):
             made.write_text(lines)
-            seconds = mock.patch.object(serving, "TRIAL_SECONDS", 0.2 if "sleep" in lines else SECONDS)
+            seconds = mock.patch.object(programs, "TRIAL_SECONDS", 0.2 if "sleep" in lines else SECONDS)
             with seconds, self.subTest(lines), self.assertRaisesRegex(command.Stop, f"didn't clear an empty day: .*: {fault}$") as caught:
-                serving.programs(made, "true")
+                programs.require_programs(made, "true")
             self.assertEqual(caught.exception.status, command.FAILED)
         made.write_text(f"#!/bin/sh\n{prints}")
-        self.assertEqual(serving.programs(made, "false"), (str(made), "false"))
+        self.assertEqual(programs.require_programs(made, "false"), (str(made), "false"))
 
     def test_a_program_that_says_much(self):
         """Of its standard error, the office takes no more than it logs."""
@@ -681,20 +681,20 @@ class Setup(Office):
         made.chmod(0o755)
         tracemalloc.start()
         self.addCleanup(tracemalloc.stop)
-        for call in (clearing.output(str(made), "clear", data=b"x" * 300_000), desk.shown(str(made), "file")):
-            with self.assertRaises((clearing.Failed, desk.Ended)) as raised:
+        for call in (programs.run_for_output(str(made), "clear", data=b"x" * 300_000), desk.run_for_records(str(made), "file")):
+            with self.assertRaises((programs.ProgramFailed, desk.Ended)) as raised:
                 asyncio.run(call)
             self.assertTrue(str(raised.exception).endswith("ended with status 3: begin\n" + "x" * (desk.MOST_FAULT - len("begin\n"))))
         self.assertLess(tracemalloc.get_traced_memory()[1], 8 << 20)
         made.write_text("#!/bin/sh\nexec head -c 3000000 /dev/zero\n")
         with mock.patch.object(desk, "MOST_PRINTED", 2_000_000):
-            for call in (clearing.output(str(made), "clear"), desk.shown(str(made), "file")):
+            for call in (programs.run_for_output(str(made), "clear"), desk.run_for_records(str(made), "file")):
                 with self.assertRaisesRegex(OSError, f"it printed 2,000,000 bytes or more: '{made}'$"):
                     asyncio.run(call)
 
     def test_how_a_program_ended(self):
-        self.assertEqual(desk.how_ended(4), "ended with status 4")
-        self.assertEqual(desk.how_ended(-9), "was ended by signal 9")
+        self.assertEqual(desk.end_words(4), "ended with status 4")
+        self.assertEqual(desk.end_words(-9), "was ended by signal 9")
 
     def test_the_proxy_of_the_examples_has_the_limits_of_the_office(self):
         """It is in front of the port of the unit, and limits addresses as an office without a proxy does."""
@@ -703,8 +703,8 @@ class Setup(Office):
         port = re.search(r"^PORT = (\d+)$", (TOOLS / "office").read_text(), re.MULTILINE)[1]
         for line in (
             f"    server 127.0.0.1:{port};",
-            f"zone=office_requests:10m rate={web.LOOKS_A_SECOND}r/s;",
-            f"    limit_req zone=office_requests burst={web.MOST_LOOKS} nodelay;",
+            f"zone=office_requests:10m rate={budgets.LOOKS_A_SECOND}r/s;",
+            f"    limit_req zone=office_requests burst={budgets.MOST_LOOKS} nodelay;",
             f"    client_max_body_size {web.MOST_BODY >> 20}m;",
             f"    client_header_timeout {guards.IDLE_SECONDS}s;",
             f"    client_body_timeout {web.BODY_SECONDS}s;",
@@ -719,7 +719,7 @@ class Setup(Office):
     def test_a_close_after_the_day_has_begun_is_noted(self):
         for close, is_late in (("23:59", False), ("2026-11-28T23:59", False), ("2026-11-29T00:00", True), ("2026-12-03T12:00", True)):
             with self.subTest(close=close):
-                self.assertEqual(setup.closes_late(self.terms(day="2026-11-29", close=close)), is_late)
+                self.assertEqual(setup.is_closing_late(self.terms(day="2026-11-29", close=close)), is_late)
         self.participants("participant\nGAS\n")
         words = ["--day", "2099-11-28", "--close", "2099-11-28T12:00", "--participants", self.office.path.parent / "p.csv"]
         status, _, err = tool("office", "init", self.office.path, *words)

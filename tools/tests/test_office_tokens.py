@@ -18,7 +18,7 @@ from support import TOOLS
 from lib.tool import command
 
 try:
-    from lib.office import folder, gate, guards, observed, tokens, web
+    from lib.office import budgets, day_writer, folder, guards, observed, programs, tokens, web
     from lib.office import serve as serving
     from lib.office import tables as reader
 except ImportError:  # without python3-aiohttp and the like, whose tests are skipped
@@ -28,48 +28,48 @@ except ImportError:  # without python3-aiohttp and the like, whose tests are ski
 class Tokens(Office):
     def test_tokens_are_random_hashed_and_one_participants(self):
         self.make()
-        register = tokens.Register(self.office.file(folder.PARTICIPANTS))
-        made = {who: register.renew(who) for who in NAMES}
-        text = self.office.file(folder.PARTICIPANTS).read_text()
+        register = tokens.Register(self.office.path_of(folder.PARTICIPANTS))
+        made = {who: register.write_new_token(who) for who in NAMES}
+        text = self.office.path_of(folder.PARTICIPANTS).read_text()
         for who, token in made.items():
             self.assertGreaterEqual(len(token.partition(".")[2]), 43)
             self.assertNotIn(token.partition(".")[2], text)
-            self.assertEqual([other for other in NAMES if register.knows(other, token)], [who])
+            self.assertEqual([other for other in NAMES if register.is_token_of(other, token)], [who])
         for wrong in ("", "GAS.", made["GAS"][:-1], made["GAS"] + "x", tokens.NOBODY, "\udc80"):
-            self.assertFalse(register.knows("GAS", wrong))
-        self.assertFalse(register.knows("NOBODY", made["GAS"]))
-        served = tokens.Register(self.office.file(folder.PARTICIPANTS))
-        self.assertTrue(served.knows("GAS", made["GAS"]))
-        register.revoke("GAS")
-        self.assertFalse(served.knows("GAS", made["GAS"]))
-        self.assertTrue(served.knows("A", made["A"]))
-        new = register.renew("GAS")
-        self.assertTrue(served.knows("GAS", new) and not served.knows("GAS", made["GAS"]))
+            self.assertFalse(register.is_token_of("GAS", wrong))
+        self.assertFalse(register.is_token_of("NOBODY", made["GAS"]))
+        served = tokens.Register(self.office.path_of(folder.PARTICIPANTS))
+        self.assertTrue(served.is_token_of("GAS", made["GAS"]))
+        register.write_revoked("GAS")
+        self.assertFalse(served.is_token_of("GAS", made["GAS"]))
+        self.assertTrue(served.is_token_of("A", made["A"]))
+        new = register.write_new_token("GAS")
+        self.assertTrue(served.is_token_of("GAS", new) and not served.is_token_of("GAS", made["GAS"]))
 
     def test_a_new_token_counts_also_within_the_resolution_of_the_file_s_time(self):
         self.make()
-        path = self.office.file(folder.PARTICIPANTS)
+        path = self.office.path_of(folder.PARTICIPANTS)
         register, served = tokens.Register(path), tokens.Register(path)
-        old = register.renew("GAS")
-        self.assertTrue(served.knows("GAS", old))
+        old = register.write_new_token("GAS")
+        self.assertTrue(served.is_token_of("GAS", old))
         before = path.stat()
-        new = register.renew("GAS")
+        new = register.write_new_token("GAS")
         os.utime(path, ns=(before.st_atime_ns, before.st_mtime_ns))
         self.assertEqual(path.stat().st_size, before.st_size)
-        self.assertEqual([served.knows("GAS", token) for token in (old, new)], [False, True])
+        self.assertEqual([served.is_token_of("GAS", token) for token in (old, new)], [False, True])
 
     def test_no_change_of_the_tokens_is_lost(self):
         """Several processes change them at the same time: here threads, each with the file for itself."""
         self.make()
-        path = self.office.file(folder.PARTICIPANTS)
+        path = self.office.path_of(folder.PARTICIPANTS)
         names = [[thread + number for number in "VWXYZ"] for thread in "ABCDEFGH"]
         made = {}
 
         def change(own):
             register = tokens.Register(path)
-            made.update(register.add(own[1:]))
-            made[own[0]] = register.renew(own[0])
-            register.revoke(own[1])
+            made.update(register.write_new_participants(own[1:]))
+            made[own[0]] = register.write_new_token(own[0])
+            register.write_revoked(own[1])
 
         threads = [threading.Thread(target=change, args=(own,)) for own in names]
         for thread in threads:
@@ -78,14 +78,14 @@ class Tokens(Office):
             thread.join()
         register = tokens.Register(path)
         for own in names:
-            self.assertEqual([register.knows(who, made[who]) for who in own], [True, False, True, True, True])
-        self.assertEqual(register.add(names[0]), {})
+            self.assertEqual([register.is_token_of(who, made[who]) for who in own], [True, False, True, True, True])
+        self.assertEqual(register.write_new_participants(names[0]), {})
 
     def test_each_connection_may_be_sent_a_file(self):
         """Slow downloads leave files for the close."""
         needed = 2 * guards.MOST_CONNECTIONS + 100
         with mock.patch.multiple(serving.resource, getrlimit=lambda _: (1_024, 1 << 20), setrlimit=mock.DEFAULT) as made:
-            serving.more_files()
+            serving.raise_file_limit()
         soft, hard = made["setrlimit"].call_args.args[1]
         self.assertTrue(needed <= soft <= hard)
         unit = (TOOLS.parent / "examples" / "operating" / "dam-office.service").read_text()
@@ -98,9 +98,9 @@ class Tokens(Office):
         self.make()
         for path in [self.office.path, *self.office.path.rglob("*")]:
             self.assertEqual(stat.S_IMODE(path.stat().st_mode) & 0o077, 0, path)
-        self.office.file(folder.KEY).chmod(0o644)
+        self.office.path_of(folder.KEY).chmod(0o644)
         with self.assertRaisesRegex(command.Stop, "can be read by others"):
-            self.office.need()
+            self.office.require_office()
 
     def test_defects_in_a_library_are_logged_once_a_minute(self):
         stream, now = io.StringIO(), [0.0]
@@ -115,18 +115,18 @@ class Tokens(Office):
 
     def test_a_network_of_ipv6_has_one_limit(self):
         addresses = "192.0.2.1", "192.0.2.2", "::1", "2001:db8::1", "2001:db8::ffff:1:2:3", "2001:db8:0:1::1", "fe80::1%eth0"
-        sources = list(map(guards.source, addresses))
+        sources = list(map(guards.address_or_network, addresses))
         self.assertEqual(len(set(sources)), 6)
         self.assertEqual(sources[3], sources[4])
 
     async def test_the_length_of_the_records_of_a_table_counts(self):
         self.make()
-        office = serving.Office(self.office, serving.Programs("dam", "dam-desk"), observed.Log(io.StringIO()))
-        office.gates[DAY] = self.gate()
-        office.gates[DAY].is_known.set()
+        office = serving.Office(self.office, programs.Programs("dam", "dam-desk"), observed.Log(io.StringIO()))
+        office.writers[DAY] = self.writer()
+        office.writers[DAY].is_known.set()
         made = web.Web(office)
-        made.reads = guards.Buckets(0.001, web.MOST_READS, lambda: 0.0)
-        headers = {"Authorization": f"Bearer {office.register.renew('GAS')}", "Content-Length": "1"}
+        made.budgets.reads = guards.Buckets(0.001, budgets.MOST_READS, lambda: 0.0)
+        headers = {"Authorization": f"Bearer {office.register.write_new_token('GAS')}", "Content-Length": "1"}
 
         async def read(*_):
             return ["x" * 2_000_000], []
@@ -134,14 +134,14 @@ class Tokens(Office):
         content = argparse.Namespace(is_eof=lambda: True)
         asked = argparse.Namespace(headers=headers, match_info={"who": "GAS", "day": DAY}, content=content)
         asked.transport, asked.read = content, mock.AsyncMock(return_value=b"x")
-        with mock.patch.object(reader, "read", read):
+        with mock.patch.object(reader, "run_for_table_records", read):
             answer = await made.answer_table(asked)
         self.assertEqual(json.loads(answer.text)["notes"], [])
-        self.assertLess(made.reads.left("GAS"), web.MOST_READS - web.READS_OF_TABLE - 150)
+        self.assertLess(made.budgets.reads.tokens_left("GAS"), budgets.MOST_READS - budgets.READS_OF_TABLE - 150)
 
     async def test_limits_of_strangers_are_those_of_their_network(self):
         self.make()
-        office = serving.Office(self.office, serving.Programs("dam", "dam-desk"), observed.Log(io.StringIO()))
+        office = serving.Office(self.office, programs.Programs("dam", "dam-desk"), observed.Log(io.StringIO()))
         made = web.Web(office)
         protocol = argparse.Namespace(is_deaf=False)
 
@@ -150,24 +150,24 @@ class Tokens(Office):
             return argparse.Namespace(remote=f"2001:db8::{number:x}", headers=headers, match_info=who, protocol=protocol)
 
         found = []
-        for number in range(web.MOST_GUESSES + 5):
-            with self.assertRaises(gate.Refused) as caught:
-                made.authorized_participant(asked(number, {"who": "GAS"}))
+        for number in range(budgets.MOST_GUESSES + 5):
+            with self.assertRaises(day_writer.Refused) as caught:
+                made.require_authorized(asked(number, {"who": "GAS"}))
             found.append(caught.exception.fault)
         self.assertEqual((found[0], found[-1]), ("Token", "TooFast"))
-        made.looks = guards.Buckets(0.001, 3, lambda: 0.0)
+        made.budgets.looks = guards.Buckets(0.001, 3, lambda: 0.0)
         for number in range(3):
-            made.refuse_too_many(asked(number, {}))
-        with self.assertRaises(gate.Refused):
-            made.refuse_too_many(asked(4, {}))
+            made.budgets.refuse_too_many_looks(asked(number, {}))
+        with self.assertRaises(day_writer.Refused):
+            made.budgets.refuse_too_many_looks(asked(4, {}))
 
     async def test_an_expectation_passes_no_limit(self):
         """Also at a path or a method that the office doesn't know. It isn't repeated; a client that waits before its body is answered."""
         self.make()
-        office = serving.Office(self.office, serving.Programs("dam", "dam-desk"), observed.Log(io.StringIO()))
+        office = serving.Office(self.office, programs.Programs("dam", "dam-desk"), observed.Log(io.StringIO()))
         made = web.Web(office)
-        made.looks = guards.Buckets(0.001, 4, lambda: 0.0)
-        runner = guards.Runner(made.application(), office.counts)
+        made.budgets.looks = guards.Buckets(0.001, 4, lambda: 0.0)
+        runner = guards.Runner(made.make_application(), office.counts)
         await runner.setup()
         server = await asyncio.get_running_loop().create_server(runner.server, "127.0.0.1", 0)
         waits = "100-Continue"
@@ -187,7 +187,7 @@ class Tokens(Office):
                 self.assertNotIn(b"zz", answer)
         server.close()
         await runner.cleanup()
-        counted = {line for line in office.counts.text([]).splitlines() if "requests_total{" in line}
+        counted = {line for line in office.counts.prometheus_text([]).splitlines() if "requests_total{" in line}
         self.assertEqual(len(counted), 4)
         for method, status, count in (("GET", 404, 1), ("other", 405, 1), ("GET", 200, 2), ("GET", 429, 1)):
             self.assertIn(f'dam_office_requests_total{{method="{method}",status="{status}"}} {count}', counted)
@@ -211,7 +211,7 @@ class Tokens(Office):
             buckets.take("d", 2)
             for number in range(100):
                 buckets.take(number)
-        self.assertEqual(buckets.left("d"), 1, "many names don't fill a bucket again")
+        self.assertEqual(buckets.tokens_left("d"), 1, "many names don't fill a bucket again")
 
 
 if __name__ == "__main__":

@@ -162,8 +162,8 @@ class Page(unittest.TestCase):
         """The sentences, and the lines on standard error."""
         data = journal_of(*lines)
         day = support.day_of(data, results or support.results_of(data, best(data)))
-        told = unittest.mock.patch.object(command, "tell", lambda _, line: self.told.append(line))
-        with unittest.mock.patch.object(engine, "answer", answer), told:
+        told = unittest.mock.patch.object(command, "print_note", lambda _, line: self.told.append(line))
+        with unittest.mock.patch.object(engine, "run_clear", answer), told:
             return limits.of_rejected(day, *words)
 
     def setUp(self):

@@ -110,7 +110,7 @@ class Names(unittest.TestCase):
         with unittest.mock.patch.object(place, "IS_INSTALLED", True):
             self.assertEqual(place.with_commands_of_here(words), "dam clear < a; dam-audit a tools/../x other/tools/b ./damn")
             with contextlib.redirect_stderr(io.StringIO()) as said:
-                command.tell("table", "no such file")
+                command.print_note("table", "no such file")
             self.assertEqual(said.getvalue(), "dam-table: no such file\n")
             self.assertEqual([place.command_name("audit"), place.command_name("dam-whatif limit")], ["dam-audit", "dam-whatif limit"])
 

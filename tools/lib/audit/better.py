@@ -30,7 +30,7 @@ def enumerate_all(problem, said, progress, jobs, few=FEW_BLOCKS):
         finally:
             progress.end()
         return (None if found.accepted == said.accepted else found), how
-    modules.need("numpy")
+    modules.refuse_missing("numpy")
     from . import enumeration
 
     return enumeration.find_better(problem, frozenset(said.accepted), said.welfare, progress, jobs)
@@ -40,7 +40,7 @@ def ask_highs(problem, said, progress, jobs):
     """By HiGHS, which takes no program of a day without blocks."""
     if not problem.blocks:
         return enumerate_all(problem, said, progress, jobs)
-    modules.need("scipy")
+    modules.refuse_missing("scipy")
 
     def ask(tell):
         from . import solver

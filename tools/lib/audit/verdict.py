@@ -201,7 +201,7 @@ class Audit:
             raise command.Stop(f"{command.shown(options.sent)} isn't what {options.participant} sent: {fault}") from None
         self.notes = [f"{command.shown(options.sent)}: {note}" for note in own.notes]
         for note in [] if options.quiet else self.notes:
-            command.tell("audit", note)
+            command.print_note("audit", note)
         self.progress = Progress("audit", self.seconds, options.quiet)
         words = f"the commands of {options.participant} aren't compared yet"
         try:

@@ -13,9 +13,11 @@ It may import: base, journal, lint, receipts, report, results, runs, seal, sheet
 | `desk` | the child process that keeps the journal |
 | `ledger` | the entries of a day in memory: numbers, orders, receipts |
 | `newest` | the newest signed head in a file, with which a start compares the journal |
-| `gate` | the one writer of a day: batches, the close, the time |
-| `clearing` | the files that are published |
-| `requests`, `web`, `guards` | commands in a request; the routes; limits |
+| `day_writer` | the one writer of a day: batches, the close, the time |
+| `programs` | the programs that an office runs |
+| `publishing`, `published` | making the files that are published; what participants see of them |
+| `requests`, `web` | commands in a request; the routes |
+| `guards`, `budgets` | limits on connections; on requests |
 | `observed` | the log and the counts |
 | `serve`, `operate`, `demo` | the commands of tools/office |
 

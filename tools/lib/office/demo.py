@@ -9,7 +9,7 @@ import webbrowser
 from ..seal import heads
 from ..tool import command, file_io
 from . import folder, observed, setup, tokens
-from .gate import Refused
+from .day_writer import Refused
 from .serve import Office, serve
 
 DAY_AFTER = datetime.timedelta(days=1)
@@ -40,41 +40,41 @@ ORDERS = GUIDE + [
 PARTICIPANTS = ("GAS", "TOWN", "WIND", "RIVER", "OIL")
 
 
-def terms(seconds):
+def demo_terms(seconds):
     now = datetime.datetime.now(datetime.timezone.utc)
     return folder.Terms(
         (now + DAY_AFTER).date().isoformat(),
         24,
         now + datetime.timedelta(seconds=seconds),
         "UTC",
-        setup.shares_of(dict.fromkeys(PARTICIPANTS)),
+        setup.require_shares(dict.fromkeys(PARTICIPANTS)),
     )
 
 
-async def enter_orders(gate):
+async def enter_orders(writer):
     """Enters the orders that are there already, as their participants would."""
-    await gate.is_ready.wait()
+    await writer.is_ready.wait()
     for who in PARTICIPANTS:
         commands = [found for found in map(heads.command_of, ORDERS) if found.who == who]
         if commands:
             try:
-                await gate.submit(who, 1, commands)
+                await writer.submit(who, 1, commands)
             except Refused as fault:
                 raise command.Stop(f"the demo's own orders weren't entered ({fault}): give more --seconds", command.COMMAND_LINE) from None
 
 
-async def run(args, programs):
+async def serve_demo(args, programs):
     with tempfile.TemporaryDirectory(prefix="dam-office-") as room:
         office = folder.Folder(f"{room}/office")
         setup.make_office(office)
-        register = tokens.Register(office.file(folder.PARTICIPANTS))
-        made = {who: register.renew(who) for who in PARTICIPANTS}
-        day = terms(args.seconds)
+        register = tokens.Register(office.path_of(folder.PARTICIPANTS))
+        made = {who: register.write_new_token(who) for who in PARTICIPANTS}
+        day = demo_terms(args.seconds)
         setup.make_day(office, day)
         served = Office(office, programs, observed.Log())
 
         async def started(port):
-            await enter_orders(served.gates[day.day])
+            await enter_orders(served.writers[day.day])
             page = f"http://{args.host}:{port}/"
             file_io.print_lines([f"the page: {page}", f"the day {day.day} closes in {args.seconds} s; Ctrl-C ends the demo"])
             if not args.no_browser:

@@ -29,10 +29,10 @@ class Locked(Ended):
     """Another desk has the file."""
 
 
-async def exchange(process, program, data=b""):
+async def exchange_pipes(process, program, data=b""):
     """Gives the process of a program its input, and returns its output and the beginning of its standard error once it has ended. However
     much it prints, it takes little memory."""
-    parts = beginning(process.stdout, MOST_PRINTED), beginning(process.stderr, MOST_FAULT), give(process.stdin, data)
+    parts = read_beginning(process.stdout, MOST_PRINTED), read_beginning(process.stderr, MOST_FAULT), write_input(process.stdin, data)
     out, err, _ = await asyncio.gather(*parts)
     await process.wait()
     if len(out) == MOST_PRINTED:
@@ -40,7 +40,7 @@ async def exchange(process, program, data=b""):
     return out, err
 
 
-async def beginning(stream, most):
+async def read_beginning(stream, most):
     """The first bytes of a stream, which is read to its end."""
     found = bytearray()
     while part := await stream.read(PART):
@@ -48,7 +48,7 @@ async def beginning(stream, most):
     return bytes(found)
 
 
-async def give(stream, data):
+async def write_input(stream, data):
     """Writes the input of a process, which may not read it."""
     with contextlib.suppress(BrokenPipeError, ConnectionResetError):
         stream.write(data)
@@ -58,22 +58,22 @@ async def give(stream, data):
         await stream.wait_closed()
 
 
-async def shown(program, path):
+async def run_for_records(program, path):
     """The records of the journal in a desk's file, the day first; none if it has none yet."""
     pipes = {name: asyncio.subprocess.PIPE for name in ("stdin", "stdout", "stderr")}
     process = await asyncio.create_subprocess_exec(program, "--journal", path, **pipes)
-    out, err = await exchange(process, program)
+    out, err = await exchange_pipes(process, program)
     if process.returncode:
-        raise Ended(f"the desk can't show its journal: it {how_ended(process.returncode)}: {said(err)}")
+        raise Ended(f"the desk can't show its journal: it {end_words(process.returncode)}: {fault_line(err)}")
     return out.decode("ascii").splitlines()
 
 
-def how_ended(status):
+def end_words(status):
     """How a program ended: with a status, or by a signal."""
     return f"ended with status {status}" if status >= 0 else f"was ended by signal {-status}"
 
 
-def said(err):
+def fault_line(err):
     return err.decode(errors="replace").strip() or "no fault line"
 
 
@@ -84,20 +84,20 @@ class Desk:
         self.process, self.size = process, size
 
     @classmethod
-    async def opened(cls, program, path, periods):
+    async def open(cls, program, path, periods):
         """Starts a desk on its file, which may be missing. Returns it, with the records and the replies of its journal."""
         loop = asyncio.get_running_loop()
         until = loop.time() + LOCKED_SECONDS
         while True:
             try:
-                return await cls.opened_once(program, path, periods)
+                return await cls.open_once(program, path, periods)
             except Locked:
                 if loop.time() > until:
                     raise
                 await asyncio.sleep(LOCKED_STEP)
 
     @classmethod
-    async def opened_once(cls, program, path, periods):
+    async def open_once(cls, program, path, periods):
         # in a session of its own, so that Ctrl-C at a terminal reaches the office alone, which ends the desk
         pipes = {name: asyncio.subprocess.PIPE for name in ("stdin", "stdout", "stderr")}
         process = await asyncio.create_subprocess_exec(program, path, start_new_session=True, limit=MOST_REPLIES, **pipes)
@@ -105,36 +105,36 @@ class Desk:
         try:
             day = f"day,{periods}"
             process.stdin.write(f"{day},,,,,,,\n\n".encode())
-            lines = await desk.opening()
+            lines = await desk.read_opening()
             if set(lines[:1] + lines[-1:]) != {day}:
                 raise Ended(f"the desk's file isn't of a day with {periods} periods, or isn't a journal")
-            replies = [desk.reply_of(line) for line in lines[1:-1]]
-            records = (await shown(program, path))[1:]
+            replies = [desk.take_reply(line) for line in lines[1:-1]]
+            records = (await run_for_records(program, path))[1:]
         except BaseException:
             await desk.close()
             raise
         return desk, records, replies
 
-    async def opening(self):
+    async def read_opening(self):
         """The lines that the desk prints until it is open."""
         async with async_timeout.timeout(ANSWER_SECONDS):
             try:
                 data = await self.process.stdout.readuntil(OPENED)
             except (asyncio.IncompleteReadError, asyncio.LimitOverrunError):
-                raise await self.why() from None
+                raise await self.wait_for_fault() from None
         return data.removesuffix(OPENED).decode("ascii").splitlines()
 
-    async def ended(self):
+    async def wait_for_end(self):
         """Waits until the desk has ended."""
         await self.process.wait()
 
-    async def why(self):
+    async def wait_for_fault(self):
         err = await self.process.stderr.read(MOST_FAULT)
         status = await self.process.wait()
         kind = Locked if LOCKED in err else Ended
-        return kind(f"the desk {how_ended(status)}: {said(err)}")
+        return kind(f"the desk {end_words(status)}: {fault_line(err)}")
 
-    def reply_of(self, line):
+    def take_reply(self, line):
         """The reply to the next entry, from its line."""
         found = REPLY.fullmatch(line)
         if not found or int(found[1]) != self.size + 1:
@@ -149,8 +149,8 @@ class Desk:
             for _ in records:
                 data = await self.process.stdout.readline()
                 if not data.endswith(b"\n"):
-                    raise await self.why()
-                yield self.reply_of(data[:-1].decode("ascii"))
+                    raise await self.wait_for_fault()
+                yield self.take_reply(data[:-1].decode("ascii"))
 
     async def close(self):
         """Ends the desk: it enters what it was given, and ends at the end of its input."""

@@ -46,7 +46,7 @@ class Odd(ValueError):
     """A file of the office isn't as the office writes it: the words say where."""
 
 
-def once(pairs):
+def require_unrepeated(pairs):
     """The object of these members, none of which comes twice."""
     made = {}
     for name, value in pairs:
@@ -56,15 +56,15 @@ def once(pairs):
     return made
 
 
-def terms_read(data, day):
+def parse_terms(data, day):
     """The terms of the day of a name."""
-    value = json.loads(data, object_pairs_hook=once, parse_int=whole_number)
+    value = json.loads(data, object_pairs_hook=require_unrepeated, parse_int=parse_whole_number)
     if not isinstance(value, dict):
         raise Odd("it should be an object")
     for name in [*Terms._fields, *value]:
         if name not in value or name not in Terms._fields:
             raise Odd(f"{text.quoted(name)} is {'missing' if name not in value else 'no member of it'}")
-    closes = closes_read(value["closes"])
+    closes = parse_close(value["closes"])
     for name, is_right, should in (
         ("day", value["day"] == day, f"the name of its folder, {day}"),
         ("periods", type(value["periods"]) is int and value["periods"] in rules.DAYS, f"one of {', '.join(map(str, sorted(rules.DAYS)))}"),
@@ -73,17 +73,17 @@ def terms_read(data, day):
         ("shares", isinstance(value["shares"], dict) and value["shares"], "an object that has each participant"),
     ):
         if not is_right:
-            raise Odd(f"{name} should be {should}, and is {shown(value[name])}")
+            raise Odd(f"{name} should be {should}, and is {shown_value(value[name])}")
     refuse_shares(value["shares"])
     return Terms(**{**value, "closes": closes})
 
 
-def whole_number(digits):
+def parse_whole_number(digits):
     """A whole number; one with more digits than any that is right is another."""
     return int(digits) if len(digits) <= MOST_DIGITS else float(digits)
 
 
-def closes_read(word):
+def parse_close(word):
     """The time of a close; None for any other value."""
     with contextlib.suppress(ValueError):
         if isinstance(word, str) and (found := datetime.datetime.fromisoformat(word)).utcoffset() == datetime.timedelta(0):
@@ -96,17 +96,17 @@ def refuse_shares(shares):
         if text.parse_participant(who.encode(errors="replace")) is None:
             raise Odd(f"shares: {text.quoted(who)} should be {text.A_PARTICIPANT}")
         if type(share) is not int or not 0 <= share <= MOST_COMMANDS:
-            raise Odd(f"shares: {who} should have a whole number from 0 to {MOST_COMMANDS:,}, and has {shown(share)}")
+            raise Odd(f"shares: {who} should have a whole number from 0 to {MOST_COMMANDS:,}, and has {shown_value(share)}")
     if (whole := sum(shares.values())) > MOST_COMMANDS:
         raise Odd(f"shares: together they are {whole:,}, and a journal has {MOST_COMMANDS:,} commands")
 
 
-def shown(value):
+def shown_value(value):
     """A value that was read, in a message."""
     return text.safe(json.dumps(value))
 
 
-def is_name(form, word):
+def is_word_of_form(form, word):
     return isinstance(word, str) and form.fullmatch(word) is not None
 
 
@@ -116,15 +116,15 @@ def is_by_participant(value, is_right):
     return names and all(map(is_right, value.values()))
 
 
-def put(path, data):
+def write_synced(path, data):
     """Writes a file that is whole, and on the disk, or not there."""
-    with named(path):
+    with naming_file(path):
         replacing.write_replacing(path, data)
-    sync(Path(path).parent)
+    sync_folder(Path(path).parent)
 
 
 @contextlib.contextmanager
-def named(path):
+def naming_file(path):
     """Lets a fault of the system name this file: one of a write names none, or one that is to take its place."""
     try:
         yield
@@ -132,28 +132,28 @@ def named(path):
         raise OSError(fault.errno, fault.strerror, str(path)) from None
 
 
-def sync(folder):
+def sync_folder(folder):
     number = os.open(folder, os.O_RDONLY | os.O_DIRECTORY)
     try:
-        with named(folder):
+        with naming_file(folder):
             os.fsync(number)
     finally:
         os.close(number)
 
 
 @contextlib.contextmanager
-def alone(path):
+def holding_folder(path):
     """Holds a folder: others that hold it wait until the end of the block. A process that ends lets go of it."""
     number = os.open(path, os.O_RDONLY | os.O_DIRECTORY | os.O_CLOEXEC)
     try:
-        with named(path):
+        with naming_file(path):
             fcntl.flock(number, fcntl.LOCK_EX)
         yield
     finally:
         os.close(number)
 
 
-def give(made, path):
+def give_to_owner_of(made, path):
     """Gives a file that was made, by its path or its number, the owner of the office's folder: root may run a command on the office of a
     user, which has to read it."""
     if os.geteuid() == 0:
@@ -162,7 +162,7 @@ def give(made, path):
 
 
 @contextlib.contextmanager
-def sound(path, kind):
+def stopping_if_damaged(path, kind):
     """Ends what reads a file of the office with a fault that names it, if it is damaged."""
     try:
         yield
@@ -171,7 +171,7 @@ def sound(path, kind):
         raise command.Stop(f"{command.shown(path)} can't be used: it isn't {kind}{where}") from None
 
 
-def as_json(value):
+def json_bytes(value):
     return json.dumps(value, indent=1).encode() + b"\n"
 
 
@@ -181,31 +181,31 @@ class DayFolder:
     def __init__(self, path):
         self.path = Path(path)
 
-    def file(self, name):
+    def path_of(self, name):
         return self.path / name
 
     def has(self, name):
-        return self.file(name).exists()
+        return self.path_of(name).exists()
 
     def read(self, name):
-        return self.file(name).read_bytes()
+        return self.path_of(name).read_bytes()
 
-    def drop(self, name):
-        self.file(name).unlink(missing_ok=True)
+    def remove(self, name):
+        self.path_of(name).unlink(missing_ok=True)
 
-    def need_room(self):
+    def require_room(self):
         """Ends with an OSError unless the disk takes a batch of the desk now."""
-        with named(self.path), tempfile.TemporaryFile(dir=self.path) as file:
+        with naming_file(self.path), tempfile.TemporaryFile(dir=self.path) as file:
             file.write(bytes(ROOM))
             file.flush()
             os.fsync(file.fileno())
 
-    def terms(self):
-        with sound(self.file(TERMS), "the terms of a day"):
-            return terms_read(self.read(TERMS), self.path.name)
+    def read_terms(self):
+        with stopping_if_damaged(self.path_of(TERMS), "the terms of a day"):
+            return parse_terms(self.read(TERMS), self.path.name)
 
-    def salts(self):
-        with sound(self.file(SALTS), "the salts of a day"):
+    def read_salts(self):
+        with stopping_if_damaged(self.path_of(SALTS), "the salts of a day"):
             return heads.parse(self.read(SALTS), heads.parse_salts)[0]
 
 
@@ -215,45 +215,45 @@ class Folder:
     def __init__(self, path):
         self.path = Path(path)
 
-    def file(self, name):
+    def path_of(self, name):
         return self.path / name
 
-    def need(self):
+    def require_office(self):
         """Ends the tool if this isn't the folder of an office, or others may read its secrets."""
-        if self.file(KEY).is_file() and not self.file(PARTICIPANTS).is_file():
-            raise command.Stop(f"{command.shown(self.file(PARTICIPANTS))} is missing: put it back")
-        if not self.file(PARTICIPANTS).is_file():
+        if self.path_of(KEY).is_file() and not self.path_of(PARTICIPANTS).is_file():
+            raise command.Stop(f"{command.shown(self.path_of(PARTICIPANTS))} is missing: put it back")
+        if not self.path_of(PARTICIPANTS).is_file():
             init = place.with_commands_of_here("tools/office init")
             raise command.Stop(f"{command.shown(self.path)} isn't the folder of an office: {init} makes one")
         for name in (KEY, PARTICIPANTS):
-            if self.file(name).stat().st_mode & PRIVATE:
-                raise command.Stop(f"{command.shown(self.file(name))} can be read by others: chmod 600")
+            if self.path_of(name).stat().st_mode & PRIVATE:
+                raise command.Stop(f"{command.shown(self.path_of(name))} can be read by others: chmod 600")
 
-    def key(self):
+    def read_key(self):
         from ..receipts import receipts
         from ..seal import signing
 
-        return receipts.read_key(self.file(KEY), signing.parse_private)
+        return receipts.read_key(self.path_of(KEY), signing.parse_private)
 
-    def public_text(self, key):
+    def require_public_text(self, key):
         """The public half of the office's key, as its file has it. Ends the tool if the file is of another key."""
         from ..seal import signing
 
-        found = self.file(PUBLIC).read_bytes()
+        found = self.path_of(PUBLIC).read_bytes()
         if found.split() != signing.public_text(key).split():
-            raise command.Stop(f"{command.shown(self.file(PUBLIC))} isn't the public key of {KEY}: put back the file that was changed")
+            raise command.Stop(f"{command.shown(self.path_of(PUBLIC))} isn't the public key of {KEY}: put back the file that was changed")
         return found.decode("ascii")
 
-    def days(self):
+    def list_days(self):
         """The folder of each day, by its name."""
         with contextlib.suppress(FileNotFoundError):
-            names = sorted(entry.name for entry in os.scandir(self.file(DAYS)) if heads.DAY.fullmatch(entry.name) and entry.is_dir())
-            return {name: DayFolder(self.file(DAYS) / name) for name in names if not name.startswith(".")}
+            names = sorted(entry.name for entry in os.scandir(self.path_of(DAYS)) if heads.DAY.fullmatch(entry.name) and entry.is_dir())
+            return {name: DayFolder(self.path_of(DAYS) / name) for name in names if not name.startswith(".")}
         return {}
 
-    def day(self, name):
+    def require_day(self, name):
         """The folder of a day; the only one if none is named."""
-        days = self.days()
+        days = self.list_days()
         if name is None and len(days) == 1:
             return next(iter(days.items()))
         if name not in days:
@@ -262,11 +262,11 @@ class Folder:
         return name, days[name]
 
     @contextlib.contextmanager
-    def held(self):
+    def holding(self):
         """Holds the office: one process at a time serves it. A process that ends lets go of it."""
-        number = os.open(self.file(LOCK), os.O_RDWR | os.O_CREAT | os.O_CLOEXEC, 0o600)
+        number = os.open(self.path_of(LOCK), os.O_RDWR | os.O_CREAT | os.O_CLOEXEC, 0o600)
         try:
-            give(number, self.path)
+            give_to_owner_of(number, self.path)
             fcntl.flock(number, fcntl.LOCK_EX | fcntl.LOCK_NB)
             yield
         except BlockingIOError:
@@ -276,7 +276,7 @@ class Folder:
 
     def is_served(self):
         try:
-            with self.held():
+            with self.holding():
                 return False
         except command.Stop:
             return True

@@ -25,7 +25,7 @@ WAITS = "100-continue"  # the expectation of a client that waits for an answer b
 TEXTS = {"Content-Type": "text/plain", "X-Content-Type-Options": "nosniff", "Cache-Control": "no-store", "Server": "dam-office"}
 
 
-def source(address):
+def address_or_network(address):
     """The name of an address for limits: of IPv6 that of its network, since one stranger has all addresses of that."""
     if not address or ":" not in address:
         return address
@@ -39,32 +39,32 @@ class Buckets:
         self.rate, self.most, self.now = rate, most, now
         self.held = {}  # the tokens of a bucket, and when they were counted
 
-    def left(self, name):
+    def tokens_left(self, name):
         tokens, at = self.held.get(name, (self.most, self.now()))
         return min(self.most, tokens + (self.now() - at) * self.rate)
 
     def charge(self, name, count):
         """Takes tokens, also if there aren't as many: the bucket is in debt then."""
-        self.held[name] = self.left(name) - count, self.now()
+        self.held[name] = self.tokens_left(name) - count, self.now()
 
     def take(self, name, count=1):
         """Takes tokens, if there is one; the bucket may be in debt afterwards. Returns the seconds until it isn't, or 0."""
         if len(self.held) >= MOST_BUCKETS:
-            self.held = {other: bucket for other, bucket in self.held.items() if self.left(other) < self.most}
-        left = self.left(name)
+            self.held = {other: bucket for other, bucket in self.held.items() if self.tokens_left(other) < self.most}
+        left = self.tokens_left(name)
         if left < 1:
             return (1 - left) / self.rate
         self.charge(name, count)
         return 0
 
 
-def length_of(message):
+def body_length(message):
     """The number of bytes of a request's body; 0 if it isn't known."""
     word = message.headers.get("Content-Length", "") if hasattr(message, "headers") else ""
     return int(word) if word.isascii() and word.isdigit() else 0
 
 
-def plain(message):
+def plain_message(message):
     """A request as the office answers it. The name of an office is left out: there is one, and to decode another may take seconds. So is an
     expectation, but for that of a client that waits: aiohttp would refuse others before any limit, and repeat them."""
     if message.url.is_absolute():
@@ -92,9 +92,9 @@ class Handler(web_protocol.RequestHandler):
         """How many bytes of the body are still to come."""
         return max(0, self.length - self.payload.total_bytes) if self.length else 0
 
-    def begin(self):
+    def note_busy(self):
         """A request has come, and is answered from now on."""
-        self._manager.mark(self, True)
+        self._manager.note_state(self, True)
 
     def data_received(self, data):
         """Parses what has come, in pieces, so that no connection holds up the others for long."""
@@ -102,15 +102,15 @@ class Handler(web_protocol.RequestHandler):
         while at < len(data):
             if self.is_deaf or self.transport is None or self.transport.is_closing():
                 return
-            piece = self.first_piece(data[at : at + PIECE])
+            piece = self.cut_first_piece(data[at : at + PIECE])
             at += len(piece)
             try:
-                self.take(piece)
+                self.parse_piece(piece)
             except Exception:  # a stranger's bytes at which aiohttp fails
                 self._manager.counts.add("connections_malformed_total")
                 self.transport.abort()
 
-    def first_piece(self, data):
+    def cut_first_piece(self, data):
         """The beginning of some bytes up to the end of a body or a head, so that each piece is of one of them alone."""
         if self.body_left:
             return data[: self.body_left]
@@ -120,7 +120,7 @@ class Handler(web_protocol.RequestHandler):
         self.head_tail = b"" if end else head[-2:]
         return data[: len(data) - len(head) + end.end()] if end else data
 
-    def take(self, piece):
+    def parse_piece(self, piece):
         self.head_bytes += 0 if self.body_left else len(piece)
         if self.head_bytes > MOST_HEAD:  # it isn't parsed: a head that is whole would be answered
             self.transport.abort()
@@ -133,9 +133,9 @@ class Handler(web_protocol.RequestHandler):
             # no route takes a body in chunks, which is expensive to read, or another protocol; and a head ends at a known end
             odd = getattr(message, "chunked", False) or getattr(message, "upgrade", False) or getattr(message, "method", "") == "CONNECT"
             self.is_deaf = self.is_deaf or odd or self.head_tail != b""
-            self.head_bytes, self.length = 0, length_of(message)
+            self.head_bytes, self.length = 0, body_length(message)
             if hasattr(message, "url"):
-                self._messages[place] = plain(message), self.payload
+                self._messages[place] = plain_message(message), self.payload
         if self.payload is not None and self.payload.is_eof() == (self.body_left > 0):
             self.is_deaf = True  # an odd header hides the length of the body, and so the start of the next head
         self._message_tail = b""  # what comes after a request for another protocol
@@ -152,7 +152,7 @@ class Handler(web_protocol.RequestHandler):
             response = self.handle_error(request, response.status)
         found = await super().finish_response(request, response, began)
         if self._manager is not None:  # the connection isn't lost
-            self._manager.mark(self, False)
+            self._manager.note_state(self, False)
         return found
 
     def handle_error(self, request, status=500, exc=None, message=None):
@@ -169,7 +169,7 @@ class Server(web.Server):
     def __init__(self, made, counts):
         super().__init__(made.request_handler, request_factory=made.request_factory, loop=made._loop, **made._kwargs)
         self.counts, self.since = counts, {}  # by connection: since when it is so, and whether a request is being answered
-        self.watcher = self._loop.create_task(self.watch())
+        self.watcher = self._loop.create_task(self.abort_late_connections())
 
     def __call__(self):
         return Handler(self, loop=self._loop, **self._kwargs)
@@ -181,18 +181,18 @@ class Server(web.Server):
             transport.abort()
         else:
             transport.set_write_buffer_limits(MOST_UNSENT)
-            self.mark(handler, False)
+            self.note_state(handler, False)
 
     def connection_lost(self, handler, exc=None):
         self.since.pop(handler, None)
         super().connection_lost(handler, exc)
 
-    def mark(self, handler, is_busy):
+    def note_state(self, handler, is_busy):
         """Notes that the connection's request has begun, or is answered."""
         if handler in self._connections:
             self.since[handler] = self._loop.time(), is_busy
 
-    async def watch(self):
+    async def abort_late_connections(self):
         """Ends the connections that are late. The commands of a request that has come whole are entered nevertheless."""
         while True:
             await asyncio.sleep(LOOK_SECONDS)
@@ -215,9 +215,9 @@ class Listener:
     def __init__(self, server, listening, tls, counts):
         self.server, self.socket, self.tls, self.counts = server, listening, tls, counts
         self.handshakes = set()
-        self.task = asyncio.create_task(self.run())
+        self.task = asyncio.create_task(self.accept_connections())
 
-    async def run(self):
+    async def accept_connections(self):
         loop = asyncio.get_running_loop()
         while True:
             try:

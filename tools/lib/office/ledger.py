@@ -41,7 +41,7 @@ class Ledger:
         if reply == heads.DONE:
             self.book.change(command)
 
-    def take(self, records, replies):
+    def take_journal(self, records, replies):
         """Takes the journal that a desk shows at its opening: it begins with the entries that are here."""
         held = [(entry.record, entry.reply) for entry in self.seal.entries]
         if list(zip(records, replies, strict=True))[: len(held)] != held:
@@ -56,7 +56,7 @@ class Ledger:
         for entry in list(zip(commands, records, replies))[len(held) :]:
             self.enter(*entry)
 
-    def check(self, head, where):
+    def require_beginning(self, head, where):
         """Ends with a contradiction unless the journal begins with the entries of a head that was signed, which a file has."""
         if head.size > self.size:
             raise Contradiction(f"LostEntries: the desk's journal has {self.size} entries, and the signed head in {where} {head.size}")
@@ -84,7 +84,7 @@ class Ledger:
         """A participant's orders in the book, in its order, each with its name."""
         return [(name, order) for (owner, name), order in self.book.rows.items() if owner == who]
 
-    def sign(self, heads_found):
+    def sign_heads(self, heads_found):
         """Signs heads. It touches nothing else here, and so may run in a thread of its own."""
         return [signing.sign(self.seal.key, head) for head in heads_found]
 
@@ -92,7 +92,8 @@ class Ledger:
         """Signs the heads of the entries after `begin` up to `end`, while the next ones are entered."""
         seal = self.seal
         unsigned = [heads.Head(seal.day, seal.periods, size, seal.tree.root(size)) for size in range(begin + 1, end + 1)]
-        self.heads.update(zip(range(begin + 1, end + 1), await asyncio.get_running_loop().run_in_executor(SIGNING, self.sign, unsigned)))
+        signed = await asyncio.get_running_loop().run_in_executor(SIGNING, self.sign_heads, unsigned)
+        self.heads.update(zip(range(begin + 1, end + 1), signed))
 
     def head(self, size=None):
         """The signed head of the first entries, or of all."""

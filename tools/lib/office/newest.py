@@ -12,7 +12,7 @@ from .ledger import Contradiction
 PAUSE = 0.2  # seconds
 
 
-def read(path, key):
+def read_signed_head(path, key):
     """The head in a file. None without the file, or if it isn't whole: a crash may leave it so. Ends with a contradiction if it is whole,
     and this key hasn't signed it: the office would sign a day with two keys."""
     try:
@@ -32,19 +32,19 @@ class Newest:
         self.head, self.written = None, None
         self.is_failing, self.lock, self.task = False, threading.Lock(), None
 
-    def note(self, head):
+    def note_head(self, head):
         """Notes a head; the file has it within `PAUSE` seconds."""
         if self.head is None or head.size > self.head.size:
             self.head = head
             if self.task is None or self.task.done():
-                self.task = asyncio.create_task(self.keep())
+                self.task = asyncio.create_task(self.write_while_newer())
 
-    async def keep(self):
+    async def write_while_newer(self):
         while self.head is not self.written:
             await asyncio.to_thread(self.write)
             await asyncio.sleep(PAUSE)
 
-    def end(self):
+    def end_written(self):
         """Writes the newest head now."""
         if self.task is not None:
             self.task.cancel()

@@ -53,12 +53,12 @@ class Counts:
     def add(self, name, label="", by=1):
         self.counters[name, label] = self.counters.get((name, label), 0) + by
 
-    def took(self, seconds):
+    def note_seconds(self, seconds):
         self.sum, self.count = self.sum + seconds, self.count + 1
         for at, bound in enumerate(BOUNDS):
             self.buckets[at] += seconds <= bound
 
-    def text(self, gauges):
+    def prometheus_text(self, gauges):
         """The counts in the text format of Prometheus; `gauges` are pairs of a name with its labels, and a value."""
         lines = [f"dam_office_{name}{label} {value}" for (name, label), value in sorted(self.counters.items())]
         lines += [f"dam_office_{name} {value}" for name, value in gauges]

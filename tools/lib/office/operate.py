@@ -8,18 +8,18 @@ import time
 from ..base import text
 from ..tool import command
 from . import folder, tokens
-from .desk import Ended, shown
+from .desk import Ended, run_for_records
 
 CLOSE_SECONDS, TELL_SECONDS, STEP = 60, 2, 0.05  # to wait for the results of a close, and until it says why it waits
 
 
-def state_of(files, desk, is_served=False):
+def read_day_state(files, desk, is_served=False):
     """A day in a record, by its files, and by whether the office is served."""
-    terms = files.terms()
+    terms = files.read_terms()
     has = files.has
     left = (terms.closes - datetime.datetime.now(datetime.timezone.utc)).total_seconds()
     try:
-        records = asyncio.run(shown(desk, str(files.file(folder.DESK))))[1:] if has(folder.DESK) else []
+        records = asyncio.run(run_for_records(desk, str(files.path_of(folder.DESK))))[1:] if has(folder.DESK) else []
     except (Ended, OSError) as fault:
         raise command.Stop(f"the journal of {terms.day} can't be read: {fault}") from None
     is_closed = bool(records) and records[-1].startswith("close,")
@@ -27,7 +27,7 @@ def state_of(files, desk, is_served=False):
     state = folder.CLOSED if is_closed else state
     if has(folder.RESULTS):
         state = folder.PUBLISHED if has(folder.OPEN_JOURNAL) else folder.RESULTS_THERE
-    stopped = stopped_why(files) if is_served and has(folder.STOPPED_DAY) else None
+    stopped = read_stop_reason(files) if is_served and has(folder.STOPPED_DAY) else None
     state = folder.STOPPED if stopped else state
     counts = dict.fromkeys(terms.shares, 0)
     for record in records:
@@ -46,25 +46,25 @@ def state_of(files, desk, is_served=False):
     }
 
 
-def stopped_why(files):
+def read_stop_reason(files):
     """Why the office that is served has stopped a day."""
     return files.read(folder.STOPPED_DAY).decode(errors="replace").strip() or "the log says why"
 
 
-def shown_of(name, files, desk, is_served):
+def read_day_or_fault(name, files, desk, is_served):
     """A day in a record; the fault alone, if its files can't be read."""
     try:
-        return state_of(files, desk, is_served)
+        return read_day_state(files, desk, is_served)
     except (OSError, command.Stop) as fault:
         return {"day": name, "fault": command.status_and_message(fault)[1]}
 
 
-def status(office, desk):
+def read_status(office, desk):
     """The days of an office, and whether it is served."""
-    register = tokens.Register(office.file(folder.PARTICIPANTS))
+    register = tokens.Register(office.path_of(folder.PARTICIPANTS))
     is_served = office.is_served()
-    days = [shown_of(name, files, desk, is_served) for name, files in office.days().items()]
-    return {"served": is_served, "participants": len(register.names()), "revoked": register.revoked(), "days": days}
+    days = [read_day_or_fault(name, files, desk, is_served) for name, files in office.list_days().items()]
+    return {"served": is_served, "participants": len(register.read_names()), "revoked": register.read_revoked(), "days": days}
 
 
 def status_lines(found):
@@ -81,19 +81,19 @@ def status_lines(found):
             yield f"  stopped: {day['stopped']}"
 
 
-def request(files, name):
+def leave_request(files, name):
     """Leaves a request of the operator, which stays."""
     if not files.has(name):
-        folder.put(files.file(name), b"")
-        folder.give(files.file(name), files.path)
+        folder.write_synced(files.path_of(name), b"")
+        folder.give_to_owner_of(files.path_of(name), files.path)
 
 
-def close(office, day, files):
+def close_and_wait(office, day, files):
     """Closes a day now. If the office runs, waits for the results. A stopped day isn't closed: its journal may lack entries."""
     is_served = office.is_served()
     if is_served and files.has(folder.STOPPED_DAY):
-        raise command.Stop(f"{day} is stopped, and wasn't closed: {stopped_why(files)}")
-    request(files, folder.CLOSE_NOW)
+        raise command.Stop(f"{day} is stopped, and wasn't closed: {read_stop_reason(files)}")
+    leave_request(files, folder.CLOSE_NOW)
     if not is_served and not files.has(folder.RESULTS):
         return f"{day} will be closed once the office is served"
     began, told, tell_at = time.monotonic(), None, TELL_SECONDS
@@ -103,35 +103,35 @@ def close(office, day, files):
             raise command.Stop(f"{day} has no results after {CLOSE_SECONDS} s: see the office's log", command.UNDECIDED)
         if waited > tell_at:
             tell_at += TELL_SECONDS
-            words = why_waiting(day, files)
+            words = find_why_waiting(day, files)
             if words != told:
-                command.tell("office", words)
+                command.print_note("office", words)
             told = words
         time.sleep(STEP)
     return f"{day} is closed, and has its results"
 
 
-def why_waiting(day, files):
+def find_why_waiting(day, files):
     """For what a close waits, as far as the folder shows it."""
     missing = "results" if files.has(folder.HEAD) else "head"
     try:
-        files.need_room()
+        files.require_room()
     except OSError as fault:
         return f"{day} has no {missing} yet: {command.shown(files.path)} can't be written: {fault.strerror}"
     return f"{day} has no {missing} yet: the office's log says why"
 
 
-def publish(office, day, files):
+def leave_publish_request(office, day, files):
     """Publishes the results of all orders, the journal and the replies of a day that has results."""
     if not files.has(folder.RESULTS):
         raise command.Stop(f"{day} has no results yet, and is published after them")
-    request(files, folder.OPEN_JOURNAL)
+    leave_request(files, folder.OPEN_JOURNAL)
     return f"the journal, the results and the replies of {day} are published"
 
 
-def change_token(office, who, call):
+def require_and_change_token(office, who, call):
     """Revokes or renews a participant's token. An office that runs heeds it from the next request on."""
-    register = tokens.Register(office.file(folder.PARTICIPANTS))
-    if who not in register.names():
+    register = tokens.Register(office.path_of(folder.PARTICIPANTS))
+    if who not in register.read_names():
         raise command.Stop(f"there is no participant {who}")
     return call(register, who)

@@ -26,32 +26,32 @@ class BadRequest(Exception):
     """The body has no commands of this participant: the fault in words, by its place."""
 
 
-def commands_of(body, kind, who, first=1):
+def parse_commands(body, kind, who, first=1):
     """The commands of a body, of which the first one has this number."""
     if kind == JSON:
-        body = json_records(body, who, first)
+        body = parse_json_records(body, who, first)
     elif kind != RECORDS:
         raise BadRequest(f"the type of the content should be {RECORDS} or {JSON}")
     try:
         commands = journal.read_journal(DAY + body).commands
     except journal.Fault as fault:
-        raise BadRequest(f"no records of a journal:{in_words(body, fault)}") from None
+        raise BadRequest(f"no records of a journal:{fault_words(body, fault)}") from None
     if not commands:
         raise BadRequest("there is no command")
     for place, command in enumerate(commands, 1):
         if isinstance(command, journal.Close):
-            raise BadRequest(f"{named(place, first)} is a close, which only the office enters")
+            raise BadRequest(f"{place_words(place, first)} is a close, which only the office enters")
         if command.who != who:
-            raise BadRequest(f"{named(place, first)} isn't yours: its participant should be {who}")
+            raise BadRequest(f"{place_words(place, first)} isn't yours: its participant should be {who}")
     return commands
 
 
-def named(place, first):
+def place_words(place, first):
     """A command by its place in a request and by its number, which may differ."""
     return f"command {place} of the request (number {first + place - 1})"
 
 
-def in_words(body, fault):
+def fault_words(body, fault):
     """The faults of a body in words. Of a long one, the first as it is named, counted from the first of its records."""
     if WITH_DAY.match(body):
         return " its first record is a day, which the office adds: send the commands alone"
@@ -60,7 +60,7 @@ def in_words(body, fault):
     return " " + RECORD.sub(lambda found: f"record {int(found[1]) - 1}", str(fault).removeprefix("input: "))
 
 
-def members(pairs):
+def require_unrepeated(pairs):
     """The members of an object, of which no two have one name: a reader that takes the first would see another command."""
     found = dict(pairs)
     if len(found) < len(pairs):
@@ -68,10 +68,10 @@ def members(pairs):
     return found
 
 
-def json_records(body, who, first):
+def parse_json_records(body, who, first):
     """The records of a command in JSON, or of a list of commands."""
     try:
-        value = json.loads(body, object_pairs_hook=members)
+        value = json.loads(body, object_pairs_hook=require_unrepeated)
     except BadRequest:
         raise
     except (ValueError, RecursionError):
@@ -79,10 +79,10 @@ def json_records(body, who, first):
     commands = value if isinstance(value, list) else [value]
     if len(commands) > MOST_COMMANDS:
         raise BadRequest(f"there are more than {MOST_COMMANDS:,} commands")
-    return "".join(f"{json_record(found, who, named(place, first))}\n" for place, found in enumerate(commands, 1)).encode()
+    return "".join(f"{parse_json_record(found, who, place_words(place, first))}\n" for place, found in enumerate(commands, 1)).encode()
 
 
-def json_record(value, who, command):
+def parse_json_record(value, who, command):
     """The record of a command in JSON. Whether its fields are right is seen when the record is read."""
     kind = value.get("what") if isinstance(value, dict) else None
     if not isinstance(kind, str) or kind not in FIELDS:
@@ -91,35 +91,35 @@ def json_record(value, who, command):
     given = set(value) - {"what"}
     if not needed <= given <= needed | further:
         raise BadRequest(f"{command}: {kind} has the members {', '.join(['what', *sorted(needed | further)])}")
-    words = {name: word(value[name], command, name) for name in given - {"price", "volumes"}}
-    price = number(value["price"], command, "price") if "price" in given else ""
-    volumes = volumes_of(value["volumes"], command) if "volumes" in given else ""
+    words = {name: require_word(value[name], command, name) for name in given - {"price", "volumes"}}
+    price = require_number(value["price"], command, "price") if "price" in given else ""
+    volumes = require_volumes(value["volumes"], command) if "volumes" in given else ""
     of = words.get
     return ",".join([kind, who, of("order"), of("kind", ""), of("side", ""), price, volumes, of("parent", ""), of("group", "")])
 
 
-def word(value, command, name):
+def require_word(value, command, name):
     if not isinstance(value, str) or not value.isascii() or not all(mark.isalnum() or mark == "-" for mark in value):
         raise BadRequest(f"{command}: {name} should be a text of letters, digits and -")
     return value
 
 
-def number(value, command, name):
+def require_number(value, command, name):
     if type(value) is not int or abs(value) > rules.HIGHEST_PRICE:
         raise BadRequest(f"{command}: {name} should be an integer, prices in cents per MWh, volumes in tenths of a MW")
     return str(value)
 
 
-def volumes_of(value, command):
+def require_volumes(value, command):
     """Pairs of a period and a volume."""
     if not isinstance(value, list) or not 0 < len(value) <= rules.GREATEST_PERIOD:
         raise BadRequest(f"{command}: volumes should be a list of 1 to {rules.GREATEST_PERIOD} pairs [period, volume]")
     if not all(isinstance(pair, list) and len(pair) == 2 for pair in value):
         raise BadRequest(f"{command}: volumes should be a list of pairs [period, volume]")
-    return ";".join(":".join(number(part, command, "a volume") for part in pair) for pair in value)
+    return ";".join(":".join(require_number(part, command, "a volume") for part in pair) for pair in value)
 
 
-def table_records(data, who, periods, orders=()):
+def parse_table_records(data, who, periods, orders=()):
     """The records of a table of orders or of commands of this participant, whose orders in the book are pairs of a name and a kind; and
     notes on how it was read. Nothing is entered."""
     kind = kinds.kind_of(data)

@@ -19,7 +19,7 @@ DAY_BEFORE = datetime.timedelta(days=1)
 WHO, SHARE = "participant", "commands"  # the columns of a table of participants
 
 
-def day_of(words):
+def require_date(words):
     """The date of a word of the command line."""
     try:
         return shapes.date_of(words)
@@ -27,7 +27,7 @@ def day_of(words):
         raise command.Stop(f"--day {fault}", command.COMMAND_LINE) from None
 
 
-def zone_of(words):
+def require_zone(words):
     modules.refuse_missing_zone(shapes.ZONE)
     try:
         return zoneinfo.ZoneInfo(words)
@@ -35,7 +35,7 @@ def zone_of(words):
         raise command.Stop(f"--zone {text.quoted(words)} isn't a time zone, such as {shapes.ZONE}", command.COMMAND_LINE) from None
 
 
-def close_of(words, date, zone):
+def require_close(words, date, zone):
     """The time of a close: on the day before delivery, or with a date of its own."""
     try:
         if CLOCK.fullmatch(words):
@@ -52,27 +52,27 @@ def close_of(words, date, zone):
     return found
 
 
-def terms_of(args, shares, now=None):
+def require_terms(args, shares, now=None):
     """The terms of a day, by the words of the command line."""
-    date, zone = day_of(args.day), zone_of(args.zone)
+    date, zone = require_date(args.day), require_zone(args.zone)
     if args.periods not in rules.DAYS:
         raise command.Stop(f"--periods should be one of {', '.join(map(str, sorted(rules.DAYS)))}", command.COMMAND_LINE)
     try:
         shapes.begin_times(date, args.periods, args.zone)
     except shapes.BadDate as fault:
         raise command.Stop(f"--periods: {fault}", command.COMMAND_LINE) from None
-    closes = close_of(args.close, date, zone)
+    closes = require_close(args.close, date, zone)
     if closes <= (now or datetime.datetime.now(datetime.timezone.utc)):
         raise command.Stop(f"--close: {closes.astimezone(zone):%Y-%m-%d %H:%M} {zone.key} is past", command.COMMAND_LINE)
     return folder.Terms(args.day, args.periods, closes, args.zone, shares)
 
 
-def closes_late(terms):
+def is_closing_late(terms):
     """Whether a day closes after its first period has begun, which may be a slip."""
-    return terms.closes.astimezone(zoneinfo.ZoneInfo(terms.zone)).date() >= day_of(terms.day)
+    return terms.closes.astimezone(zoneinfo.ZoneInfo(terms.zone)).date() >= require_date(terms.day)
 
 
-def participants_read(path):
+def read_participants(path):
     """The participants of a table, CSV or Excel, with the column participant; and how many commands each may enter, if a column commands
     says it."""
     data, notes = file_io.read_bytes(path), []
@@ -80,38 +80,38 @@ def participants_read(path):
     if kind in kinds.FILES - {kinds.EXCEL}:
         raise command.Stop(f"{command.shown(path)} is {kind}: save the table as .xlsx or as CSV")
     try:
-        found = participants_of(data, notes)
+        found = parse_participants(data, notes)
     except (sheets.BadTable, order_table.BadOrders) as fault:
         lines = "\n  ".join([*str(fault).split("\n"), *notes])
         raise command.Stop(f"{command.shown(path)}: {lines}") from None
     if not 0 < len(found) <= folder.MOST_COMMANDS:
         raise command.Stop(f"{command.shown(path)} has no participant, or more than {folder.MOST_COMMANDS:,}")
     for note in notes:
-        command.tell("office", f"note: {command.shown(path)}: {note}")
+        command.print_note("office", f"note: {command.shown(path)}: {note}")
     return found
 
 
-def participants_of(data, notes):
+def parse_participants(data, notes):
     """The same of a table's bytes. A cell that would be lost is a fault. Notes say how the table was read."""
     (line, header), *rows = list(sheets.read_rows(data, [WHO], notes, folder.MOST_COMMANDS)[0]) or [(1, [])]
-    table = order_table.Table("", rows, columns_of(line, header), len(header), False, [], notes)
+    table = order_table.Table("", rows, find_columns(line, header), len(header), False, [], notes)
     order_table.refuse_unnamed(header, rows)
     found, lines, wrong = {}, {}, order_table.Faults()
     for line, cells in rows:
         row = order_table.Row(cells, table, None)
-        who, share = row.read(WHO, cell_values.read_participant), row.read(SHARE, read_share)
+        who, share = row.read(WHO, cell_values.read_participant), row.read(SHARE, parse_share)
         if who and who in lines:
-            row.wrong.append(f"column {WHO}: {who} is in line {lines[who]} too")
+            row.faults.append(f"column {WHO}: {who} is in line {lines[who]} too")
         found[who] = share
         lines.setdefault(who, line)
-        for words in row.wrong:
+        for words in row.faults:
             wrong.add(order_table.of_line(line, words))
     if wrong.count:
-        raise wrong.wrong()
+        raise wrong.as_one_fault()
     return found
 
 
-def columns_of(line, header):
+def find_columns(line, header):
     """Where the columns of a table of participants stand. It has no others."""
     names, columns = [cell.strip().lower() for cell in header], f"the columns are {WHO}, {SHARE}"
     if WHO not in names:
@@ -124,14 +124,14 @@ def columns_of(line, header):
     return {name: at for at, name in enumerate(names) if name}
 
 
-def read_share(cell):
+def parse_share(cell):
     """How many commands a participant may enter; None if its cell is empty."""
     if cell and not (cell.isascii() and cell.isdigit() and len(cell) < 6):
         raise order_table.BadOrders(f"{text.quoted(cell)} should be a whole number of at most 5 digits, such as 500")
     return int(cell) if cell else None
 
 
-def shares_of(given):
+def require_shares(given):
     """How many commands each participant may enter: all of them together no more than a journal has, so that nobody takes another's."""
     free = folder.MOST_COMMANDS - sum(share for share in given.values() if share is not None)
     open_ones = sum(share is None for share in given.values())
@@ -143,66 +143,66 @@ def shares_of(given):
 def make_office(office):
     """Makes the folder with its key, without participants. Of several processes at once, one makes it, and the others find it."""
     os.makedirs(office.path, mode=0o700, exist_ok=True)
-    with folder.alone(office.path):
-        if not office.file(folder.KEY).exists():
+    with folder.holding_folder(office.path):
+        if not office.path_of(folder.KEY).exists():
             make_key(office)
-        office.public_text(office.key())
-        if not office.file(folder.PARTICIPANTS).exists():
-            folder.put(office.file(folder.PARTICIPANTS), folder.as_json({}))
-        os.makedirs(office.file(folder.DAYS), exist_ok=True)
+        office.require_public_text(office.read_key())
+        if not office.path_of(folder.PARTICIPANTS).exists():
+            folder.write_synced(office.path_of(folder.PARTICIPANTS), folder.json_bytes({}))
+        os.makedirs(office.path_of(folder.DAYS), exist_ok=True)
 
 
 def make_key(office):
     if any(os.scandir(office.path)):
         raise command.Stop(f"{command.shown(office.path)} isn't empty, and isn't the folder of an office")
     key = signing.new_key()
-    folder.put(office.file(folder.PUBLIC), signing.public_text(key))
-    folder.put(office.file(folder.KEY), signing.private_text(key))
+    folder.write_synced(office.path_of(folder.PUBLIC), signing.public_text(key))
+    folder.write_synced(office.path_of(folder.KEY), signing.private_text(key))
 
 
 def make_day(office, terms):
-    with new_day(office, terms):
+    with making_day(office, terms):
         pass
 
 
 @contextlib.contextmanager
-def new_day(office, terms):
+def making_day(office, terms):
     """Makes the folder of a day, whole or not at all: it is there once the block has ended. Another process that makes a day waits until
     then, so that the block of a day that is there already never begins."""
-    with folder.alone(office.path):
-        if (office.file(folder.DAYS) / terms.day).exists():
+    with folder.holding_folder(office.path):
+        if (office.path_of(folder.DAYS) / terms.day).exists():
             raise command.Stop(f"there is a day {terms.day} already")
-        with folder_of_day(office, terms):
+        with making_day_folder(office, terms):
             yield
 
 
 @contextlib.contextmanager
-def folder_of_day(office, terms):
+def making_day_folder(office, terms):
     """Makes the folder of a day next to its place, in which it is once the block has ended."""
-    days = office.file(folder.DAYS)
+    days = office.path_of(folder.DAYS)
     made = tempfile.mkdtemp(prefix=".new-", dir=days)
     try:
         files = folder.DayFolder(made)
-        folder.put(files.file(folder.SALTS), heads.line_of(sealing.new_salts(terms.day)))
-        folder.put(files.file(folder.TERMS), folder.as_json(terms.value()))
-        for path in (files.file(folder.SALTS), files.file(folder.TERMS), made):
-            folder.give(path, office.path)
+        folder.write_synced(files.path_of(folder.SALTS), heads.line_of(sealing.new_salts(terms.day)))
+        folder.write_synced(files.path_of(folder.TERMS), folder.json_bytes(terms.value()))
+        for path in (files.path_of(folder.SALTS), files.path_of(folder.TERMS), made):
+            folder.give_to_owner_of(path, office.path)
         yield
         os.rename(made, days / terms.day)
-        folder.sync(days)
+        folder.sync_folder(days)
     finally:
         shutil.rmtree(made, ignore_errors=True)
 
 
-def init(office, args):
+def make_or_extend_office(office, args):
     """Makes the office if there is none, its new participants and the day. Returns the terms, and the tokens of the new participants."""
-    register = tokens.Register(office.file(folder.PARTICIPANTS))
-    is_new = not office.file(folder.PARTICIPANTS).exists()
-    if args.participants is None and (is_new or not register.names()):
+    register = tokens.Register(office.path_of(folder.PARTICIPANTS))
+    is_new = not office.path_of(folder.PARTICIPANTS).exists()
+    if args.participants is None and (is_new or not register.read_names()):
         raise command.Stop("a new office needs --participants", command.COMMAND_LINE)
-    given = participants_read(args.participants) if args.participants else dict.fromkeys(register.names())
-    terms = terms_of(args, shares_of(given))
+    given = read_participants(args.participants) if args.participants else dict.fromkeys(register.read_names())
+    terms = require_terms(args, require_shares(given))
     make_office(office)
-    with new_day(office, terms):  # a token is made only if it is shown
-        made = register.add(given)
+    with making_day(office, terms):  # a token is made only if it is shown
+        made = register.write_new_participants(given)
     return terms, made

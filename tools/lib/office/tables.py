@@ -11,21 +11,21 @@ from pathlib import Path
 if not __package__:  # the program: an isolated Python leaves the tools out
     sys.path.insert(0, str(Path(__file__).resolve().parents[2]))
 
-from lib.office import clearing, requests
-from lib.office.gate import Refused
+from lib.office import programs, requests
+from lib.office.day_writer import Refused
 
 MOST_SECONDS = 20  # for a table
 MOST_MEMORY = 1 << 29  # bytes of addresses; a workbook of 1 MiB takes a tenth
 NICENESS = 10
 
 
-async def read(data, who, periods, orders=()):
+async def run_for_table_records(data, who, periods, orders=()):
     """The records that a table makes of a participant whose orders in the book are pairs of a name and a kind; and notes on how it was
     read."""
     given = json.dumps(list(orders)).encode() + b"\n" + data
     try:
-        made = await clearing.output(sys.executable, "-I", "-B", __file__, who, str(periods), data=given, seconds=MOST_SECONDS)
-    except clearing.Failed:
+        made = await programs.run_for_output(sys.executable, "-I", "-B", __file__, who, str(periods), data=given, seconds=MOST_SECONDS)
+    except programs.ProgramFailed:
         raise Refused("Malformed", f"the table can't be read within {MOST_SECONDS} s: it is too large, or the office is busy") from None
     value = json.loads(made)
     if "wrong" in value:
@@ -33,13 +33,13 @@ async def read(data, who, periods, orders=()):
     return value["records"], value["notes"]
 
 
-def main(who, periods):
+def limit_and_print_records(who, periods):
     os.nice(NICENESS)
     resource.setrlimit(resource.RLIMIT_AS, (MOST_MEMORY, MOST_MEMORY))
     resource.setrlimit(resource.RLIMIT_CPU, (MOST_SECONDS, MOST_SECONDS))
     orders = json.loads(sys.stdin.buffer.readline())
     try:
-        records, notes = requests.table_records(sys.stdin.buffer.read(), who, int(periods), orders)
+        records, notes = requests.parse_table_records(sys.stdin.buffer.read(), who, int(periods), orders)
         made = {"records": records, "notes": notes}
     except requests.BadRequest as fault:
         made = {"wrong": str(fault)}
@@ -47,4 +47,4 @@ def main(who, periods):
 
 
 if __name__ == "__main__":
-    main(*sys.argv[1:])
+    limit_and_print_records(*sys.argv[1:])

@@ -16,22 +16,14 @@ from ..base import clock, rules
 from ..journal import book
 from ..report import style
 from ..seal import heads
-from . import folder, requests, tables
-from .gate import STOPPED_WORDS, Refused, without_tokens
-from .guards import Buckets, source
+from . import budgets, folder, requests, tables
+from .day_writer import STOPPED_WORDS, Refused, unread_tokens_refusal
 
 MOST_BODY = 1 << 20  # bytes
 BODY_SECONDS = 15  # for a body to come
 ANSWER_SECONDS = 30  # for the entries of commands
-COMMANDS_A_SECOND, MOST_COMMANDS = 200, 2_000  # of a participant; many bytes count as several
-BYTES_OF_COMMAND, LONG_BODY = 100, 1 << 14
-READS_A_SECOND, MOST_READS = 50, 200  # of a participant
-GUESSES_A_SECOND, MOST_GUESSES = 1, 20  # wrong tokens of an address
-LOOKS_A_SECOND, MOST_LOOKS = 200, 2_000  # requests of an address for what all may see
+LONG_BODY = 1 << 14  # bytes of a body that is read in a thread
 RECEIPTS_AT_ONCE = 8  # that are made before others get a turn
-RECEIPTS_OF_READ, COMMANDS_OF_READ, ORDERS_OF_READ, READS_OF_TABLE = 20, 200, 100, 100  # how much of an answer counts as one read
-BYTES_OF_READ = 10_000
-DAYS_OF_LOOK = 5
 PIECE = 1 << 14  # bytes of a file that are sent at once
 TABLES_AT_ONCE, TABLE_SECONDS = 2, 1  # that are read, each of another participant; seconds until one may send the next
 JSONL = "application/jsonl"
@@ -68,7 +60,7 @@ RULES = "LOWEST_PRICE", "HIGHEST_PRICE", "GREATEST_VOLUME", "LONGEST_NAME", "MOS
 OPENAPI = Path(__file__).with_name("openapi.json")
 
 
-def description(is_demo):
+def openapi_text(is_demo):
     """The requests of an office or of a demo, as OpenAPI. The file has both; it marks those that only a demo answers. It names the limits on
     prices, whose numbers are those of the rules."""
     words = OPENAPI.read_text(encoding="utf-8")
@@ -79,14 +71,14 @@ def description(is_demo):
     return json.dumps(api, indent=1) + "\n"
 
 
-def fault(name, words, seconds=None, **more):
+def fault_response(name, words, seconds=None, **more):
     headers = {} if seconds is None else {"Retry-After": str(max(1, round(seconds)))}
     if name == "Token":
         headers["WWW-Authenticate"] = "Bearer"
     return web.json_response({"fault": name, "words": words, **more}, status=STATUSES[name], headers=headers)
 
 
-def jsonl(lines):
+def jsonl_response(lines):
     return web.Response(body=b"".join(lines), content_type=JSONL)
 
 
@@ -96,19 +88,15 @@ class Web:
     def __init__(self, office, is_secure=False, behind_proxy=False, demo=None):
         self.office, self.counts, self.log = office, office.counts, office.log
         self.headers = {**HEADERS, **(SECURE if is_secure else {})}
-        self.behind_proxy = behind_proxy
-        self.commands = Buckets(COMMANDS_A_SECOND, MOST_COMMANDS, time.monotonic)
-        self.reads = Buckets(READS_A_SECOND, MOST_READS, time.monotonic)
-        self.guesses = Buckets(GUESSES_A_SECOND, MOST_GUESSES, time.monotonic)
-        self.looks = Buckets(LOOKS_A_SECOND, MOST_LOOKS, time.monotonic)
-        self.files = {path: (self.page(name), kind) for path, (name, kind) in PARTS.items()}
-        self.files["/openapi.json"] = description(is_demo=bool(demo)), "application/json"
+        self.budgets = budgets.Budgets(behind_proxy)
+        self.files = {path: (self.page_text(name), kind) for path, (name, kind) in PARTS.items()}
+        self.files["/openapi.json"] = openapi_text(is_demo=bool(demo)), "application/json"
         self.files["/key"] = office.public_key, "application/x-pem-file"
         self.demo = demo
         self.tables = asyncio.Semaphore(TABLES_AT_ONCE)
         self.reading = set()  # the participants whose table is read, or waits for it
 
-    def page(self, name):
+    def page_text(self, name):
         reasons = {word: reason.words for word, reason in book.REASONS.items()}
         known = {"reasons": reasons, "rules": {name.lower(): getattr(rules, name) for name in RULES}}
         made = {name: Markup(json.dumps(value)) for name, value in known.items()}
@@ -116,9 +104,9 @@ class Web:
         made["most_of_group"] = "one" if rules.MOST_OF_GROUP == 1 else rules.MOST_OF_GROUP
         return style.read_style(name) if name.endswith(".css") else style.TEMPLATES.get_template(name).render(**made)
 
-    def application(self):
-        app = web.Application(middlewares=[self.around], client_max_size=MOST_BODY)
-        app.on_response_prepare.append(self.prepare)
+    def make_application(self):
+        app = web.Application(middlewares=[self.answer_request], client_max_size=MOST_BODY)
+        app.on_response_prepare.append(self.add_headers)
         get, put, post = app.router.add_get, app.router.add_put, app.router.add_post
         put(f"{DAY}/commands{OWN}{NUMBER}", self.answer_commands)  # first, since routes are tried in turn
         get(f"{DAY}/commands{OWN}{NUMBER}", self.answer_receipt)
@@ -143,22 +131,22 @@ class Web:
             post(f"{DAY}/close", self.close_demo_day)
         return app
 
-    async def prepare(self, request, response):
+    async def add_headers(self, request, response):
         response.headers.update(self.headers)
 
     @web.middleware
-    async def around(self, request, handler):
+    async def answer_request(self, request, handler):
         """Answers each request: a fault as JSON, with fixed words."""
-        request.protocol.begin()
+        request.protocol.note_busy()
         try:
-            self.refuse_too_many(request)
+            self.budgets.refuse_too_many_looks(request)
             response = await handler(request)
         except Refused as refused:
-            response = fault(refused.fault, str(refused), **refused.more)
+            response = fault_response(refused.fault, str(refused), **refused.more)
         except requests.BadRequest as wrong:
-            response = fault("Malformed", str(wrong))
+            response = fault_response("Malformed", str(wrong))
         except web.HTTPRequestEntityTooLarge:
-            response = fault("TooLarge", f"a request has at most {MOST_BODY:,} bytes")
+            response = fault_response("TooLarge", f"a request has at most {MOST_BODY:,} bytes")
             response.force_close()
         except web.HTTPMethodNotAllowed as other:
             response = web.json_response({"fault": "Method", "words": "this method isn't for this path"}, status=other.status)
@@ -168,77 +156,61 @@ class Web:
         except (asyncio.CancelledError, ConnectionError):
             raise
         except Exception as wrong:
-            day = {"day": request.match_info["day"]} if request.match_info.get("day") in self.office.gates else {}
-            self.log.write("defect", kind=type(wrong).__name__, route=route_of(request), **day)
+            day = {"day": request.match_info["day"]} if request.match_info.get("day") in self.office.writers else {}
+            self.log.write("defect", kind=type(wrong).__name__, route=route_name(request), **day)
             response = web.json_response({"fault": "Defect", "words": "the office failed at this request"}, status=500)
         if request.protocol.is_deaf:
             response.force_close()
-        self.counts.add("requests_total", '{method="%s",status="%d"}' % (method_of(request), response.status))
+        self.counts.add("requests_total", '{method="%s",status="%d"}' % (method_label(request), response.status))
         return response
 
     # --- who asks
 
-    def charge_days(self, request):
-        """An answer about all days counts as several."""
-        if not self.behind_proxy:
-            self.looks.charge(source(request.remote), len(self.office.gates) // DAYS_OF_LOOK)
-
-    def text(self, who, text):
+    def charge_and_answer(self, who, text):
         """An answer of a participant's own data, which is charged by its length."""
-        self.reads.charge(who, len(text) // BYTES_OF_READ)
+        self.budgets.charge_bytes(who, len(text))
         return web.Response(text=text, content_type="application/json")
 
-    def refuse_too_many(self, request):
-        """Limits how often an address asks for what all may see; other requests are limited by participant."""
-        if self.behind_proxy or "who" in request.match_info:
-            return
-        if seconds := self.looks.take(source(request.remote)):
-            request.protocol.is_deaf = True  # else the rest of many requests at once would be read too
-            raise Refused("TooFast", "too many requests", seconds=seconds)
-
-    def gate_of(self, request):
-        gate = self.office.gates.get(request.match_info["day"])
-        if gate is None:
+    def require_writer(self, request):
+        writer = self.office.writers.get(request.match_info["day"])
+        if writer is None:
             raise Refused("NotFound", "there is no such day")
-        return gate
+        return writer
 
-    def authorized_participant(self, request):
+    def require_authorized(self, request):
         """The participant whose token the request has, and whose name its path has; all others are refused alike."""
         who = request.match_info["who"]
         try:
             is_authorized = self.is_authorized(request)
         except folder.UNREADABLE:
-            raise without_tokens() from None
+            raise unread_tokens_refusal() from None
         if not is_authorized:
             self.counts.add("wrong_tokens_total")
-            if not self.behind_proxy and (seconds := self.guesses.take(source(request.remote))):
-                request.protocol.is_deaf = True
-                raise Refused("TooFast", "too many wrong tokens", seconds=seconds)
+            self.budgets.refuse_too_many_guesses(request)
             raise Refused("Token", "the token isn't of this participant")
         return who
 
     def is_authorized(self, request):
         """Whether the token is the participant's now."""
         scheme, _, token = request.headers.get("Authorization", "").partition(" ")
-        known = self.office.register.knows(request.match_info["who"], token)
+        known = self.office.register.is_token_of(request.match_info["who"], token)
         return known and scheme.lower() == "bearer"
 
-    def admitted(self, request, buckets=None, count=1):
+    def admit_and_charge(self, request, buckets=None, count=1):
         """The day and the participant of a request of its own data."""
-        who = self.authorized_participant(request)
-        if seconds := (buckets or self.reads).take(who, count):
-            raise Refused("TooFast", "too many requests", seconds=seconds)
-        gate = self.gate_of(request)
-        if gate.fault:
+        who = self.require_authorized(request)
+        budgets.refuse_too_many(buckets or self.budgets.reads, who, count)
+        writer = self.require_writer(request)
+        if writer.fault:
             raise Refused("Unavailable", STOPPED_WORDS)
-        self.need_known(gate)
-        return gate, who
+        self.require_known(writer)
+        return writer, who
 
-    def need_known(self, gate):
-        if not gate.is_known.is_set():
+    def require_known(self, writer):
+        if not writer.is_known.is_set():
             raise Refused("Unavailable", "the office is still reading the day's journal", seconds=1)
 
-    def length(self, request):
+    def require_length(self, request):
         """The length of a body, which is known before it is read."""
         # aiohttp puts the value of a header without a name before the next one: a length below 0 would fill the bucket
         word = request.headers.get("Content-Length", "")
@@ -249,7 +221,7 @@ class Web:
             raise web.HTTPRequestEntityTooLarge(MOST_BODY, length)
         return length
 
-    async def body(self, request):
+    async def read_body(self, request):
         if request.content.is_eof():  # it is here already
             return await request.read()
         try:
@@ -261,98 +233,100 @@ class Web:
     # --- commands
 
     async def answer_commands(self, request):
-        gate, who = self.admitted(request, self.commands)
-        self.commands.charge(who, self.length(request) // BYTES_OF_COMMAND)  # before it is read, so that not many are at once
-        body = await self.body(request)
-        self.authorized_participant(request)  # again: the token may have been revoked
+        writer, who = self.admit_and_charge(request, self.budgets.commands)
+        length = self.require_length(request)
+        self.budgets.commands.charge(who, length // budgets.BYTES_OF_COMMAND)  # before it is read, so that not many are at once
+        body = await self.read_body(request)
+        self.require_authorized(request)  # again: the token may have been revoked
         began = time.monotonic()
         first = int(request.match_info["number"])
-        commands = await self.read(body, kind_of(request), who, first)
-        self.commands.charge(who, max(0, len(commands) - 1 - len(body) // BYTES_OF_COMMAND))  # of short ones, each counts
-        entries = await self.entered(gate, who, first, commands, request)
-        answer = await self.receipts(gate, entries)
-        self.counts.took(time.monotonic() - began)
+        commands = await self.parse_commands(body, content_type(request), who, first)
+        self.budgets.commands.charge(who, max(0, len(commands) - 1 - len(body) // budgets.BYTES_OF_COMMAND))  # of short ones, each counts
+        entries = await self.enter_commands(writer, who, first, commands, request)
+        answer = await self.answer_receipts(writer, entries)
+        self.counts.note_seconds(time.monotonic() - began)
         return answer
 
-    async def read(self, body, kind, who, first):
+    async def parse_commands(self, body, kind, who, first):
         """The commands of a body. A long one is read in a thread, so that others get their turns."""
         if len(body) < LONG_BODY:
-            return requests.commands_of(body, kind, who, first)
-        return await asyncio.to_thread(requests.commands_of, body, kind, who, first)
+            return requests.parse_commands(body, kind, who, first)
+        return await asyncio.to_thread(requests.parse_commands, body, kind, who, first)
 
-    async def entered(self, gate, who, first, commands, request):
+    async def enter_commands(self, writer, who, first, commands, request):
         """The numbers of the entries of commands, once they are on the disk. A token that was revoked by then enters nothing more."""
-        done = gate.submit(who, first, commands, lambda: self.is_authorized(request))
+        done = writer.submit(who, first, commands, lambda: self.is_authorized(request))
         await asyncio.wait((done,), timeout=ANSWER_SECONDS)
         if not done.done():
             raise Refused("Unavailable", "the desk hasn't answered yet: send the same command again", seconds=1)
         return done.result()
 
-    async def receipts(self, gate, entries, head=None):
+    async def answer_receipts(self, writer, entries, head=None):
         made = []
         for place, entry in enumerate(entries, 1):
-            made.append(heads.line_of(gate.ledger.seal.receipt(entry, head) if head else gate.ledger.receipt(entry)))
+            made.append(heads.line_of(writer.ledger.seal.receipt(entry, head) if head else writer.ledger.receipt(entry)))
             if place % RECEIPTS_AT_ONCE == 0:
                 await asyncio.sleep(0)
-        return jsonl(made)
+        return jsonl_response(made)
 
     async def answer_receipt(self, request):
-        gate, who = self.admitted(request)
-        number, count = int(request.match_info["number"]), gate.ledger.count(who)
+        writer, who = self.admit_and_charge(request)
+        number, count = int(request.match_info["number"]), writer.ledger.count(who)
         if number > count:
             raise Refused("NotFound", "there is no such command", next=count + 1)
-        return await self.receipts(gate, [gate.ledger.entry(who, number)[0]])
+        return await self.answer_receipts(writer, [writer.ledger.entry(who, number)[0]])
 
     async def answer_own_receipts(self, request):
         """All receipts of a participant, under the newest head."""
-        gate, who = self.admitted(request)
-        self.reads.charge(who, gate.ledger.count(who) // RECEIPTS_OF_READ)
-        answer = await self.receipts(gate, list(gate.ledger.own.get(who, ())), gate.ledger.head())
-        self.reads.charge(who, len(answer.body) // BYTES_OF_READ)
+        writer, who = self.admit_and_charge(request)
+        self.budgets.reads.charge(who, writer.ledger.count(who) // budgets.RECEIPTS_OF_READ)
+        answer = await self.answer_receipts(writer, list(writer.ledger.own.get(who, ())), writer.ledger.head())
+        self.budgets.charge_bytes(who, len(answer.body))
         return answer
 
     async def answer_own_commands(self, request):
-        gate, who = self.admitted(request)
-        since = query_number(request, "since")
-        self.reads.charge(who, max(0, gate.ledger.count(who) - since) // COMMANDS_OF_READ)
+        writer, who = self.admit_and_charge(request)
+        since = require_query_number(request, "since")
+        self.budgets.reads.charge(who, max(0, writer.ledger.count(who) - since) // budgets.COMMANDS_OF_READ)
         names = ("number", "entry", "record", "reply")
-        found = [dict(zip(names, one)) for one in gate.ledger.entries(who, since)]
-        return self.text(who, json.dumps({"next": gate.ledger.count(who) + 1, "share": gate.ledger.share(who), "commands": found}))
+        found = [dict(zip(names, one)) for one in writer.ledger.entries(who, since)]
+        made = {"next": writer.ledger.count(who) + 1, "share": writer.ledger.share(who), "commands": found}
+        return self.charge_and_answer(who, json.dumps(made))
 
     async def answer_own_orders(self, request):
-        gate, who = self.admitted(request)
-        self.reads.charge(who, gate.ledger.count(who) // ORDERS_OF_READ)
+        writer, who = self.admit_and_charge(request)
+        self.budgets.reads.charge(who, writer.ledger.count(who) // budgets.ORDERS_OF_READ)
         found = []
-        for place, (name, order) in enumerate(gate.ledger.orders(who), 1):
+        for place, (name, order) in enumerate(writer.ledger.orders(who), 1):
             found.append(json.dumps({"order": name, **order._asdict()}))
-            if place % ORDERS_OF_READ == 0:
+            if place % budgets.ORDERS_OF_READ == 0:
                 await asyncio.sleep(0)
-        return self.text(who, f'{{"orders": [{", ".join(found)}]}}')
+        return self.charge_and_answer(who, f'{{"orders": [{", ".join(found)}]}}')
 
     async def answer_table(self, request):
         """The records that a table makes. They aren't entered: the participant sees them first."""
-        gate, who = self.admitted(request, count=READS_OF_TABLE)
-        self.length(request)
+        writer, who = self.admit_and_charge(request, count=budgets.READS_OF_TABLE)
+        self.require_length(request)
         if who in self.reading:
             raise Refused("TooFast", "your table before this one is still being read", seconds=TABLE_SECONDS)
         self.reading.add(who)
         try:
-            body = await self.body(request)
+            body = await self.read_body(request)
             async with self.tables:
                 if request.transport is None:  # the client is gone
                     raise ConnectionResetError
-                orders = [(name, order.kind) for name, order in gate.ledger.orders(who)]
-                records, notes = await tables.read(body, who, gate.terms.periods, orders)
+                orders = [(name, order.kind) for name, order in writer.ledger.orders(who)]
+                records, notes = await tables.run_for_table_records(body, who, writer.terms.periods, orders)
         finally:
             self.reading.discard(who)
-        return self.text(who, json.dumps({"records": records, "notes": notes}))
+        return self.charge_and_answer(who, json.dumps({"records": records, "notes": notes}))
 
     async def answer_statement(self, request):
-        gate, who = self.admitted(request)
-        found = await asyncio.to_thread(gate.published.statement_text, who)
+        writer, who = self.admit_and_charge(request)
+        found = await asyncio.to_thread(writer.published.read_statement_text, who)
         if found is None:
             raise Refused("NotFound", "there is no statement yet")
-        return self.text(who, found)
+        return self.charge_and_answer(who, found)
 
     # --- what all may see
 
@@ -363,10 +337,10 @@ class Web:
     async def answer_no_icon(self, request):
         return web.Response(status=204)
 
-    def day_record(self, gate):
-        terms, now = gate.terms, gate.clock.now()
+    def day_record(self, writer):
+        terms, now = writer.terms, writer.clock.now()
         closes = terms.closes.timestamp()
-        state = gate.state
+        state = writer.state
         return {
             "day": terms.day,
             "periods": terms.periods,
@@ -374,57 +348,58 @@ class Web:
             "zone": terms.zone,
             "seconds_left": round(max(0, closes - now), 3) if state == folder.OPEN else 0,
             "state": state,
-            "entries": gate.ledger.size,
-            "has_statement": gate.published.is_whole,
-            "has_journal": gate.published.has_journal,
+            "entries": writer.ledger.size,
+            "has_statement": writer.published.is_whole,
+            "has_journal": writer.published.has_journal,
         }
 
     async def answer_days(self, request):
-        self.charge_days(request)
-        return web.json_response({"days": [self.day_record(gate) for gate in self.office.gates.values()], "demo": bool(self.demo)})
+        self.budgets.charge_days(request, len(self.office.writers))
+        days = [self.day_record(writer) for writer in self.office.writers.values()]
+        return web.json_response({"days": days, "demo": bool(self.demo)})
 
     async def answer_day(self, request):
-        gate = self.gate_of(request)
-        periods = gate.terms.periods
+        writer = self.require_writer(request)
+        periods = writer.terms.periods
         begins = [clock.begin_time(periods, number) for number in range(1, periods + 1)]
-        return web.json_response({**self.day_record(gate), "begins": begins})
+        return web.json_response({**self.day_record(writer), "begins": begins})
 
-    def unstopped_gate_of(self, request):
+    def require_unstopped(self, request):
         """The day of a request. A stopped day shows nothing: its journal may differ from the one that earlier heads sign, or a file may
         have changed."""
-        gate = self.gate_of(request)
-        if gate.fault:
+        writer = self.require_writer(request)
+        if writer.fault:
             raise Refused("Unavailable", STOPPED_WORDS)
-        return gate
+        return writer
 
     async def answer_head(self, request):
         """The newest head; with `since` the proof that it goes on from the head of this number of entries."""
-        gate = self.unstopped_gate_of(request)
-        self.need_known(gate)
-        ledger = gate.ledger
+        writer = self.require_unstopped(request)
+        self.require_known(writer)
+        ledger = writer.ledger
         if "since" not in request.query:
-            return jsonl([heads.line_of(ledger.head())])
-        since = query_number(request, "since")
+            return jsonl_response([heads.line_of(ledger.head())])
+        since = require_query_number(request, "since")
         if since > ledger.size:
             raise Refused("NotFound", "there is no such head yet")
-        return jsonl([heads.line_of(ledger.seal.extension(ledger.head(since), ledger.head()))])
+        return jsonl_response([heads.line_of(ledger.seal.extension(ledger.head(since), ledger.head()))])
 
     async def answer_prices(self, request):
         """The results without the orders and the welfare: the day, and each period's price and volume."""
-        gate = self.unstopped_gate_of(request)
-        if not gate.published.has_results:
+        writer = self.require_unstopped(request)
+        if not writer.published.has_results:
             raise Refused("NotFound", "there are no results yet")
-        return web.Response(text=gate.published.prices(gate.terms.periods), content_type="text/plain")
+        return web.Response(text=writer.published.read_prices(writer.terms.periods), content_type="text/plain")
 
     async def answer_published(self, request):
         """The texts that have the orders of all: only if the operator publishes the journal."""
-        gate, name = self.unstopped_gate_of(request), request.path.rpartition("/")[2]
-        if not gate.published.has_results:
+        writer, name = self.require_unstopped(request), request.path.rpartition("/")[2]
+        if not writer.published.has_results:
             raise Refused("NotFound", "there are no results yet")
-        if not gate.published.has_journal:
+        if not writer.published.has_journal:
             raise Refused("NotFound", "the operator hasn't published the day; its prices are under prices")
         files = {"results": folder.RESULTS, "journal": folder.JOURNAL, "replies": folder.REPLIES}
-        return await self.send_file(request, gate.files.file(files[name]))
+        return await self.send_file(request, writer.files.path_of(files[name]))
 
     async def send_file(self, request, path):
         """A file, in pieces: over TLS, aiohttp's own way keeps a megabyte of it for each reader that is slow."""
@@ -442,13 +417,13 @@ class Web:
         return web.json_response({"status": "ok" if is_healthy else "unavailable"}, status=200 if is_healthy else 503)
 
     async def answer_metrics(self, request):
-        self.charge_days(request)
+        self.budgets.charge_days(request, len(self.office.writers))
         gauges = [("right", int(self.office.is_healthy))]
-        for name, gate in self.office.gates.items():
+        for name, writer in self.office.writers.items():
             label = f'{{day="{name}"}}'
-            gauges += [(f"entries{label}", gate.ledger.size), (f"waiting{label}", len(gate.waiting))]
-            gauges += [(f"ready{label}", int(gate.is_healthy)), (f"open{label}", int(gate.state == folder.OPEN))]
-        return web.Response(text=self.counts.text(gauges), content_type="text/plain")
+            gauges += [(f"entries{label}", writer.ledger.size), (f"waiting{label}", len(writer.waiting))]
+            gauges += [(f"ready{label}", int(writer.is_healthy)), (f"open{label}", int(writer.state == folder.OPEN))]
+        return web.Response(text=self.counts.prometheus_text(gauges), content_type="text/plain")
 
     # --- the demo
 
@@ -457,33 +432,33 @@ class Web:
         return web.json_response({"participants": self.demo})
 
     async def close_demo_day(self, request):
-        gate = self.gate_of(request)
+        writer = self.require_writer(request)
         self.refuse_stranger_to_demo(request)
-        gate.close()
-        return web.json_response(self.day_record(gate))
+        writer.begin_close()
+        return web.json_response(self.day_record(writer))
 
     def refuse_stranger_to_demo(self, request):
         token = request.headers.get("Authorization", "").partition(" ")[2]
-        if not self.office.register.knows(token.partition(".")[0], token):
+        if not self.office.register.is_token_of(token.partition(".")[0], token):
             raise Refused("Token", "the token isn't of a participant")
 
 
-def kind_of(request):
+def content_type(request):
     """The type of a body. aiohttp's own reader of it takes as long as the rest of a request."""
     return request.headers.get("Content-Type", "").partition(";")[0].strip().lower()
 
 
-def query_number(request, name):
+def require_query_number(request, name):
     word = request.query.get(name, "0")
     if not (word.isascii() and word.isdigit() and len(word) <= 5):
         raise Refused("Malformed", f"{name} should be a number up to 99999")
     return int(word)
 
 
-def route_of(request):
+def route_name(request):
     resource = request.match_info.route.resource
     return resource.canonical if resource else "none"
 
 
-def method_of(request):
+def method_label(request):
     return request.method if request.method in ("GET", "HEAD", "PUT", "POST") else "other"

@@ -153,7 +153,7 @@ class Awaited:
 @contextlib.contextmanager
 def executor(address):
     """The executor of a cluster. After a failure it isn't waited for, so the process should end at once."""
-    modules.need("distributed")
+    modules.refuse_missing("distributed")
     cluster = Cluster(address)
     yield cluster
     with contextlib.suppress(Exception):

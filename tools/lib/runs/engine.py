@@ -84,7 +84,7 @@ def team_of(jobs):
         team.end()
 
 
-def answer(text, program=None, running=None, nodes=MOST_NODES, timeout=None):
+def run_clear(text, program=None, running=None, nodes=MOST_NODES, timeout=None):
     """The output of `dam clear` for a journal's text, as a pair of None and these bytes; or else of the status (0 if there is none, LATE
     of a run that took too long, UNSTARTED of one that didn't begin) and the words of the fault. By the library if there is one, unless a
     program is named, or a timeout, which only a run of the program can have. The pair has no type of this package, so that any executor
@@ -122,7 +122,7 @@ def processors():
     return len(os.sched_getaffinity(0))
 
 
-def answers(texts, jobs=None, executor=None, program=None, call=answer):
+def answers(texts, jobs=None, executor=None, program=None, call=run_clear):
     """For each text, in their order, the output of `dam clear` as bytes, or a `Fault`; a text that is a fault already stays one. Texts are
     taken as they are needed, so there may be any number of them. If no more answers are asked for, the runs that are left are ended."""
     if jobs is not None and jobs < 1:

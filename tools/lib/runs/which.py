@@ -30,8 +30,8 @@ def has_library():
 
 
 @functools.cache
-def is_built():
-    """The same, as it was when it was first asked: to look at all sources takes as long as to clear a small day."""
+def had_library_at_first_look():
+    """Whether it was so when this was first asked: to look at all sources takes as long as to clear a small day."""
     return has_library()
 
 
@@ -59,7 +59,7 @@ def where():
     for of, path in (
         ("package", packaged("lib", "x86_64-linux-gnu", LIBRARY.name)),
         ("wheel", WHEELS if WHEELS.exists() else None),
-        ("clone", LIBRARY if is_built() else None),
+        ("clone", LIBRARY if had_library_at_first_look() else None),
     ):
         if path:
             return Where("library", of, os.fspath(path))

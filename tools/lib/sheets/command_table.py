@@ -47,7 +47,7 @@ class Columns:
         """The command that a row adds to a day, None if it adds none; and the faults of the row."""
         row, what = order_table.Row(cells, self.table, periods), self.cell(cells, WHAT).lower()
         add_other_faults(row, what)
-        return None if self.is_empty(cells) else read_command(row, what), row.wrong
+        return None if self.is_empty(cells) else read_command(row, what), row.faults
 
 
 def header_of(found):
@@ -65,7 +65,7 @@ def add_other_faults(row, what):
     for name in order_table.ORDER if what in NEEDED else []:
         if name not in NEEDED[what] and (cell := row.cell(name)):
             article = "an" if what == "amend" else "a"
-            row.wrong.append(f"column {name}: {text.quoted(cell)} should be left out: {article} {what} has no {name}")
+            row.faults.append(f"column {name}: {text.quoted(cell)} should be left out: {article} {what} has no {name}")
 
 
 def read_command(row, what):
@@ -82,7 +82,7 @@ def read_command(row, what):
         return journal.Amend(who, name, price, volumes)
     if what in ("", "submit"):
         return row.command()
-    row.wrong.append(f"column {WHAT}: {text.quoted(what)} should be submit, amend or cancel")
+    row.faults.append(f"column {WHAT}: {text.quoted(what)} should be submit, amend or cancel")
     return None
 
 
@@ -109,11 +109,11 @@ def read_commands(given, periods):
     except order_table.BadOrders as fault:
         for line in str(fault).split("\n"):
             wrong.add(line)
-        raise wrong.wrong() from None
+        raise wrong.as_one_fault() from None
     for line, cells in columns.table.rows:
         _, faults = columns.read(cells, periods)
         for words in faults:
             wrong.add(order_table.of_line(line, words))
     if wrong.count:
-        raise wrong.wrong()
+        raise wrong.as_one_fault()
     return Commands(columns, periods), columns.table.notes

@@ -70,7 +70,7 @@ class Row:
         """`raises`: names that aren't in capitals are put into them."""
         self.cells, self.table, self.periods, self.raises = cells, table, periods, raises
         self.decimal_comma = table.decimal_comma
-        self.wrong = table.strays(cells)
+        self.faults = table.strays(cells)
         self.raised = {}  # these names, by their text
 
     def given_cell(self, name):
@@ -90,12 +90,12 @@ class Row:
             cell_values.refuse_unlike(self.given_cell(name), name in NAMES)
             return reader(cell)
         except BadOrders as fault:
-            self.wrong.append(f"column {name}: {fault}")
+            self.faults.append(f"column {name}: {fault}")
             return None
 
     def read_link(self, name, kind):
         if self.cell(name) and kind == "hour":
-            self.wrong.append(f"column {name}: an hourly order has none")
+            self.faults.append(f"column {name}: an hourly order has none")
             return None
         return self.read(name, lambda cell: cell and cell_values.read_name(cell))
 
@@ -115,7 +115,7 @@ class Row:
         price = self.read("price_eur_mwh", lambda cell: cell_values.read_price(cell, self.decimal_comma))
         numbers = self.read("periods", lambda cell: cell_values.kept_periods(cell, self.periods))
         if kind == "hour" and numbers and len(numbers) != 1:
-            self.wrong.append(f"column periods: an hourly order has one period, not {len(numbers)}")
+            self.faults.append(f"column periods: an hourly order has one period, not {len(numbers)}")
         of_volumes = lambda cell: cell_values.read_volumes(cell, numbers or self.periods_of_volumes(cell), self.decimal_comma)
         volumes = self.read("volume_mw", of_volumes)
         parent, group = (self.read_link(name, kind) for name in OPTIONAL)
@@ -137,13 +137,13 @@ class Entered:
         """Adds to the faults of a row why the book would refuse it."""
         who, name, parent = row.probable_name("participant"), row.probable_name("order"), command.order.parent
         if who and name and (who, name) in self.lines:
-            row.wrong.append(f"column order: {who} has an order {name} in {self.lines[who, name][0]} (NameTaken)")
+            row.faults.append(f"column order: {who} has an order {name} in {self.lines[who, name][0]} (NameTaken)")
         if who and parent:
             if fault := self.parent_fault(who, parent):
-                row.wrong.append(f"column parent: {fault}")
-        reason = None if row.wrong else self.held.apply(command)
+                row.faults.append(f"column parent: {fault}")
+        reason = None if row.faults else self.held.apply(command)
         if reason in FULL:
-            row.wrong.append(f"{FULL[reason]} ({reason})")
+            row.faults.append(f"{FULL[reason]} ({reason})")
         self.lines.setdefault((who, name), (line, command.order.kind))
 
     def parent_fault(self, who, parent):
@@ -292,7 +292,7 @@ class Faults:
         if self.count <= MOST_ERRORS:
             self.first.append(words)
 
-    def wrong(self, notes=()):
+    def as_one_fault(self, notes=()):
         """All of them as one, with notes."""
         more = self.count - len(self.first)
         return BadOrders("\n".join([*self.first, *([f"and {more} more"] if more else []), *notes]), more)
@@ -333,14 +333,14 @@ def read_tables(sources, periods, who=None, raises=False, held=None):
             else:
                 command = row.command()
                 entered.enter(table.line(line), row, command)
-                submits += [] if row.wrong else [(number, command)]
+                submits += [] if row.faults else [(number, command)]
                 raised.update(row.raised)
-            for words in row.wrong:
+            for words in row.faults:
                 wrong.add(table.told(of_line(line, words)))
         notes += [table.told(capitals_note(raised))] if raised else []
     if wrong.count:
         read = [table.told(note) for table in tables for note in table.read]
-        raise wrong.wrong(read)
+        raise wrong.as_one_fault(read)
     return Orders(submits, notes, others)
 
 

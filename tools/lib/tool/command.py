@@ -35,7 +35,7 @@ def run(name, main):
         status, said = status_and_message(fault)
         if status == FAILED and not isinstance(fault, Stop):
             raise
-        tell(name, said)
+        print_note(name, said)
         sys.exit(status)
 
 
@@ -56,7 +56,7 @@ def without_controls(words):
     return "\n".join(map(text.escaped, str(words).split("\n")))
 
 
-def tell(tool, words):
+def print_note(tool, words):
     """Says something on standard error; if that can't be written, the status alone says it."""
     try:
         print(f"{place.command_name(tool)}: {without_controls(words)}", file=sys.stderr, flush=True)

@@ -87,9 +87,9 @@ class Day:
         """Returns the status of a tool that has shown the results. If they break the rules, or else if their encoding differs, it says so on
         standard error."""
         if self.wrong and not quiet:
-            command.tell(tool, f"the results break the rules ({self.wrong[0]}): {SEE_AUDIT}")
+            command.print_note(tool, f"the results break the rules ({self.wrong[0]}): {SEE_AUDIT}")
         elif self.odd and not quiet:
-            command.tell(tool, f"the encoding of the results differs ({self.odd[0]}): {SEE_AUDIT}")
+            command.print_note(tool, f"the encoding of the results differs ({self.odd[0]}): {SEE_AUDIT}")
         return command.DIFFERS if self.wrong else command.DONE
 
 

@@ -102,7 +102,7 @@ def write_files(tool, files, advice=None):
         for path, put in puts.items():
             call_for_output(path, put, advice=advice)
             if sys.stderr.isatty():
-                command.tell(tool, f"{command.shown(path)} was written")
+                command.print_note(tool, f"{command.shown(path)} was written")
 
 
 def call_for_output(path, call, *words, advice=None):

@@ -84,7 +84,7 @@ def missing_message(*modules):
     return f"it needs {' and '.join(modules)}, {which}: apt-get install {' '.join(packages)}"
 
 
-def need(*modules):
+def refuse_missing(*modules):
     """Ends the tool if a module is missing."""
     restart_with(*modules)
     if lacking := [module for module in modules if not has_module(module)]:

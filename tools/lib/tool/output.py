@@ -22,7 +22,7 @@ def check_options(args, *inputs):
     if is_workbook(args.out):
         if args.json or args.decimal_comma:
             raise command.Stop("--json and --decimal-comma can't be used with an Excel workbook", command.COMMAND_LINE)
-        modules.need("openpyxl")
+        modules.refuse_missing("openpyxl")
 
 
 def is_workbook(path):

@@ -209,7 +209,7 @@ def of_rejected(day, who=None, is_asked=True):
     places = [place for place, block in enumerate(day.problem.blocks) if place not in day.said.accepted and who in (None, block.who)]
     if not places or day.wrong or not is_asked:
         return dict.fromkeys(places, not_computed("the results break the rules" if day.wrong else "the page was made without limits"))
-    own = engine.result(engine.answer(book_text(day.book.rows, day.problem.periods)))
+    own = engine.result(engine.run_clear(book_text(day.book.rows, day.problem.periods)))
     if why := why_none(day, own):
         return dict.fromkeys(places, not_computed(why))
     bar = StepBar("report", len(places), "limits of rejected blocks")
@@ -243,19 +243,19 @@ def why_none(day, own):
         why, more = BROKEN, str(fault)
     except Fault as fault:
         why, more = "the program couldn't clear the day", str(fault)
-    command.tell("report", f"the limits that rejected blocks needed weren't computed: {why}: {more}")
+    command.print_note("report", f"the limits that rejected blocks needed weren't computed: {why}: {more}")
     return why
 
 
 def sentence(held, block, own, was, running):
     """What a page says of a rejected block, whose day is printed as `own`, and was checked."""
-    search = Search(held, (block.who, block.name), lambda given: engine.result(engine.answer(given, running=running)))
+    search = Search(held, (block.who, block.name), lambda given: engine.result(engine.run_clear(given, running=running)))
     search.keep(block.order.price, own)
     search.seen[block.order.price] = was
     try:
         return short(search)
     except Fault as fault:
-        command.tell("report", f"the limit of {' '.join(search.key)} wasn't computed: {fault}")
+        command.print_note("report", f"the limit of {' '.join(search.key)} wasn't computed: {fault}")
         return not_computed(BROKEN if isinstance(fault, Wrong) else "a run of the program failed")
 
 

@@ -122,7 +122,7 @@ def read(args):
 
 def engine_of(program, running=None):
     """The engine that clears a text; a run that fails is a `Fault`."""
-    return lambda given: engine.result(engine.answer(given, program, running))
+    return lambda given: engine.result(engine.run_clear(given, program, running))
 
 
 def limit(args):
@@ -209,7 +209,7 @@ def sampled(args, held, key):
     own = search.order.price
     extra = "" if own in range(least, greatest + 1, step) else f", one of them the order's own, {text.shown_price(own)} EUR/MWh"
     count = text.counted(len(grid), "limit") + extra
-    command.tell("whatif", f"sampled at {count}: between them the result may be another, since {limits.NO_LAW}")
+    command.print_note("whatif", f"sampled at {count}: between them the result may be another, since {limits.NO_LAW}")
     output.write("whatif", args, "samples", rows, held.periods)
     return command.DONE
 
@@ -224,13 +224,13 @@ def change(args):
     try:
         further, notes = changes.read_changes(file_io.read_bytes(args.changes), before.periods)
         for note in [] if args.quiet else notes:
-            command.tell("whatif", f"{command.shown(args.changes)}: {note}")
+            command.print_note("whatif", f"{command.shown(args.changes)}: {note}")
         books = [before, changes.entered(before, further)]
     except errors.Fault as fault:
         raise command.Stop(f"{command.shown(args.changes)}: {fault}") from None
     rows = list(compared(books, args.participant, args.program))
     if len(rows) == 1 and not args.quiet:
-        command.tell("whatif", "nothing differs")
+        command.print_note("whatif", "nothing differs")
     output.write("whatif", args, "changes", rows, before.periods)
     return command.DONE
 
@@ -338,12 +338,12 @@ def keys_asked(args, held):
 def executor_of(args):
     """The executor of the cluster that is named, or None; and the engine that it calls."""
     if args.cluster is None:
-        yield None, engine.answer
+        yield None, engine.run_clear
         return
     with cluster.executor(args.cluster) as executor:
         import dam_tools
 
-        yield executor, dam_tools.engine.answer  # by the name that it has in the package
+        yield executor, dam_tools.engine.run_clear  # by the name that it has in the package
 
 
 def run_scenarios(args):
@@ -353,15 +353,15 @@ def run_scenarios(args):
     output.check_options(args, args.journal, args.scenarios)
     check_scenarios(args)
     if is_picture(args.out):
-        modules.need("matplotlib")
+        modules.refuse_missing("matplotlib")
     if args.sample:
-        modules.need("numpy")
+        modules.refuse_missing("numpy")
     held = read(args)
     if args.sample is None:
         data = file_io.read_bytes(args.scenarios)
         given, notes = scenarios.read_table(command.shown(args.scenarios), data, held)
         for note in [] if args.quiet else notes:
-            command.tell("whatif", f"{command.shown(args.scenarios)}: {note}")
+            command.print_note("whatif", f"{command.shown(args.scenarios)}: {note}")
         count = len(given)
         if args.participant:
             need_asked(args, itertools.chain([held.rows], (scenario.rows() for scenario in given)))
@@ -427,7 +427,7 @@ def write_distribution(args, held, over):
     """The table of the blocks over all scenarios, or a picture and then the table on standard output."""
     if not args.quiet:
         for line in scenarios.words(over):
-            command.tell("whatif", line)
+            command.print_note("whatif", line)
     if is_picture(args.out):
         from . import scenario_picture
 

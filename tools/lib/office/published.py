@@ -1,25 +1,17 @@
-"""The files of a closed day: the signed head, then the results and, for each participant, what became of its commands. The journal is
-published only if the operator says so."""
+"""The published files of a day, as participants may see them: until the journal is published, a statement tells nothing of others'
+orders."""
 
-import asyncio
 import hashlib
 import itertools
 import json
-import os
 import re
-import sys
 import threading
-import time
 
-from ..base import place, replacing
 from ..results import decisions
 from ..seal import heads
 from . import folder
-from .desk import exchange, how_ended
 from .ledger import Contradiction
 
-FIRST_PAUSE, LONGEST_PAUSE = 1.0, 60.0  # seconds before a step that failed is tried again
-MOST_SECONDS = 600  # that a program may take
 # How a reason of a rejected block begins, which its participant can compute from the prices and its own orders.
 NAMES = r"[A-Z0-9-]+(?:, [A-Z0-9-]+)*(?: and [A-Z0-9-]+)?"
 OWN_GAIN = re.compile(rf"(?:with {NAMES} it )?would gain (?:nothing|[0-9.,]+ EUR) at the prices")
@@ -35,10 +27,6 @@ TOLD = (decisions.GROUP, decisions.PARENT)  # the codes among these that tell no
 MOST_TEXTS = 16  # of statements that are kept as they are sent
 # Of all participants' orders. From these, one could compute the limits of another.
 SUMS = ("welfare_eur", "hourly_surplus_eur", "block_surplus_eur")
-
-
-class Failed(Exception):
-    """A program failed, or the disk did."""
 
 
 class Published:
@@ -60,15 +48,15 @@ class Published:
     def has_journal(self):
         return self.has_results and self.files.has(folder.OPEN_JOURNAL)
 
-    def prices(self, periods):
+    def read_prices(self, periods):
         """The first lines of the results without the welfare: the day and the periods. They stay the same, and are read once."""
         if self.text is None:
-            with self.files.file(folder.RESULTS).open(encoding="ascii") as results:
+            with self.files.path_of(folder.RESULTS).open(encoding="ascii") as results:
                 lines = list(itertools.islice(results, 2 + periods))
             self.text = "".join(lines[:1] + lines[2:])
         return self.text
 
-    def statement(self, who):
+    def read_statement(self, who):
         """A participant's commands with what became of them; None before they are published. Until the journal is, nothing in it tells of
         the orders of others but the prices and volumes."""
         if self.rows is None and self.is_whole:
@@ -82,15 +70,15 @@ class Published:
             return None
         day, rows = self.rows[0], json.loads(self.rows[1].get(who, "[]"))
         if self.has_journal:
-            return {"day": day, "rows": [{**row, "why": own_names(row["why"], who)} for row in rows]}
-        return {"day": {name: value for name, value in day.items() if name not in SUMS}, "rows": list(map(guarded, rows))}
+            return {"day": day, "rows": [{**row, "why": without_own_participant(row["why"], who)} for row in rows]}
+        return {"day": {name: value for name, value in day.items() if name not in SUMS}, "rows": list(map(without_words_of_others, rows))}
 
-    def statement_text(self, who):
+    def read_statement_text(self, who):
         """The statement in JSON, which is kept as it is sent; None before there is one."""
         key = who, self.has_journal
         with self.lock:  # it is made in a thread of its own
             if key not in self.texts:
-                found = self.statement(who)
+                found = self.read_statement(who)
                 if found is None:
                     return None
                 while len(self.texts) >= MOST_TEXTS:
@@ -99,12 +87,12 @@ class Published:
             return self.texts[key]
 
 
-def own_names(why, who):
+def without_own_participant(why, who):
     """A reason with the participant's own orders by their names alone."""
     return re.sub(rf"\b{who},(?=[A-Z0-9-]+ would lose )", "", why) if why else why
 
 
-def guarded(row):
+def without_words_of_others(row):
     """A row without the words, and the code, that tell of others' orders."""
     code = row.get("code")
     if code not in HIDDEN:
@@ -114,12 +102,12 @@ def guarded(row):
     return {**row, "why": why, "code": code if code in TOLD else None}
 
 
-def load(files, ledger):
+def read_into_ledger(files, ledger):
     """The ledger, with the journal of a day that is published, which has to be that of its head. The files of it are compared whole."""
     try:
         written, replies = files.read(folder.JOURNAL), files.read(folder.REPLIES)
         own = [line.partition(",")[2] for line in replies.decode("ascii").splitlines()[1:]]
-        ledger.take(written.decode("ascii").splitlines()[1:], own)
+        ledger.take_journal(written.decode("ascii").splitlines()[1:], own)
         if (written, replies) != (ledger.journal_text(), ledger.replies_text()):
             raise Contradiction("the entries are right, and their files have other bytes")
         head = files.read(folder.HEAD)
@@ -127,84 +115,22 @@ def load(files, ledger):
         raise Contradiction(f"{folder.JOURNAL}, {folder.REPLIES} or {folder.HEAD} is missing or damaged") from None
     if heads.line_of(ledger.head()) != head:
         raise Contradiction("the published head isn't of the journal next to it, or isn't of this key")
-    check_sums(files)
+    require_unchanged(files)
     return ledger
 
 
-def sum_of(data):
+def sha256_hex(data):
     return hashlib.sha256(data).hexdigest()
 
 
-def check_sums(files):
+def require_unchanged(files):
     """Ends with a contradiction if the results or the statement were changed since they were made."""
     try:
         sums = json.loads(files.read(folder.SUMS))
-        changed = [name for name in (folder.RESULTS, folder.STATEMENT) if sums[name] != sum_of(files.read(name))]
+        changed = [name for name in (folder.RESULTS, folder.STATEMENT) if sums[name] != sha256_hex(files.read(name))]
     except FileNotFoundError:  # they were made without sums
         return
     except (ValueError, KeyError, TypeError):
         changed = [folder.SUMS]
     if changed:
         raise Contradiction(f"{changed[0]} isn't as it was made")
-
-
-async def publish(gate):
-    """Makes the files of a closed day, each once; a step that fails is tried again."""
-    pause = FIRST_PAUSE
-    for step, name in ((sign, folder.HEAD), (clear, folder.RESULTS), (state, folder.STATEMENT)):
-        while True:
-            began = time.monotonic()
-            try:
-                await step(gate)
-                break
-            except (Failed, OSError) as fault:
-                gate.trouble = str(fault)
-                gate.log_event("not made", file=name, fault=str(fault))
-                gate.counts.add("publish_faults_total")
-                await asyncio.sleep(pause)
-                pause = min(2 * pause, LONGEST_PAUSE)
-        gate.trouble = None
-        gate.log_event("made", file=name, seconds=round(time.monotonic() - began, 3))
-
-
-async def sign(gate):
-    """The head of the whole journal, which no later one follows, with the journal and its replies."""
-    for name, data in ((folder.JOURNAL, gate.ledger.journal_text()), (folder.REPLIES, gate.ledger.replies_text())):
-        with folder.named(gate.files.file(name)):
-            replacing.write_replacing(gate.files.file(name), data)
-    folder.put(gate.files.file(folder.HEAD), heads.line_of(gate.ledger.head()))
-
-
-async def clear(gate):
-    """The results, by `dam clear`."""
-    if not gate.published.has_results:
-        folder.put(gate.files.file(folder.RESULTS), await output(gate.programs.dam, "clear", data=gate.files.read(folder.JOURNAL)))
-
-
-async def state(gate):
-    """What became of each command, by tools/table, in a process of its own."""
-    if not gate.files.has(folder.STATEMENT):
-        tool = str(place.FOLDER / "table")
-        paths = (str(gate.files.file(name)) for name in (folder.JOURNAL, folder.RESULTS))
-        made = await output(sys.executable, "-I", "-B", tool, "--rows", "statement", "--json", "--quiet", *paths)
-        sums = {folder.RESULTS: sum_of(gate.files.read(folder.RESULTS)), folder.STATEMENT: sum_of(made)}
-        folder.put(gate.files.file(folder.SUMS), folder.as_json(sums))  # first: a statement that is there has its sum
-        folder.put(gate.files.file(folder.STATEMENT), made)
-
-
-async def output(*words, data=b"", seconds=MOST_SECONDS):
-    """What a program prints. It has no other part in this process: its fault, or a late end, is `Failed`."""
-    pipes = {name: asyncio.subprocess.PIPE for name in ("stdin", "stdout", "stderr")}
-    process = await asyncio.create_subprocess_exec(*words, start_new_session=True, **pipes)
-    try:
-        out, err = await asyncio.wait_for(exchange(process, words[0], data), seconds)
-    except asyncio.TimeoutError:
-        raise Failed(f"{os.path.basename(words[0])} took more than {seconds} s") from None
-    finally:
-        if process.returncode is None:
-            process.kill()
-            await process.wait()
-    if process.returncode:
-        said = err.decode(errors="replace").strip()
-        raise Failed(f"{os.path.basename(words[0])} {how_ended(process.returncode)}: {said}")
-    return out

@@ -6,7 +6,7 @@ import dataclasses
 import functools
 import time
 
-from . import clearing, folder, newest
+from . import folder, newest, published, publishing
 from .desk import Desk, Ended
 from ..journal.journal import Close, command_line
 from .ledger import Contradiction, Ledger
@@ -50,12 +50,12 @@ class Waiting:
     is_authorized: object = lambda: True
 
 
-class Gate:
+class DayWriter:
     """A day that takes commands. `run` is its only task that writes."""
 
     def __init__(self, files, key, programs, clock, log, counts):
-        self.files, self.terms = files, files.terms()
-        self.make_ledger = functools.partial(Ledger, self.terms, files.salts(), key)
+        self.files, self.terms = files, files.read_terms()
+        self.make_ledger = functools.partial(Ledger, self.terms, files.read_salts(), key)
         self.ledger = self.make_ledger()
         self.is_known = asyncio.Event()  # the ledger has the journal's entries: before, nothing can be said of any
         self.programs, self.clock, self.log, self.counts = programs, clock, log, counts
@@ -66,8 +66,8 @@ class Gate:
         self.fault = None  # the fault that stops the day
         self.trouble = None  # why a batch wasn't entered, or a file not made, which passes
         self.is_ready, self.is_closing = asyncio.Event(), False
-        self.published = clearing.Published(files)
-        self.newest = newest.Newest(files.file(folder.SIGNED), self.log_event)
+        self.published = published.Published(files)
+        self.newest = newest.Newest(files.path_of(folder.SIGNED), self.log_event)
 
     @property
     def state(self):
@@ -121,7 +121,7 @@ class Gate:
         self.answer_entered(Waiting(who, first, commands, done))
         return done
 
-    def conflict(self, who, first, commands):
+    def conflict_refusal(self, who, first, commands):
         """The fault of a request of which a number is used for another command, or comes too early; None if it has none."""
         count = self.ledger.count(who)
         for number, command in enumerate(commands[: max(0, count - first + 1)], first):
@@ -151,15 +151,15 @@ class Gate:
             if len(found) >= MOST_BATCH or one.who in taken and one.first != last + 1:
                 later.append(one)
                 continue
-            if one.who not in taken and (fault := self.conflict(one.who, one.first, one.commands)):
-                fail(one.done, fault)
+            if one.who not in taken and (fault := self.conflict_refusal(one.who, one.first, one.commands)):
+                fail_future(one.done, fault)
                 continue
             new = one.commands[last - one.first + 1 :]
             if not new:
                 self.answer_entered(one)
                 continue
-            if fault := token_fault(one):
-                fail(one.done, fault)
+            if fault := token_refusal(one):
+                fail_future(one.done, fault)
                 continue
             found += [(command, one) for command in new]
             taken[one.who] = last + len(new)
@@ -168,12 +168,12 @@ class Gate:
 
     def answer_entered(self, one):
         """Answers a request whose commands are all entered."""
-        if fault := self.conflict(one.who, one.first, one.commands):
-            fail(one.done, fault)
+        if fault := self.conflict_refusal(one.who, one.first, one.commands):
+            fail_future(one.done, fault)
         elif not one.done.done():
             one.done.set_result(self.ledger.own[one.who][one.first - 1 : one.first - 1 + len(one.commands)])
 
-    async def commit(self, batch):
+    async def enter_batch(self, batch):
         """Enters a batch. Its requests are answered once all of it is on the disk."""
         begin, records = self.ledger.size, [command_line(command) for command, _ in batch]
         entries = zip((command for command, _ in batch), records)
@@ -182,14 +182,14 @@ class Gate:
             self.counts.add("entries_total")
         self.counts.add("batches_total")
         self.trouble = None
-        answering = asyncio.create_task(self.answer(begin, self.ledger.size, list(dict.fromkeys(one for _, one in batch))))
+        answering = asyncio.create_task(self.answer_batch(begin, self.ledger.size, list(dict.fromkeys(one for _, one in batch))))
         self.answering.add(answering)
         answering.add_done_callback(self.answering.discard)
 
-    async def answer(self, begin, end, entered):
+    async def answer_batch(self, begin, end, entered):
         """Answers the requests of a batch, with the heads of their receipts signed."""
         await self.ledger.sign_ahead(begin, end)
-        self.newest.note(self.ledger.head(end))
+        self.newest.note_head(self.ledger.head(end))
         for one in entered:
             if one.who is None:
                 one.done.cancel()
@@ -201,39 +201,39 @@ class Gate:
         closer = asyncio.create_task(self.close_in_time())
         try:
             with contextlib.suppress(OSError):
-                self.files.drop(folder.STOPPED_DAY)
+                self.files.remove(folder.STOPPED_DAY)
             if self.published.is_whole:
-                self.ledger = await asyncio.to_thread(clearing.load, self.files, self.make_ledger())
-                self.check_signed()
+                self.ledger = await asyncio.to_thread(published.read_into_ledger, self.files, self.make_ledger())
+                self.require_signed_entries()
                 self.is_known.set()
             else:
-                await self.keep()
-                await self.leave_desk()
-                await clearing.publish(self)
+                await self.keep_desk()
+                await self.end_desk()
+                await publishing.write_missing_files(self)
             self.is_ready.set()
         except Contradiction as fault:
-            self.stop(str(fault))
+            self.stop_day(str(fault))
         except Exception as fault:
-            self.stop(f"a defect of the office: {type(fault).__name__}: {ascii(str(fault))[:200]}")
+            self.stop_day(f"a defect of the office: {type(fault).__name__}: {ascii(str(fault))[:200]}")
         finally:
             closer.cancel()
             try:
                 await asyncio.gather(*self.answering, return_exceptions=True)
             finally:  # also if it is cancelled here
-                self.newest.end()
-                await self.leave_desk()
+                self.newest.end_written()
+                await self.end_desk()
 
-    def stop(self, fault):
+    def stop_day(self, fault):
         """Stops the day, and no other: it takes no command, and gives no receipt, until the operator has looked."""
         self.is_ready.clear()
         self.fault = fault
         self.log_event("stopped", fault=fault)
         with contextlib.suppress(OSError):
-            folder.put(self.files.file(folder.STOPPED_DAY), f"{fault}\n".encode())
+            folder.write_synced(self.files.path_of(folder.STOPPED_DAY), f"{fault}\n".encode())
         for one in [*self.waiting, *(one for _, one in self.entering)]:
-            fail(one.done, Refused("Unavailable", STOPPED_WORDS))
+            fail_future(one.done, Refused("Unavailable", STOPPED_WORDS))
 
-    async def keep(self):
+    async def keep_desk(self):
         """Opens the desk, and again whenever it ends, and enters all that comes, until the close is entered."""
         pause, ends = FIRST_PAUSE, 0
         while not self.ledger.is_closed:
@@ -244,22 +244,22 @@ class Gate:
                     await self.wait_for_commands()
                     self.entering = self.take_batch()
                     if self.entering:
-                        await self.commit(self.entering)
+                        await self.enter_batch(self.entering)
                         pause, ends = FIRST_PAUSE, 0
                     self.entering = []
             except (Ended, OSError, asyncio.TimeoutError) as fault:
                 self.is_ready.clear()
                 words = str(fault) or type(fault).__name__
                 self.trouble = words if self.entering else self.trouble
-                await self.leave_desk()
+                await self.end_desk()
                 self.counts.add("desk_ends_total")
                 self.log_event("desk ended", fault=words, **({"entries": self.ledger.size} if self.is_known.is_set() else {}))
                 ends = ends + 1 if self.ledger.size == size else 0
-                self.put_back(ends)
+                self.wait_again(ends)
                 await asyncio.sleep(pause)
                 pause = min(2 * pause, LONGEST_PAUSE)
         for one in self.waiting:
-            fail(one.done, Refused("Closed", "the day is closed, and this command isn't in its journal"))
+            fail_future(one.done, Refused("Closed", "the day is closed, and this command isn't in its journal"))
 
     async def wait_for_commands(self):
         """Waits until a command waits. Ends as the desk does if it ends, also while none waits."""
@@ -268,14 +268,14 @@ class Gate:
             await self.wake.wait()
         if self.watching.done():
             self.watching.result()
-            raise await self.desk.why()
+            raise await self.desk.wait_for_fault()
 
-    async def watch(self, desk):
+    async def watch_desk(self, desk):
         """Wakes the writer once the desk has ended. After a batch wasn't entered, looks whether the disk has room again, unless a command
         shows it."""
         while True:
             try:
-                await asyncio.wait_for(desk.ended(), ROOM_PAUSE if self.trouble else None)
+                await asyncio.wait_for(desk.wait_for_end(), ROOM_PAUSE if self.trouble else None)
                 break
             except asyncio.TimeoutError:
                 if not (self.waiting or self.entering):
@@ -284,42 +284,42 @@ class Gate:
 
     async def look_for_room(self):
         with contextlib.suppress(OSError):
-            await asyncio.to_thread(self.files.need_room)
+            await asyncio.to_thread(self.files.require_room)
             self.trouble = None
 
-    def put_back(self, ends):
+    def wait_again(self, ends):
         """The requests at which the desk ended wait again: at its next opening the desk shows which commands it entered. If it ends each
         time, they are answered that nobody knows yet."""
         again, self.entering = list(dict.fromkeys(one for _, one in self.entering)), []
         if ends >= MOST_ENDS:
             for one in (one for one in again if one.who is not None):
-                fail(one.done, Refused("Unavailable", "the desk isn't running: send the same command again later"))
+                fail_future(one.done, Refused("Unavailable", "the desk isn't running: send the same command again later"))
             again = [one for one in again if one.who is None]
         self.waiting = again + self.waiting
 
     async def open_desk(self):
         began = time.monotonic()
-        path = str(self.files.file(folder.DESK))
-        self.desk, records, replies = await Desk.opened(self.programs.desk, path, self.terms.periods)
-        self.watching = asyncio.create_task(self.watch(self.desk))
-        self.ledger.take(records, replies)
-        self.check_signed()
+        path = str(self.files.path_of(folder.DESK))
+        self.desk, records, replies = await Desk.open(self.programs.desk, path, self.terms.periods)
+        self.watching = asyncio.create_task(self.watch_desk(self.desk))
+        self.ledger.take_journal(records, replies)
+        self.require_signed_entries()
         self.is_known.set()
         if self.ledger.size:
-            self.newest.note(self.ledger.head())
+            self.newest.note_head(self.ledger.head())
         self.is_ready.set()
         self.log_event("desk opened", entries=self.ledger.size, seconds=round(time.monotonic() - began, 3))
 
-    def check_signed(self):
+    def require_signed_entries(self):
         """Ends with a contradiction unless the journal has the entries of the heads that the folder has: one that was cut or replaced while
         no office had it in memory is seen here."""
         for name in (folder.SIGNED, folder.HEAD):
-            if head := newest.read(self.files.file(name), self.ledger.seal.key):
-                self.ledger.check(head, name)
+            if head := newest.read_signed_head(self.files.path_of(name), self.ledger.seal.key):
+                self.ledger.require_beginning(head, name)
             elif self.files.has(name):
                 self.log_event("signed head not whole", file=name)
 
-    async def leave_desk(self):
+    async def end_desk(self):
         desk, self.desk = self.desk, None
         if self.watching:
             self.watching.cancel()
@@ -334,31 +334,31 @@ class Gate:
         await self.is_ready.wait()
         while not self.ledger.is_closed:
             if self.clock.now() >= self.terms.closes.timestamp() or self.files.has(folder.CLOSE_NOW):
-                self.close()
+                self.begin_close()
                 return
             await asyncio.sleep(TICK)
 
-    def close(self):
+    def begin_close(self):
         if not self.is_closing:
             self.is_closing = True
             self.log_event("closing", entries=self.ledger.size)
             self.enqueue(Waiting(None, 0, [Close()], asyncio.get_running_loop().create_future()))
 
 
-def token_fault(one):
+def token_refusal(one):
     """The fault of a request whose token isn't its participant's now; None if it is."""
     try:
         return None if one.is_authorized() else Refused("Token", "the token isn't of this participant any more")
     except folder.UNREADABLE:  # the requests behind this one, and the close, mustn't be lost
-        return without_tokens()
+        return unread_tokens_refusal()
 
 
-def without_tokens():
+def unread_tokens_refusal():
     """The fault of a request while the file of the tokens can't be read."""
     return Refused("Unavailable", "the office can't read its tokens: send the same command again", seconds=1)
 
 
-def fail(done, fault):
+def fail_future(done, fault):
     if not done.done():
         done.set_exception(fault)
         done.exception()  # nobody may be waiting for it any more

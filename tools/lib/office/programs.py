@@ -1,0 +1,108 @@
+"""The programs that an office runs: where they are, and their output."""
+
+import asyncio
+import os
+import shutil
+import subprocess
+from typing import NamedTuple
+
+from ..runs import by_program, errors, which
+from ..tool import command
+from .desk import end_words, exchange_pipes
+
+EMPTY_DAY = b"day,24,,,,,,,\nclose,,,,,,,,\n"
+TRIAL_SECONDS = 600  # that it may take to clear: a clone may compile its program first
+MOST_SECONDS = 600  # that a program may take
+DESK_BUILT = which.TOP / "crates" / "dam_desk" / "out" / "dam_desk"
+
+
+class Programs(NamedTuple):
+    dam: str
+    desk: str
+
+
+def compile_unproved(crate):
+    """The program of a crate that is compiled without proofs, which only a clone can do; None elsewhere."""
+    tool = which.TOP / "tools" / "unproved"
+    if not os.access(tool, os.X_OK):
+        return None
+    ran = subprocess.run([tool, "--compile", crate], stdin=subprocess.DEVNULL, stdout=subprocess.PIPE, text=True)
+    if ran.returncode:
+        raise command.Stop(f"{crate} was not compiled", command.FAILED)  # its line on standard error says why
+    command.print_note("office", f"{crate} isn't proved here: this shows how the office works, and no results to rely on")
+    return ran.stdout.removesuffix("\n")
+
+
+def require_runnable(path, name, option):
+    """The path of a program that can be run: one that can't ends the office now, not at the close."""
+    if path is None:
+        raise command.Stop(f"the program {name} is missing: `./dam prove` builds it, or name it with {option}", command.FAILED)
+    if shutil.which(path) is None:
+        raise command.Stop(f"the program {name} can't be run: {command.shown(path)}", command.FAILED)
+    return os.path.abspath(path) if os.sep in str(path) else path
+
+
+def require_dam(named=None, may_compile=False):
+    """The program dam: the one that is named, or else the package's, the clone's or the system's; or, if it may be compiled, the clone's
+    without proofs."""
+    found = which.find_program()
+    path = named or os.environ.get("DAM") or (found.path if found else None) or (compile_unproved("dam_cli") if may_compile else None)
+    return require_runnable(path, "dam", "--dam")
+
+
+def require_desk(named=None, may_compile=False):
+    """The program dam-desk, found the same way."""
+    here = DESK_BUILT if os.access(DESK_BUILT, os.X_OK) else None
+    path = named or os.environ.get("DAM_DESK") or which.packaged("bin", "dam-desk") or here or shutil.which("dam-desk")
+    return require_runnable(path or (compile_unproved("dam_desk") if may_compile else None), "dam-desk", "--desk")
+
+
+def require_clearing(path):
+    """Clears an empty day: a program that can't, or is another one, ends the office now, not at the close."""
+    try:
+        with subprocess.Popen([path, "clear"], stdin=subprocess.PIPE, stdout=subprocess.PIPE) as process:
+            try:
+                out, _ = by_program.exchange(process, EMPTY_DAY, TRIAL_SECONDS, "it")
+            except BaseException:
+                process.kill()
+                raise
+    except OSError as wrong:
+        fault = wrong.strerror
+    except subprocess.TimeoutExpired:
+        fault = f"it took more than {TRIAL_SECONDS} s"
+    except errors.Fault as wrong:
+        fault = str(wrong)
+    else:
+        if not process.returncode and by_program.has_results(out):
+            return
+        fault = f"it {end_words(process.returncode)}" if process.returncode else "it printed no results"
+    raise command.Stop(f"the program dam didn't clear an empty day: {command.shown(path)}: {fault}", command.FAILED)
+
+
+def require_programs(dam=None, desk=None, may_compile=False):
+    """The programs that an office runs."""
+    found = Programs(require_dam(dam, may_compile), require_desk(desk, may_compile))
+    require_clearing(found.dam)
+    return found
+
+
+class ProgramFailed(Exception):
+    """A program failed, or the disk did."""
+
+
+async def run_for_output(*words, data=b"", seconds=MOST_SECONDS):
+    """What a program prints. It has no other part in this process: its fault, or a late end, is `Failed`."""
+    pipes = {name: asyncio.subprocess.PIPE for name in ("stdin", "stdout", "stderr")}
+    process = await asyncio.create_subprocess_exec(*words, start_new_session=True, **pipes)
+    try:
+        out, err = await asyncio.wait_for(exchange_pipes(process, words[0], data), seconds)
+    except asyncio.TimeoutError:
+        raise ProgramFailed(f"{os.path.basename(words[0])} took more than {seconds} s") from None
+    finally:
+        if process.returncode is None:
+            process.kill()
+            await process.wait()
+    if process.returncode:
+        said = err.decode(errors="replace").strip()
+        raise ProgramFailed(f"{os.path.basename(words[0])} {end_words(process.returncode)}: {said}")
+    return out
