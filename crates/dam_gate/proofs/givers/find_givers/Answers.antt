@@ -77,6 +77,6 @@ returns-in_err-add_giver-clause-fault c =
       no_close = c.loop-place.invariant.no_close;
       participants = omega (arith, c.loop-place.invariant.few, ap (λ (ps : List (List ℕ)). length ps) c.loop-place.invariant.order);
     } in
-    passed_on (IsDayFault cs) c.from_residual.result fault c.from_residual.ensures.1
+    passed_on (IsDayFault cs) c.from_residual-in_err-add_giver.result fault c.from_residual-in_err-add_giver.ensures.1
     (refused-at cs i participants item fault few inside at next taken c.loop-place.invariant.order
     c.in_err-add_giver.ensures.refused)
