@@ -539,7 +539,7 @@ class Unlike(unittest.TestCase):
 
     def test_numbers_with_more_digits_than_are_shown(self):
         """A format may round, also to a fraction or with a power of ten. The digits of a float beyond the 15th are none."""
-        said = "line 2, column price_eur_mwh: '{}' is a number that Excel shows as {}: give its cell the format General"
+        said = "line 2, column price_eur_mwh: '{}' is a number that Excel shows as {}: round it, or give its cell the format General"
         for code, number, other in (
             ("0", "0.4", "0"), ("0", "0.5", "1"), ("0.00", "12.345", "12.35"), ("0.0", "-0.25", "-0.3"), ("#,##0", "1234.5", "1235"),
             ("0.00;[Red]-0.0", "-1.25", "-1.3"), ("0.0#", "1.125", "1.13"), ("0.0&quot; EUR.MWh&quot;", "1.25", "1.3"), ("# ?/?", "12.34", "37/3"),
@@ -567,7 +567,7 @@ class Unlike(unittest.TestCase):
         for style, number in enumerate(numbers):
             for letter in "ABEFGHI":
                 _, fault = self.read(styles, **{letter: f'<c s="{style}"><v>12.571</v></c>'})
-                said = f"line 2, column {self.COLUMNS[letter]}: '12.571' is a number that Excel shows as {shown[number]}: give its cell the format General"
+                said = f"line 2, column {self.COLUMNS[letter]}: '12.571' is a number that Excel shows as {shown[number]}: round it, or give its cell the format General"
                 self.assertEqual(fault == said, number != 0, (number, fault))
         _, fault = self.read(styles, J='<c s="1"><v>12.571</v></c>')
         self.assertIsNone(fault)

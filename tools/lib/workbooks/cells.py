@@ -60,6 +60,7 @@ class Rounded(Changed):
     """A number, and the one that Excel shows instead, with a blank between them."""
 
     __slots__ = ()
+    remedy = "round it, or give its cell the format General"
 
     def fault(self):
         number, shown = self.split()
