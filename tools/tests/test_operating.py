@@ -174,7 +174,7 @@ class Day(unittest.TestCase):
                     send(run.pid, number)
                     self.assertEqual(run.wait(timeout=SECONDS / 2), 10)
                     self.assertEqual(subprocess.run(["flock", "-n", self.day / "lock", "true"]).returncode, 0)
-                    run.communicate()
+                    self.assertNotIn("kill", run.communicate()[1])
                     self.assertNotIn("results.txt", self.names())
                 begun.unlink()
             (self.bin / name).write_text(before)
@@ -210,7 +210,7 @@ class Day(unittest.TestCase):
         status = run.wait(timeout=SECONDS / 2)
         self.assertIn(status, (10, *[-number] * (not begun)))
         self.assertEqual(subprocess.run(["flock", "-n", self.day / "lock", "true"]).returncode, 0)
-        run.communicate()
+        self.assertNotIn("kill", run.communicate()[1])
 
     def test_a_signal_leaves_a_whole_day_or_none(self):
         """Old results are removed together, and new ones put there together."""
