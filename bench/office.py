@@ -18,37 +18,37 @@ sys.path.insert(0, str(HERE.parent / "tests" / "office"))
 
 import loads
 from lib.tool import modules
-from served import Served, served
+from served import ServedOffice, office_for_test
 
 CONNECTIONS, TURNS, COMMANDS = 50, 5, 40  # COMMANDS of each connection in a turn
 WHOLE_DAY = 199  # and on the whole day
 
 
-class ServedPlain(Served):
+class ServedPlain(ServedOffice):
     """The plain office, next to which a folder and tokens are made as for the office."""
 
-    is_ready = Served.listens
+    is_ready = ServedOffice.listens
 
-    def begin(self):
+    def start_process(self):
         words = [sys.executable, "-B", HERE / "plain" / "office.py", f"{self.room.name}/rows", str(self.port)]
         self.process = subprocess.Popen(words, env=self.environment)
 
 
 def run_load(office, count):
     """The commands a second, and the median seconds of one."""
-    load = loads.Load(office)
-    took = asyncio.run(load.run(count))
+    load = loads.OfficeLoad(office)
+    took = asyncio.run(load.send_all(count))
     return len(load.seconds) / took, statistics.median(load.seconds)
 
 
 def serve_and_load(kind):
-    with served(DAM, DESK, kind=kind, count=CONNECTIONS) as office:
+    with office_for_test(DAM, DESK, kind=kind, count=CONNECTIONS) as office:
         office.start()
         return run_load(office, COMMANDS)
 
 
 def record_comparison():
-    found = call_in_turns({"ours": lambda _: serve_and_load(Served), "theirs": lambda _: serve_and_load(ServedPlain)}, TURNS, math.inf)
+    found = call_in_turns({"ours": lambda _: serve_and_load(ServedOffice), "theirs": lambda _: serve_and_load(ServedPlain)}, TURNS, math.inf)
     (our_rates, our_times), (their_rates, their_times) = (zip(*results) for results in found.values())
     what = f"an office compared with a plain one, {CONNECTIONS} connections"
     record_ratio(f"{what}, commands a second", our_rates, their_rates, least=1, shown=PER_SECOND)
@@ -57,7 +57,7 @@ def record_comparison():
 
 def record_whole_day():
     commands = CONNECTIONS * WHOLE_DAY
-    with served(DAM, DESK, count=CONNECTIONS) as office:
+    with office_for_test(DAM, DESK, count=CONNECTIONS) as office:
         office.start()
         rate, _ = run_load(office, WHOLE_DAY)
         record_figure(f"commands that an office takes, {commands:,} of a day", PER_SECOND(rate), f"at least {PER_SECOND(1_000)}", rate >= 1_000)

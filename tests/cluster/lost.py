@@ -27,20 +27,20 @@ class Processes(NamedTuple):
     tool: subprocess.Popen
 
 
-def send(process, number):
+def send_signal(process, number):
     """Sends a signal to a process and to all that it started."""
     os.killpg(process.pid, number)
 
 
 @contextlib.contextmanager
-def process(words, **how):
+def started_process(words, **how):
     """A process in a group of its own, which ends with the block."""
     running = subprocess.Popen([str(word) for word in words], start_new_session=True, **how)
     try:
         yield running
     finally:
         with contextlib.suppress(ProcessLookupError):
-            send(running, signal.SIGKILL)
+            send_signal(running, signal.SIGKILL)
         running.wait()
 
 
@@ -55,16 +55,16 @@ def wait_for(found, what):
 
 
 @contextlib.contextmanager
-def scheduler(folder):
+def started_scheduler(folder):
     """A scheduler, and its address."""
     log = folder / "scheduler"
     words = [sys.executable, "-m", "distributed.cli.dask_scheduler", "--host", "127.0.0.1", "--port", "0", "--no-dashboard"]
-    with log.open("wb") as file, process(words, stdout=file, stderr=file) as running:
+    with log.open("wb") as file, started_process(words, stdout=file, stderr=file) as running:
         at = wait_for(lambda: re.search(r"Scheduler at: *(tcp://\S+)", log.read_text()), "the scheduler")
         yield running, at[1]
 
 
-def slow(folder, program):
+def write_slow_program(folder, program):
     """A program that takes some time, and leaves a mark when it runs."""
     path = folder / "slow"
     path.write_text(f"#!/bin/sh\n: > {shlex.quote(str(folder / 'mark'))}\nsleep 0.1\nexec {shlex.quote(program)} \"$@\"\n")
@@ -72,16 +72,16 @@ def slow(folder, program):
     return path
 
 
-def whatif(folder, address, program):
+def started_whatif(folder, address, program):
     """A run of many scenarios, which differ: a cluster clears equal ones once."""
     table = folder / "scenarios.csv"
     heads = "scenario,participant,order,kind,side,price_eur_mwh,periods,volume_mw\n"
     table.write_text(heads + "".join(f"{number},GAS,MORE,hour,sell,{number}.00,1,0.1\n" for number in range(SCENARIOS)))
     words = [sys.executable, TOP / "tools" / "whatif", "scenarios", TOP / "examples" / "auction-day.csv", table, "--cluster", address]
-    return process([*words, "--program", program], stdin=subprocess.DEVNULL, stdout=subprocess.PIPE, stderr=subprocess.PIPE)
+    return started_process([*words, "--program", program], stdin=subprocess.DEVNULL, stdout=subprocess.PIPE, stderr=subprocess.PIPE)
 
 
-def ended(counts, what, running, status, said, within):
+def check_ended(counts, what, running, status, said, within):
     """The run ends in time with a status and one line."""
     began = time.monotonic()
     try:
@@ -101,26 +101,26 @@ def stop_one(processes):
     os.kill(int(worker), signal.SIGSTOP)
 
 
-def without_workers(counts, folder, program):
-    with scheduler(folder) as (_, address), whatif(folder, address, program) as running:
-        ended(counts, "no workers", running, 3, f"whatif: the cluster {address} has no workers\n", SECONDS)
+def check_without_workers(counts, folder, program):
+    with started_scheduler(folder) as (_, address), started_whatif(folder, address, program) as running:
+        check_ended(counts, "no workers", running, 3, f"whatif: the cluster {address} has no workers\n", SECONDS)
 
 
-def in_the_middle(counts, folder, program, what, deed, status, said, within):
+def check_in_the_middle(counts, folder, program, what, deed, status, said, within):
     """The run, after a deed in the middle of it."""
     words = [sys.executable, "-m", "distributed.cli.dask_worker", "--nworkers", "2", "--nthreads", "1", "--no-dashboard"]
-    own = {**os.environ, "PYTHONPATH": str(TOP / "tools"), "DAM": str(slow(folder, program))}
+    own = {**os.environ, "PYTHONPATH": str(TOP / "tools"), "DAM": str(write_slow_program(folder, program))}
     own.pop("DAM_LIBRARY", None)
-    with scheduler(folder) as (ruling, address), open(os.devnull, "wb") as null:
-        with process([*words, "--local-directory", folder, address], stdout=null, stderr=null, env=own) as working:
+    with started_scheduler(folder) as (ruling, address), open(os.devnull, "wb") as null:
+        with started_process([*words, "--local-directory", folder, address], stdout=null, stderr=null, env=own) as working:
             (folder / "mark").unlink(missing_ok=True)
-            with whatif(folder, address, program) as running:
+            with started_whatif(folder, address, program) as running:
                 wait_for((folder / "mark").exists, "a scenario")
                 deed(Processes(ruling, working, running))
-                ended(counts, what, running, status, said.format(address), within)
+                check_ended(counts, what, running, status, said.format(address), within)
 
 
-def runs(counts, program):
+def check_runs(counts, program):
     """Runs of tools/whatif on a cluster, each of which ends in time."""
     lost, without = "whatif: the cluster {} doesn't answer any more\n", "whatif: the cluster {} has no workers\n"
     hung = "whatif: the workers of the cluster {} don't answer any more\n"
@@ -128,20 +128,20 @@ def runs(counts, program):
     one = r"whatif: the worker tcp://127\.0\.0\.1:[0-9]+ of the cluster {} doesn't answer any more\n"
 
     def stopped_and_interrupted(processes):
-        send(processes.scheduler, signal.SIGSTOP)
+        send_signal(processes.scheduler, signal.SIGSTOP)
         time.sleep(2)
         processes.tool.send_signal(signal.SIGINT)
 
     with tempfile.TemporaryDirectory() as room:
         folder = Path(room)
-        without_workers(counts, folder, program)
+        check_without_workers(counts, folder, program)
         for what, deed, status, said, within in (
             ("a scheduler that ends", lambda processes: processes.scheduler.terminate(), 3, lost, SECONDS),
-            ("a scheduler that hangs", lambda processes: send(processes.scheduler, signal.SIGSTOP), 3, lost, SECONDS),
-            ("workers that end", lambda processes: send(processes.workers, signal.SIGKILL), 3, without, SECONDS),
-            ("workers that hang", lambda processes: send(processes.workers, signal.SIGSTOP), 3, hung, SECONDS),
+            ("a scheduler that hangs", lambda processes: send_signal(processes.scheduler, signal.SIGSTOP), 3, lost, SECONDS),
+            ("workers that end", lambda processes: send_signal(processes.workers, signal.SIGKILL), 3, without, SECONDS),
+            ("workers that hang", lambda processes: send_signal(processes.workers, signal.SIGSTOP), 3, hung, SECONDS),
             ("a worker that hangs", stop_one, 3, one, SECONDS),
             ("Ctrl-C", lambda processes: processes.tool.send_signal(signal.SIGINT), 130, "whatif: interrupted\n", SOON),
             ("Ctrl-C without a scheduler", stopped_and_interrupted, 130, "whatif: interrupted\n", SOON),
         ):
-            in_the_middle(counts, folder, program, what, deed, status, said, within)
+            check_in_the_middle(counts, folder, program, what, deed, status, said, within)

@@ -25,7 +25,7 @@ PYTHON = "python3 - <<'END'\n{}END\n"
 SHOWN = 600  # characters of an output in a message
 
 
-class Reader(NamedTuple):
+class PageReader(NamedTuple):
     """A reader: how it has `dam`, the folder of its pages, the words that start its shell, its environment, and its root folder."""
 
     form: str
@@ -35,7 +35,7 @@ class Reader(NamedTuple):
     root: Path = Path("/")
 
 
-class Step(NamedTuple):
+class PageStep(NamedTuple):
     """Commands of a page, or of its scene; the output that the page quotes, or None; and words of the lines on standard error."""
 
     about: str
@@ -45,26 +45,26 @@ class Step(NamedTuple):
     is_whole: bool = True  # no line was left out
 
 
-class Faulty(Exception):
+class FaultyScene(Exception):
     """A scene that doesn't fit its page."""
 
 
-def environment(home, more, root=Path("/")):
+def make_environment(home, more, root=Path("/")):
     """The environment of a reader whose folder this is: with a port that is free, and a browser that ends what shows it a page."""
     browser = home.parent / "browser"
     browser.write_text(BROWSER)
     browser.chmod(0o755)
     kept = {name: os.environ[name] for name in ("LANG", "LC_ALL", "TZ") if name in os.environ}
-    own = {"HOME": str(inside(home, root)), "BROWSER": f"{inside(browser, root)} %s", "PORT": str(find_free_port()), "VERSION": VERSION}
+    own = {"HOME": str(path_inside(home, root)), "BROWSER": f"{path_inside(browser, root)} %s", "PORT": str(find_free_port()), "VERSION": VERSION}
     return {**kept, **own, **more}
 
 
-def inside(path, root):
+def path_inside(path, root):
     """A path as it is seen by one with this root folder."""
     return "/" / path.relative_to(root)
 
 
-def missing(name, reader):
+def missing_needs(name, reader):
     """The programs, and modules of Python, that the commands of a page need, and that the reader lacks."""
     return [need for need in PAGES[name].needs if not (has_module if need in modules.PACKAGES else has_program)(need, reader)]
 
@@ -80,15 +80,15 @@ def has_program(name, reader):
     return any(os.access(reader.root / folder[1:] / name, os.X_OK) for folder in reader.environment["PATH"].split(":"))
 
 
-def place_of(found, name, text):
+def place_or_raise(found, name, text):
     """The place of the block that has this text."""
     places = [at for at, block in enumerate(found) if text in block.commands]
     if len(places) != 1:
-        raise Faulty(f"{name}: the text {text!r} is in {len(places)} of its blocks")
+        raise FaultyScene(f"{name}: the text {text!r} is in {len(places)} of its blocks")
     return places[0]
 
 
-def kept(commands, left_out):
+def kept_lines(commands, left_out):
     """The lines of a block but for those that are left out, each with those that go on it."""
     lines, is_out = [], False
     for line in commands.splitlines(keepends=True):
@@ -102,13 +102,13 @@ def lines_go_on(line):
     return line.rstrip("\n").endswith("\\")
 
 
-def edited(commands, edits):
+def edited_commands(commands, edits):
     for old, new in edits.items():
         commands = commands.replace(old, new)
     return commands
 
 
-def steps(name, text, form):
+def steps_or_raise(name, text, form):
     """The steps of a page. Each text of its scene has to be on the page: one that isn't there any more is a fault."""
     scene, found, within = PAGES[name], blocks_of_page(text), code_spans(text)
     lines = [line for block in found for line in block.commands.splitlines()] + list(scene.spans)
@@ -118,25 +118,25 @@ def steps(name, text, form):
         ("the command", [words for words in scene.spans if words not in within]),
     ):
         if missing:
-            raise Faulty(f"{name}: {what} {missing[0]!r} isn't there")
+            raise FaultyScene(f"{name}: {what} {missing[0]!r} isn't there")
     given, then, says = (
-        {place_of(found, name, key): words for key, words in texts.items()} for texts in (scene.given, scene.then, scene.says)
+        {place_or_raise(found, name, key): words for key, words in texts.items()} for texts in (scene.given, scene.then, scene.says)
     )
     left_out = [line for line, out in scene.left_out.items() if form in out.forms]
     for at, block in enumerate(found):
-        about, commands = f"{form}: {name}: {block.commands.splitlines()[0]}", kept(block.commands, left_out)
+        about, commands = f"{form}: {name}: {block.commands.splitlines()[0]}", kept_lines(block.commands, left_out)
         if not any(line.strip() and not line.startswith("#") for line in commands.splitlines()):
             continue
         if at in given:
-            yield Step(f"{about}: what it takes as given", given[at])
-        yield Step(about, edited(runnable(block.kind, commands), scene.edits), block.quoted, says.get(at, ""), commands == block.commands)
+            yield PageStep(f"{about}: what it takes as given", given[at])
+        yield PageStep(about, edited_commands(runnable(block.kind, commands), scene.edits), block.quoted, says.get(at, ""), commands == block.commands)
         if at in then:
-            yield Step(f"{about}: what came of it", then[at])
+            yield PageStep(f"{about}: what came of it", then[at])
     if scene.spans:
-        yield Step(f"{form}: {name}: what its sentences and tables take as given", scene.for_spans)
+        yield PageStep(f"{form}: {name}: what its sentences and tables take as given", scene.for_spans)
     for command, span in scene.spans.items():
-        if kept(command, left_out):
-            yield Step(f"{form}: {name}: {command}", ended(edited(as_in(form, command), scene.edits), span.status), says=span.says)
+        if kept_lines(command, left_out):
+            yield PageStep(f"{form}: {name}: {command}", with_status_test(edited_commands(as_in(form, command), scene.edits), span.status), says=span.says)
 
 
 def runnable(kind, commands):
@@ -151,12 +151,12 @@ def as_in(form, command):
     return CLONED.sub(lambda found: "dam" if found[0] == "./dam" else "dam-", command) if form == INSTALLED else command
 
 
-def ended(command, status):
+def with_status_test(command, status):
     """A command that has to end with this status."""
     return f"STATUS=0\n{command} || STATUS=$?\ntest $STATUS -eq {status}"
 
 
-def script(made, room):
+def script_text(made, room):
     """One script of all steps, which keeps their outputs, and notes each step that is done. `$SHOWN` is the output of the last one."""
     parts = [f"set -e\ncd {room / 'home'}\n"]
     for number, step in enumerate(made):
@@ -181,18 +181,18 @@ def is_line(line, wanted):
     return line.startswith(wanted.removesuffix(CUT)) if wanted.endswith(CUT) else line == wanted
 
 
-def run(counts, name, reader, room):
+def run_commands(counts, name, reader, room):
     """Runs the commands of a page in the folder home of a room, and checks each block. Returns the outputs by the quoted ones."""
     try:
-        made = list(steps(name, (reader.pages / name).read_text(encoding="utf-8"), reader.form))
-    except Faulty as fault:
+        made = list(steps_or_raise(name, (reader.pages / name).read_text(encoding="utf-8"), reader.form))
+    except FaultyScene as fault:
         counts.check(f"{reader.form}: {fault}", False)
         return {}
     for line, out in PAGES[name].left_out.items():
         if reader.form in out.forms:
             print(f"not run {reader.form}: {name}: {line}: {out.why}", flush=True)
-    words = [*reader.shell, "sh", "-c", script(made, inside(room, reader.root))]
-    page = str(inside(reader.pages / name, reader.root))
+    words = [*reader.shell, "sh", "-c", script_text(made, path_inside(room, reader.root))]
+    page = str(path_inside(reader.pages / name, reader.root))
     how = {"env": {**reader.environment, "PAGE": page}, "umask": 0o022}
     with signals_end(), subprocess.Popen(words, stdin=subprocess.DEVNULL, start_new_session=True, **how) as process:
         try:
@@ -200,8 +200,8 @@ def run(counts, name, reader, room):
         except subprocess.TimeoutExpired:
             counts.check(f"{reader.form}: {name}: its commands take longer than {SECONDS} seconds", False)
         finally:
-            end(process)
-    printed = {step.quoted: check(counts, step, room / str(number), process.returncode) for number, step in enumerate(made)}
+            end_process(process)
+    printed = {step.quoted: check_step(counts, step, room / str(number), process.returncode) for number, step in enumerate(made)}
     return {quoted: shown for quoted, shown in printed.items() if quoted and shown}
 
 
@@ -216,14 +216,14 @@ def signals_end():
             signal.signal(number, action)
 
 
-def end(process):
+def end_process(process):
     """Ends a shell and all that it has started."""
     with contextlib.suppress(ProcessLookupError):
         os.killpg(process.pid, signal.SIGKILL)
     process.wait()
 
 
-def check(counts, step, at, status):
+def check_step(counts, step, at, status):
     """Checks a step by its files, and returns its output."""
     if not Path(f"{at}.out").exists():
         counts.check(f"{step.about}: not run, since one before it failed", False)

@@ -10,7 +10,7 @@ from typing import NamedTuple
 import images
 import journals
 from device import DESK, FOLDER, OPEN, OUTPUT, SYNC
-from images import HEAD, Moment, is_at_rest, marked_in
+from images import HEAD, DiskMoment, is_at_rest, parse_marked_lines
 
 SHOWN = 5
 CHOSEN = 4_000  # files that are opened side by side, or of which the journal is printed
@@ -21,11 +21,11 @@ TAIL = 60  # bytes of a file that are shown
 LEFT = b"+cancel,A,NEVER,,,,,,\n\n+cancel,A,NEVER,,,,,,\n"
 
 
-class Case(NamedTuple):
+class CrashedFile(NamedTuple):
     """A file that a crash may leave, the moment of the crash, and how many records it may hold."""
 
     image: bytes
-    moment: Moment
+    moment: DiskMoment
     allowed: frozenset
 
 
@@ -45,9 +45,9 @@ class Crashes:
         self.wrong = []
         self.files = self.opened = self.second = self.killed = 0
 
-    def record(self):
+    def run_whole_input(self):
         """Runs the desk on the whole input."""
-        folder = self.desk.folder()
+        folder = self.desk.make_folder()
         ran = self.desk.run(folder / "day.desk", self.given.batches)
         answers = [line for line in ran.stdout.splitlines(keepends=True) if not line.startswith(b"fault,")]
         entered = [line for line in answers if not line.startswith(b"day,")]
@@ -57,77 +57,77 @@ class Crashes:
             self.wrong.append(f"{self.about}: an answer came before the new file's folder was synced")
         return ran
 
-    def allowed(self, moment):
+    def allowed_counts(self, moment):
         return frozenset(count for count in self.given.borders if moment.safe <= count <= max(moment.given, moment.safe))
 
-    def cases(self, ran):
+    def crashed_files(self, ran):
         """The files that a crash may leave at each moment of the run."""
-        for moment in images.moments(ran.events, given_by=self.given.given_by):
-            allowed = self.allowed(moment)
-            for image in images.images(moment, self.rng):
-                yield Case(image, moment, allowed)
+        for moment in images.moments_of_run(ran.events, given_by=self.given.given_by):
+            allowed = self.allowed_counts(moment)
+            for image in images.files_at(moment, self.rng):
+                yield CrashedFile(image, moment, allowed)
 
-    def count(self, image):
+    def count_of_records(self, image):
         """How many records of the journal the file holds; None if it holds others, or isn't a journal."""
-        marked = marked_in(image)
+        marked = parse_marked_lines(image)
         if marked is None:
             return None
         count = marked.count(b"\n")
         return count if count <= len(self.journal) and marked == self.journal.marked(count) else None
 
-    def fault(self, case, why):
-        held = self.count(case.image)
+    def note_fault(self, case, why):
+        held = self.count_of_records(case.image)
         self.wrong.append(f"{self.about}: {why}: {held} records for {sorted(case.allowed)}, the end {case.image[-TAIL:]!r}")
 
-    def look(self, case):
+    def check_file(self, case):
         """Compares a file with the records that it may hold."""
         self.files += 1
-        if self.count(case.image) not in case.allowed:
-            self.fault(case, "a file that a crash leaves")
+        if self.count_of_records(case.image) not in case.allowed:
+            self.note_fault(case, "a file that a crash leaves")
 
-    def look_opened(self, case, ran, crash_again=True):
+    def check_opened(self, case, ran, crash_again=True):
         """Compares the opening of a file with the reader's, and crashes it."""
-        count = self.count(case.image)
+        count = self.count_of_records(case.image)
         self.opened += 1
         if count is None:
             return
         if (ran.status, ran.stderr) != (0, b"") or ran.stdout != self.journal.printed(count):
-            self.fault(case, f"opened with status {ran.status}, {ran.stderr[:80]!r}, {ran.stdout[-TAIL:]!r}")
-        elif not is_at_rest(ran.file) or self.count(ran.file) != count:
-            self.fault(case, f"left as {ran.file[-TAIL:]!r} by the opening")
+            self.note_fault(case, f"opened with status {ran.status}, {ran.stderr[:80]!r}, {ran.stdout[-TAIL:]!r}")
+        elif not is_at_rest(ran.file) or self.count_of_records(ran.file) != count:
+            self.note_fault(case, f"left as {ran.file[-TAIL:]!r} by the opening")
         elif crash_again:
-            self.second_crash(case, ran, Moment(case.image, (), 0, 0), frozenset([count]))
+            self.check_second_crash(case, ran, DiskMoment(case.image, (), 0, 0), frozenset([count]))
 
-    def second_crash(self, case, ran, first, allowed):
+    def check_second_crash(self, case, ran, first, allowed):
         """Looks at the files that another crash leaves while the file is opened. The acknowledged records are also those that the opening
         printed."""
-        others = [(other, image) for other in images.moments(ran.events, first.base, first.changes, first.safe)
-                  for image in images.images(other, self.rng, few=True)]
+        others = [(other, image) for other in images.moments_of_run(ran.events, first.base, first.changes, first.safe)
+                  for image in images.files_at(other, self.rng, few=True)]
         for other, image in others if len(others) <= OTHER_FILES else self.rng.sample(others, OTHER_FILES):
             self.second += 1
-            count = self.count(image)
+            count = self.count_of_records(image)
             if count not in allowed or count < other.safe:
-                self.fault(case, f"a second crash left {image[-TAIL:]!r}, with {count} records and {other.safe} acknowledged")
+                self.note_fault(case, f"a second crash left {image[-TAIL:]!r}, with {count} records and {other.safe} acknowledged")
                 return
 
-    def look_killed(self, ran):
+    def check_killed(self, ran):
         """Looks at the run as if the process was killed at each moment, and the system went on: the next opening sees all writes, and a
         crash may still take those that weren't synced."""
-        found = [moment for moment in images.moments(ran.events, given_by=self.given.given_by) if moment.changes]
-        opened = self.desk.open_each([moment.seen for moment in found])
+        found = [moment for moment in images.moments_of_run(ran.events, given_by=self.given.given_by) if moment.changes]
+        opened = self.desk.run_on_each([moment.seen_file for moment in found])
         for moment, ran_again in zip(found, opened):
             self.killed += 1
-            case = Case(moment.seen, moment, self.allowed(moment))
-            self.second_crash(case, ran_again, moment, case.allowed)
+            case = CrashedFile(moment.seen_file, moment, self.allowed_counts(moment))
+            self.check_second_crash(case, ran_again, moment, case.allowed)
 
-    def look_journal(self, cases):
+    def check_printed_journal(self, cases):
         """Compares the journals that are printed for files with the reader's, and the files afterwards."""
-        for case, ran in zip(cases, self.desk.open_each([case.image for case in cases], ["--journal"])):
-            count = self.count(case.image)
+        for case, ran in zip(cases, self.desk.run_on_each([case.image for case in cases], ["--journal"])):
+            count = self.count_of_records(case.image)
             if count is not None and (ran.status, ran.stdout, ran.stderr, ran.file) != (0, self.journal.text(count), b"", case.image):
-                self.fault(case, f"--journal with status {ran.status}, {ran.stderr[:80]!r}, {ran.stdout[-TAIL:]!r}")
+                self.note_fault(case, f"--journal with status {ran.status}, {ran.stderr[:80]!r}, {ran.stdout[-TAIL:]!r}")
 
-    def look_repaired(self):
+    def check_repaired(self):
         """Opens files with lines after the mark that doesn't count, or after another byte in its place; and opens again all files that a
         crash leaves meanwhile."""
         borders = sorted(self.given.borders)
@@ -135,50 +135,50 @@ class Crashes:
         for count in [*borders[:2], *borders[-2:]]:
             for gap in (b"-", b"\n", b"?", b"-+", b"\0"):
                 image = HEAD + self.journal.marked(count) + gap + LEFT
-                cases.append(Case(image, Moment(image, (), 0, count), frozenset([count])))
+                cases.append(CrashedFile(image, DiskMoment(image, (), 0, count), frozenset([count])))
         left = []
-        for case, ran in zip(cases, self.desk.open_each([case.image for case in cases])):
-            self.look_opened(case, ran)
-            for moment in images.moments(ran.events, case.image):
-                left += [Case(image, moment, case.allowed) for image in images.images(moment, self.rng, few=True)]
-        for case, ran in zip(left, self.desk.open_each([case.image for case in left])):
-            self.look(case)
-            self.look_opened(case, ran, crash_again=False)
+        for case, ran in zip(cases, self.desk.run_on_each([case.image for case in cases])):
+            self.check_opened(case, ran)
+            for moment in images.moments_of_run(ran.events, case.image):
+                left += [CrashedFile(image, moment, case.allowed) for image in images.files_at(moment, self.rng, few=True)]
+        for case, ran in zip(left, self.desk.run_on_each([case.image for case in left])):
+            self.check_file(case)
+            self.check_opened(case, ran, crash_again=False)
 
-    def go_on(self, cases):
+    def check_going_on(self, cases):
         """Opens files with the rest of the input, which has to end as the run did."""
         for case in cases:
-            count = self.count(case.image)
+            count = self.count_of_records(case.image)
             if count is None:
                 continue
-            file = self.desk.folder() / "day.desk"
+            file = self.desk.make_folder() / "day.desk"
             file.write_bytes(case.image)
-            rest = journals.cut_into(self.rng, self.journal.records[count:], 9)
+            rest = journals.draw_batches(self.rng, self.journal.records[count:], 9)
             ran = self.desk.run(file, rest)
             if (ran.status, ran.stdout, ran.stderr) != (0, self.journal.printed(len(self.journal)), b""):
-                self.fault(case, f"the rest of the input: status {ran.status}, {ran.stderr[:80]!r}, {ran.stdout[-TAIL:]!r}")
-            elif marked_in(file.read_bytes()) != self.journal.marked(len(self.journal)):
-                self.fault(case, "the rest of the input isn't in the file as given")
+                self.note_fault(case, f"the rest of the input: status {ran.status}, {ran.stderr[:80]!r}, {ran.stdout[-TAIL:]!r}")
+            elif parse_marked_lines(file.read_bytes()) != self.journal.marked(len(self.journal)):
+                self.note_fault(case, "the rest of the input isn't in the file as given")
 
     def run(self, sample=None):
         """Opens a sample of the files by the program, or all, and looks at each of them. Returns the faults."""
-        ran = self.record()
+        ran = self.run_whole_input()
         chosen, next_ones = [], []
-        for case in self.cases(ran):
-            self.look(case)
-            self.choose(chosen, case, sample or CHOSEN)
+        for case in self.crashed_files(ran):
+            self.check_file(case)
+            self.sample_case(chosen, case, sample or CHOSEN)
             if sample is None:
                 next_ones.append(case)
             if len(next_ones) == CHOSEN:
-                self.open_by_program(next_ones)
+                self.check_by_program(next_ones)
                 next_ones = []
-        self.open_by_program(chosen if sample else next_ones)
-        self.look_killed(ran)
-        self.look_journal(chosen[: len(chosen) // 4])
-        self.go_on(self.rng.sample(chosen, min(len(chosen), 20)))
+        self.check_by_program(chosen if sample else next_ones)
+        self.check_killed(ran)
+        self.check_printed_journal(chosen[: len(chosen) // 4])
+        self.check_going_on(self.rng.sample(chosen, min(len(chosen), 20)))
         return self.wrong
 
-    def choose(self, chosen, case, most):
+    def sample_case(self, chosen, case, most):
         """Keeps a sample of all files so far."""
         if len(chosen) < most:
             chosen.append(case)
@@ -187,30 +187,30 @@ class Crashes:
         if place < most:
             chosen[place] = case
 
-    def open_by_program(self, cases):
-        for case, opened in zip(cases, self.desk.open_each([case.image for case in cases])):
-            self.look_opened(case, opened, crash_again=self.rng.random() < OPENED_TWICE / max(OPENED_TWICE, self.opened))
+    def check_by_program(self, cases):
+        for case, opened in zip(cases, self.desk.run_on_each([case.image for case in cases])):
+            self.check_opened(case, opened, crash_again=self.rng.random() < OPENED_TWICE / max(OPENED_TWICE, self.opened))
 
     def run_whole(self, sample=None):
         self.run(sample)
-        self.look_repaired()
+        self.check_repaired()
         return self.wrong
 
 
-def inputs(dam, whole):
+def draw_inputs(dam, whole):
     """Yields the inputs whose runs are recorded."""
-    yield "a random day", journals.batched(dam, "random", journals.drawn, 60)
-    yield "the longest names", journals.batched(dam, "long", journals.long_names, 60)
-    yield "faults between records", journals.batched(dam, "faulty", journals.drawn, 60, faulty=0.3)
+    yield "a random day", journals.draw_input(dam, "random", journals.draw_day, 60)
+    yield "the longest names", journals.draw_input(dam, "long", journals.draw_long_names, 60)
+    yield "faults between records", journals.draw_input(dam, "faulty", journals.draw_day, 60, faulty=0.3)
     if whole:
-        yield "the shortest names", journals.batched(dam, "short", journals.short_names, 60)
+        yield "the shortest names", journals.draw_input(dam, "short", journals.draw_short_names, 60)
         for seed in range(2):
-            yield f"random day {seed}", journals.batched(dam, seed, journals.drawn, 60)
+            yield f"random day {seed}", journals.draw_input(dam, seed, journals.draw_day, 60)
 
 
 def run(counts, desk, dam, whole):
     files = opened = second = killed = 0
-    for about, given in inputs(dam, whole):
+    for about, given in draw_inputs(dam, whole):
         crashes = Crashes(desk, about, given, about)
         wrong = crashes.run_whole(None if whole else 2_000)
         counts.passed += crashes.opened - min(crashes.opened, len(wrong))

@@ -40,7 +40,7 @@ class Event(NamedTuple):
         return self.target == DESK and self.kind in (WRITE, SYNC, CUT)
 
 
-class Refusal(NamedTuple):
+class RefusedFileCalls(NamedTuple):
     """The calls of a kind, by their numbers from 1, that fail with this error number. If that is 0, they move at most some bytes."""
 
     kind: str
@@ -50,7 +50,7 @@ class Refusal(NamedTuple):
     most: int = 0
 
 
-class Ran(NamedTuple):
+class DeskRun(NamedTuple):
     status: int
     stdout: bytes
     stderr: bytes
@@ -58,7 +58,7 @@ class Ran(NamedTuple):
     file: bytes = None  # afterwards, if it was asked for
 
 
-def events_of(log):
+def parse_events(log):
     found, at = [], 0
     while at < len(log):
         kind, target, _, answer, place, asked, length = EVENT.unpack_from(log, at)
@@ -67,12 +67,12 @@ def events_of(log):
     return found
 
 
-def packets(batches):
+def batches_in_packets(batches):
     """The batches, each in parts that a pipe takes as one packet."""
     return [batch[at : at + PACKET] for batch in batches for at in range(0, len(batch), PACKET)]
 
 
-class Desk:
+class DeskProgram:
     """A desk: the words of its command line before the file's, and a folder for its files."""
 
     def __init__(self, words, room, surroundings=None, jobs=None):
@@ -81,44 +81,44 @@ class Desk:
         self.surroundings = dict(surroundings or {})
         self.jobs = jobs or min(4, os.cpu_count() or 1)
 
-    def folder(self):
+    def make_folder(self):
         """A new folder for a file."""
         return Path(tempfile.mkdtemp(dir=self.room))
 
-    def environment(self, file, **more):
+    def environment_for(self, file, **more):
         return {"LD_PRELOAD": str(self.library), "DESK_FILE": str(file), **self.surroundings, **more}
 
     def run(self, file, batches=(), refusal=None, words=(), more=None, stdout=subprocess.PIPE, source=None):
         """Runs the desk with the file. Each batch comes in by one read, if it isn't longer than a packet; or the input is an open file."""
         log = Path(f"{file}.{threading.get_ident()}.log")
         log.write_bytes(b"")
-        surroundings = self.environment(file, DESK_LOG=str(log), **(more or {}))
+        surroundings = self.environment_for(file, DESK_LOG=str(log), **(more or {}))
         if refusal:
             surroundings["DESK_REFUSE"] = " ".join(map(str, refusal))
-        ours, theirs = feed(packets(batches))
+        ours, theirs = start_feeding(batches_in_packets(batches))
         try:
             ran = subprocess.run([*self.words, *words, str(file)], stdin=source or ours, stdout=stdout, stderr=subprocess.PIPE, env=surroundings,
                                  timeout=SECONDS)
         finally:
             os.close(ours)
             theirs.join()
-        events = events_of(log.read_bytes())
+        events = parse_events(log.read_bytes())
         log.unlink()
-        return Ran(ran.returncode, ran.stdout or b"", ran.stderr, events)
+        return DeskRun(ran.returncode, ran.stdout or b"", ran.stderr, events)
 
-    def open_each(self, images, words=(), more=None):
+    def run_on_each(self, images, words=(), more=None):
         """Runs the desk on a file of each of these bytes, with no input. The runs are in the order of the images."""
         parts = [images[at : at + CHUNK] for at in range(0, len(images), CHUNK)]
         with ThreadPoolExecutor(self.jobs) as pool:
             for at in range(0, len(parts), self.jobs):
-                for found in pool.map(lambda part: self.serve(part, words, more), parts[at : at + self.jobs]):
+                for found in pool.map(lambda part: self.run_requests(part, words, more), parts[at : at + self.jobs]):
                     yield from found
 
-    def serve(self, images, words, more):
-        folder = self.folder()
+    def run_requests(self, images, words, more):
+        folder = self.make_folder()
         file, given, results = folder / "day.desk", folder / "images", folder / "results"
         given.write_bytes(b"".join(LENGTH.pack(len(image)) + image for image in images))
-        surroundings = self.environment(file, DESK_SERVE=f"{given} {results}", **(more or {}))
+        surroundings = self.environment_for(file, DESK_SERVE=f"{given} {results}", **(more or {}))
         ran = subprocess.run([*self.words, *words, str(file)], stdin=subprocess.DEVNULL, stdout=subprocess.PIPE, stderr=subprocess.PIPE,
                              env=surroundings, timeout=SECONDS)
         if ran.returncode or ran.stdout or ran.stderr:
@@ -134,13 +134,13 @@ class Desk:
             for length in lengths:
                 parts.append(text[at : at + length])
                 at += length
-            found.append(Ran(status, parts[0], parts[1], events_of(parts[2]), parts[3]))
+            found.append(DeskRun(status, parts[0], parts[1], parse_events(parts[2]), parts[3]))
         if len(found) != len(images):
             raise RuntimeError(f"{len(found)} of {len(images)} files were opened")
         return found
 
 
-def feed(parts):
+def start_feeding(parts):
     """A pipe that gives each of these parts to one read, and the thread that fills it."""
     ours, theirs = os.pipe2(os.O_DIRECT | os.O_CLOEXEC)
     fcntl.fcntl(theirs, fcntl.F_SETPIPE_SZ, ROOM)

@@ -18,7 +18,7 @@ GARBAGE = b"\n+cancel,A,NEVER,,,,,,\n" * 400
 ANSWER = re.compile(rb"(?:day|(\d+)),")
 
 
-def marked_in(file):
+def parse_marked_lines(file):
     """The lines that a file stands for, each with its mark; None if it isn't a journal."""
     if len(file) > MOST:
         return None
@@ -35,19 +35,19 @@ def is_unmade(file):
 
 def is_at_rest(file):
     """Whether the file is as a desk leaves it: its lines, and then the mark of a line that doesn't count."""
-    marked = marked_in(file)
+    marked = parse_marked_lines(file)
     rest = file[len(HEAD) + len(marked or b"") :]
     return marked is not None and file.startswith(HEAD) and rest.startswith(b"-") and b"\n" not in rest
 
 
-class Change(NamedTuple):
+class UnsyncedChange(NamedTuple):
     """A write that wasn't synced yet, or a change of the length if it has no bytes."""
 
     at: int
     bytes: bytes
 
 
-class Moment(NamedTuple):
+class DiskMoment(NamedTuple):
     """A time between two changes of the disk: the file at the last sync, the changes since, and how many records were acknowledged and
     given until the moment ends and begins."""
 
@@ -57,11 +57,11 @@ class Moment(NamedTuple):
     given: int
 
     @property
-    def seen(self):
+    def seen_file(self):
         """The file, as a process sees it."""
         file = self.base
         for change in self.changes:
-            file = kept(file, change)
+            file = with_change(file, change)
         return file
 
 
@@ -69,19 +69,19 @@ def zeros(count):
     return bytes(max(0, count))
 
 
-def kept(file, change):
+def with_change(file, change):
     front = file[: change.at] + zeros(change.at - len(file))
     return front + change.bytes + file[change.at + len(change.bytes) :] if change.bytes else front
 
 
-def joined(changes, change):
+def changes_with(changes, change):
     """The changes with one more. Writes that follow one another are one: a crash leaves any bytes in the range of both."""
     if changes and changes[-1].bytes and changes[-1].at + len(changes[-1].bytes) == change.at:
-        return [*changes[:-1], Change(changes[-1].at, changes[-1].bytes + change.bytes)]
+        return [*changes[:-1], UnsyncedChange(changes[-1].at, changes[-1].bytes + change.bytes)]
     return [*changes, change]
 
 
-def acknowledged(text, before):
+def count_acknowledged(text, before):
     """How many records the answers acknowledge: the day, and each entry up to the last one's number."""
     for line in text.splitlines():
         found = ANSWER.match(line)
@@ -90,7 +90,7 @@ def acknowledged(text, before):
     return before
 
 
-def moments(events, base=b"", changes=(), safe=0, given_by=lambda lines: 0):
+def moments_of_run(events, base=b"", changes=(), safe=0, given_by=lambda lines: 0):
     """The moments of a run. `given_by` says how many records are given by this many lines of input."""
     lines, given, begun = 0, given_by(0), given_by(0)
     for event in events:
@@ -98,24 +98,24 @@ def moments(events, base=b"", changes=(), safe=0, given_by=lambda lines: 0):
             lines += event.bytes.count(b"\n")
             given = given_by(lines)
         elif event.kind == OUTPUT and event.bytes:
-            safe = acknowledged(event.bytes, safe)
+            safe = count_acknowledged(event.bytes, safe)
         elif event.is_change and (event.kind == WRITE or event.answer >= 0):
-            yield Moment(base, tuple(changes), safe, begun)
+            yield DiskMoment(base, tuple(changes), safe, begun)
             begun = given
             if event.kind == SYNC:
-                base, changes = Moment(base, tuple(changes), safe, given).seen, ()
+                base, changes = DiskMoment(base, tuple(changes), safe, given).seen_file, ()
             elif event.kind == CUT:
-                changes = [*changes, Change(event.at, b"")]
+                changes = [*changes, UnsyncedChange(event.at, b"")]
             elif event.bytes:
-                changes = joined(changes, Change(event.at, event.bytes))
-    yield Moment(base, tuple(changes), safe, begun)
+                changes = changes_with(changes, UnsyncedChange(event.at, event.bytes))
+    yield DiskMoment(base, tuple(changes), safe, begun)
 
 
-def torn(file, change, rng, few=False):
+def torn_files(file, change, rng, few=False):
     """The files after a change that wasn't synced. Few: only some of them."""
     at, new = change
     yield file
-    yield kept(file, change)
+    yield with_change(file, change)
     if not new:
         for length in range(min(at, len(file)), max(at, len(file))):
             yield file[:length] + zeros(length - len(file))
@@ -149,16 +149,16 @@ def torn(file, change, rng, few=False):
         yield front + b"".join(rng.choice([new, full, noise])[cell : cell + 16] for cell in range(0, count, 16)) + tail
 
 
-def images(moment, rng, few=False):
+def files_at(moment, rng, few=False):
     """The files that a crash may leave at a moment, each once."""
     seen = set()
-    for image in images_of(moment, rng, few):
+    for image in files_at_repeated(moment, rng, few):
         if hash(image) not in seen:
             seen.add(hash(image))
             yield image
 
 
-def images_of(moment, rng, few):
+def files_at_repeated(moment, rng, few):
     """The same, some of them several times: each change torn, with the others kept or lost."""
     if not moment.changes:
         yield moment.base
@@ -169,8 +169,8 @@ def images_of(moment, rng, few):
             is_kept = dict(zip(rest, way))
             before = moment.base
             for at in range(which):
-                before = kept(before, moment.changes[at]) if is_kept[at] else before
-            for image in torn(before, moment.changes[which], rng, few or any(way)):
+                before = with_change(before, moment.changes[at]) if is_kept[at] else before
+            for image in torn_files(before, moment.changes[which], rng, few or any(way)):
                 for at in range(which + 1, len(moment.changes)):
-                    image = kept(image, moment.changes[at]) if is_kept[at] else image
+                    image = with_change(image, moment.changes[at]) if is_kept[at] else image
                 yield image

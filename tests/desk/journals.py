@@ -22,7 +22,7 @@ FAULTY = [b"\n", b"cancel,A\n", b"amend,A,B1,,,1,1:0,,\n", b"cancel,A,\xe9,,,,,,
           b"\r\r\n"]  # fmt: skip
 
 
-class Dam:
+class DamProgram:
     """The program `dam`, which replays a journal."""
 
     def __init__(self, path):
@@ -60,7 +60,7 @@ class Journal:
         return b"".join(self.answers[:count])
 
 
-class Input:
+class DeskInput:
     """Lines for a desk, in batches: records of a journal, and others that enter nothing."""
 
     def __init__(self, journal, batches, is_record):
@@ -74,14 +74,14 @@ class Input:
         return self.given[min(lines, len(self.given) - 1)]
 
 
-def short_names(rng, count):
+def draw_short_names(rng, count):
     """Records of the shortest names and the least volumes."""
     yield b"day,%d,,,,,,,\n" % rng.choice(list(rules.DAYS))
     for at in range(count):
         yield b"submit,A,%d,hour,%b,%d,1:1,,\n" % (at % 7, rng.choice([b"buy", b"sell"]), rng.randrange(10))
 
 
-def long_names(rng, count):
+def draw_long_names(rng, count):
     """Records of the longest names, some with a volume in each of 100 periods."""
     yield b"day,%d,,,,,,,\n" % rules.GREATEST_PERIOD
     for at in range(count):
@@ -92,7 +92,7 @@ def long_names(rng, count):
         yield lines[at % 3]
 
 
-def wide_orders(count):
+def longest_records(count):
     """The longest records: a journal of these is as long as there may be."""
     yield b"day,%d,,,,,,,\n" % rules.GREATEST_PERIOD
     for at in range(count):
@@ -100,17 +100,17 @@ def wide_orders(count):
         yield b"submit,%b,%b,block,sell,%d,%b,%b,GROUP-NUMBER\n" % (WHO, name, rules.HIGHEST_PRICE, WIDE, parent)
 
 
-def drawn(rng, count):
+def draw_day(rng, count):
     """Records of a random day, with a close in their middle now and then."""
     draft = days.Draft(rng)
     while len(draft.lines) <= count:
-        days.mixed(draft, max(1, draft.hourly), rng.randrange(6))
+        days.add_mixed(draft, max(1, draft.hourly), rng.randrange(6))
         if rng.random() < 0.02:
             draft.lines.append("close,,,,,,,,")
     return [f"{line}\n".encode() for line in draft.lines[: count + 1]]
 
 
-def cut_into(rng, lines, most):
+def draw_batches(rng, lines, most):
     """The lines in batches of 1 to `most`."""
     found = []
     while lines:
@@ -120,7 +120,7 @@ def cut_into(rng, lines, most):
     return found
 
 
-def batched(dam, seed, draw, count, most=9, faulty=0.0):
+def draw_input(dam, seed, draw, count, most=9, faulty=0.0):
     """An input of this many commands in batches of 1 to `most` lines, with the share of lines that enter nothing."""
     rng = random.Random(seed)
     records = list(draw(rng, count))
@@ -131,4 +131,4 @@ def batched(dam, seed, draw, count, most=9, faulty=0.0):
             is_record.append(False)
         lines.append(record)
         is_record.append(True)
-    return Input(Journal(records, dam), cut_into(rng, lines, most), is_record)
+    return DeskInput(Journal(records, dam), draw_batches(rng, lines, most), is_record)

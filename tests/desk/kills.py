@@ -13,7 +13,7 @@ from pathlib import Path
 
 import images
 import journals
-from images import marked_in
+from images import parse_marked_lines
 
 EARLY = Path(__file__).resolve().parent / "early.py"
 RECORDS, ENOUGH = 9_990, 0.9  # of a journal, and the share of them after which a new file is begun
@@ -23,7 +23,7 @@ SLOW = ["0", "0", "300", "2000"]  # microseconds that a sync takes longer
 ROUNDS, MANY, PLANTED = 10, 200, 10
 
 
-def load(rng, count):
+def draw_load(rng, count):
     """A day of hourly orders that are entered and cancelled."""
     yield b"day,24,,,,,,,\n"
     for at in range(count):
@@ -44,13 +44,13 @@ class Kills:
         self.acknowledged = self.unanswered = self.files = 0
         self.wrong = []
 
-    def held(self):
+    def read_held(self):
         """How many records the file has; None if they aren't the first ones of the journal."""
-        marked = marked_in(self.file.read_bytes()) if self.file.exists() else b""
+        marked = parse_marked_lines(self.file.read_bytes()) if self.file.exists() else b""
         count = None if marked is None else marked.count(b"\n")
         return count if count is not None and marked == self.journal.marked(count) else None
 
-    def give(self, process, count):
+    def write_records(self, process, count):
         """Gives the records from there on, as fast as the desk takes them, in batches of any length."""
         rng = random.Random(self.rng.random())
         try:
@@ -62,12 +62,12 @@ class Kills:
         except BrokenPipeError:
             pass
 
-    def killed(self, held, is_at_once):
+    def run_and_kill(self, held, is_at_once):
         """The output of a run that is killed: at once with its start, or once it has answered something."""
-        surroundings = {**os.environ, **self.desk.environment(self.file, DESK_SLOW=self.rng.choice(SLOW))}
+        surroundings = {**os.environ, **self.desk.environment_for(self.file, DESK_SLOW=self.rng.choice(SLOW))}
         process = subprocess.Popen([*self.words, str(self.file)], stdin=subprocess.PIPE, stdout=subprocess.PIPE, env=surroundings,
                                    start_new_session=True)
-        giver = threading.Thread(target=self.give, args=(process, held))
+        giver = threading.Thread(target=self.write_records, args=(process, held))
         giver.start()
         text = b"" if is_at_once else os.read(process.stdout.fileno(), 1 << 16)
         killer = threading.Timer(self.rng.uniform(0, LONGEST), os.killpg, (process.pid, signal.SIGKILL))
@@ -80,12 +80,12 @@ class Kills:
         process.stdout.close()
         return text
 
-    def round(self, may_be_at_once=True):
+    def run_round(self, may_be_at_once=True):
         if self.file is None:
-            self.file, self.files = self.desk.folder() / "day.desk", self.files + 1
-        before = self.held() or 0
-        text = self.killed(before, may_be_at_once and self.rng.random() < 0.3)
-        count, safe = self.held(), images.acknowledged(text[: text.rfind(b"\n") + 1], 0)
+            self.file, self.files = self.desk.make_folder() / "day.desk", self.files + 1
+        before = self.read_held() or 0
+        text = self.run_and_kill(before, may_be_at_once and self.rng.random() < 0.3)
+        count, safe = self.read_held(), images.count_acknowledged(text[: text.rfind(b"\n") + 1], 0)
         whole = self.journal.printed(len(self.journal))
         if count is None or count < max(before, safe) or not whole.startswith(text):
             self.wrong.append(f"{before} records, {safe} acknowledged, now {count}; the output ends with {text[-60:]!r}")
@@ -98,22 +98,22 @@ class Kills:
         if count > ENOUGH * len(self.journal):
             self.file = None
 
-    def last(self):
+    def check_last_file(self):
         """The last file is opened and given the rest."""
         if self.file is None:
             return
-        count = self.held() or 0
+        count = self.read_held() or 0
         rest = b"".join(self.journal.records[count:])
         ran = subprocess.run([*self.desk.words, str(self.file)], input=rest, stdout=subprocess.PIPE, stderr=subprocess.PIPE)
         if (ran.returncode, ran.stdout, ran.stderr) != (0, self.journal.printed(len(self.journal)), b""):
             self.wrong.append(f"opened after the last kill, and given the rest: status {ran.returncode}, {ran.stderr[:80]!r}")
 
 
-def journal(dam):
-    return journals.Journal(list(load(random.Random("load"), RECORDS)), dam)
+def run_dam_for_journal(dam):
+    return journals.Journal(list(draw_load(random.Random("load"), RECORDS)), dam)
 
 
-def planted(desk, dam_journal, room):
+def write_planted_desk(desk, dam_journal, room):
     """The words of a desk that answers early."""
     replies = Path(room) / "replies"
     replies.write_bytes(dam_journal.printed(len(dam_journal)))
@@ -121,20 +121,20 @@ def planted(desk, dam_journal, room):
 
 
 def run(counts, desk, dam, whole):
-    given = journal(dam)
+    given = run_dam_for_journal(dam)
     begun, rounds = time.monotonic(), MANY if whole else ROUNDS
     kills = Kills(desk, desk.words, given, "kills")
     for _ in range(rounds):
-        kills.round()
-    kills.last()
+        kills.run_round()
+    kills.check_last_file()
     counts.passed += rounds + 1 - min(rounds + 1, len(kills.wrong))
     counts.failed += len(kills.wrong)
     print("".join(f"differs: {line}\n" for line in kills.wrong[:5]), end="")
     counts.check(f"{kills.acknowledged} records were acknowledged before kills", kills.acknowledged > 10 * rounds)
     counts.check(f"{kills.unanswered} records were kept without an answer", not whole or kills.unanswered > 0)
-    early = Kills(desk, planted(desk, given, desk.room), given, "planted")
+    early = Kills(desk, write_planted_desk(desk, given, desk.room), given, "planted")
     for _ in range(PLANTED):
-        early.round(may_be_at_once=False)
+        early.run_round(may_be_at_once=False)
     counts.check(f"answers before the desk's are found by {PLANTED} kills", bool(early.wrong))
     print(f"kills: {rounds} of {kills.files} files, {kills.acknowledged:,} records acknowledged, {kills.unanswered:,} others kept; "
           f"{len(early.wrong)} of {PLANTED} find the planted early answers; {time.monotonic() - begun:.1f} s", flush=True)

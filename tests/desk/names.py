@@ -14,19 +14,19 @@ from pathlib import Path
 sys.path.append(str(Path(__file__).resolve().parents[1] / "hostile"))
 
 import costs
-from preload import Program, Refusal
+from preload import HostileProgram, RefusedCalls
 
 ABOUT = ["in a new file", "in a file that is opened again", "in a printed journal"]
 MILLIONS = [31.2, 22.0, 22.1]  # instructions that were counted with other names
 FULL = 71.9  # and with a full journal
-FIXED = Refusal("random", first=3, error=errno.ENOSYS)  # a file draws twice before
+FIXED = RefusedCalls("random", first=3, error=errno.ENOSYS)  # a file draws twice before
 
 
-def instructions(program, desk, records, refusal):
+def run_for_instructions(program, desk, records, refusal):
     """Yields the instructions of a desk with a new file that takes the records, with that file again, and for the file's journal."""
-    file = desk.folder() / "day.desk"
-    for words, data in [([file], costs.journal(records)), ([file], b""), (["--journal", file], b"")]:
-        yield costs.instructions(program, words, data, refusal)
+    file = desk.make_folder() / "day.desk"
+    for words, data in [([file], costs.journal_text(records)), ([file], b""), (["--journal", file], b"")]:
+        yield costs.run_for_instructions(program, words, data, refusal)
 
 
 def run(counts, desk, dam, whole):
@@ -34,11 +34,11 @@ def run(counts, desk, dam, whole):
         counts.leave_out("a desk with names that collide: valgrind, which counts instructions, is missing", 1)
         return
     begun = time.monotonic()
-    program = Program(desk.words[0], desk.room)
-    others, colliding = costs.submits(costs.ordinary_names()), costs.submits(costs.colliding_names(desk.room))
-    tried = [instructions(program, desk, others, costs.DRAWN), instructions(program, desk, colliding, costs.DRAWN)]
+    program = HostileProgram(desk.words[0], desk.room)
+    others, colliding = costs.submits_of(costs.ordinary_names()), costs.submits_of(costs.run_for_colliding_names(desk.room))
+    tried = [run_for_instructions(program, desk, others, costs.DRAWN), run_for_instructions(program, desk, colliding, costs.DRAWN)]
     with ThreadPoolExecutor() as pool:
-        fixed = pool.submit(next, instructions(program, desk, colliding, FIXED))
+        fixed = pool.submit(next, run_for_instructions(program, desk, colliding, FIXED))
         usual, drawn = pool.map(list, tried)
     for about, taken, by_others in zip(ABOUT, drawn, usual):
         took = f"names that collide {about} take {taken / by_others:.1f} times the instructions of others"
@@ -48,7 +48,7 @@ def run(counts, desk, dam, whole):
         took = f"other names {about} take {taken / 1e6:.1f} million instructions"
         print(took, flush=True)
         counts.check(f"{took}, more than {costs.MOST_TIMES} times {millions} million", taken < costs.MOST_TIMES * millions * 1e6)
-    full = costs.instructions(program, [desk.folder() / "day.desk"], costs.journal(costs.full_journal()), costs.DRAWN)
+    full = costs.run_for_instructions(program, [desk.make_folder() / "day.desk"], costs.journal_text(costs.full_journal()), costs.DRAWN)
     took = f"a full journal takes {full / 1e6:.1f} million instructions"
     print(took, flush=True)
     counts.check(f"{took}, more than {costs.MOST_TIMES} times {FULL} million", full < costs.MOST_TIMES * FULL * 1e6)

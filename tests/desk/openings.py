@@ -8,9 +8,9 @@ import time
 
 import kills
 from device import CUT, DESK, INPUT, OUTPUT, READ, SYNC, WRITE
-from files import BATCH, DAY, lines
-from images import AFTER_FIRST, HEAD, MOST, is_at_rest, marked_in
-from journals import CLOSE, Journal, rules, wide_orders
+from files import BATCH, DAY, file_of_records
+from images import AFTER_FIRST, HEAD, MOST, is_at_rest, parse_marked_lines
+from journals import CLOSE, Journal, longest_records, rules
 
 TORN = [round(1.5**power) for power in range(1, 41)]  # bytes after the lines of a file, up to as many as there may be
 COUNTS = (0, 1, 25, 300, 1_001, 1_700, 2_900, 4_800, 8_100, 9_898, 9_998)  # of commands
@@ -18,86 +18,86 @@ SYNCED = (SYNC, 0, 0)
 CREATED = [(WRITE, 0, 1), SYNCED, (WRITE, 1, len(AFTER_FIRST)), SYNCED, (WRITE, 0, 1), SYNCED]
 
 
-def repaired(end, blanks=0):
+def calls_of_repair(end, blanks=0):
     """The calls of a repair: the blanks after a file's lines, and then the mark."""
     return [*[(WRITE, end + 1, blanks), SYNCED] * (blanks > 0), (WRITE, end, 1), SYNCED]
 
 
-def openings():
+def files_with_calls():
     """Yields files, each with its bytes, and the calls after it was read."""
-    end = len(lines(DAY)) - 1
+    end = len(file_of_records(DAY)) - 1
     yield "no file", None, CREATED
     yield "an empty file", b"", CREATED
     yield "one byte", HEAD[:1], CREATED
     yield "a file that was never made whole", b"-" + AFTER_FIRST, CREATED[2:]
-    yield "a file at rest", lines(DAY), []
-    yield "a file of the greatest length", lines(DAY).ljust(MOST), []
-    yield "no mark at the end", lines(DAY)[:-1], repaired(end)
-    yield "a torn line", lines(DAY)[:-1] + b"+canc", repaired(end)
-    full = lines(DAY, *[CLOSE] * (rules.MOST_RECORDS - 2))
+    yield "a file at rest", file_of_records(DAY), []
+    yield "a file of the greatest length", file_of_records(DAY).ljust(MOST), []
+    yield "no mark at the end", file_of_records(DAY)[:-1], calls_of_repair(end)
+    yield "a torn line", file_of_records(DAY)[:-1] + b"+canc", calls_of_repair(end)
+    full = file_of_records(DAY, *[CLOSE] * (rules.MOST_RECORDS - 2))
     yield "a long journal", full, []
-    yield "a long journal and a torn line", full[:-1] + b"\n\n", repaired(len(full) - 1, 1)
-    yield "a journal of long records", lines(*wide_orders(rules.MOST_RECORDS - 2)), []
+    yield "a long journal and a torn line", full[:-1] + b"\n\n", calls_of_repair(len(full) - 1, 1)
+    yield "a journal of long records", file_of_records(*longest_records(rules.MOST_RECORDS - 2)), []
     for count in TORN:
         if end + count <= MOST:
-            yield f"{count:,} line feeds after the lines", lines(DAY)[:-1] + b"\n" * count, repaired(end, count - 1)
+            yield f"{count:,} line feeds after the lines", file_of_records(DAY)[:-1] + b"\n" * count, calls_of_repair(end, count - 1)
 
 
-def begun(length):
+def calls_before_repair(length):
     """The calls before a repair: the library's sync, and the desk's sync and read."""
     return [SYNCED, SYNCED, *[(READ, 0, length)] * (length > 0)]
 
 
-def calls(ran):
+def calls_of_file(ran):
     """The calls of the desk's file: the kind of each, its place, and how many bytes moved."""
     return [(it.kind, it.at, it.answer) for it in ran.events if it.target == DESK and it.kind in (READ, WRITE, SYNC, CUT)]
 
 
-class Openings:
+class OpeningTests:
     def __init__(self, counts, desk, dam):
         self.counts, self.desk, self.dam = counts, desk, dam
 
-    def opened(self, about, bytes_, after):
+    def check_opening(self, about, bytes_, after):
         """Opens a file without input, and again with a close; and prints its journal."""
-        file = self.desk.folder() / "day.desk"
+        file = self.desk.make_folder() / "day.desk"
         if bytes_ is not None:
             file.write_bytes(bytes_)
         ran = self.desk.run(file)
-        self.same(f"{about} is opened by", calls(ran), [*begun(len(bytes_ or b"")), *after])
+        self.check_same(f"{about} is opened by", calls_of_file(ran), [*calls_before_repair(len(bytes_ or b"")), *after])
         self.counts.check(f"{about}: status {ran.status}, {ran.stderr[:80]!r}", (ran.status, ran.stderr) == (0, b""))
-        self.printed_once(about, ran)
+        self.check_printed_once(about, ran)
         self.counts.check(f"{about} is at rest", is_at_rest(file.read_bytes()))
-        length, marked = file.stat().st_size, marked_in(file.read_bytes())
+        length, marked = file.stat().st_size, parse_marked_lines(file.read_bytes())
         ran = self.desk.run(file, [CLOSE])
-        self.same(f"{about} is opened again by", calls(ran)[: len(begun(length))], begun(length))
+        self.check_same(f"{about} is opened again by", calls_of_file(ran)[: len(calls_before_repair(length))], calls_before_repair(length))
         asked = {it.asked for it in ran.events if it.kind == INPUT}
         self.counts.check(f"{about}: {asked} bytes are asked for at a time", asked == {BATCH})
         entered = b"+" + CLOSE if marked else b""
-        self.counts.check(f"{about}: the close", marked_in(file.read_bytes()) == marked + entered)
-        self.printed(about, file)
+        self.counts.check(f"{about}: the close", parse_marked_lines(file.read_bytes()) == marked + entered)
+        self.check_printed_and_unlink(about, file)
 
-    def same(self, about, found, right):
+    def check_same(self, about, found, right):
         self.counts.check(f"{about} the calls {found} in place of {right}", found == right)
 
-    def printed_once(self, about, ran):
+    def check_printed_once(self, about, ran):
         made = sum(event.kind == OUTPUT for event in ran.events)
         self.counts.check(f"{about}: {made} calls print {len(ran.stdout):,} bytes", made == (ran.stdout != b""))
 
-    def printed(self, about, file):
+    def check_printed_and_unlink(self, about, file):
         """Prints the journal of a file: each byte of it is read once, in order."""
         at, ran = 0, self.desk.run(file, words=["--journal"])
-        self.printed_once(f"the journal of {about}", ran)
-        for kind, place, count in calls(ran):
+        self.check_printed_once(f"the journal of {about}", ran)
+        for kind, place, count in calls_of_file(ran):
             self.counts.check(f"the journal of {about}: {kind} at {place} after {at} bytes", (kind, place) == (READ, at))
             at += count
         self.counts.check(f"the journal of {about}: {at} bytes are read", at == file.stat().st_size)
         file.unlink()
 
-    def day(self, periods, count):
+    def check_day(self, periods, count):
         """A day of this many commands that is opened again: its answers, and its journal."""
-        _, *commands = kills.load(random.Random(f"openings {periods} {count}"), count)
+        _, *commands = kills.draw_load(random.Random(f"openings {periods} {count}"), count)
         journal = Journal([b"day,%d,,,,,,,\n" % periods, *commands], self.dam)
-        file = self.desk.folder() / "day.desk"
+        file = self.desk.make_folder() / "day.desk"
         file.write_bytes(HEAD + journal.marked(len(journal)) + b"-")
         ran = self.desk.run(file)
         about = f"a day of {periods} periods and {count:,} commands"
@@ -110,10 +110,10 @@ class Openings:
 
 def run(counts, desk, dam, whole):
     begun_at, before = time.monotonic(), counts.passed + counts.failed
-    tests = Openings(counts, desk, dam)
-    for about, bytes_, after in openings():
-        tests.opened(about, bytes_, after)
+    tests = OpeningTests(counts, desk, dam)
+    for about, bytes_, after in files_with_calls():
+        tests.check_opening(about, bytes_, after)
     for periods in rules.DAYS:
         for count in COUNTS:
-            tests.day(periods, count)
+            tests.check_day(periods, count)
     print(f"openings: {counts.passed + counts.failed - before} checks; {time.monotonic() - begun_at:.1f} s", flush=True)

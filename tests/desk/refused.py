@@ -15,8 +15,8 @@ from concurrent.futures import ThreadPoolExecutor
 import crashes
 import images
 import journals
-from device import ADVICE, CUT, EVERY, INPUT, LOCK, OPEN, OUTPUT, READ, SECONDS, STAT, SYNC, WRITE, Refusal
-from images import Moment
+from device import ADVICE, CUT, EVERY, INPUT, LOCK, OPEN, OUTPUT, READ, SECONDS, STAT, SYNC, WRITE, RefusedFileCalls
+from images import DiskMoment
 
 MODE = "M"
 # The errors of each kind of call.
@@ -37,13 +37,13 @@ LONGEST = 1 << 20  # bytes of a file, more than a desk's
 GARBAGE = b"\n+cancel,A,NEVER,,,,,,\n\nx\n"
 
 
-def is_counted(ran):
+def is_length_named(ran):
     """Whether the fault of the output, if the run ended with it, says how many bytes the whole output has."""
     found = re.fullmatch(rb"device: write after (\d+) bytes\n", ran.stderr)
     return not found or int(found[1]) == len(ran.stdout)
 
 
-def line_of(kind, error, stderr):
+def is_fault_line(kind, error, stderr):
     """Whether this is the line of the fault."""
     if kind == LOCK and error in (errno.EAGAIN, errno.EACCES):
         return stderr == IN_USE
@@ -60,16 +60,16 @@ def are_retried(events):
     return bool(failed) and failed[0] + 1 < len(changes)
 
 
-class Refusals(crashes.Crashes):
+class RunsWithRefusals(crashes.Crashes):
     """Runs of a desk on an input with calls refused: with a new file, or with one that a crash left."""
 
     def __init__(self, desk, about, given, start=None):
         super().__init__(desk, about, given, about)
         self.start, self.runs = start, 0
-        self.held = 0 if start is None else self.count(start)
+        self.held = 0 if start is None else self.count_of_records(start)
 
-    def file(self):
-        file = self.desk.folder() / "day.desk"
+    def write_held_file(self):
+        file = self.desk.make_folder() / "day.desk"
         if self.start is not None:
             file.write_bytes(self.start)
         return file
@@ -82,42 +82,42 @@ class Refusals(crashes.Crashes):
     def given_by(self, lines):
         return max(self.held, self.given.given_by(lines))
 
-    def look_after(self, about, ran, file):
+    def check_after(self, about, ran, file):
         """Looks at the files that a crash may leave, and opens the file again."""
         if are_retried(ran.events):
             self.wrong.append(f"{about}: a failed write or sync was followed by another one")
-        for moment in images.moments(ran.events, self.start or b"", safe=self.held, given_by=self.given_by):
+        for moment in images.moments_of_run(ran.events, self.start or b"", safe=self.held, given_by=self.given_by):
             allowed = [count for count in {self.held} | self.given.borders if moment.safe <= count <= max(moment.given, moment.safe)]
-            for image in images.images(moment, self.rng, few=True):
+            for image in images.files_at(moment, self.rng, few=True):
                 self.files += 1
-                if self.count(image) not in allowed:
-                    self.wrong.append(f"{about}: a crash leaves {self.count(image)} records for {allowed}")
+                if self.count_of_records(image) not in allowed:
+                    self.wrong.append(f"{about}: a crash leaves {self.count_of_records(image)} records for {allowed}")
                     return
         again = self.desk.run(file)
         if not file.exists() or (again.status, again.stderr) != (0, b""):
             self.wrong.append(f"{about}: opened again with status {again.status}, {again.stderr[:80]!r}")
             return
-        count = self.count(file.read_bytes())
-        safe = images.acknowledged(ran.stdout, self.held)
+        count = self.count_of_records(file.read_bytes())
+        safe = images.count_acknowledged(ran.stdout, self.held)
         if count is None or count < safe or again.stdout != self.journal.printed(count):
             self.wrong.append(f"{about}: opened again with {count} records, and {safe} were acknowledged")
 
-    def run_one(self, refusal, check=None):
+    def run_refused(self, refusal, check=None):
         """Runs the desk with a call refused."""
-        file = self.file()
+        file = self.write_held_file()
         ran = self.desk.run(file, self.given.batches, refusal)
         name = errno.errorcode.get(refusal.error) or f"{refusal.most} bytes"
         about = f"{self.about}: call {refusal.first} of {refusal.kind} with {name}"
         if not (check or self.is_fault)(refusal, ran):
             self.wrong.append(f"{about}: status {ran.status}, {ran.stderr[:80]!r}, {ran.stdout[-60:]!r}")
-        self.look_after(about, ran, file)
+        self.check_after(about, ran, file)
         self.runs += 1
 
     def is_fault(self, refusal, ran):
         """Whether the run ended with the fault of the refused call, or as if there was none, if a signal interrupted the call."""
         if refusal.error == errno.EINTR and ran.status == 0:
             return self.is_whole(refusal, ran)
-        is_line = line_of(refusal.kind, refusal.error, ran.stderr) and is_counted(ran)
+        is_line = is_fault_line(refusal.kind, refusal.error, ran.stderr) and is_length_named(ran)
         return ran.status == MACHINE and is_line and self.is_front(ran.stdout, True)
 
     def is_whole(self, _, ran):
@@ -130,21 +130,21 @@ class Refusals(crashes.Crashes):
         line = b"file: the file can't be written: write zero\n" if refusal.kind == WRITE else b"device: write after %d bytes\n" % len(ran.stdout)
         return ran.status == MACHINE and ran.stderr == line and self.is_front(ran.stdout, True)
 
-    def rows(self, made):
+    def refusals_with_checks(self, made):
         for kind, errors in ERRORS.items():
             for name in errors.split():
                 for number in range(1, made.get(kind, 0) + 1):
-                    yield Refusal(kind, number, number, getattr(errno, name)), None
+                    yield RefusedFileCalls(kind, number, number, getattr(errno, name)), None
         for kind in (WRITE, OUTPUT):
             for most in SHORT:
                 for number in range(1, made.get(kind, 0) + 1):
-                    yield Refusal(kind, number, number, 0, most), self.is_short
+                    yield RefusedFileCalls(kind, number, number, 0, most), self.is_short
             for most in SHORT[1:]:
-                yield Refusal(kind, 1, EVERY, 0, most), self.is_short
+                yield RefusedFileCalls(kind, 1, EVERY, 0, most), self.is_short
 
     def run(self):
         """Refuses each call in turn, and returns the faults."""
-        ran = self.desk.run(self.file(), self.given.batches)
+        ran = self.desk.run(self.write_held_file(), self.given.batches)
         made = {}
         for event in ran.events:
             made[event.kind] = made.get(event.kind, 0) + 1
@@ -152,11 +152,11 @@ class Refusals(crashes.Crashes):
             self.wrong.append(f"{self.about}: no call refused: status {ran.status}, {ran.stderr[:80]!r}, calls {made}")
             return self.wrong
         with ThreadPoolExecutor(self.desk.jobs) as pool:
-            list(pool.map(lambda row: self.run_one(*row), self.rows(made)))
+            list(pool.map(lambda row: self.run_refused(*row), self.refusals_with_checks(made)))
         return self.wrong
 
 
-def hostile(desk, file, batches, plan):
+def run_with_hostile_library(desk, file, batches, plan):
     """Runs the desk with calls refused by the library of tests/hostile, and returns the run and the number of such calls."""
     calls = file.with_suffix(".calls")
     calls.write_bytes(bytes(16))
@@ -164,71 +164,71 @@ def hostile(desk, file, batches, plan):
     return desk.run(file, batches, more=more), struct.unpack("@2L", calls.read_bytes())[0]
 
 
-class Growths(Refusals):
+class RunsWithoutMemory(RunsWithRefusals):
     """The same with calls for memory refused."""
 
-    def run_memory(self, numbers):
+    def run_refusing_memory(self, numbers):
         first, last = numbers
-        file = self.file()
-        ran, made = hostile(self.desk, file, self.given.batches, f"memory {first} {last} 0 0")
+        file = self.write_held_file()
+        ran, made = run_with_hostile_library(self.desk, file, self.given.batches, f"memory {first} {last} 0 0")
         about = f"{self.about}: growth {first}" + (" and all later ones" if last != first else "")
         if not (self.is_whole(None, ran) or (ran.status, ran.stderr) == (MACHINE, MEMORY) and self.is_front(ran.stdout, True)):
             self.wrong.append(f"{about}: status {ran.status}, {ran.stderr[:60]!r}, {ran.stdout[-60:]!r}")
-        self.look_after(about, ran, file)
+        self.check_after(about, ran, file)
         self.runs += 1
         return made
 
     def run(self):
-        made = self.run_memory((EVERY, EVERY))
+        made = self.run_refusing_memory((EVERY, EVERY))
         if made < 10:
             self.wrong.append(f"{self.about}: {made} growths are counted")
         rows = [(first, last) for first in range(1, made + 1) for last in (first, EVERY)]
         with ThreadPoolExecutor(self.desk.jobs) as pool:
-            list(pool.map(self.run_memory, rows))
+            list(pool.map(self.run_refusing_memory, rows))
         return self.wrong
 
 
-def limited(desk, given, bytes_, stdout=subprocess.PIPE):
+def run_with_file_limit(desk, given, bytes_, stdout=subprocess.PIPE):
     """A run whose files may not grow beyond this length, and the desk's file."""
     def limit():
         signal.signal(signal.SIGXFSZ, signal.SIG_IGN)
         resource.setrlimit(resource.RLIMIT_FSIZE, (bytes_, bytes_))
 
-    file = desk.folder() / "day.desk"
+    file = desk.make_folder() / "day.desk"
     ran = subprocess.run([*desk.words, str(file)], input=b"".join(given.batches), stdout=stdout, stderr=subprocess.PIPE,
                          preexec_fn=limit, timeout=SECONDS)
     return ran, file
 
 
-def cut_off(desk, given, bytes_):
+def run_with_full_output(desk, given, bytes_):
     """A run whose answers go to a file that has room for this number of bytes, the answers there, and the desk's file."""
-    with open(desk.folder() / "answers", "w+b") as answers:
+    with open(desk.make_folder() / "answers", "w+b") as answers:
         answers.seek(LONGEST - bytes_)
-        ran, file = limited(desk, given, LONGEST, answers)
+        ran, file = run_with_file_limit(desk, given, LONGEST, answers)
         answers.seek(LONGEST - bytes_)
         return ran, answers.read(), file
 
 
-def real(counts, desk, dam, given):
+def check_real_refusals(counts, desk, dam, given):
     """Refusals by the system itself: a file that may not grow, and a device that is full."""
     for bytes_ in (0, 1, 5, 13, 20, 200):
-        ran, file = limited(desk, given, bytes_)
+        ran, file = run_with_file_limit(desk, given, bytes_)
         line = f"file: the file can't be written: {os.strerror(errno.EFBIG)} (os error {errno.EFBIG})\n"
         counts.check(f"a file of at most {bytes_} bytes: {ran}", (ran.returncode, ran.stdout, ran.stderr.decode()) == (MACHINE, b"", line))
         again = desk.run(file, given.batches)
         counts.check(f"a file of at most {bytes_} bytes, opened again", again.stdout.endswith(given.journal.printed(len(given.journal))))
     whole = given.journal.printed(len(given.journal))
-    many = journals.batched(dam, "refused many", journals.drawn, 9_000)
+    many = journals.draw_input(dam, "refused many", journals.draw_day, 9_000)
     for answered, bytes_ in [*[(given, it) for it in (0, 1, 7, len(whole) - 1)], *[(many, it) for it in (65_536, 65_537, 90_000)]]:
         printed = answered.journal.printed(len(answered.journal))
-        ran, answers, file = cut_off(desk, answered, bytes_)
+        ran, answers, file = run_with_full_output(desk, answered, bytes_)
         line = f"device: write after {bytes_} bytes\n"
         counts.check(f"answers cut off after {bytes_} bytes: {ran.returncode}, {ran.stderr}, {answers[-80:]}",
                      (ran.returncode, answers, ran.stderr.decode()) == (MACHINE, printed[:bytes_], line))
         again = desk.run(file)
         is_right = printed.startswith(again.stdout) and len(again.stdout) > bytes_ and (answered is many or again.stdout == printed)
         counts.check(f"answers cut off after {bytes_} bytes, opened again", is_right)
-    file = desk.folder() / "day.desk"
+    file = desk.make_folder() / "day.desk"
     with open("/dev/full", "wb") as full:
         ran = desk.run(file, given.batches, stdout=full)
     counts.check(f"a full device: {ran.stderr!r}", (ran.status, ran.stderr) == (MACHINE, b"device: write after 0 bytes\n"))
@@ -237,7 +237,7 @@ def real(counts, desk, dam, given):
     counts.check("a full device: the first batch is in the file", count in given.borders and count > 0)
 
 
-def random_bytes(counts, desk, given):
+def check_random_bytes(counts, desk, given):
     """Draws of random bytes refused: all, that of the library that opens a file, and that of the seed, which then is the fixed one."""
     whole = given.journal.printed(len(given.journal))
     for error in (errno.ENOSYS, errno.EPERM, errno.EOPNOTSUPP):
@@ -247,30 +247,30 @@ def random_bytes(counts, desk, given):
             (2, 2, MACHINE, b"", b"file: " + own),
             (3, 3, 0, whole, b""),
         ]:
-            file = desk.folder() / "day.desk"
-            ran, made = hostile(desk, file, given.batches, f"random {first} {last} {error} 0")
+            file = desk.make_folder() / "day.desk"
+            ran, made = run_with_hostile_library(desk, file, given.batches, f"random {first} {last} {error} 0")
             about = f"random bytes refused from draw {first} to {last} of {made} with {errno.errorcode[error]}"
             counts.check(f"{about}: {ran}", made >= first and (ran.status, ran.stdout, ran.stderr) == (status, printed, line))
             counts.check(f"{about}: the file is there: {file.exists()}", file.exists() == (first > 1))
 
 
-def inputs(dam, whole):
+def draw_inputs(dam, whole):
     """Yields each input, with the file that it begins with, or None."""
-    given = journals.batched(dam, "refused", journals.drawn, 9, most=4)
+    given = journals.draw_input(dam, "refused", journals.draw_day, 9, most=4)
     yield "a new file", given, None
     held = sorted(given.borders)[1]
-    rest = journals.Input(given.journal, given.batches, [True] * len(given.journal))
+    rest = journals.DeskInput(given.journal, given.batches, [True] * len(given.journal))
     broken = images.HEAD + given.journal.marked(held) + GARBAGE
-    yield "a file after a crash", rest_of(rest, held), broken
+    yield "a file after a crash", batches_after(rest, held), broken
     if whole:
-        yield "the longest names", journals.batched(dam, "refused long", journals.long_names, 12, most=5), None
+        yield "the longest names", journals.draw_input(dam, "refused long", journals.draw_long_names, 12, most=5), None
 
 
-def rest_of(given, held):
+def batches_after(given, held):
     """The input after the first records."""
     journal, lines = given.journal, given.journal.records[held:]
     half = len(lines) // 2
-    found = journals.Input(journal, [b"".join(lines[:half]), b"".join(lines[half:])], [True] * len(lines))
+    found = journals.DeskInput(journal, [b"".join(lines[:half]), b"".join(lines[half:])], [True] * len(lines))
     found.given = [held + count for count in found.given]
     found.borders = {held, held + half, len(journal)}
     return found
@@ -278,15 +278,15 @@ def rest_of(given, held):
 
 def run(counts, desk, dam, whole):
     runs = files = 0
-    for about, given, start in inputs(dam, whole):
-        for kind in (Refusals, Growths):
+    for about, given, start in draw_inputs(dam, whole):
+        for kind in (RunsWithRefusals, RunsWithoutMemory):
             row = kind(desk, about, given, start)
             wrong = row.run()
             counts.passed += row.runs - min(row.runs, len(wrong))
             counts.failed += len(wrong)
             print("\n".join(f"differs: {line}" for line in wrong[: crashes.SHOWN]), end="\n" if wrong else "", flush=True)
             runs, files = runs + row.runs, files + row.files
-    given = next(iter(inputs(dam, False)))[1]
-    real(counts, desk, dam, given)
-    random_bytes(counts, desk, given)
+    given = next(iter(draw_inputs(dam, False)))[1]
+    check_real_refusals(counts, desk, dam, given)
+    check_random_bytes(counts, desk, given)
     print(f"refusals: {runs:,} runs with a call refused, {files:,} files that a crash may leave after them", flush=True)

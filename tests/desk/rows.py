@@ -17,15 +17,15 @@ import refused
 import shape_costs
 import stand_ins
 import streams
-from device import Desk
-from journals import Dam
+from device import DeskProgram
+from journals import DamProgram
 from shared.counts import Counts
 
 PARTS = {"stand_ins": stand_ins, "crashes": crashes, "kills": kills, "refused": refused, "files": files, "openings": openings,
          "streams": streams, "names": names, "shapes": shape_costs}  # fmt: skip
 
 
-def processor_time():
+def used_processor_time():
     both = (resource.getrusage(who) for who in (resource.RUSAGE_SELF, resource.RUSAGE_CHILDREN))
     return sum(used.ru_utime + used.ru_stime for used in both)
 
@@ -36,14 +36,14 @@ def main():
     chosen = [word for word in words if word not in ("--all", "--count")]
     if not set(chosen) <= set(PARTS):
         sys.exit(f"the parts are {', '.join(PARTS)}")
-    counts, dam = Counts(), Dam(os.environ["DAM"])
-    desk = Desk([Path(room) / "dam-desk"], room)
+    counts, dam = Counts(), DamProgram(os.environ["DAM"])
+    desk = DeskProgram([Path(room) / "dam-desk"], room)
     if "--count" in words:
-        return shape_costs.count(desk)
+        return shape_costs.write_counted(desk)
     for name in chosen or PARTS:
-        begun = time.monotonic(), processor_time()
+        begun = time.monotonic(), used_processor_time()
         PARTS[name].run(counts, desk, dam, whole)
-        print(f"{name}: {time.monotonic() - begun[0]:.0f} s, {processor_time() - begun[1]:.0f} s of a processor", flush=True)
+        print(f"{name}: {time.monotonic() - begun[0]:.0f} s, {used_processor_time() - begun[1]:.0f} s of a processor", flush=True)
     return counts.print_totals()
 
 

@@ -17,7 +17,7 @@ sys.path.append(str(Path(__file__).resolve().parents[1] / "hostile"))
 
 import costs
 import shapes
-from preload import Program, Refusal
+from preload import HostileProgram, RefusedCalls
 
 HERE = Path(__file__).resolve().parent
 HELD, AT_ONCE = 1_000, 64  # orders, and bytes of a read
@@ -28,97 +28,97 @@ TORN = (20_000, 500_000, 10_000_000)  # bytes after the end of a file's lines
 DAY = b"day,24,,,,,,,\n"
 
 
-def journals():
+def yield_journals():
     """Yields a journal of each shape, each command and each refusal."""
     for shape in (shapes.SHORT, shapes.LONG, *shapes.OTHERS):
-        first, kinds = list(shape.first()), list(shapes.commands(shape))
+        first, kinds = list(shape.submits_of_book()), list(shapes.commands_by_name(shape))
         for about, records in kinds if shape is shapes.LONG else kinds[-1:]:
-            yield f"{shape.periods}: {about}", costs.journal([*first, *itertools.islice(records, shapes.COMMANDS)], True, shape.periods)
+            yield f"{shape.periods}: {about}", costs.journal_text([*first, *itertools.islice(records, shapes.COMMANDS)], True, shape.periods)
 
 
-def longer_journals():
+def yield_longer_journals():
     """Yields a journal of each length of a day, and a full one."""
     for periods, count in COMMANDS.items():
         shape = shapes.Shape(periods, "BRAVO", "N-%d", False)
-        *_, (_, records) = shapes.commands(shape)
-        first = list(shape.first())
-        yield f"{periods}: {count:,} commands", costs.journal([*first, *itertools.islice(records, count - len(first))], False, periods)
-    yield "24: all commands of a full journal", costs.journal(costs.full_journal())
+        *_, (_, records) = shapes.commands_by_name(shape)
+        first = list(shape.submits_of_book())
+        yield f"{periods}: {count:,} commands", costs.journal_text([*first, *itertools.islice(records, count - len(first))], False, periods)
+    yield "24: all commands of a full journal", costs.journal_text(costs.full_journal())
 
 
-def cost(program, words, data, others):
+def run_for_cost(program, words, data, others):
     """What a run costs. It is made twice, and the second time with the other words: those of a file that is the same."""
-    found, growths = costs.counted(program, words, data, JOURNAL_SEED if JOURNAL in words else SEED)
-    printed, peak = program.run(others, data, Refusal("peak"))
+    found, growths = costs.run_for_counts(program, words, data, JOURNAL_SEED if JOURNAL in words else SEED)
+    printed, peak = program.run(others, data, RefusedCalls("peak"))
     if printed.status:
         raise ValueError(f"{words}: status {printed.status}, {printed.stderr[:80]!r}")
     return shapes.Cost(found, peak, growths)
 
 
-def of_journal(program, desk, about, data):
+def run_for_costs_of_journal(program, desk, about, data):
     """Yields the name of each run, and its cost."""
-    file, copy = (desk.folder() / "day.desk" for _ in range(2))
-    yield f"new {about}", cost(program, [file], data, [copy])
-    yield f"again {about}", cost(program, [file], b"", [file])
-    yield f"journal {about}", cost(program, [JOURNAL, file], b"", [JOURNAL, file])
-    yield f"rest {about}", of_rest(program, desk, data)
+    file, copy = (desk.make_folder() / "day.desk" for _ in range(2))
+    yield f"new {about}", run_for_cost(program, [file], data, [copy])
+    yield f"again {about}", run_for_cost(program, [file], b"", [file])
+    yield f"journal {about}", run_for_cost(program, [JOURNAL, file], b"", [JOURNAL, file])
+    yield f"rest {about}", run_for_cost_of_rest(program, desk, data)
 
 
-def of_longer(program, desk, about, data):
+def run_for_costs_of_longer(program, desk, about, data):
     """Yields what the file of a journal costs that is opened again."""
-    file = desk.folder() / "day.desk"
+    file = desk.make_folder() / "day.desk"
     program.run([file], data, costs.DRAWN)
-    yield f"again {about}", cost(program, [file], b"", [file])
+    yield f"again {about}", run_for_cost(program, [file], b"", [file])
 
 
-def of_rest(program, desk, data):
+def run_for_cost_of_rest(program, desk, data):
     """What the second half of a journal costs, whose first half a file has."""
     lines = data.splitlines(keepends=True)
     first, rest = (b"".join(part) for part in (lines[: len(lines) // 2], lines[len(lines) // 2 :]))
-    file, copy = (desk.folder() / "day.desk" for _ in range(2))
+    file, copy = (desk.make_folder() / "day.desk" for _ in range(2))
     for path in (file, copy):
         program.run([path], first, costs.DRAWN)
-    return cost(program, [file], rest, [copy])
+    return run_for_cost(program, [file], rest, [copy])
 
 
-def of_torn(program, desk, count):
+def run_for_costs_of_torn(program, desk, count):
     """Yields what the opening of a file costs that a crash left with line feeds after its lines: its end is repaired."""
-    file, copy = (files.desk_file(desk.folder(), HEAD + b"+" + DAY + b"\n" * count) for _ in range(2))
-    yield f"again after {count:,} bytes torn", cost(program, [file], b"", [copy])
+    file, copy = (files.write_desk_file(desk.make_folder(), HEAD + b"+" + DAY + b"\n" * count) for _ in range(2))
+    yield f"again after {count:,} bytes torn", run_for_cost(program, [file], b"", [copy])
 
 
-def of_lines(program, desk, length):
+def run_for_costs_of_lines(program, desk, length):
     """Yields what lines cost whose first byte isn't ASCII: they are copied, but not read as records."""
     data = DAY + (b"\xff" + b"A" * (length - 1) + b"\n") * max(1, IN_ALL // length)
-    file, copy = (desk.folder() / "day.desk" for _ in range(2))
-    yield f"new, lines of {length:,} bytes", cost(program, [file], data, [copy])
+    file, copy = (desk.make_folder() / "day.desk" for _ in range(2))
+    yield f"new, lines of {length:,} bytes", run_for_cost(program, [file], data, [copy])
 
 
-def small_reads(program, desk):
+def run_for_costs_of_small_reads(program, desk):
     """Yields the runs of a desk that gets a few lines at a time, with a book of many orders after a cancel: it draws its own seeds."""
     shape = shapes.SHORT
-    amends = dict(shapes.commands(shape))["hourly orders amended"]
-    records = [*shape.first(HELD), shape.cancel(shape.named(1)), *itertools.islice(amends, shapes.COMMANDS)]
-    data, file = costs.journal(records, True, shape.periods), desk.folder() / "day.desk"
-    found = costs.instructions(program, [file], data, Refusal("read", most=AT_ONCE))
+    amends = dict(shapes.commands_by_name(shape))["hourly orders amended"]
+    records = [*shape.submits_of_book(HELD), shape.cancel_of(shape.name_of(1)), *itertools.islice(amends, shapes.COMMANDS)]
+    data, file = costs.journal_text(records, True, shape.periods), desk.make_folder() / "day.desk"
+    found = costs.run_for_instructions(program, [file], data, RefusedCalls("read", most=AT_ONCE))
     yield f"new, {AT_ONCE} bytes a read", shapes.Cost(found)
 
 
-def costs_of(desk):
-    program = Program(desk.words[0], desk.room)
-    tried = [(of_journal, it) for it in journals()] + [(of_longer, it) for it in longer_journals()]
-    tried += [(of_torn, [count]) for count in TORN] + [(of_lines, [length]) for length in LINES] + [(small_reads, [])]
+def run_for_costs(desk):
+    program = HostileProgram(desk.words[0], desk.room)
+    tried = [(run_for_costs_of_journal, it) for it in yield_journals()] + [(run_for_costs_of_longer, it) for it in yield_longer_journals()]
+    tried += [(run_for_costs_of_torn, [count]) for count in TORN] + [(run_for_costs_of_lines, [length]) for length in LINES] + [(run_for_costs_of_small_reads, [])]
     with ThreadPoolExecutor() as pool:
         found = pool.map(lambda it: list(it[0](program, desk, *it[1])), tried)
         return list(itertools.chain.from_iterable(found))
 
 
-def count(desk):
-    shapes.write(HERE, costs_of(desk))
+def write_counted(desk):
+    shapes.write_tables(HERE, run_for_costs(desk))
 
 
 def run(counts, desk, dam, whole):
     if shutil.which("valgrind"):
-        shapes.compare(counts, HERE, costs_of(desk))
+        shapes.check_costs(counts, HERE, run_for_costs(desk))
     else:
         counts.leave_out("what a desk costs for each shape of a journal: valgrind, which counts instructions, is missing", 1)

@@ -10,47 +10,47 @@ import crashes
 import journals
 import kills
 import refused
-from device import SYNC, Desk, Refusal
+from device import SYNC, DeskProgram, RefusedFileCalls
 
 OPENED = 300  # files of crashes that are opened
 KILLS, MOST_KILLS = 10, 200  # of a desk without a fault, and of one with a fault if none finds it
 IN_USE = b"file: another process has it\n"
 
 
-def by_crashes(desk, given):
+def find_by_crashes(desk, given):
     """The files that a crash leaves, opened and crashed again."""
     return crashes.Crashes(desk, "crashes", given, "stand-ins").run(OPENED)
 
 
-def by_refused_syncs(desk, given):
+def find_by_refused_syncs(desk, given):
     """Each sync refused in turn."""
-    row = refused.Refusals(desk, "syncs", given)
-    ran = desk.run(row.file(), given.batches)
+    row = refused.RunsWithRefusals(desk, "syncs", given)
+    ran = desk.run(row.write_held_file(), given.batches)
     for number in range(1, 1 + sum(event.kind == SYNC for event in ran.events)):
-        row.run_one(Refusal(SYNC, number, number, errno.EIO), lambda refusal, found: True)
+        row.run_refused(RefusedFileCalls(SYNC, number, number, errno.EIO), lambda refusal, found: True)
     return row.wrong
 
 
-def by_repair(desk, given):
+def find_by_repair(desk, given):
     """Files whose end a crash left torn, opened and crashed again."""
     row = crashes.Crashes(desk, "repair", given, "stand-ins")
-    row.look_repaired()
+    row.check_repaired()
     return row.wrong
 
 
-def by_kills(desk, given):
+def find_by_kills(desk, given):
     """Kills at random moments. Whether one finds a fault depends on the load of the machine, so it may take several."""
     row = kills.Kills(desk, desk.words, given.journal, "stand-ins")
     for _ in range(MOST_KILLS if desk.surroundings["STAND_IN"] else KILLS):
-        row.round(may_be_at_once=False)
+        row.run_round(may_be_at_once=False)
         if row.wrong:
             break
     return row.wrong
 
 
-def by_second_desk(desk, given):
+def find_by_second_desk(desk, given):
     """A second desk is started while the first one runs."""
-    file = desk.folder() / "day.desk"
+    file = desk.make_folder() / "day.desk"
     pipes = {"stdin": subprocess.PIPE, "stdout": subprocess.PIPE, "stderr": subprocess.PIPE}
     surroundings = {**os.environ, **desk.surroundings}
     with subprocess.Popen([*desk.words, str(file)], env=surroundings, **pipes) as first:
@@ -66,45 +66,45 @@ def by_second_desk(desk, given):
 
 # Each fault of stand_in.c, and the test that has to find it.
 FAULTS = [
-    ("early", by_kills, "answers before the write"),
-    ("early", by_crashes, "answers before the write"),
-    ("answer before sync", by_crashes, "answers before the last sync"),
-    ("one sync", by_crashes, "syncs both writes at once"),
-    ("mark first", by_crashes, "opens the mark before the lines are there"),
-    ("torn line", by_repair, "takes a line without its end"),
-    ("takes all", by_crashes, "takes lines after the mark that doesn't count"),
-    ("drops last", by_crashes, "drops the last acknowledged record"),
-    ("no first sync", by_crashes, "prints records that it found and didn't sync"),
-    ("no folder", by_crashes, "doesn't sync the folder of a new file"),
-    ("unsynced repair", by_crashes, "doesn't sync its repair of a file"),
-    ("mark before blanks", by_repair, "writes the mark before the lines after it are gone"),
-    ("retry", by_refused_syncs, "goes on after a sync that failed"),
-    ("book after", by_crashes, "answers with the book after the record"),
-    ("twice", by_crashes, "enters a record twice after it was opened again"),
-    ("second desk", by_second_desk, "lets a second desk in"),
+    ("early", find_by_kills, "answers before the write"),
+    ("early", find_by_crashes, "answers before the write"),
+    ("answer before sync", find_by_crashes, "answers before the last sync"),
+    ("one sync", find_by_crashes, "syncs both writes at once"),
+    ("mark first", find_by_crashes, "opens the mark before the lines are there"),
+    ("torn line", find_by_repair, "takes a line without its end"),
+    ("takes all", find_by_crashes, "takes lines after the mark that doesn't count"),
+    ("drops last", find_by_crashes, "drops the last acknowledged record"),
+    ("no first sync", find_by_crashes, "prints records that it found and didn't sync"),
+    ("no folder", find_by_crashes, "doesn't sync the folder of a new file"),
+    ("unsynced repair", find_by_crashes, "doesn't sync its repair of a file"),
+    ("mark before blanks", find_by_repair, "writes the mark before the lines after it are gone"),
+    ("retry", find_by_refused_syncs, "goes on after a sync that failed"),
+    ("book after", find_by_crashes, "answers with the book after the record"),
+    ("twice", find_by_crashes, "enters a record twice after it was opened again"),
+    ("second desk", find_by_second_desk, "lets a second desk in"),
 ]
 
 
-def inputs(dam):
+def draw_inputs(dam):
     """A short input, and a long one for kills."""
     rng = random.Random("stand-ins")
-    short = journals.batched(dam, "stand-ins", journals.short_names, 9, most=4)
-    records = list(kills.load(rng, 3_000))
-    return short, journals.Input(journals.Journal(records, dam), [b"".join(records)], [True] * len(records))
+    short = journals.draw_input(dam, "stand-ins", journals.draw_short_names, 9, most=4)
+    records = list(kills.draw_load(rng, 3_000))
+    return short, journals.DeskInput(journals.Journal(records, dam), [b"".join(records)], [True] * len(records))
 
 
 def run(counts, desk, dam, _):
     begun = time.monotonic()
-    short, long = inputs(dam)
+    short, long = draw_inputs(dam)
 
     def found(fault, test):
-        given = long if test is by_kills else short
+        given = long if test is find_by_kills else short
         replies = desk.room / f"replies-{len(given.journal)}"
         replies.write_bytes(given.journal.printed(len(given.journal)))
-        wrong_desk = Desk([desk.room / "stand_in"], desk.room, {"STAND_IN": fault, "STAND_IN_REPLIES": str(replies)}, desk.jobs)
+        wrong_desk = DeskProgram([desk.room / "stand_in"], desk.room, {"STAND_IN": fault, "STAND_IN_REPLIES": str(replies)}, desk.jobs)
         return test(wrong_desk, given)
 
-    for test in (by_crashes, by_refused_syncs, by_repair, by_kills, by_second_desk):
+    for test in (find_by_crashes, find_by_refused_syncs, find_by_repair, find_by_kills, find_by_second_desk):
         wrong = found("", test)
         counts.check(f"a desk without a fault, {test.__name__}: {wrong[:2]}", not wrong)
     for fault, test, about in FAULTS:

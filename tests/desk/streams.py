@@ -22,15 +22,15 @@ from lib.journal import journal as format_of
 IN_USE = b"file: another process has it\n"
 LONGEST = 65_536  # bytes of a line
 FEW, MANY = 300, 1_000
-MUTATIONS = [hostile.cut, hostile.cut_front, hostile.insert, hostile.drop, hostile.change, hostile.number,
-             hostile.on_fields(hostile.quoted), hostile.on_fields(hostile.oddly_quoted)]  # fmt: skip
+MUTATIONS = [hostile.draw_front, hostile.draw_rest, hostile.with_insertion, hostile.with_gap, hostile.with_changed_byte, hostile.with_number,
+             hostile.on_fields(hostile.in_quotes), hostile.on_fields(hostile.with_odd_quotes)]  # fmt: skip
 
 
-class Faulty(Exception):
+class LineFault(Exception):
     """The words of a fault line after the line's number."""
 
 
-class Reader:
+class ExpectedDesk:
     """Reads lines as a desk does: `records` are those that are entered, in their written form."""
 
     def __init__(self):
@@ -41,46 +41,46 @@ class Reader:
     def entries(self):
         return max(0, len(self.records) - 1)
 
-    def read(self, line):
+    def enter_line(self, line):
         """Reads a line without its end."""
         self.line += 1
         try:
-            self.answers.append(self.enter(line))
-        except Faulty as fault:
+            self.answers.append(self.enter_or_raise(line))
+        except LineFault as fault:
             self.answers.append(f"fault,{self.line},{fault}\n".encode())
 
-    def enter(self, line):
+    def enter_or_raise(self, line):
         if len(line) > LONGEST:
-            raise Faulty("TooLong")
+            raise LineFault("TooLong")
         if not line.isascii():
-            raise Faulty(f"NotAscii,{next(at for at, byte in enumerate(line) if byte > 127)}")
+            raise LineFault(f"NotAscii,{next(at for at, byte in enumerate(line) if byte > 127)}")
         line += b"\n"  # which a quote that isn't closed takes in
         if self.day is None:
-            return self.enter_day(line)
-        if self.periods(line):
-            if self.periods(line) != self.day:
-                raise Faulty("OtherDay")
+            return self.enter_day_or_raise(line)
+        if self.periods_in(line):
+            if self.periods_in(line) != self.day:
+                raise LineFault("OtherDay")
             return 0
-        commands = self.parsed(f"day,{rules.GREATEST_PERIOD},,,,,,,\n".encode() + line).commands
+        commands = self.parse_or_raise(f"day,{rules.GREATEST_PERIOD},,,,,,,\n".encode() + line).commands
         if len(commands) != 1:
-            raise Faulty("NotOneRecord")
+            raise LineFault("NotOneRecord")
         (command,) = commands
         most = rules.MOST_RECORDS - 1 if command == format_of.Close() else rules.MOST_RECORDS - 2
         if self.entries >= most:
-            raise Faulty("JournalFull")
+            raise LineFault("JournalFull")
         self.records.append(f"{format_of.command_line(command)}\n".encode())
         return self.entries
 
-    def enter_day(self, line):
-        day = self.parsed(line)
+    def enter_day_or_raise(self, line):
+        day = self.parse_or_raise(line)
         if day.commands:
-            raise Faulty("NotOneRecord")
+            raise LineFault("NotOneRecord")
         self.day = day.periods
         self.records.append(f"day,{self.day},,,,,,,\n".encode())
         return 0
 
     @staticmethod
-    def periods(line):
+    def periods_in(line):
         """The periods of the day's record, if the line is one."""
         try:
             found = format_of.read_journal(line)
@@ -89,45 +89,45 @@ class Reader:
         return None if found.commands else found.periods
 
     @staticmethod
-    def parsed(text):
+    def parse_or_raise(text):
         try:
             return format_of.read_journal(text)
         except format_of.Fault as fault:
             words = str(fault).split()
-            raise Faulty(f"{words[1]},{words[-1]}" if words[1] == "BadField" else words[1]) from None
+            raise LineFault(f"{words[1]},{words[-1]}" if words[1] == "BadField" else words[1]) from None
 
-    def end(self, rest):
+    def end_input(self, rest):
         """The input ends in a line."""
         if rest:
             self.line += 1
             self.answers.append(f"fault,{self.line},CutShort\n".encode())
 
-    def printed(self, dam):
+    def run_dam_for_output(self, dam):
         """The right output, by lines."""
         replies = dam.replay(b"".join(self.records)).stdout.splitlines(keepends=True) if self.records else []
         return [answer if isinstance(answer, bytes) else replies[answer] for answer in self.answers]
 
 
-def read(text):
-    reader = Reader()
+def expected_of(text):
+    reader = ExpectedDesk()
     *lines, rest = text.split(b"\n")
     for line in lines:
-        reader.read(line)
-    reader.end(rest)
+        reader.enter_line(line)
+    reader.end_input(rest)
     return reader
 
 
-def written_otherwise(rng, record):
+def draw_other_form(rng, record):
     """The record with fields in quotes, or another line end: it means the same."""
     fields = record[:-1].split(b",")
     if rng.random() < 0.5:
-        fields = [hostile.quoted(rng, field) if rng.random() < 0.4 else field for field in fields]
+        fields = [hostile.in_quotes(rng, field) if rng.random() < 0.4 else field for field in fields]
     return b",".join(fields) + rng.choice([b"\n", b"\r\n", b"\r\n"])
 
 
-def stream(rng):
+def draw_stream(rng):
     """The bytes of an input."""
-    draw = rng.choice([journals.drawn, journals.drawn, journals.drawn, journals.short_names, journals.long_names])
+    draw = rng.choice([journals.draw_day, journals.draw_day, journals.draw_day, journals.draw_short_names, journals.draw_long_names])
     lines = []
     rate = rng.choice([0, 0, 0.05, 0.3])
     for record in draw(rng, rng.choice([0, 1, 3, 10, 30, 80])):
@@ -136,16 +136,16 @@ def stream(rng):
         if rng.random() < rate:
             day, long = b"day,%d,,,,,,,\n" % rng.choice(list(rules.DAYS)), b"A" * rng.choice([9, 70_000]) + b"\n"
             lines.append(rng.choice([*journals.FAULTY, day, CLOSE, long]))
-        lines.append(written_otherwise(rng, record) if rng.random() < rate else record)
+        lines.append(draw_other_form(rng, record) if rng.random() < rate else record)
     if rng.random() < 0.1:
         lines.append(rng.choice([CLOSE[:-1], CLOSE[:-9], b"x"]))
     return b"".join(lines)
 
 
-def cuts(rng, text):
+def draw_cuts(rng, text):
     """The text in parts, which come in one by one: by lines, or anywhere."""
     if rng.random() < 0.4:
-        return journals.cut_into(rng, text.splitlines(keepends=True), rng.choice([1, 9, 60])) if b"\r" not in text else [text]
+        return journals.draw_batches(rng, text.splitlines(keepends=True), rng.choice([1, 9, 60])) if b"\r" not in text else [text]
     parts, most = [], rng.choice([1 if len(text) < 2_000 else 7, 40, 400, device.PACKET])
     while text:
         count = rng.randint(1, most)
@@ -154,54 +154,54 @@ def cuts(rng, text):
     return parts
 
 
-class Streams:
+class RandomStreams:
     def __init__(self, desk, dam):
         self.desk, self.dam = desk, dam
         self.lines = self.entries = self.faults = 0
 
-    def wrong(self, seed):
+    def run_for_faults(self, seed):
         """The faults of one random input."""
         rng = random.Random(f"stream {seed}")
-        text = stream(rng)
-        reader = read(text)
-        expected = reader.printed(self.dam)
+        text = draw_stream(rng)
+        reader = expected_of(text)
+        expected = reader.run_dam_for_output(self.dam)
         self.lines, self.entries = self.lines + len(expected), self.entries + reader.entries
         self.faults += sum(line.startswith(b"fault,") for line in expected)
-        yield from self.whole(rng, text, reader, expected)
-        yield from self.halves(rng, text, reader, expected)
+        yield from self.run_whole(rng, text, reader, expected)
+        yield from self.run_halves(rng, text, reader, expected)
 
-    def whole(self, rng, text, reader, expected):
-        file = self.desk.folder() / "day.desk"
-        ran = self.desk.run(file, cuts(rng, text))
+    def run_whole(self, rng, text, reader, expected):
+        file = self.desk.make_folder() / "day.desk"
+        ran = self.desk.run(file, draw_cuts(rng, text))
         if (ran.status, ran.stdout, ran.stderr) != (0, b"".join(expected), b""):
             yield f"status {ran.status}, {ran.stderr[:80]!r}, {first_difference(ran.stdout, expected)}"
-        yield from self.kept(file, reader)
-        yield from syncs(ran.events)
+        yield from self.run_for_kept_faults(file, reader)
+        yield from faults_of_syncs(ran.events)
 
-    def kept(self, file, reader):
+    def run_for_kept_faults(self, file, reader):
         """The differences of the file and its journal from the entered records."""
         marked = b"".join(b"+" + record for record in reader.records)
         bytes_ = file.read_bytes()
-        if images.marked_in(bytes_) != marked or not images.is_at_rest(bytes_):
-            yield f"the file has {images.marked_in(bytes_)!r:.300} for {marked!r:.300}"
+        if images.parse_marked_lines(bytes_) != marked or not images.is_at_rest(bytes_):
+            yield f"the file has {images.parse_marked_lines(bytes_)!r:.300} for {marked!r:.300}"
         printed = subprocess.run([*self.desk.words, "--journal", str(file)], stdout=subprocess.PIPE, stderr=subprocess.PIPE)
         if (printed.returncode, printed.stdout, printed.stderr) != (0, b"".join(reader.records), b""):
             yield f"--journal: status {printed.returncode}, {printed.stderr[:80]!r}, {printed.stdout[-80:]!r}"
 
-    def halves(self, rng, text, reader, expected):
+    def run_halves(self, rng, text, reader, expected):
         """The same input in two runs, which both number their lines from 1."""
         lines = text.split(b"\n")
         half = rng.randrange(len(lines))
         front = b"".join(line + b"\n" for line in lines[:half])
-        first = read(front)
-        file = self.desk.folder() / "day.desk"
-        begun = self.desk.run(file, cuts(rng, front))
-        ended = self.desk.run(file, cuts(rng, text[len(front) :]))
+        first = expected_of(front)
+        file = self.desk.make_folder() / "day.desk"
+        begun = self.desk.run(file, draw_cuts(rng, front))
+        ended = self.desk.run(file, draw_cuts(rng, text[len(front) :]))
         held = [] if not first.records else self.dam.replay(b"".join(first.records)).stdout.splitlines(keepends=True)
         rest = [renumbered(line, half) for line in expected[half:]]
         if (begun.status, begun.stdout) != (0, b"".join(expected[:half])) or (ended.status, ended.stdout) != (0, b"".join([*held, *rest])):
             yield f"in two runs: statuses {begun.status} and {ended.status}, {first_difference(ended.stdout, [*held, *rest])}"
-        yield from self.kept(file, reader)
+        yield from self.run_for_kept_faults(file, reader)
 
 
 def renumbered(line, before):
@@ -219,7 +219,7 @@ def first_difference(stdout, expected):
     return f"{len(lines)} lines for {len(expected)}"
 
 
-def syncs(events):
+def faults_of_syncs(events):
     """Each read makes one batch at most, each batch two syncs at most, and a batch that enters nothing none."""
     counts, is_open = [], False
     for event in events:
@@ -233,10 +233,10 @@ def syncs(events):
         yield f"a batch with {wrong[0][0]} writes and {wrong[0][1]} syncs"
 
 
-def together(counts, desk, dam):
+def check_second_desk(counts, desk, dam):
     """A second desk, and the journal while a desk runs."""
-    given = journals.batched(dam, "together", journals.drawn, 40)
-    file = desk.folder() / "day.desk"
+    given = journals.draw_input(dam, "together", journals.draw_day, 40)
+    file = desk.make_folder() / "day.desk"
     process = subprocess.Popen([*desk.words, str(file)], stdin=subprocess.PIPE, stdout=subprocess.PIPE)
     done = 0
     for batch in given.batches:
@@ -260,15 +260,15 @@ def together(counts, desk, dam):
     process.stdin.close()
     counts.check("together: the first desk ends with 0", process.wait() == 0 and process.stdout.read() == b"")
     process.stdout.close()
-    many_at_once(counts, desk, given)
+    check_many_starts(counts, desk, given)
 
 
-def in_mid_load(counts, desk, dam):
+def check_journal_in_mid_load(counts, desk, dam):
     """The journal, printed again and again while batches come in: whole batches, and each acknowledged one."""
-    given = journals.batched(dam, "load", journals.drawn, 900)
-    file = desk.folder() / "day.desk"
-    surroundings = {**os.environ, **desk.environment(file, DESK_SLOW="300")}
-    ours, feeder = device.feed(given.batches)
+    given = journals.draw_input(dam, "load", journals.draw_day, 900)
+    file = desk.make_folder() / "day.desk"
+    surroundings = {**os.environ, **desk.environment_for(file, DESK_SLOW="300")}
+    ours, feeder = device.start_feeding(given.batches)
     with subprocess.Popen([*desk.words, str(file)], stdin=ours, stdout=subprocess.PIPE, env=surroundings) as process:
         os.close(ours)
         answered, seen = bytearray(process.stdout.readline()), set()
@@ -287,10 +287,10 @@ def in_mid_load(counts, desk, dam):
     counts.check(f"in mid-load: {len(seen)} journals were seen", len(seen) > 3)
 
 
-def many_at_once(counts, desk, given):
+def check_many_starts(counts, desk, given):
     """Of several desks that are started at once on a new file, one has it, and the others say so. Its input ends once they have ended: a
     desk that is still to open the file would have it after the first."""
-    file = desk.folder() / "day.desk"
+    file = desk.make_folder() / "day.desk"
     pipes = {"stdin": subprocess.PIPE, "stdout": subprocess.PIPE, "stderr": subprocess.PIPE}
     started = [subprocess.Popen([*desk.words, str(file)], **pipes) for _ in range(8)]
     until = time.monotonic() + device.SECONDS
@@ -303,12 +303,12 @@ def many_at_once(counts, desk, given):
 
 
 def run(counts, desk, dam, whole):
-    begun, streams = time.monotonic(), Streams(desk, dam)
+    begun, streams = time.monotonic(), RandomStreams(desk, dam)
     count = MANY if whole else FEW
     with ThreadPoolExecutor(desk.jobs) as pool:
-        for seed, found in enumerate(pool.map(lambda seed: list(streams.wrong(seed)), range(count))):
+        for seed, found in enumerate(pool.map(lambda seed: list(streams.run_for_faults(seed)), range(count))):
             counts.check(f"stream {seed}: {'; '.join(found)}", not found)
-    together(counts, desk, dam)
-    in_mid_load(counts, desk, dam)
+    check_second_desk(counts, desk, dam)
+    check_journal_in_mid_load(counts, desk, dam)
     print(f"streams: {count} of {streams.lines:,} lines, {streams.entries:,} entries and {streams.faults:,} fault lines; "
           f"{time.monotonic() - begun:.1f} s", flush=True)

@@ -9,7 +9,7 @@ import os
 import re
 from functools import cached_property
 
-from source import functions_of, outside
+from source import functions_of, parts_outside
 
 FOLDERS = ("must-fail", "wrong-bodies")
 NAMED = re.compile(r"^name:[ \t]*(.*?)[ \t]*$", re.MULTILINE)
@@ -18,11 +18,11 @@ TEST_LINE = re.compile(r"^test: (\w+) ([\w:]+)\n", re.MULTILINE)
 CRATE_PATH = re.compile(r"^file: crates/(\w+)/", re.MULTILINE)
 
 
-class Unfit(Exception):
+class UnfitEdit(Exception):
     """Why an edit cannot be applied."""
 
 
-class Edit:
+class WrongBody:
     """A wrong body of a crate: the whole texts that it makes, by their path in the crate, or the fault by which it makes none."""
 
     def __init__(self, name, place, text, folder, fault=None):
@@ -30,8 +30,8 @@ class Edit:
         self.rank = FIRST_FILE.search(text)[1] or "", name
         self.texts, self.fault = {}, fault
         try:
-            self.texts = {} if fault else texts_made(text, folder)
-        except Unfit as why:
+            self.texts = {} if fault else read_and_edit(text, folder)
+        except UnfitEdit as why:
             self.fault = str(why)
 
     @cached_property
@@ -40,14 +40,14 @@ class Edit:
         return bodies_changed(self.texts, self.folder)
 
 
-def edits_of(folder, kinds):
+def read_edits(folder, kinds):
     """Returns the edits of a crate in folders of these kinds, in the order of their names."""
     found = []
     for kind in kinds:
         files = os.listdir(f"{folder}/{kind}") if os.path.isdir(f"{folder}/{kind}") else []
         for file in sorted(files):
             if not file.endswith(".md"):
-                found += edits_in(f"{kind}/{file}", folder, may_be_several=kind != "must-fail")
+                found += read_edits_of_file(f"{kind}/{file}", folder, may_be_several=kind != "must-fail")
     found.sort(key=lambda it: it.name)
     for one, other in zip(found, found[1:]):
         if one.name == other.name:
@@ -55,20 +55,20 @@ def edits_of(folder, kinds):
     return found
 
 
-def edits_in(path, folder, may_be_several):
+def read_edits_of_file(path, folder, may_be_several):
     """Returns the edits of a file, given by its path in the crate."""
     name, ending = os.path.splitext(os.path.basename(path))
     if ending != ".edit":
-        return [Edit(name, path, "", folder, "its name does not end in .edit")]
-    text = read(f"{folder}/{path}")
+        return [WrongBody(name, path, "", folder, "its name does not end in .edit")]
+    text = read_text(f"{folder}/{path}")
     if not (may_be_several and NAMED.search(text)):
-        return [Edit(name, path, text, folder)]
+        return [WrongBody(name, path, text, folder)]
     found = []
     for named, line, body in parts_of(text):
         if named is None:
-            found.append(Edit(name, path, body, folder, "a line stands before the first 'name:' line"))
+            found.append(WrongBody(name, path, body, folder, "a line stands before the first 'name:' line"))
         else:
-            found.append(Edit(named, f"{path}:{line}", body, folder, None if named else "a 'name:' line names nothing"))
+            found.append(WrongBody(named, f"{path}:{line}", body, folder, None if named else "a 'name:' line names nothing"))
     for one, other in zip(found, found[1:]):
         if other.fault is None and other.rank < one.rank:
             other.fault = f"it stands after {one.name}, and not in the order of files and names"
@@ -86,11 +86,11 @@ def parts_of(text):
         line += body.count("\n")
 
 
-def edits_that_tests_find(file, top):
+def read_edits_that_tests_find(file, top):
     """Returns the edits of tests/rattle/wrong-bodies.edit, applied to the crates of this folder, each with the crate and the path of its
     test."""
     found, names = [], set()
-    for name, line, text in parts_of(read(file)):
+    for name, line, text in parts_of(read_text(file)):
         crates, tests, fault = {*CRATE_PATH.findall(text)}, TEST_LINE.findall(text), None
         if not name or name in names:
             fault = "it has no name, or another's"
@@ -98,12 +98,12 @@ def edits_that_tests_find(file, top):
             fault = "it needs one 'test:' line, and 'file:' lines of one crate"
         names.add(name)
         text = TEST_LINE.sub("", CRATE_PATH.sub("file: ", text))
-        edit = Edit(name, f"{os.path.relpath(file, top)}:{line}", text, f"{top}/crates/{min(crates, default='')}", fault)
+        edit = WrongBody(name, f"{os.path.relpath(file, top)}:{line}", text, f"{top}/crates/{min(crates, default='')}", fault)
         found.append((edit, *(tests or [("", "")])[0]))
     return found
 
 
-def texts_made(edit, folder):
+def read_and_edit(edit, folder):
     """Returns the texts that the text of an edit makes of the files of a crate, by their path in it."""
     path, old, texts = None, None, {}
     for line in edit.split("\n"):
@@ -112,28 +112,28 @@ def texts_made(edit, folder):
         if word == "file":
             path = text.strip()
             if os.path.normpath(path) != path or not path.startswith(("src/", "specs/", "proofs/")):
-                raise Unfit(f"its 'file:' line names no file of src/, specs/ or proofs/: {path}")
+                raise UnfitEdit(f"its 'file:' line names no file of src/, specs/ or proofs/: {path}")
         elif word == "old":
             old = text
         elif word == "new":
             if not path or not old:
-                raise Unfit("a 'new:' line stands before any 'file:' or 'old:' line")
+                raise UnfitEdit("a 'new:' line stands before any 'file:' or 'old:' line")
             if path not in texts:
-                texts[path] = right_text(folder, path)
+                texts[path] = read_right_text(folder, path)
             found = texts[path].count(old)
             if found != 1:
-                raise Unfit(f"an 'old:' text stands {found} times in {path}, and not once: {old.strip()}")
+                raise UnfitEdit(f"an 'old:' text stands {found} times in {path}, and not once: {old.strip()}")
             texts[path] = texts[path].replace(old, text)
             old = None
         elif line.strip():
-            raise Unfit(f"a line begins with none of 'file:', 'old:' and 'new:': {line}")
+            raise UnfitEdit(f"a line begins with none of 'file:', 'old:' and 'new:': {line}")
     if old:
-        raise Unfit("its last 'old:' line has no 'new:' line")
+        raise UnfitEdit("its last 'old:' line has no 'new:' line")
     if not texts:
-        raise Unfit("it has no 'file:', 'old:' and 'new:' line")
-    same = [it for it in texts if texts[it] == right_text(folder, it)]
+        raise UnfitEdit("it has no 'file:', 'old:' and 'new:' line")
+    same = [it for it in texts if texts[it] == read_right_text(folder, it)]
     if same:
-        raise Unfit(f"it leaves {same[0]} as it was")
+        raise UnfitEdit(f"it leaves {same[0]} as it was")
     return texts
 
 
@@ -141,9 +141,9 @@ def bodies_changed(texts, folder):
     """Returns the new body of each function whose body changes, by path and number; none if anything else changes too."""
     found = {}
     for path, text in texts.items():
-        right = right_text(folder, path)
+        right = read_right_text(folder, path)
         before, after = functions_of(right), functions_of(text)
-        if not path.startswith("src/") or outside(right, before) != outside(text, after):
+        if not path.startswith("src/") or parts_outside(right, before) != parts_outside(text, after):
             return {}
         for number, (old, new) in enumerate(zip(before, after)):
             if right[old.begins : old.ends] != text[new.begins : new.ends]:
@@ -163,17 +163,17 @@ def batches_of(edits):
     return found
 
 
-def right_text(folder, path):
+def read_right_text(folder, path):
     if not os.path.isfile(f"{folder}/{path}"):
-        raise Unfit(f"there is no file {path}")
-    return read(f"{folder}/{path}")
+        raise UnfitEdit(f"there is no file {path}")
+    return read_text(f"{folder}/{path}")
 
 
-def read(file):
+def read_text(file):
     with open(file, encoding="utf-8") as text:
         return text.read()
 
 
-def write(file, text):
+def write_text(file, text):
     with open(file, "w", encoding="utf-8") as it:
         it.write(text)

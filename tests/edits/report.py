@@ -25,7 +25,7 @@ WIDTH = 300
 TOO = " (and a proof of the function cites a name that went)"
 
 
-class Error(NamedTuple):
+class CheckError(NamedTuple):
     """An error of a check: the file and the line that it names, and its text."""
 
     path: str
@@ -36,7 +36,7 @@ class Error(NamedTuple):
         return f"{self.path}:{self.line}: {self.text}"[:WIDTH]
 
 
-class Report:
+class CheckReport:
     """The output of a check, read."""
 
     def __init__(self, printed):
@@ -44,7 +44,7 @@ class Report:
         self.is_proved = any(it.startswith("logic=proved ") for it in self.lines)
         self.is_refused = any(it.startswith("logic=not-proved") for it in self.lines)
         matches = [ERROR.match(it) for it in self.lines]
-        self.errors = [Error(it[1], int(it[2]), it[3]) for it in matches if it]
+        self.errors = [CheckError(it[1], int(it[2]), it[3]) for it in matches if it]
 
     def refusals(self):
         """Returns the functions that are refused for themselves, each with the first of its goals that is not proved."""
@@ -78,7 +78,7 @@ class Report:
                 found.setdefault(folder.replace("/", "::"), str(it))
         return found
 
-    def unread(self):
+    def error_of_reading(self):
         """Returns an error by which the check could not read a text of src/ or specs/, or None."""
         return next((it for it in self.errors if it.path.startswith(("src/", "specs/")) and UNREAD.search(it.text)), None)
 

@@ -2,7 +2,7 @@
 
 import unittest
 
-from report import Report, function_of
+from report import CheckReport, function_of
 
 REFUSED = """\
 checked toy::stack::Stack::low, 11 of 28
@@ -42,11 +42,11 @@ ILL = "src/plan.rt:73:9: error[unknown-field]: no field `cuts` on type `Plan`: h
 
 class Reports(unittest.TestCase):
     def test_how_a_check_ends(self):
-        ends = [(it.is_proved, it.is_refused) for it in map(Report, (PROVED, REFUSED, ILL, ""))]
+        ends = [(it.is_proved, it.is_refused) for it in map(CheckReport, (PROVED, REFUSED, ILL, ""))]
         self.assertEqual(ends, [(True, False), (False, True), (False, False), (False, False)])
 
     def test_functions_with_goals_of_their_own(self):
-        refused = Report(REFUSED).refusals()
+        refused = CheckReport(REFUSED).refusals()
         self.assertEqual(
             {name: why.split(": ")[0] for name, why in refused.items()},
             {
@@ -58,32 +58,32 @@ class Reports(unittest.TestCase):
         )
 
     def test_a_caller_is_not_refused_for_itself(self):
-        self.assertNotIn("toy::stack::Demand::of", Report(REFUSED).refusals())
+        self.assertNotIn("toy::stack::Demand::of", CheckReport(REFUSED).refusals())
 
     def test_a_name_that_went_is_no_refusal(self):
-        self.assertNotIn("toy::stack::Stack::all", Report(REFUSED).refusals())
+        self.assertNotIn("toy::stack::Stack::all", CheckReport(REFUSED).refusals())
 
     def test_a_name_that_went_is_told_with_the_goal(self):
-        refused = Report(REFUSED.replace("fn toy::stack::Stack::all", f"{GOAL}\nfn toy::stack::Stack::all")).refusals()
+        refused = CheckReport(REFUSED.replace("fn toy::stack::Stack::all", f"{GOAL}\nfn toy::stack::Stack::all")).refusals()
         self.assertTrue(refused["toy::stack::Stack::all"].endswith("(`returns`) (and a proof of the function cites a name that went)"))
         self.assertNotIn("went", refused["toy::stack::Stack::low"])
 
     def test_a_loop_that_may_not_end_is_a_refusal(self):
         line = "fn toy::waits: no proof: expected a measure in ./proofs/waits/Invariants.antt\nlogic=not-proved\n"
-        self.assertEqual([*Report(line).refusals()], ["toy::waits"])
-        self.assertTrue(Report(line).refusals()["toy::waits"].startswith("no goal, but a loop without a measure: expected a measure"))
+        self.assertEqual([*CheckReport(line).refusals()], ["toy::waits"])
+        self.assertTrue(CheckReport(line).refusals()["toy::waits"].startswith("no goal, but a loop without a measure: expected a measure"))
 
     def test_nothing_is_refused_of_a_proved_crate(self):
-        self.assertEqual(Report(PROVED).refusals(), {})
+        self.assertEqual(CheckReport(PROVED).refusals(), {})
 
     def test_errors_have_their_file_and_line(self):
-        (error,) = Report(ILL).errors
+        (error,) = CheckReport(ILL).errors
         self.assertEqual((error.path, error.line), ("src/plan.rt", 73))
-        self.assertEqual(len(Report(REFUSED).errors), 4)
+        self.assertEqual(len(CheckReport(REFUSED).errors), 4)
 
     def test_a_text_that_the_check_cannot_read(self):
-        self.assertIsNone(Report(REFUSED).unread())
-        error = Report("specs/Hour.antt:3:9: error: `steps` is not in scope\nlogic=not-proved\n").unread()
+        self.assertIsNone(CheckReport(REFUSED).error_of_reading())
+        error = CheckReport("specs/Hour.antt:3:9: error: `steps` is not in scope\nlogic=not-proved\n").error_of_reading()
         self.assertEqual(str(error), "specs/Hour.antt:3: `steps` is not in scope")
 
     def test_a_closure_belongs_to_its_function(self):

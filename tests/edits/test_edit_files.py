@@ -4,7 +4,7 @@ import os
 import tempfile
 import unittest
 
-from edit_files import Unfit, batches_of, edits_of, edits_that_tests_find, texts_made, write
+from edit_files import UnfitEdit, batches_of, read_and_edit, read_edits, read_edits_that_tests_find, write_text
 
 LIB = """\
 const MOST: u64 = 5;
@@ -30,13 +30,13 @@ class Edits(unittest.TestCase):
         self.crate = room.name
         for folder in ("src", "must-fail", "wrong-bodies"):
             os.mkdir(f"{self.crate}/{folder}")
-        write(f"{self.crate}/src/lib.rt", LIB)
+        write_text(f"{self.crate}/src/lib.rt", LIB)
 
     def made(self, text):
-        return texts_made(text, self.crate)["src/lib.rt"]
+        return read_and_edit(text, self.crate)["src/lib.rt"]
 
     def assert_unfit(self, text, why):
-        with self.assertRaises(Unfit) as fault:
+        with self.assertRaises(UnfitEdit) as fault:
             self.made(text)
         self.assertIn(why, str(fault.exception))
 
@@ -61,49 +61,49 @@ class Edits(unittest.TestCase):
         self.assert_unfit("", "it has no 'file:'")
 
     def test_the_edits_of_both_folders_in_the_order_of_their_names(self):
-        write(f"{self.crate}/must-fail/low.edit", edit("MOST - 4", "2"))
-        write(f"{self.crate}/wrong-bodies/high.edit", edit("MOST - 1", "MOST"))
-        write(f"{self.crate}/wrong-bodies/READ.md", "of no edit")
-        found = edits_of(self.crate, ("must-fail", "wrong-bodies"))
+        write_text(f"{self.crate}/must-fail/low.edit", edit("MOST - 4", "2"))
+        write_text(f"{self.crate}/wrong-bodies/high.edit", edit("MOST - 1", "MOST"))
+        write_text(f"{self.crate}/wrong-bodies/READ.md", "of no edit")
+        found = read_edits(self.crate, ("must-fail", "wrong-bodies"))
         self.assertEqual([it.name for it in found], ["high", "low"])
-        self.assertEqual([it.name for it in edits_of(self.crate, ("wrong-bodies",))], ["high"])
+        self.assertEqual([it.name for it in read_edits(self.crate, ("wrong-bodies",))], ["high"])
 
     def test_those_of_one_file_are_in_the_order_of_sources_and_names(self):
-        write(f"{self.crate}/src/above.rt", LIB)
+        write_text(f"{self.crate}/src/above.rt", LIB)
         low, high = edit("MOST - 4", "2"), edit("MOST - 1", "MOST")
         above = edit("MOST - 4", "2", "src/above.rt")
         good = f"name: z\n{above}name: high\n{high}name: low\n{low}"
         for text, misplaced in (good, {}), (f"name: low\n{low}name: high\n{high}", {"high": "low"}), (f"{good}name: a\n{above}", {"a": "low"}):
-            write(f"{self.crate}/wrong-bodies/all.edit", text)
-            faults = {it.name: it.fault for it in edits_of(self.crate, ("wrong-bodies",)) if it.fault}
+            write_text(f"{self.crate}/wrong-bodies/all.edit", text)
+            faults = {it.name: it.fault for it in read_edits(self.crate, ("wrong-bodies",)) if it.fault}
             wanted = {name: f"it stands after {other}, and not in the order of files and names" for name, other in misplaced.items()}
             self.assertEqual(faults, wanted)
 
     def test_files_that_would_not_be_tried_are_faults(self):
-        write(f"{self.crate}/must-fail/low.edit", edit("MOST - 4", "2"))
-        write(f"{self.crate}/wrong-bodies/low.edit", edit("MOST - 4", "3"))
-        write(f"{self.crate}/wrong-bodies/other.edti", edit("MOST - 4", "4"))
-        first, second, third = edits_of(self.crate, ("must-fail", "wrong-bodies"))
+        write_text(f"{self.crate}/must-fail/low.edit", edit("MOST - 4", "2"))
+        write_text(f"{self.crate}/wrong-bodies/low.edit", edit("MOST - 4", "3"))
+        write_text(f"{self.crate}/wrong-bodies/other.edti", edit("MOST - 4", "4"))
+        first, second, third = read_edits(self.crate, ("must-fail", "wrong-bodies"))
         self.assertIsNone(first.fault)
         self.assertEqual(second.fault, "the crate has another edit of this name, must-fail/low.edit")
         self.assertEqual(third.fault, "its name does not end in .edit")
 
     def test_a_file_of_several_edits(self):
         low, high = edit("MOST - 4", "2"), edit("MOST - 1", "MOST")
-        write(f"{self.crate}/wrong-bodies/all.edit", f"name: high\n{high}\nname: low\n{low}")
-        write(f"{self.crate}/wrong-bodies/alone.edit", edit("MOST - 4", "3"))
-        alone, highest, lowest = edits_of(self.crate, ("must-fail", "wrong-bodies"))
+        write_text(f"{self.crate}/wrong-bodies/all.edit", f"name: high\n{high}\nname: low\n{low}")
+        write_text(f"{self.crate}/wrong-bodies/alone.edit", edit("MOST - 4", "3"))
+        alone, highest, lowest = read_edits(self.crate, ("must-fail", "wrong-bodies"))
         self.assertEqual([it.name for it in (alone, highest, lowest)], ["alone", "high", "low"])
-        self.assertEqual(lowest.texts, texts_made(low, self.crate))
-        self.assertEqual(highest.texts, texts_made(high, self.crate))
-        self.assertEqual(alone.texts, texts_made(edit("MOST - 4", "3"), self.crate))
+        self.assertEqual(lowest.texts, read_and_edit(low, self.crate))
+        self.assertEqual(highest.texts, read_and_edit(high, self.crate))
+        self.assertEqual(alone.texts, read_and_edit(edit("MOST - 4", "3"), self.crate))
         places = [(it.place, it.fault) for it in (alone, highest, lowest)]
         self.assertEqual(places, [("wrong-bodies/alone.edit", None), ("wrong-bodies/all.edit:1", None), ("wrong-bodies/all.edit:6", None)])
 
     def test_faults_of_a_file_of_several_edits(self):
         body = edit("MOST - 4", "2")
-        write(f"{self.crate}/wrong-bodies/all.edit", f"{body}name: b\n{body}name: b\n{body}name: c\nname:\n{body}name: d\n{edit('no', 'x')}")
-        found = [(it.name, it.place.partition(":")[2], it.fault) for it in edits_of(self.crate, ("wrong-bodies",))]
+        write_text(f"{self.crate}/wrong-bodies/all.edit", f"{body}name: b\n{body}name: b\n{body}name: c\nname:\n{body}name: d\n{edit('no', 'x')}")
+        found = [(it.name, it.place.partition(":")[2], it.fault) for it in read_edits(self.crate, ("wrong-bodies",))]
         self.assertEqual(found, [
             ("", "13", "a 'name:' line names nothing"),
             ("all", "", "a line stands before the first 'name:' line"),
@@ -114,16 +114,16 @@ class Edits(unittest.TestCase):
         ])
 
     def test_an_edit_of_must_fail_has_no_name_line(self):
-        write(f"{self.crate}/must-fail/low.edit", "name: low\n" + edit("MOST - 4", "2"))
-        (found,) = edits_of(self.crate, ("must-fail",))
+        write_text(f"{self.crate}/must-fail/low.edit", "name: low\n" + edit("MOST - 4", "2"))
+        (found,) = read_edits(self.crate, ("must-fail",))
         self.assertEqual(found.fault, "a line begins with none of 'file:', 'old:' and 'new:': name: low")
 
     def test_what_an_edit_changes(self):
-        write(f"{self.crate}/wrong-bodies/a_body.edit", edit("MOST - 4", "2"))
-        write(f"{self.crate}/wrong-bodies/b_constant.edit", edit("= 5", "= 6"))
-        write(f"{self.crate}/wrong-bodies/c_both.edit", edit("= 5", "= 6") + edit("MOST - 4", "2"))
-        write(f"{self.crate}/wrong-bodies/d_two.edit", edit("MOST - 4", "2") + edit("MOST - 1", "6"))
-        body, constant, both, two = edits_of(self.crate, ("wrong-bodies",))
+        write_text(f"{self.crate}/wrong-bodies/a_body.edit", edit("MOST - 4", "2"))
+        write_text(f"{self.crate}/wrong-bodies/b_constant.edit", edit("= 5", "= 6"))
+        write_text(f"{self.crate}/wrong-bodies/c_both.edit", edit("= 5", "= 6") + edit("MOST - 4", "2"))
+        write_text(f"{self.crate}/wrong-bodies/d_two.edit", edit("MOST - 4", "2") + edit("MOST - 1", "6"))
+        body, constant, both, two = read_edits(self.crate, ("wrong-bodies",))
         self.assertEqual(body.bodies, {("src/lib.rt", 0): "{\n    2\n}"})
         self.assertEqual((constant.bodies, both.bodies), ({}, {}))
         self.assertEqual(two.bodies, {("src/lib.rt", 0): "{\n    2\n}", ("src/lib.rt", 1): "{\n    6\n}"})
@@ -131,8 +131,8 @@ class Edits(unittest.TestCase):
 
     def test_a_batch_has_each_function_once(self):
         for name, old, new in [("a", "MOST - 4", "2"), ("b", "MOST - 4", "3"), ("c", "MOST - 1", "4")]:
-            write(f"{self.crate}/wrong-bodies/{name}.edit", edit(old, new))
-        first, second, third = edits_of(self.crate, ("wrong-bodies",))
+            write_text(f"{self.crate}/wrong-bodies/{name}.edit", edit(old, new))
+        first, second, third = read_edits(self.crate, ("wrong-bodies",))
         self.assertEqual(batches_of([first, second, third]), [[first, third], [second]])
 
 
@@ -142,9 +142,9 @@ class EditsThatTestsFind(unittest.TestCase):
     def found(self, text):
         with tempfile.TemporaryDirectory(prefix="edits-") as top:
             os.makedirs(f"{top}/crates/a/src")
-            write(f"{top}/crates/a/src/lib.rt", LIB)
-            write(f"{top}/wrong-bodies.edit", text)
-            return edits_that_tests_find(f"{top}/wrong-bodies.edit", top)
+            write_text(f"{top}/crates/a/src/lib.rt", LIB)
+            write_text(f"{top}/wrong-bodies.edit", text)
+            return read_edits_that_tests_find(f"{top}/wrong-bodies.edit", top)
 
     def test_one_and_its_test(self):
         ((found, crate, test),) = self.found(self.GOOD)

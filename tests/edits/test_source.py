@@ -2,7 +2,7 @@
 
 import unittest
 
-from source import functions_of, homes_of, leaders_of, listed_name, outside
+from source import functions_of, homes_of, leaders_of, listed_name, parts_outside
 
 STEP = """\
 use crate::hour::Hour;
@@ -64,7 +64,7 @@ class Bodies(unittest.TestCase):
         self.assertTrue(bodies["Step::of"].endswith(".map(Step::new)\n    }"))
 
     def test_what_is_outside_the_bodies_has_the_clauses(self):
-        parts = outside(STEP, functions_of(STEP))
+        parts = parts_outside(STEP, functions_of(STEP))
         self.assertEqual(len(parts), 7)
         self.assertTrue(parts[0].endswith("measure { hour.len }\n    "))
         self.assertEqual(parts[6], "\n")

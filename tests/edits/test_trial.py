@@ -7,8 +7,8 @@ import re
 import tempfile
 import unittest
 
-from edit_files import edits_of, read, write
-from report import Report
+from edit_files import read_edits, read_text, write_text
+from report import CheckReport
 from source import functions_of
 from trial import NotProved, Trial
 
@@ -20,14 +20,14 @@ ILL = "src/lib.rt:{line}:5: error[no-such-function]: there is no function `ill`"
 GONE = "proofs/{name}/Answers.antt:1:1: error: `right` is not in scope"
 
 
-class Stand(Trial):
+class StandInTrial(Trial):
     """A trial whose check refuses a function with `wrong` in its body, and lists the methods of `Tree` under the module `tree`."""
 
-    def checked(self, what):
+    def run_check(self, what):
         self.checks += 1
         self.tried = [*getattr(self, "tried", []), what]
         os.makedirs(self.out, exist_ok=True)
-        text = read(f"{self.folder}/src/lib.rt")
+        text = read_text(f"{self.folder}/src/lib.rt")
         lines, ills, gone = [], [], []
         for it in functions_of(text):
             body, line = text[it.begins : it.ends], text[: it.begins].count("\n") + 2
@@ -43,7 +43,7 @@ class Stand(Trial):
             lines.append(f"fn toy::{'tree::' if it.name.startswith('Tree::') else ''}{it.name}: {said}")
         is_proved = all(re.search(r": (proved)$", it) for it in lines)
         end = "logic=proved functions=4" if is_proved else "logic=not-proved"
-        return Report("\n".join(ills or [*gone, *lines, end]))
+        return CheckReport("\n".join(ills or [*gone, *lines, end]))
 
 
 class Trials(unittest.TestCase):
@@ -53,16 +53,16 @@ class Trials(unittest.TestCase):
         self.copy, self.crate = room.name, f"{room.name}/crates/toy"
         os.makedirs(f"{self.crate}/src")
         os.mkdir(f"{self.crate}/wrong-bodies")
-        write(f"{self.crate}/src/lib.rt", LIB)
+        write_text(f"{self.crate}/src/lib.rt", LIB)
 
     def edit(self, name, **bodies):
         pairs = [f"old: fn {it}() -> u64 {{\nnew: fn {it}() -> u64 {{ {body}();\n" for it, body in bodies.items()]
-        write(f"{self.crate}/wrong-bodies/{name}.edit", "file: src/lib.rt\n" + "".join(pairs))
+        write_text(f"{self.crate}/wrong-bodies/{name}.edit", "file: src/lib.rt\n" + "".join(pairs))
 
     def tried(self, text=LIB, **how):
-        with contextlib.redirect_stdout(io.StringIO()), Stand(self.copy, "toy") as self.trial:
-            results = list(self.trial.try_all(edits_of(self.crate, ("wrong-bodies",)), **how))
-        self.assertEqual(read(f"{self.crate}/src/lib.rt"), text)
+        with contextlib.redirect_stdout(io.StringIO()), StandInTrial(self.copy, "toy") as self.trial:
+            results = list(self.trial.try_all(read_edits(self.crate, ("wrong-bodies",)), **how))
+        self.assertEqual(read_text(f"{self.crate}/src/lib.rt"), text)
         self.assertFalse(os.path.exists(self.trial.aside))
         return {name: (is_refused, why.split(":")[0]) for name, is_refused, why in results}
 
@@ -108,7 +108,7 @@ class Trials(unittest.TestCase):
 
     def test_functions_that_call_each_other_are_refused_together(self):
         cycle = LIB.replace("fn one", "#[cycle(one)]\nfn one").replace("fn two", "#[cycle(one)]\nfn two")
-        write(f"{self.crate}/src/lib.rt", cycle)
+        write_text(f"{self.crate}/src/lib.rt", cycle)
         self.edit("a", one="wrong")
         self.assertEqual(self.tried(cycle), {"a": (True, "refused")})
         self.assertEqual(self.trial.tried, ["as it stands", "1 wrong bodies at once"])
@@ -118,8 +118,8 @@ class Trials(unittest.TestCase):
 
     def test_a_method_of_a_type_that_another_file_defines_is_refused_in_the_batch(self):
         text = LIB.replace("fn one() -> u64 {\n    right()\n}", "impl Tree {\nfn one() -> u64 {\n    right()\n}\n}")
-        write(f"{self.crate}/src/lib.rt", text)
-        write(f"{self.crate}/src/tree.rt", "pub struct Tree {\n    depth: u64,\n}\n")
+        write_text(f"{self.crate}/src/lib.rt", text)
+        write_text(f"{self.crate}/src/tree.rt", "pub struct Tree {\n    depth: u64,\n}\n")
         self.edit("method", one="wrong")
         self.edit("other", two="wrong")
         self.assertEqual(self.tried(text), {"method": (True, "refused"), "other": (True, "refused")})
@@ -131,8 +131,8 @@ class Trials(unittest.TestCase):
         self.assertEqual(self.trial.tried, ["as it stands"])
 
     def test_a_crate_that_is_not_proved_as_it_stands(self):
-        write(f"{self.crate}/src/lib.rt", LIB.replace("right", "wrong", 1))
-        with self.assertRaises(NotProved), contextlib.redirect_stdout(io.StringIO()), Stand(self.copy, "toy"):
+        write_text(f"{self.crate}/src/lib.rt", LIB.replace("right", "wrong", 1))
+        with self.assertRaises(NotProved), contextlib.redirect_stdout(io.StringIO()), StandInTrial(self.copy, "toy"):
             self.fail("it was tried")
 
 

@@ -7,9 +7,9 @@ import subprocess
 import time
 from collections import Counter
 
-from edit_files import batches_of, read, write
-from report import Report
-from source import functions_of, homes_of, leaders_of, listed_name, outside
+from edit_files import batches_of, read_text, write_text
+from report import CheckReport
+from source import functions_of, homes_of, leaders_of, listed_name, parts_outside
 
 
 class Trial:
@@ -26,7 +26,7 @@ class Trial:
 
     def __enter__(self):
         """Proves the crate as it stands, or sees that it is proved, and sets that work aside."""
-        report = self.checked("as it stands")
+        report = self.run_check("as it stands")
         shutil.rmtree(self.aside, ignore_errors=True)
         if not report.is_proved:
             raise NotProved("\n".join(report.lines[-20:]))
@@ -47,22 +47,22 @@ class Trial:
                 yield it.name, False, f"BAD EDIT: {it.fault}"
         refused = set()
         for batch in [] if alone else batches_of([it for it in sound if it.bodies]):
-            for name, goal in self.batch(batch).items():
+            for name, goal in self.try_batch(batch).items():
                 refused.add(name)
                 yield name, True, f"refused: {goal}"
         for it in sound:
             if it.name not in refused:
-                yield (it.name, *self.alone(it))
+                yield (it.name, *self.try_alone(it))
 
-    def batch(self, edits):
+    def try_batch(self, edits):
         """Tries edits of different functions at once. Returns, by their names, those whose function is refused for itself, and a goal."""
         self.batches += 1
         texts, names, leaders, lines = self.laid_together(edits)
-        report = self.check(texts, f"{len(edits)} wrong bodies at once")
+        report = self.write_and_check(texts, f"{len(edits)} wrong bodies at once")
         if report.is_proved:
             return {}
         if not report.is_refused:
-            return self.batch_without_the_ill(edits, lines, report)
+            return self.try_batch_without_ill(edits, lines, report)
         # Functions that call each other are refused together.
         refused = {leaders.get(name, name): goal for name, goal in reversed(report.refusals().items())}
         counts = Counter(names.values())
@@ -79,27 +79,27 @@ class Trial:
                 found[it.name] = goals[0]
         return found
 
-    def batch_without_the_ill(self, edits, lines, report):
+    def try_batch_without_ill(self, edits, lines, report):
         """Tries a batch of which the prover saw nothing again, without the edits that do not compile, or else by halves."""
         errors = [(it.path, it.line) for it in report.errors]
         ill = [it for it in edits if any(path == key[0] and line in lines[key] for path, line in errors for key in it.bodies)]
         left = [it for it in edits if it not in ill]
         if ill:
-            return self.batch(left) if left else {}
+            return self.try_batch(left) if left else {}
         half = len(edits) // 2
-        return {**self.batch(edits[:half]), **self.batch(edits[half:])} if half else {}
+        return {**self.try_batch(edits[:half]), **self.try_batch(edits[half:])} if half else {}
 
     def laid_together(self, edits):
         """Returns the texts of the crate's files with all bodies of these edits; and of each function in them, by path and number,
         the name under which a check lists it, by that name the name of the function with whose proofs its own stand, and its lines."""
         bodies = {key: body for it in edits for key, body in it.bodies.items()}
         texts, names, leaders, lines = {}, {}, {}, {}
-        sources = self.sources()
+        sources = self.read_sources()
         homes = homes_of(sources)
         for path in sorted({path for path, _ in bodies}):
             right = sources[path]
             functions = functions_of(right)
-            first, *parts = outside(right, functions)
+            first, *parts = parts_outside(right, functions)
             text = first
             for number, (function, leader, part) in enumerate(zip(functions, leaders_of(right, functions), parts)):
                 begins = text.count("\n") + 1
@@ -111,59 +111,59 @@ class Trial:
             texts[path] = text
         return texts, names, leaders, lines
 
-    def sources(self):
+    def read_sources(self):
         """Returns the texts of the crate's files of code, by their path in the crate."""
         found = [f"{folder}/{it}" for folder, _, files in os.walk(f"{self.folder}/src") for it in files if it.endswith(".rt")]
-        return {os.path.relpath(it, self.folder): read(it) for it in found}
+        return {os.path.relpath(it, self.folder): read_text(it) for it in found}
 
-    def alone(self, edit):
+    def try_alone(self, edit):
         """Tries an edit by itself. Returns whether the crate is refused with it for more than a name that went, and why."""
         self.single += 1
-        report = self.check(edit.texts, edit.name)
+        report = self.write_and_check(edit.texts, edit.name)
         if report.is_proved:
             return False, "NOT REFUSED: the crate is still proved with it"
         if not report.is_refused:
             why = report.errors[0] if report.errors else "\n".join(report.lines[-6:])
             return False, f"BAD EDIT: the check ended before any proof: {why}"
-        if report.unread():
-            return False, f"BAD EDIT: the check cannot read the edited text: {report.unread()}"
+        if report.error_of_reading():
+            return False, f"BAD EDIT: the check cannot read the edited text: {report.error_of_reading()}"
         for why in report.refusals().values():
             return True, f"refused: {why}"
         return False, "BAD EDIT: it is refused only because a proof names what it took away: change the meaning and keep the names"
 
-    def check(self, texts, what):
+    def write_and_check(self, texts, what):
         """Checks the crate with these texts in place of its own."""
-        right = {path: read(f"{self.folder}/{path}") for path in texts}
+        right = {path: read_text(f"{self.folder}/{path}") for path in texts}
         shutil.rmtree(self.out, ignore_errors=True)
         shutil.copytree(self.aside, self.out)
         try:
             for path, text in texts.items():
-                write(f"{self.folder}/{path}", text)
-            return self.checked(what)
+                write_text(f"{self.folder}/{path}", text)
+            return self.run_check(what)
         finally:
             for path, text in right.items():
-                write(f"{self.folder}/{path}", text)
+                write_text(f"{self.folder}/{path}", text)
 
-    def checked(self, what):
+    def run_check(self, what):
         """Checks the crate as its files are now, and says how long that took."""
-        began, before = time.time(), processor_time()
+        began, before = time.time(), used_processor_time()
         printed = subprocess.run(
             self.command, cwd=self.folder, stdin=subprocess.DEVNULL, stdout=subprocess.PIPE, stderr=subprocess.STDOUT, errors="replace"
         ).stdout
         self.checks += 1
-        took, used = time.time() - began, processor_time() - before
+        took, used = time.time() - began, used_processor_time() - before
         print(f"{self.crate}: {what}: checked in {took:.0f} s ({used:.0f} s of a processor)", flush=True)
         if self.logs:
             os.makedirs(self.logs, exist_ok=True)
-            write(f"{self.logs}/{self.crate}-{self.checks}.log", printed)
-        return Report(printed)
+            write_text(f"{self.logs}/{self.crate}-{self.checks}.log", printed)
+        return CheckReport(printed)
 
 
 class NotProved(Exception):
     """The last output of a check about a crate that is not proved as it stands."""
 
 
-def processor_time():
+def used_processor_time():
     """Returns the seconds of a processor that the checks took so far."""
     used = resource.getrusage(resource.RUSAGE_CHILDREN)
     return used.ru_utime + used.ru_stime

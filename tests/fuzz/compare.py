@@ -25,20 +25,20 @@ ENDED = -1  # the status of a program that took too long
 LATE = "no answer in time"
 
 
-class Program:
+class TimedProgram:
     """A program, and how many seconds it may take to answer."""
 
     def __init__(self, path, seconds=SECONDS):
         self.path, self.seconds = path, seconds
         self.environment = dict(os.environb)  # which `os.environ` would encode for each run
 
-    def printed(self, words, data):
+    def run_for_output(self, words, data):
         """Its output for an input. Its streams are files in memory: pipes would have to be served while it runs, which takes longer
         than most runs."""
-        with in_memory(data) as stdin, in_memory() as stdout, in_memory() as stderr:
+        with open_in_memory(data) as stdin, open_in_memory() as stdout, open_in_memory() as stderr:
             ran = subprocess.Popen([self.path, *words], stdin=stdin, stdout=stdout, stderr=stderr, close_fds=False, env=self.environment)
             try:
-                wait_for(ran.pid, self.seconds)
+                wait_for_end(ran.pid, self.seconds)
             finally:
                 status = ran.poll()
                 if status is None:
@@ -46,14 +46,14 @@ class Program:
                     ran.wait()
             if status is None:
                 return Printed(ENDED, b"", f"{LATE}\n".encode())
-            return Printed(status, contents(stdout), contents(stderr))
+            return Printed(status, read_contents(stdout), read_contents(stderr))
 
-    def takes(self, words):
+    def runs_command(self, words):
         """Whether it has such a command: it then finds a fault in the empty input, and none in the command line."""
-        return self.printed(words, b"").status != COMMAND_LINE
+        return self.run_for_output(words, b"").status != COMMAND_LINE
 
 
-def in_memory(data=b""):
+def open_in_memory(data=b""):
     """A file in memory, at its beginning."""
     file = open(os.memfd_create("stream"), "w+b")
     file.write(data)
@@ -61,12 +61,12 @@ def in_memory(data=b""):
     return file
 
 
-def contents(file):
+def read_contents(file):
     file.seek(0)
     return file.read()
 
 
-def wait_for(pid, seconds):
+def wait_for_end(pid, seconds):
     """Waits until a process has ended, for at most this number of seconds: whether it has."""
     process = os.pidfd_open(pid)
     try:
@@ -77,12 +77,12 @@ def wait_for(pid, seconds):
         os.close(process)
 
 
-def refused(line):
+def refused_output(line):
     return Printed(1, b"", f"{line}\n".encode())
 
 
 @functools.lru_cache(maxsize=1)
-def reading(data):
+def journal_or_fault(data):
     """The journal or the fault that the rules read from an input. The last one is kept, since several commands get the same input."""
     try:
         return journal.read_journal(data)
@@ -90,31 +90,31 @@ def reading(data):
         return fault
 
 
-def right_answer(command, words, data, like=None):
+def find_right_output(command, words, data, like=None):
     """The output that a command must print for an input, by another program or else by the rules; None if that takes too long."""
     if like is None:
-        return wanted(command, data)
-    answer = like.printed([command, *words], data)
+        return right_output(command, data)
+    answer = like.run_for_output([command, *words], data)
     return None if answer.status == ENDED else answer
 
 
 @functools.lru_cache(maxsize=1)
-def wanted(command, data):
+def right_output(command, data):
     """The right output of a command for an input, by the rules; None if that takes too long. The last answer is kept, for several plans."""
-    read = reading(data)
+    read = journal_or_fault(data)
     if isinstance(read, journal.Fault):
-        return refused(read)
-    return {"replay": wanted_replies, "clear": wanted_results}[command](read)
+        return refused_output(read)
+    return {"replay": right_replies, "clear": right_results}[command](read)
 
 
-def wanted_replies(read):
+def right_replies(read):
     return Printed(0, book.replies_text(read).encode(), b"")
 
 
-def wanted_results(read):
+def right_results(read):
     closed, _ = book.run(read)
     if not closed.closed:
-        return refused("input: StillOpen")
+        return refused_output("input: StillOpen")
     problem = selection.Problem(closed)
     if len(problem.blocks) > MOST_BLOCKS:
         return None
@@ -126,7 +126,7 @@ def wanted_results(read):
     return Printed(0, text, b"")
 
 
-def day_faults(read):
+def fault_of_day(read):
     """The fault of `dam day` on a journal; None if there is none."""
     if len(read.commands) > rules.MOST_DAY_COMMANDS:
         return "input: TooManyCommands"
@@ -147,38 +147,38 @@ def day_differences(data, got):
         return [LATE]
     try:
         given = journal.read_journal(data)
-        fault = day_faults(given)
+        fault = fault_of_day(given)
     except journal.Fault as found:
         given, fault = None, found
     if fault:
-        return [] if got == refused(fault) else [f"the fault is {fault}"]
+        return [] if got == refused_output(fault) else [f"the fault is {fault}"]
     texts = results.split_day(got.stdout)
     if got.status or got.stderr or texts is None:
         return ["there is no text of a day"]
     written, published = texts
     wrong, run = faults_of_journal(given, written)
-    right = run and wanted_results(run)
+    right = run and right_results(run)
     if right is not None and published != right.stdout:
         wrong.append("its results aren't those of its journal")
     return wrong
 
 
-def differences(program, command, words, data, like=None):
+def run_for_differences(program, command, words, data, like=None):
     """The faults of a command's output for an input, by another program or else by the rules: nothing if all is right, only LATE
     if it took too long. A failure of the tool is a difference too."""
     try:
-        return found_differences(program, command, words, data, like)
+        return run_for_known_differences(program, command, words, data, like)
     except Exception as fault:
         return [f"the tool fails: {fault!r}"]
 
 
-def found_differences(program, command, words, data, like):
+def run_for_known_differences(program, command, words, data, like):
     if command == "day":
-        return day_differences(data, program.printed([command, *words], data))
-    right = right_answer(command, words, data, like)
+        return day_differences(data, program.run_for_output([command, *words], data))
+    right = find_right_output(command, words, data, like)
     if right is None:
         return []
-    got = program.printed([command, *words], data)
+    got = program.run_for_output([command, *words], data)
     if got.status == ENDED:
         return [LATE]
     return [f"{part} differs" for part, one, other in zip(Printed._fields, right, got) if one != other]

@@ -37,7 +37,7 @@ def volume_source(rng):
     return lambda: rng.randint(1, most)
 
 
-def hours_of(periods):
+def periods_by_hour(periods):
     """The hours of a day, each with its periods."""
     parts = rules.DAYS[periods].denominator
     return [list(range(first, first + parts)) for first in range(1, periods + 1, parts)]
@@ -49,11 +49,11 @@ class Profiles:
 
     def __init__(self, rng, periods, volume):
         self.rng, self.volume = rng, volume
-        self.hours = hours_of(periods)
+        self.hours = periods_by_hour(periods)
         self.sizes = [volume() for _ in range(rng.choice([1, 2, 4, 30]))]
         self.shape = {hour: rng.randint(1, 3) for hour in range(len(self.hours))}
-        every = [self.base, self.peak, self.night, self.span, self.shaped, self.by_hour, self.by_period]
-        self.kinds = rng.choice([[self.base], [self.base, self.peak, self.night], [self.shaped], rng.sample(every, 2), every])
+        every = [self.draw_base, self.draw_peak, self.draw_night, self.draw_span, self.draw_shaped, self.draw_by_hour, self.draw_by_period]
+        self.kinds = rng.choice([[self.draw_base], [self.draw_base, self.draw_peak, self.draw_night], [self.draw_shaped], rng.sample(every, 2), every])
         self.change = rng.choice([0, 0, 0.2, 0.6])
 
     def draw(self):
@@ -66,35 +66,35 @@ class Profiles:
                 volumes[period] = self.volume()
         return volumes
 
-    def size(self):
+    def draw_size(self):
         return self.rng.choice(self.sizes)
 
-    def flat(self, hours):
-        size = self.size()
+    def draw_flat(self, hours):
+        size = self.draw_size()
         return {period: size for hour in hours for period in self.hours[hour]}
 
-    def base(self):
-        return self.flat(range(len(self.hours)))
+    def draw_base(self):
+        return self.draw_flat(range(len(self.hours)))
 
-    def peak(self):
-        return self.flat(range(8, 20))
+    def draw_peak(self):
+        return self.draw_flat(range(8, 20))
 
-    def night(self):
-        return self.flat([hour for hour in range(len(self.hours)) if not 8 <= hour < 20])
+    def draw_night(self):
+        return self.draw_flat([hour for hour in range(len(self.hours)) if not 8 <= hour < 20])
 
-    def span(self):
+    def draw_span(self):
         first, last = sorted(self.rng.sample(range(len(self.hours) + 1), 2))
-        return self.flat(range(first, last))
+        return self.draw_flat(range(first, last))
 
-    def shaped(self):
+    def draw_shaped(self):
         """One shape in several sizes; at the limit of a volume its top is flat."""
-        size = self.size()
+        size = self.draw_size()
         return {period: min(size * self.shape[hour], rules.GREATEST_VOLUME) for hour, own in enumerate(self.hours) for period in own}
 
-    def by_hour(self):
-        return {period: volume for hour in range(len(self.hours)) for period, volume in self.flat([hour]).items()}
+    def draw_by_hour(self):
+        return {period: volume for hour in range(len(self.hours)) for period, volume in self.draw_flat([hour]).items()}
 
-    def by_period(self):
+    def draw_by_period(self):
         return {period: self.volume() for own in self.hours for period in own}
 
 
@@ -111,7 +111,7 @@ class Draft:
         self.active = few if rng.random() < 0.85 else list(range(1, self.periods + 1))
         self.hourly = rng.choice([0, 1, 2, 3, 4, 6, 9, 15, 40])
         if rng.random() < 0.4:
-            self.meet()
+            self.set_meeting_prices()
         self.participants = PARTICIPANTS[: rng.choice([1, 2, 4])]
         self.named = []  # pairs of a participant and a name that were submitted
         self.numbers = dict.fromkeys(PARTICIPANTS, 0)  # of each participant, how many of these
@@ -120,9 +120,9 @@ class Draft:
         self.lines = [f"day,{self.periods},,,,,,,"]
         self.profiles = None
         if rng.random() < 0.1 if with_profiles is None else with_profiles:
-            self.trade_everywhere()
+            self.set_trade_everywhere()
 
-    def meet(self):
+    def set_meeting_prices(self):
         """Many small orders at similar prices in few periods, and smaller blocks: there are many ways to accept them, and some would
         lose in the selection of greatest welfare."""
         rng = self.rng
@@ -132,88 +132,88 @@ class Draft:
         self.active = self.active[:2]
         self.hourly = rng.randint(5, 16)
 
-    def trade_everywhere(self):
+    def set_trade_everywhere(self):
         """Orders in all periods, or nearly all, and blocks with profiles as users have them, some of them too large to balance."""
         rng = self.rng
         market = rng.choice(["deep"] * 8 + ["thin"] * 4 + ["wide"] * 2 + [""] * 4)
         if market == "deep":
-            self.around(rng.choice([5, 50, 500]), rng.choice([0, 1, 10, 100, 500]))
+            self.set_prices_around(rng.choice([5, 50, 500]), rng.choice([0, 1, 10, 100, 500]))
             self.volume, self.block_volume = (lambda: rng.randint(2, 60)), (lambda: rng.randint(1, 4))
         elif market == "thin":  # a block moves the prices, so that many would lose
-            self.around(300, rng.choice([0, 20, 100]))
+            self.set_prices_around(300, rng.choice([0, 20, 100]))
             self.volume, self.block_volume = (lambda: rng.randint(20, 60)), (lambda: rng.randint(1, 15))
         elif market == "wide":  # one price, and blocks with limits near it: many selections have equal welfare, or nearly
-            self.around(0, rng.choice([0, 1, 50]))
+            self.set_prices_around(0, rng.choice([0, 1, 50]))
             self.volume, self.block_volume = (lambda: rng.randint(50, 200)), (lambda: rng.randint(1, 30))
         self.active = list(range(1, self.periods + 1))
         idle, pairs = rng.choice([0] * 7 + [1, self.periods // 2, self.periods]), rng.choice([1, 2, 4])
         for period in rng.sample(self.active, self.periods - idle):
             for side in ["buy", "sell"] * pairs:
-                self.enter_hour(*self.new_name("H"), side, period)
+                self.add_hour_of(*self.next_name("H"), side, period)
         self.hourly = rng.choice([0, 5, self.periods])
         self.profiles = Profiles(rng, self.periods, self.block_volume)
         if market == "wide":
-            self.profiles.kinds = [self.profiles.by_period]
+            self.profiles.kinds = [self.profiles.draw_by_period]
 
-    def around(self, far, near):
+    def set_prices_around(self, far, near):
         """Limits that differ from one price by these amounts at most, those of hourly orders and of blocks."""
         rng, middle = self.rng, self.rng.randint(2_000, 9_000)
         self.price, self.block_price = (lambda: middle + rng.randint(-far, far)), (lambda: middle + rng.randint(-near, near))
 
-    def name(self, prefix):
+    def draw_name(self, prefix):
         """A name that may be taken, now and then by the participant itself."""
         if self.named and self.rng.random() < 0.04:
             return self.rng.choice(self.named)
-        return self.new_name(prefix)
+        return self.next_name(prefix)
 
-    def new_name(self, prefix):
+    def next_name(self, prefix):
         who = self.rng.choice(self.participants)
         # A number of the participant's own: others have orders of the same names.
         return who, f"{prefix}{1 + self.numbers[who]}"
 
-    def submitted(self, who, name):
+    def note_name(self, who, name):
         self.named.append((who, name))
         self.numbers[who] += 1
 
-    def late(self):
+    def draw_late_period(self):
         """A period that the day may not have."""
         least = self.rng.choice([self.periods, min(rules.DAYS)])
         return self.rng.randint(least, rules.GREATEST_PERIOD)
 
-    def period(self):
+    def draw_period(self):
         if self.rng.random() < 0.01:
-            return self.late()
+            return self.draw_late_period()
         return self.rng.choice(self.active)
 
-    def profile(self):
+    def draw_profile(self):
         """The volumes of a block."""
         if self.profiles and self.rng.random() < 0.9:
             return ";".join(f"{period}:{volume}" for period, volume in sorted(self.profiles.draw().items()))
         most = len(self.active)
         periods = set(self.rng.sample(self.active, self.rng.randint(1, most)))
         if self.rng.random() < 0.02:
-            periods.add(self.late())
+            periods.add(self.draw_late_period())
         same = self.block_volume() if self.rng.random() < 0.5 else None
         return ";".join(f"{period}:{same or self.block_volume()}" for period in sorted(periods))
 
-    def submit_hour(self):
-        who, name = self.name("H")
+    def add_hour(self):
+        who, name = self.draw_name("H")
         side = self.rng.choice(["buy", "sell"])
-        self.enter_hour(who, name, side, self.period())
+        self.add_hour_of(who, name, side, self.draw_period())
 
-    def enter_hour(self, who, name, side, period):
+    def add_hour_of(self, who, name, side, period):
         self.lines.append(f"submit,{who},{name},hour,{side},{self.price()},{period}:{self.volume()},,")
-        self.submitted(who, name)
+        self.note_name(who, name)
 
-    def limit(self, side, child):
+    def draw_limit(self, side, child):
         """The limit of a block. A child's may be the best of several, so that the child gains while its parent loses; and with profiles
         a block's is the best of a few, since it has to gain over many periods."""
         count = 4 if child and self.rng.random() < 0.6 else self.rng.randint(1, 3) if self.profiles else 1
         drawn = [self.block_price() for _ in range(count)]
         return max(drawn) if side == "buy" else min(drawn)
 
-    def submit_block(self):
-        who, name = self.name("K")
+    def add_block(self):
+        who, name = self.draw_name("K")
         parent = group = ""
         own = [other for owner, other in self.blocks if owner == who]
         if own and self.rng.random() < self.links:
@@ -223,64 +223,64 @@ class Draft:
         if self.rng.random() < self.groups:
             group = self.rng.choice("XY")
         side = self.rng.choice(["buy", "sell", "sell"])
-        limit = self.limit(side, parent)
-        self.lines.append(f"submit,{who},{name},block,{side},{limit},{self.profile()},{parent},{group}")
-        self.submitted(who, name)
+        limit = self.draw_limit(side, parent)
+        self.lines.append(f"submit,{who},{name},block,{side},{limit},{self.draw_profile()},{parent},{group}")
+        self.note_name(who, name)
         self.blocks.append((who, name))
 
-    def some_name(self):
+    def draw_taken_name(self):
         if self.named and self.rng.random() < 0.9:
             return self.rng.choice(self.named)
         return self.rng.choice(self.participants), "NEVER"
 
-    def amend(self):
-        who, name = self.some_name()
-        volumes = self.profile() if self.rng.random() < 0.5 else f"{self.period()}:{self.volume()}"
+    def add_amend(self):
+        who, name = self.draw_taken_name()
+        volumes = self.draw_profile() if self.rng.random() < 0.5 else f"{self.draw_period()}:{self.volume()}"
         self.lines.append(f"amend,{who},{name},,,{self.price()},{volumes},,")
 
-    def cancel(self):
-        who, name = self.some_name()
+    def add_cancel(self):
+        who, name = self.draw_taken_name()
         self.lines.append(f"cancel,{who},{name},,,,,,")
 
 
-def mixed(draft, hourly, blocks):
+def add_mixed(draft, hourly, blocks):
     """Submits in any order, with amends and cancels among them."""
     rng = draft.rng
-    submits = [draft.submit_hour] * hourly + [draft.submit_block] * blocks
+    submits = [draft.add_hour] * hourly + [draft.add_block] * blocks
     rng.shuffle(submits)
     changes = rng.choice([0, 0, 0.1, 0.4])
     for submit in submits:
         submit()
         if rng.random() < changes:
-            rng.choice([draft.amend, draft.cancel])()
+            rng.choice([draft.add_amend, draft.add_cancel])()
 
 
-def full(draft):
+def add_full(draft):
     """A book at its limits, or a journal at its limit of records: for replays alone."""
     rng = draft.rng
     kind = rng.randrange(6)
     if kind == 0:
-        mixed(draft, rng.randint(3_990, 4_100), rng.randint(0, 30))
+        add_mixed(draft, rng.randint(3_990, 4_100), rng.randint(0, 30))
     elif kind > 1:
-        mixed(draft, rng.randint(0, 5), rng.randint(22, 40))
+        add_mixed(draft, rng.randint(0, 5), rng.randint(22, 40))
     else:
         draft.lines += ["close,,,,,,,,"] * rng.randint(9_995, 10_005)
 
 
-def with_profiles(rng, blocks):
+def draw_day_with_profiles(rng, blocks):
     """A closed day with this number of blocks, most of them with profiles as users have them."""
     draft = Draft(rng, with_profiles=True)
-    mixed(draft, draft.hourly, blocks)
-    return whole([*draft.lines, "close,,,,,,,,"])
+    add_mixed(draft, draft.hourly, blocks)
+    return text_of_lines([*draft.lines, "close,,,,,,,,"])
 
 
-def lines(rng, most_blocks, closing=True):
+def draw_lines(rng, most_blocks, closing=True):
     """The lines of a random day."""
     draft = Draft(rng)
     if rng.random() < 0.004:
-        full(draft)
+        add_full(draft)
     else:
-        mixed(draft, draft.hourly, rng.choice([0, 1, 1, 2, 2, 3, 4, 5, most_blocks]))
+        add_mixed(draft, draft.hourly, rng.choice([0, 1, 1, 2, 2, 3, 4, 5, most_blocks]))
     if not closing:
         return draft.lines
     if rng.random() < 0.97:
@@ -290,10 +290,10 @@ def lines(rng, most_blocks, closing=True):
     return draft.lines
 
 
-def text(rng, most_blocks, closing=True):
-    return whole(lines(rng, most_blocks, closing))
+def draw_text(rng, most_blocks, closing=True):
+    return text_of_lines(draw_lines(rng, most_blocks, closing))
 
 
-def whole(lines):
+def text_of_lines(lines):
     """The text of these lines."""
     return "".join(f"{line}\n" for line in lines).encode()

@@ -42,7 +42,7 @@ INTERESTING = b"0123456789,-\n\r\" ;ABKacejr\x00\xff"
 RIGHT, WRONG, UNREAD, ENCODING = command.DONE, command.DIFFERS, command.NO_INPUT, command.ENCODING
 
 
-def arguments():
+def parse_arguments():
     parser = parser_of_cases("tests/fuzz/doctored.py", __doc__, "cases", 5_000)
     parser.add_argument("--keep", metavar="FOLDER", help="keeps each pair on which the audit is wrong here")
     return parser.parse_args()
@@ -52,20 +52,20 @@ class Pairs:
     """Random days with the results that the program prints; some are kept for later cases."""
 
     def __init__(self, program):
-        self.program = compare.Program(program)
+        self.program = compare.TimedProgram(program)
         self.other = (b"day,24,,,,,,,\nclose,,,,,,,,\n", b"")
 
-    def drawn(self, rng):
+    def draw_cleared(self, rng):
         """A closed journal that the program clears, and the results."""
         while True:
-            data = days.text(rng, MOST_BLOCKS)
-            ran = self.program.printed(["clear"], data)
+            data = days.draw_text(rng, MOST_BLOCKS)
+            ran = self.program.run_for_output(["clear"], data)
             if ran.status == 0 and len(data) < 100_000:
                 return data, ran.stdout
 
-    def printed(self, data):
+    def run_for_results(self, data):
         """The results that the program prints for a journal, or None if it refuses it."""
-        ran = self.program.printed(["clear"], data)
+        ran = self.program.run_for_output(["clear"], data)
         return ran.stdout if ran.status == 0 else None
 
 
@@ -77,19 +77,19 @@ def is_open(data):
         return False
 
 
-def wanted(pairs, data, text):
+def run_for_right_status(pairs, data, text):
     """The status that the audit of a pair must have, by the program."""
     if kinds.kind_of(data) not in (None, kinds.JOURNAL) or kinds.kind_of(text) not in (None, kinds.RESULTS):
         return UNREAD
-    right = pairs.printed(data)
+    right = pairs.run_for_results(data)
     if right is None:
         return WRONG if is_open(data) else UNREAD
     if text == right:
         return RIGHT
-    return ENCODING if decoded(text) == right else WRONG
+    return ENCODING if decoded_or_none(text) == right else WRONG
 
 
-def audited(folder, data, text):
+def write_and_audit(folder, data, text):
     """The status and the record of the audit of a pair."""
     paths = Path(folder, "journal"), Path(folder, "results")
     for path, content in zip(paths, (data, text)):
@@ -106,7 +106,7 @@ def audited(folder, data, text):
     return audit.status, audit.record(audit.status)
 
 
-def a_byte(rng, data):
+def with_changed_byte(rng, data):
     at = rng.randrange(len(data) + 1)
     kind = rng.randrange(4)
     byte = bytes([rng.choice(INTERESTING) if rng.random() < 0.8 else rng.randrange(256)])
@@ -117,7 +117,7 @@ def a_byte(rng, data):
     return "another byte", data[:at] + byte + data[at + 1 :]
 
 
-def a_field(rng, data):
+def with_changed_field(rng, data):
     """A field of a line, made larger, smaller, empty, or that of another line."""
     lines = [line.split(b",") for line in data.split(b"\n")]
     line = rng.choice([line for line in lines if len(line) > 1] or [lines[0]])
@@ -130,7 +130,7 @@ def a_field(rng, data):
     return "a field", b"\n".join(b",".join(line) for line in lines)
 
 
-def a_line(rng, data):
+def with_changed_line(rng, data):
     """A line less, twice, moved, or swapped with the next; or one of the text's words changed throughout."""
     lines = data.splitlines(keepends=True)
     at, to = rng.randrange(len(lines)), rng.randrange(len(lines))
@@ -149,16 +149,16 @@ def a_line(rng, data):
     return "a word changed", data.replace(one, other, rng.choice([1, -1]))
 
 
-def a_cut(rng, data):
+def with_end_cut(rng, data):
     return "the end cut off", data[: rng.randrange(len(data) + 1)]
 
 
-def doctored(rng, data):
+def draw_doctored(rng, data):
     """In words what was changed, and the changed text."""
-    return rng.choice([a_byte, a_field, a_field, a_line, a_line, a_cut])(rng, data)
+    return rng.choice([with_changed_byte, with_changed_field, with_changed_field, with_changed_line, with_changed_line, with_end_cut])(rng, data)
 
 
-def encoded(rng, data):
+def draw_other_encoding(rng, data):
     """The same content in another encoding."""
     kind = rng.randrange(5)
     if kind == 0:
@@ -172,7 +172,7 @@ def encoded(rng, data):
     return "UTF-16", data.decode().encode("utf-16")
 
 
-def decoded(data):
+def decoded_or_none(data):
     """The text in the encoding of results, without what concerns only how it is encoded; None if it isn't one. Python's own modules read it,
     and nothing of `lib`."""
     for mark, encoding in ((b"\xef\xbb\xbf", "utf-8-sig"), (b"\xff\xfe", "utf-16"), (b"\xfe\xff", "utf-16")):
@@ -192,7 +192,7 @@ def decoded(data):
     return "".join(f"{','.join(row)}\n" for row in rows).encode()
 
 
-def worse(rng, data):
+def draw_worse_results(rng, data):
     """The results of another selection of a day's blocks, eligible or not; None if it has no other whose periods balance."""
     problem = selection.Problem(book.run(journal.read_journal(data))[0])
     for _ in range(8):
@@ -203,7 +203,7 @@ def worse(rng, data):
     return None
 
 
-def changed(rng, pairs, data, text):
+def draw_changed_pair(rng, pairs, data, text):
     """A doctored pair, and in words how."""
     kind = rng.randrange(10)
     if kind == 0:
@@ -211,24 +211,24 @@ def changed(rng, pairs, data, text):
     if kind == 1:
         return pairs.other[0], text, "another journal"
     if kind == 2:
-        other = worse(rng, data)
+        other = draw_worse_results(rng, data)
         if other is not None:
             return data, other, "another selection"
     if kind == 3:
-        words, other = encoded(rng, text)
+        words, other = draw_other_encoding(rng, text)
         return data, other, words
     if kind in (4, 5):
-        words, other = doctored(rng, data)
+        words, other = draw_doctored(rng, data)
         return other, text, f"{words} of the journal"
-    words, other = doctored(rng, text)
+    words, other = draw_doctored(rng, text)
     return data, other, f"{words} of the results"
 
 
-def trouble(folder, pairs, data, text):
+def fault_of_audit(folder, pairs, data, text):
     """The fault of the audit of a pair; nothing if all is right."""
-    right = wanted(pairs, data, text)
+    right = run_for_right_status(pairs, data, text)
     try:
-        status, record = audited(folder, data, text)
+        status, record = write_and_audit(folder, data, text)
         json.dumps(record)
     except Exception as fault:
         return right, f"the audit fails: {fault!r}"
@@ -240,15 +240,15 @@ def trouble(folder, pairs, data, text):
 
 
 def main():
-    args = arguments()
+    args = parse_arguments()
     pairs, seen, failed = Pairs(args.program), Counter(), 0
     with tempfile.TemporaryDirectory() as folder:
         for number in range(args.first, args.first + args.count):
             rng = random.Random(f"doctored {args.seed} {number}")
-            pairs.other = pairs.drawn(random.Random(f"other {args.seed} {number}"))
-            pair = pairs.drawn(rng)
-            data, text, words = changed(rng, pairs, *pair)
-            status, wrong = trouble(folder, pairs, data, text)
+            pairs.other = pairs.draw_cleared(random.Random(f"other {args.seed} {number}"))
+            pair = pairs.draw_cleared(rng)
+            data, text, words = draw_changed_pair(rng, pairs, *pair)
+            status, wrong = fault_of_audit(folder, pairs, data, text)
             seen[status] += 1
             if wrong:
                 failed += 1

@@ -31,7 +31,7 @@ EMPTY = b"day,24,,,,,,,\n" + CLOSE
 LETTERS = "ABCDEFGH"
 
 
-def quoted(text):
+def with_quotes(text):
     """The same journal, with every field quoted, line ends of two bytes, and an empty line after each record."""
     return b"".join(b'"%b"\r\n\r\n' % record.replace(b",", b'","') for record in text.splitlines())
 
@@ -53,9 +53,9 @@ def long_day():
     return "".join(f"{line}\n" for line in lines).encode()
 
 
-def inputs():
+def inputs_with_commands():
     """The commands, words and texts."""
-    for spelled in (bytes, quoted):
+    for spelled in (bytes, with_quotes):
         for front in fronts(spelled(EMPTY)) + fronts(spelled(CLOSED)):
             yield "replay", [], front
             yield "clear", [], front
@@ -81,9 +81,9 @@ def inputs():
 def main():
     parser = argparse.ArgumentParser(prog="tests/fuzz/fixed.py", description=__doc__)
     parser.add_argument("program", metavar="PROGRAM", help="the built program, crates/dam_cli/out/dam_cli")
-    program, counts = compare.Program(parser.parse_args().program), Counts()
-    for command, words, text in inputs():
-        wrong = compare.differences(program, command, words, text)
+    program, counts = compare.TimedProgram(parser.parse_args().program), Counts()
+    for command, words, text in inputs_with_commands():
+        wrong = compare.run_for_differences(program, command, words, text)
         counts.check(f"{' '.join([command, *words])} of {len(text)} bytes that end with {text[-20:]!r}: {''.join(wrong[:1])}", not wrong)
     return counts.print_totals()
 

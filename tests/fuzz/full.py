@@ -33,7 +33,7 @@ LEVEL = 6_000  # the mean price of a day, in cents per MWh
 CROWDED = 18  # the period of all orders of a crowded market
 
 
-class Market(NamedTuple):
+class FullMarket(NamedTuple):
     """The hourly orders of a day, and the blocks: the limits of both are at most so far from the price, in cents."""
 
     hourly: int  # how many; 0 for two of each side in a period
@@ -46,12 +46,12 @@ class Market(NamedTuple):
 
 
 MARKETS = {
-    "deep": Market(rules.MOST_HOURLY, (50, 399), 2_000, (20, 119), 50),
-    "thin": Market(rules.MOST_HOURLY, (1, 9), 2_000, (10, 39), 100),
-    "few": Market(0, (50, 399), 2_000, (1, 40), 100),
-    "level": Market(rules.MOST_HOURLY, (500, 999), 0, (10, 60), 0, swing=0),
-    "large": Market(rules.MOST_HOURLY, (50, 399), 2_000, (500, 1_999), 50),
-    "crowded": Market(rules.MOST_HOURLY, (1, 99), 2_000, (50, 999), 0, is_crowded=True),
+    "deep": FullMarket(rules.MOST_HOURLY, (50, 399), 2_000, (20, 119), 50),
+    "thin": FullMarket(rules.MOST_HOURLY, (1, 9), 2_000, (10, 39), 100),
+    "few": FullMarket(0, (50, 399), 2_000, (1, 40), 100),
+    "level": FullMarket(rules.MOST_HOURLY, (500, 999), 0, (10, 60), 0, swing=0),
+    "large": FullMarket(rules.MOST_HOURLY, (50, 399), 2_000, (500, 1_999), 50),
+    "crowded": FullMarket(rules.MOST_HOURLY, (1, 99), 2_000, (50, 999), 0, is_crowded=True),
 }
 BONDS = ["free", "links", "groups", "both"]
 LONG = [("deep", 24), ("thin", 100), ("level", 96)]  # the books that come from a long journal
@@ -65,37 +65,37 @@ class Size(NamedTuple):
     commands: int
 
 
-class Drawn:
+class FullDay:
     """A day in the making: its submits, and how its orders are drawn."""
 
     def __init__(self, rng, periods, market, size, is_flat, bonds):
         self.rng, self.periods, self.market, self.is_flat = rng, periods, MARKETS[market], is_flat
         count = min(self.market.hourly or 4 * periods, size.hourly)
         self.is_full = count == rules.MOST_HOURLY
-        self.submits = [self.hour(number) for number in range(count)]
-        self.submits += [self.block(number, bonds) for number in range(size.blocks)]
+        self.submits = [self.draw_hour(number) for number in range(count)]
+        self.submits += [self.draw_block(number, bonds) for number in range(size.blocks)]
 
-    def price(self, period):
+    def price_at(self, period):
         return LEVEL + round(self.market.swing * math.sin(2 * math.pi * period / self.periods))
 
-    def around(self, price, width):
+    def draw_around(self, price, width):
         return price + self.rng.randint(-width, width)
 
-    def hour(self, number):
+    def draw_hour(self, number):
         """The record of an hourly order. The names have from 1 to 12 bytes."""
         at, period = divmod(number, self.periods)
         at, period = (number, CROWDED - 1) if self.market.is_crowded else (at, period)
         period, side = period + 1, "sell" if at % 2 else "buy"
         who, name = PARTICIPANTS[number % len(PARTICIPANTS)], f"H{number}" if number % 3 else f"HOURLY-{number:05}"
-        return f"submit,{who},{name if number else 'H'},hour,{side},{self.limit(period)},{self.volume(period)},,"
+        return f"submit,{who},{name if number else 'H'},hour,{side},{self.draw_limit(period)},{self.draw_volume(period)},,"
 
-    def limit(self, period):
-        return self.around(self.price(period), self.market.far)
+    def draw_limit(self, period):
+        return self.draw_around(self.price_at(period), self.market.far)
 
-    def volume(self, period):
+    def draw_volume(self, period):
         return f"{period}:{self.rng.randint(*self.market.volumes)}"
 
-    def block(self, number, bonds):
+    def draw_block(self, number, bonds):
         family, place = divmod(number, 4)
         parent = group = ""
         if bonds == "links" and place:
@@ -104,54 +104,54 @@ class Drawn:
             parent = f"K{4 * family}"
         if bonds == "groups" or bonds == "both" and place:
             group = f"GROUP-{family}"
-        side, (price, volumes) = self.rng.choice(["buy", "sell"]), self.offer()
+        side, (price, volumes) = self.rng.choice(["buy", "sell"]), self.draw_offer()
         return f"submit,{PARTICIPANTS[family % len(PARTICIPANTS)]},K{number},block,{side},{price},{volumes},{parent},{group}"
 
-    def offer(self):
+    def draw_offer(self):
         """A limit price near the mean price of the volumes, and these."""
         one = self.rng.randint(*self.market.blocks)
         periods = [CROWDED] if self.market.is_crowded else range(1, self.periods + 1)
         volumes = {period: one if self.is_flat else self.rng.randint(*self.market.blocks) for period in periods}
-        mean = sum(self.price(period) * volume for period, volume in volumes.items()) / sum(volumes.values())
-        return self.around(round(mean), self.market.near), ";".join(f"{period}:{volume}" for period, volume in volumes.items())
+        mean = sum(self.price_at(period) * volume for period, volume in volumes.items()) / sum(volumes.values())
+        return self.draw_around(round(mean), self.market.near), ";".join(f"{period}:{volume}" for period, volume in volumes.items())
 
-    def amend(self, submit):
+    def draw_amend(self, submit):
         """A record that changes the limit and the volumes of this submit's order."""
         _, who, name, kind, _, _, volumes, *_ = submit.split(",")
         if kind == "block":
-            price, volumes = self.offer()
+            price, volumes = self.draw_offer()
         else:
             period = int(volumes.partition(":")[0])
-            price, volumes = self.limit(period), self.volume(period)
+            price, volumes = self.draw_limit(period), self.draw_volume(period)
         return f"amend,{who},{name},,,{price},{volumes},,"
 
-    def change(self, submit):
+    def draw_change(self, submit):
         """Commands that change this submit's order, or that the book refuses; the number of orders stays the same."""
         kind, is_hour = self.rng.random(), ",hour," in submit
         if kind < 0.6:
-            return [self.amend(submit)]
+            return [self.draw_amend(submit)]
         if kind < 0.9 and is_hour:
             _, who, name, *_ = submit.split(",")
             return [f"cancel,{who},{name},,,,,,", submit]
         # The name is taken, or there is no place for another hourly order.
         return [submit.replace(",H", ",X", 1) if self.is_full else submit]
 
-    def commands(self, count):
+    def draw_commands(self, count):
         """This number of commands before the close: the submits in any order, changes, and the blocks again, of which some were refused
         because their parent came later."""
         hours, blocks = ([submit for submit in self.submits if kind in submit] for kind in (",hour,", ",block,"))
         lines, last = list(self.submits), count - len(blocks)
         self.rng.shuffle(lines)
         while len(lines) < last:
-            change = self.change(self.rng.choice(hours if self.rng.random() < 0.95 else blocks))
+            change = self.draw_change(self.rng.choice(hours if self.rng.random() < 0.95 else blocks))
             if len(lines) + len(change) <= last:
                 lines += change
         return lines + blocks
 
-    def text(self, count=None):
+    def draw_text(self, count=None):
         """The journal of the day; with this number of commands, if it is given."""
-        lines = self.submits if count is None else self.commands(count - 1)
-        return days.whole([f"day,{self.periods},,,,,,,", *lines, "close,,,,,,,,"])
+        lines = self.submits if count is None else self.draw_commands(count - 1)
+        return days.text_of_lines([f"day,{self.periods},,,,,,,", *lines, "close,,,,,,,,"])
 
 
 class Case(NamedTuple):
@@ -163,15 +163,15 @@ class Case(NamedTuple):
     is_long: bool
 
 
-def cases(size):
+def draw_cases(size):
     for number, (market, periods) in enumerate((market, periods) for market in MARKETS for periods in rules.DAYS):
         bonds, is_flat, is_long = BONDS[(number + number // 6) % 4], number % 2 == 0, (market, periods) in LONG
-        drawn = Drawn(random.Random(f"full {market} {periods}"), periods, market, size, is_flat, bonds)
+        drawn = FullDay(random.Random(f"full {market} {periods}"), periods, market, size, is_flat, bonds)
         name = f"{market} {periods}, {bonds}, {'one volume' if is_flat else 'a volume in each period'}"
-        yield Case(name, drawn.text(size.commands if is_long else None), MARKETS[market].hourly > 0, is_long)
+        yield Case(name, drawn.draw_text(size.commands if is_long else None), MARKETS[market].hourly > 0, is_long)
 
 
-def wrong_sizes(case, held, size):
+def faults_of_sizes(case, held, size):
     """Why the book or the journal isn't at its limits, if it should be."""
     hourly, blocks = held.held["hour"], held.held["block"]
     if blocks != size.blocks or case.is_full and hourly != size.hourly:
@@ -180,16 +180,16 @@ def wrong_sizes(case, held, size):
         yield f"the journal has {len(case.data.splitlines())} records"
 
 
-def wrong_results(program, data, held):
+def run_for_faults_of_results(program, data, held):
     """The faults of the results, in words."""
-    printed = [program.printed(["clear", *plan], data) for plan in PLANS]
+    printed = [program.run_for_output(["clear", *plan], data) for plan in PLANS]
     for plan, got in zip(PLANS, printed):
         words = " ".join(["clear", *plan])
         if got.status:
             yield f"{words}: {got.stderr.decode().strip() or f'status {got.status}'}"
         elif got != printed[0]:
             yield f"{words}: other results than without a plan"
-    limited = program.printed(["clear", *LIMITED], data)
+    limited = program.run_for_output(["clear", *LIMITED], data)
     if limited != printed[0] and (limited.status, limited.stdout, bool(UNFINISHED.fullmatch(limited.stderr))) != (3, b"", True):
         yield f"clear {' '.join(LIMITED)}: {limited.stderr.decode().strip() or f'status {limited.status}'}"
     if not printed[0].status:
@@ -197,16 +197,16 @@ def wrong_results(program, data, held):
         yield from wrong[:1]
 
 
-def wrong_of(program, case, size):
+def run_for_faults(program, case, size):
     """The faults of a case."""
-    held, _ = book.run(compare.reading(case.data))
-    wrong = [*wrong_sizes(case, held, size), *wrong_results(program, case.data, held)]
+    held, _ = book.run(compare.journal_or_fault(case.data))
+    wrong = [*faults_of_sizes(case, held, size), *run_for_faults_of_results(program, case.data, held)]
     if case.is_long:
-        wrong += compare.differences(program, "replay", [], case.data)
+        wrong += compare.run_for_differences(program, "replay", [], case.data)
     return wrong
 
 
-def arguments():
+def parse_arguments():
     parser = argparse.ArgumentParser(
         prog="tests/fuzz/full.py", description=__doc__, formatter_class=argparse.RawDescriptionHelpFormatter, allow_abbrev=False
     )
@@ -218,11 +218,11 @@ def arguments():
 
 
 def main():
-    args = arguments()
+    args = parse_arguments()
     size = Size(args.hourly, args.blocks, args.commands)
-    program, counts = compare.Program(args.program), Counts()
-    for case in cases(size):
-        wrong = wrong_of(program, case, size)
+    program, counts = compare.TimedProgram(args.program), Counts()
+    for case in draw_cases(size):
+        wrong = run_for_faults(program, case, size)
         counts.check(f"{case.name}: {'; '.join(map(str, wrong))}", not wrong)
     return counts.print_totals()
 

@@ -17,31 +17,31 @@ FIELDS = [
 ]  # fmt: skip
 
 
-def cut(rng, text):
+def draw_front(rng, text):
     return text[: rng.randint(0, len(text))]
 
 
-def cut_front(rng, text):
+def draw_rest(rng, text):
     return text[rng.randint(0, len(text)) :]
 
 
-def insert(rng, text):
+def with_insertion(rng, text):
     at = rng.randint(0, len(text))
     return text[:at] + rng.choice(SPECIAL) * rng.choice([1, 1, 1, 2, 9]) + text[at:]
 
 
-def drop(rng, text):
+def with_gap(rng, text):
     at = rng.randint(0, len(text))
     return text[:at] + text[at + rng.choice([1, 1, 2, 7]) :]
 
 
-def change(rng, text):
+def with_changed_byte(rng, text):
     at = rng.randint(0, len(text))
     byte = bytes([rng.randrange(128)]) if rng.random() < 0.7 else rng.choice(SPECIAL)
     return text[:at] + byte + text[at + 1 :]
 
 
-def double(rng, text):
+def with_part_doubled(rng, text):
     begin = rng.randint(0, len(text))
     end = min(len(text), begin + rng.choice([1, 5, 40, 400]))
     return text[:end] + text[begin:end] + text[end:]
@@ -74,17 +74,17 @@ def on_fields(change_field):
     return on_lines(changed)
 
 
-def quoted(rng, field):
+def in_quotes(rng, field):
     return b'"' + field.replace(b'"', b'""') + b'"'
 
 
-def oddly_quoted(rng, field):
+def with_odd_quotes(rng, field):
     at = rng.randint(0, len(field))
     inside = b'"' + field[:at] + b'"' + field[at:]
     return rng.choice([b'"' + field, field + b'"', inside, b'"' + field + b'""', b'""' + field])
 
 
-def number(rng, text):
+def with_number(rng, text):
     """Writes one of the numbers otherwise: another number, or none."""
     found = list(NUMBER.finditer(text))
     if not found:
@@ -95,46 +95,46 @@ def number(rng, text):
     return text[: place.start()] + rng.choice(forms) + text[place.end() :]
 
 
-def wide(rng, line):
+def widened_line(rng, line):
     """The line with far more fields, or a far longer one, than a record has."""
     more = rng.choice([b"," * 70_000, b'"",' * 30_000, b'"a"",' * 20_000, b"A" * 70_000 + b"," * 99, b"1:1;" * 20_000])
     body = line.rstrip(b"\r\n")
     return rng.choice([more + body, body + more]) + line[len(body) :]
 
 
-def quote_all(rng, text):
+def with_quotes_anywhere(rng, text):
     """Quotes whole fields here and there: the text means the same."""
     lines = []
     for line in text.splitlines():
         fields = line.split(b",")
-        lines.append(b",".join(quoted(rng, field) if rng.random() < 0.3 else field for field in fields))
+        lines.append(b",".join(in_quotes(rng, field) if rng.random() < 0.3 else field for field in fields))
     return b"".join(line + rng.choice([b"\n", b"\r", b"\r\n", b"\n\n", b"\r\n\r\n"]) for line in lines)
 
 
-def shuffle(rng, text):
+def with_lines_shuffled(rng, text):
     lines = text.splitlines(keepends=True)
     first, rest = lines[:1], lines[1:]
     rng.shuffle(rest)
     return b"".join(first + rest) if rng.random() < 0.8 else b"".join(rest + first)
 
 
-def line_end(rng, line):
+def with_other_end(rng, line):
     return line.rstrip(b"\r\n") + rng.choice([b"", b"\r", b"\n", b"\r\n", b"\n\r", b"\n\n\n", b",\n", b" \n"])
 
 
 CHANGES = [
-    cut, cut_front, insert, insert, drop, change, change, double, quote_all, shuffle, on_lines(line_end),
+    draw_front, draw_rest, with_insertion, with_insertion, with_gap, with_changed_byte, with_changed_byte, with_part_doubled, with_quotes_anywhere, with_lines_shuffled, on_lines(with_other_end),
     on_fields(lambda rng, field: rng.choice(FIELDS)), on_fields(lambda rng, field: rng.choice(FIELDS)),
-    number, number, on_lines(wide), on_fields(quoted), on_fields(oddly_quoted), on_fields(insert), on_fields(drop),
+    with_number, with_number, on_lines(widened_line), on_fields(in_quotes), on_fields(with_odd_quotes), on_fields(with_insertion), on_fields(with_gap),
 ]  # fmt: skip
 
 
-def noise(rng):
+def draw_noise(rng):
     alphabet = rng.choice([b'day,24"\r\n', b"0123456789:;-,\n", bytes(range(256)), b'",\n'])
     return bytes(rng.choice(alphabet) for _ in range(rng.randint(0, 200)))
 
 
-def long(rng, text):
+def lengthened(rng, text):
     """A text with about as many bytes as may be read, with a long field in it or with line ends after it."""
     missing = rules.MOST_BYTES + rng.choice([-1, 0, 1]) - len(text)
     if rng.random() < 0.3:
@@ -143,7 +143,7 @@ def long(rng, text):
     return text + rng.choice([b"\n", b"\r"]) * missing
 
 
-def broken(rng, text):
+def draw_broken(rng, text):
     """The text after some changes."""
     for _ in range(rng.choice([1, 1, 1, 2, 3, 6])):
         text = rng.choice(CHANGES)(rng, text)

@@ -60,32 +60,32 @@ class Cell(NamedTuple):
     text: str
 
 
-def letters(column):
-    return (letters((column - 1) // 26) if column > 26 else "") + chr(65 + (column - 1) % 26)
+def column_letters(column):
+    return (column_letters((column - 1) // 26) if column > 26 else "") + chr(65 + (column - 1) % 26)
 
 
-class Drawn:
+class RandomWorkbook:
     """A random workbook: its cells by row and column, and how it is written. A broken one differs in one place."""
 
     def __init__(self, rng):
         self.rng, self.strings = rng, []
         self.form = rng.randrange(2)
         self.prefix = rng.choice(["", "", "x:"])
-        self.rows = self.drawn_rows()
+        self.rows = self.draw_rows()
         self.has_places = rng.random() < 0.8
         self.name = rng.choice(["orders", "Sheet 1"])
         self.after = ""  # the cells
         self.changes = {}  # the bytes of parts, instead of the right ones
 
-    def drawn_rows(self):
+    def draw_rows(self):
         rng, rows, number = self.rng, [], 0
         for _ in range(rng.randint(2, 6)):
             number += rng.choice([1, 1, 1, 2, 1000])
             columns = sorted(rng.sample(range(1, 31 if rng.random() < 0.2 else 10), rng.randint(2, 5)))
-            rows.append((number, [(column, self.drawn_cell()) for column in columns]))
+            rows.append((number, [(column, self.draw_cell()) for column in columns]))
         return rows
 
-    def drawn_cell(self):
+    def draw_cell(self):
         rng, kind = self.rng, self.rng.randrange(8)
         words = rng.choice(WORDS)
         text = READ.get(words, words)
@@ -115,7 +115,7 @@ class Drawn:
                 found.append((number, trimmed(texts)))
         return found
 
-    def sheet(self):
+    def sheet_text(self):
         rng = self.rng
         parts = ["<worksheet><sheetPr/>", rng.choice(["", '<dimension ref="A1"/>', '<dimension ref="A1:B3"/>']), "<sheetData>"]
         last = 0
@@ -124,13 +124,13 @@ class Drawn:
             parts.append(f"<row{place}{rng.choice(HABITS)}>")
             last, behind = number, 0
             for column, cell in cells:
-                place = "" if column == behind + 1 and not self.has_places else f' r="{letters(column)}{number}"'
+                place = "" if column == behind + 1 and not self.has_places else f' r="{column_letters(column)}{number}"'
                 parts.append(f"<c{place} {cell.attributes}>{cell.content}</c>")
                 behind = column
             parts.append(rng.choice(["</row>", "<extLst><ext/></extLst></row>", "\n</row><!-- - -->"]))
         return "".join([*parts, "</sheetData>", self.after, "<mergeCells><mergeCell ref='AZ1:BA9000'/></mergeCells></worksheet>"])
 
-    def parts(self):
+    def parts_by_name(self):
         """The parts of the workbook, by name."""
         rng, main, office = self.rng, MAIN[self.form], OFFICE[self.form]
         start = rng.choice(["", "/xl/", "./", "../xl/"])
@@ -148,13 +148,13 @@ class Drawn:
             "xl/workbook.xml": f'<workbook xmlns="{main}" xmlns:r="{office}"><sheets>{named}</sheets></workbook>',
             "xl/_rels/workbook.xml.rels": f'<Relationships xmlns="{RELATIONS}">{told}</Relationships>',
             "xl/styles.xml": STYLES.format(main),
-            "xl/sharedStrings.xml": self.qualified(f"<sst>{''.join(self.strings)}</sst>"),
-            "xl/worksheets/sheet1.xml": self.qualified(self.sheet()),
+            "xl/sharedStrings.xml": self.qualified_part(f"<sst>{''.join(self.strings)}</sst>"),
+            "xl/worksheets/sheet1.xml": self.qualified_part(self.sheet_text()),
             "xl/worksheets/other.xml": f'<worksheet xmlns="{main}"><sheetData><row><c><v>9</v></c></row></sheetData></worksheet>',
         }
-        return {**{name: self.encoded(content) for name, content in made.items()}, **self.changes}
+        return {**{name: self.draw_encoded(content) for name, content in made.items()}, **self.changes}
 
-    def qualified(self, content):
+    def qualified_part(self, content):
         """A part with its namespace, and with a prefix before each name."""
         root, rest = content[1:].split(">", 1)
         if not self.prefix:
@@ -163,17 +163,17 @@ class Drawn:
         rest = rest.replace("</", "\1").replace("<", "<x:").replace("\1", "</x:").replace("\0", "<!--")
         return f'<x:{root} xmlns:x="{MAIN[self.form]}">{rest}'
 
-    def encoded(self, content):
+    def draw_encoded(self, content):
         how = self.rng.randrange(6)
         if how == 0:
             return ('<?xml version="1.0" encoding="UTF-16"?>' + content).encode("utf-16")
         return (b"\xef\xbb\xbf" if how == 1 else b'<?xml version="1.0" encoding="UTF-8"?>\r\n') + content.encode()
 
-    def data(self):
-        return archive(self.parts(), self.rng.choice([zipfile.ZIP_STORED, zipfile.ZIP_DEFLATED]))
+    def draw_bytes(self):
+        return archive_bytes(self.parts_by_name(), self.rng.choice([zipfile.ZIP_STORED, zipfile.ZIP_DEFLATED]))
 
 
-def archive(parts, compression=zipfile.ZIP_DEFLATED):
+def archive_bytes(parts, compression=zipfile.ZIP_DEFLATED):
     """A zip archive of parts, each a name with bytes or with the pieces of them."""
     out = io.BytesIO()
     with zipfile.ZipFile(out, "w", compression) as file:
@@ -193,7 +193,7 @@ def trimmed(texts):
 # What breaks a workbook: each changes a drawn one, or returns its bytes, and returns the words that the fault must have.
 
 
-def in_rows(words):
+def breaks_rows(words):
     """Breaks the list of rows."""
 
     def broken(change):
@@ -208,26 +208,26 @@ def in_rows(words):
     return broken
 
 
-@in_rows("should increase")
+@breaks_rows("should increase")
 def rows_out_of_order(rng, rows):
     at = rng.randrange(1, len(rows))
     rows[at - 1], rows[at] = rows[at], rows[at - 1]
     return rows
 
 
-@in_rows("occurs twice")
+@breaks_rows("occurs twice")
 def row_twice(rng, rows):
     at = rng.randrange(1, len(rows))
     rows[at] = rows[at - 1][0], rows[at][1]
     return rows
 
 
-@in_rows("they go from 1 to 1048576")
+@breaks_rows("they go from 1 to 1048576")
 def row_far_away(rng, rows):
     return [*rows, (rng.choice([1_048_577, 5_000_000, 999_999_999]), rows[0][1])]
 
 
-def in_cells(words):
+def breaks_cells(words):
     """Breaks the cells of one row."""
 
     def broken(change):
@@ -238,31 +238,31 @@ def in_cells(words):
             return rows
 
         in_one.__name__ = change.__name__
-        return in_rows(words)(in_one)
+        return breaks_rows(words)(in_one)
 
     return broken
 
 
-@in_cells("should increase")
+@breaks_cells("should increase")
 def cells_out_of_order(rng, cells):
     at = rng.randrange(1, len(cells))
     cells[at - 1], cells[at] = cells[at], cells[at - 1]
     return cells
 
 
-@in_cells("occurs twice")
+@breaks_cells("occurs twice")
 def cell_twice(rng, cells):
     at = rng.randrange(1, len(cells))
     cells[at] = cells[at - 1][0], cells[at][1]
     return cells
 
 
-@in_cells("")
+@breaks_cells("")
 def cell_far_away(rng, cells):
     return [*cells, (rng.choice([16_385, 20_000, 500_000]), cells[0][1])]
 
 
-@in_cells("")
+@breaks_cells("")
 def cell_of_no_kind(rng, cells):
     wrong = ['t="x"|<v>1</v>', 't="b"|<v>2</v>', "|<v>NaN</v>", "|<v>1e999</v>", "|<v>1 2</v>", 't="s"|<v>9999</v>', 't="s"|<v>-1</v>']
     wrong += ["|<v>1</v><v>2</v>", "|<is><t>1</t></is>", 't="inlineStr"|<v>1</v>', "|<w>1</w>", "|<v>1<t>2</t></v>", 's="99"|<v>1</v>']
@@ -278,7 +278,7 @@ def cells_merged(drawn):
     if len(drawn.expected()) < 2:
         return cell_twice(drawn)
     (first, _), *_, (last, cells) = drawn.expected()
-    drawn.after = f'<mergeCells><mergeCell ref="A{first}:{letters(len(cells))}{last}"/></mergeCells>'
+    drawn.after = f'<mergeCells><mergeCell ref="A{first}:{column_letters(len(cells))}{last}"/></mergeCells>'
     return "are merged"
 
 
@@ -287,13 +287,13 @@ def two_tables(drawn):
     return "two elements 'sheetData'"
 
 
-def in_sheet(change):
+def changes_sheet(change):
     """Changes the text of the sheet, and returns the words of the fault."""
 
     def call(drawn):
-        content = drawn.sheet()
+        content = drawn.sheet_text()
         changed, words = change(drawn.rng, content)
-        drawn.changes["xl/worksheets/sheet1.xml"] = drawn.qualified(changed).encode()
+        drawn.changes["xl/worksheets/sheet1.xml"] = drawn.qualified_part(changed).encode()
         return words
 
     call.__name__ = change.__name__
@@ -307,7 +307,7 @@ def place_in(rng, content, marks):
     return rng.choice(places)
 
 
-@in_sheet
+@changes_sheet
 def wrong_place(rng, content):
     """A row or a cell in an element that is left out, or in another one."""
     name = rng.choice(["row", "c"])
@@ -317,7 +317,7 @@ def wrong_place(rng, content):
     return f"{content[:begin]}<{around}>{content[begin:end]}</{around}>{content[end:]}", "stands in"
 
 
-@in_sheet
+@changes_sheet
 def behind_the_cells(rng, content):
     """A row behind the table of cells, or next to it."""
     row = '<row r="1048576"><c r="A1048576"><v>1</v></c></row>'
@@ -327,7 +327,7 @@ def behind_the_cells(rng, content):
     return f"{content[:end]}{row}{content[end:]}", ""
 
 
-@in_sheet
+@changes_sheet
 def text_in_a_wrong_place(rng, content):
     marks = ["<sheetData", "</row>", "</sheetData>", "<c ", "<v>", "<f>", "</c>", "<is>", "</is>", "<mergeCell", "<t>"]
     at = place_in(rng, content, marks)
@@ -340,9 +340,9 @@ def cells_merged_backwards(drawn):
     if len(drawn.expected()) < 2:
         return cell_twice(drawn)
     (first, _), *_, (last, cells) = drawn.expected()
-    ends = [f"A{last + drawn.rng.choice([0, 9])}", f"{letters(len(cells) + drawn.rng.choice([0, 9]))}{first}"]
+    ends = [f"A{last + drawn.rng.choice([0, 9])}", f"{column_letters(len(cells) + drawn.rng.choice([0, 9]))}{first}"]
     if drawn.rng.random() < 0.5:
-        ends = [f"{letters(len(cells))}{last + drawn.rng.choice([0, 9])}", f"A{first}"]
+        ends = [f"{column_letters(len(cells))}{last + drawn.rng.choice([0, 9])}", f"A{first}"]
     drawn.after = f'<mergeCells><mergeCell ref="{":".join(ends)}"/></mergeCells>'
     return "are merged"
 
@@ -350,45 +350,45 @@ def cells_merged_backwards(drawn):
 def cell_of_another_row(drawn):
     number, cells = drawn.rows[0]
     drawn.has_places = True
-    content = drawn.qualified(drawn.sheet()).replace(f'r="{letters(cells[0][0])}{number}"', f'r="{letters(cells[0][0])}{number + 1}"')
+    content = drawn.qualified_part(drawn.sheet_text()).replace(f'r="{column_letters(cells[0][0])}{number}"', f'r="{column_letters(cells[0][0])}{number + 1}"')
     drawn.changes["xl/worksheets/sheet1.xml"] = content.encode()
     return "a cell of this row has the place"
 
 
 def stranger_in_a_row(drawn):
     """A cell of another namespace, which Excel wouldn't show."""
-    content = drawn.qualified(drawn.sheet())
+    content = drawn.qualified_part(drawn.sheet_text())
     at = content.index(f"</{drawn.prefix}row>")
     drawn.changes["xl/worksheets/sheet1.xml"] = f'{content[:at]}<o:c xmlns:o="other"><o:v>1</o:v></o:c>{content[at:]}'.encode()
     return "stands in 'row'"
 
 
 def document_type(drawn):
-    content = drawn.qualified(drawn.sheet())
+    content = drawn.qualified_part(drawn.sheet_text())
     drawn.changes["xl/worksheets/sheet1.xml"] = f'<!DOCTYPE a [<!ENTITY e "1">]>{content}'.encode()
     return "document type"
 
 
 def part_missing(drawn):
     name = drawn.rng.choice(["_rels/.rels", "xl/workbook.xml", "xl/_rels/workbook.xml.rels", "xl/worksheets/sheet1.xml", "xl/styles.xml"])
-    return archive({each: content for each, content in drawn.parts().items() if each != name})
+    return archive_bytes({each: content for each, content in drawn.parts_by_name().items() if each != name})
 
 
 def part_twice(drawn):
-    parts = drawn.parts()
+    parts = drawn.parts_by_name()
     name = drawn.rng.choice(list(parts))
-    return archive({**parts, name.swapcase(): parts[name]})
+    return archive_bytes({**parts, name.swapcase(): parts[name]})
 
 
 def part_cut(drawn):
-    parts = drawn.parts()
+    parts = drawn.parts_by_name()
     name = drawn.rng.choice([each for each in parts if each.startswith("xl/w")][:2])
-    return archive({**parts, name: parts[name].rstrip()[:-1]})
+    return archive_bytes({**parts, name: parts[name].rstrip()[:-1]})
 
 
 def sum_wrong(drawn):
     """One byte of a part is changed, which isn't compressed."""
-    data = bytearray(archive(drawn.parts(), zipfile.ZIP_STORED))
+    data = bytearray(archive_bytes(drawn.parts_by_name(), zipfile.ZIP_STORED))
     name = b"xl/worksheets/sheet1.xml"
     data[data.index(name) + len(name) + 200] ^= 1
     return bytes(data)
@@ -396,18 +396,18 @@ def sum_wrong(drawn):
 
 def size_wrong(drawn):
     """The directory states another size of a part."""
-    data = bytearray(drawn.data())
+    data = bytearray(drawn.draw_bytes())
     at = data.rindex(b"xl/worksheets/sheet1.xml") - 46
     data[at + 24] ^= 1
     return bytes(data)
 
 
 def other_compression(drawn):
-    return archive(drawn.parts(), drawn.rng.choice([zipfile.ZIP_BZIP2, zipfile.ZIP_LZMA]))
+    return archive_bytes(drawn.parts_by_name(), drawn.rng.choice([zipfile.ZIP_BZIP2, zipfile.ZIP_LZMA]))
 
 
 def archive_cut(drawn):
-    data = drawn.data()
+    data = drawn.draw_bytes()
     return data[: drawn.rng.randrange(4, len(data) - 22)]
 
 
@@ -418,12 +418,12 @@ BREAKS = [
 ]  # fmt: skip
 
 
-def trouble(rng):
+def draw_and_find_fault(rng):
     """What is wrong with the reader on a random workbook; None if nothing is."""
-    drawn = Drawn(rng)
+    drawn = RandomWorkbook(rng)
     broken = rng.choice(BREAKS) if rng.random() < 0.5 else None
     words = broken(drawn) if broken else None
-    data = words if isinstance(words, bytes) else drawn.data()
+    data = words if isinstance(words, bytes) else drawn.draw_bytes()
     try:
         found = [(number, trimmed(cells)) for number, cells in sheets.read_rows(data)[0]]
     except sheets.BadTable as fault:
@@ -443,13 +443,13 @@ ROOT = f'<worksheet xmlns="{MAIN[0]}">'.encode()
 OPEN, CLOSE = ROOT + b"<sheetData><row>" + HEADS + b"</row>", b"</sheetData></worksheet>"
 
 
-def of_sheet(*pieces, **parts):
+def workbook_of_sheet(*pieces, **parts):
     """A workbook of a sheet, whose pieces are bytes or make them; other parts by name."""
-    drawn = Drawn(random.Random(1))
+    drawn = RandomWorkbook(random.Random(1))
     drawn.form, drawn.name = 0, "orders"
-    made = {**drawn.parts(), **parts}
+    made = {**drawn.parts_by_name(), **parts}
     flat = (each for piece in pieces for each in ([piece] if isinstance(piece, bytes) else piece))
-    return archive({**made, "xl/worksheets/sheet1.xml": flat})
+    return archive_bytes({**made, "xl/worksheets/sheet1.xml": flat})
 
 
 def order(number, row=""):
@@ -499,7 +499,7 @@ def long_names(form):
     return (form % (b"a" * 60_000 + b"%d" % number) for number in range(1_500))
 
 
-def of_sheets(sheets):
+def workbook_of_sheets(sheets):
     """A workbook whose sheets have these rows, none of which is named as the one that is preferred; the last one is a table of orders."""
     sheets = [*sheets, [b"<row>", HEADS, b"</row>", order(1)]]
     relation = '<Relationship Id="r{0}" Type="{1}/worksheet" Target="worksheets/{0}.xml"/>'
@@ -512,87 +512,87 @@ def of_sheets(sheets):
         "xl/_rels/workbook.xml.rels": told,
     }
     cells = {f"xl/worksheets/{at}.xml": [ROOT, b"<sheetData>", *rows, CLOSE] for at, rows in enumerate(sheets)}
-    return archive({**{name: content.encode() for name, content in texts.items()}, **cells})
+    return archive_bytes({**{name: content.encode() for name, content in texts.items()}, **cells})
 
 
 WIDE = "\U0001f600".encode()
 SHARED, TEXT = "xl/sharedStrings.xml", ";".join(order_table.ORDER).encode() + b"\n"
 # The few, and all: each with the words of its fault, None for a table that is read, and "" for either.
 FEW = {
-    "a row far away": ("the number '5000000'", lambda: of_sheet(OPEN, order(1, ' r="5000000"'), CLOSE)),
-    "the last row": (None, lambda: of_sheet(OPEN, order(1, ' r="1048576"'), CLOSE)),
-    "200,000 orders": ("at most 10,000 rows", lambda: of_sheet(OPEN, map(order, range(200_000)), CLOSE)),
-    "a million empty rows": (None, lambda: of_sheet(OPEN, (b"<row/>" * 1_000 for _ in range(1_000)), order(1), CLOSE)),
-    "a cell of 16 MB": ("more than 32,767 characters", lambda: of_sheet(OPEN, b"<row><c><v>", b"1" * 2**24, b"</v></c></row>", CLOSE)),
-    "a tag of 16 MB": ("a tag has more than", lambda: of_sheet(OPEN, b"<row a='", (b"1" * 2**16 for _ in range(256)), b"'/>", CLOSE)),
-    "elements in one another": ("in one another", lambda: of_sheet(ROOT, b"<extLst>", b"<a>" * 2**20, CLOSE)),
-    "names": ("names of elements", lambda: of_sheet(ROOT, b"<cols>", (b"<a%d/>" % number for number in range(10**6)), CLOSE)),
-    "namespaces": ("namespaces", lambda: of_sheet(OPEN, (b"<row%s/>" % declared(4_000) for _ in range(50)), CLOSE)),
-    "long names": ("the name of an element has more than", lambda: of_sheet(ROOT, b"<cols>", long_names(b"<%s/>"), CLOSE)),
-    "long names of attributes": ("the name of an element has more than", lambda: of_sheet(ROOT, b"<cols>", long_names(b"<a %s=''/>"), CLOSE)),
-    "long namespaces": ("the name of an element has more than", lambda: of_sheet(ROOT, b"<cols>", long_names(b"<a xmlns='%s'/>"), CLOSE)),
-    "first rows": (None, lambda: of_sheets([[b"<row>", b"<c t='str'><v>%s</v></c>" % (b"x" * 32_000) * 124, b"</row>"]] * 23)),
-    "parts": ("more than 2,000 parts", lambda: archive({str(number): b"" for number in range(12_000)})),
+    "a row far away": ("the number '5000000'", lambda: workbook_of_sheet(OPEN, order(1, ' r="5000000"'), CLOSE)),
+    "the last row": (None, lambda: workbook_of_sheet(OPEN, order(1, ' r="1048576"'), CLOSE)),
+    "200,000 orders": ("at most 10,000 rows", lambda: workbook_of_sheet(OPEN, map(order, range(200_000)), CLOSE)),
+    "a million empty rows": (None, lambda: workbook_of_sheet(OPEN, (b"<row/>" * 1_000 for _ in range(1_000)), order(1), CLOSE)),
+    "a cell of 16 MB": ("more than 32,767 characters", lambda: workbook_of_sheet(OPEN, b"<row><c><v>", b"1" * 2**24, b"</v></c></row>", CLOSE)),
+    "a tag of 16 MB": ("a tag has more than", lambda: workbook_of_sheet(OPEN, b"<row a='", (b"1" * 2**16 for _ in range(256)), b"'/>", CLOSE)),
+    "elements in one another": ("in one another", lambda: workbook_of_sheet(ROOT, b"<extLst>", b"<a>" * 2**20, CLOSE)),
+    "names": ("names of elements", lambda: workbook_of_sheet(ROOT, b"<cols>", (b"<a%d/>" % number for number in range(10**6)), CLOSE)),
+    "namespaces": ("namespaces", lambda: workbook_of_sheet(OPEN, (b"<row%s/>" % declared(4_000) for _ in range(50)), CLOSE)),
+    "long names": ("the name of an element has more than", lambda: workbook_of_sheet(ROOT, b"<cols>", long_names(b"<%s/>"), CLOSE)),
+    "long names of attributes": ("the name of an element has more than", lambda: workbook_of_sheet(ROOT, b"<cols>", long_names(b"<a %s=''/>"), CLOSE)),
+    "long namespaces": ("the name of an element has more than", lambda: workbook_of_sheet(ROOT, b"<cols>", long_names(b"<a xmlns='%s'/>"), CLOSE)),
+    "first rows": (None, lambda: workbook_of_sheets([[b"<row>", b"<c t='str'><v>%s</v></c>" % (b"x" * 32_000) * 124, b"</row>"]] * 23)),
+    "parts": ("more than 2,000 parts", lambda: archive_bytes({str(number): b"" for number in range(12_000)})),
     "a text of empty lines": ("at most 1,048,576 lines", lambda: TEXT + b"\n" * 4_900_000),
     "a text of short cells": ("more than 300,000 cells", lambda: TEXT + (b"ab;" * 16_000 + b"\n") * 100),
 }
 LARGE = {
-    "1 GB of spaces": ("MiB in its parts", lambda: of_sheet(OPEN, (b" " * 2**20 for _ in range(2**10)), CLOSE)),
-    "lines": ("", lambda: of_sheet(OPEN, (b"\n" * 2**20 for _ in range(95)), CLOSE)),
-    "formatted rows": (None, lambda: of_sheet(OPEN, (b'<row ht="15" customHeight="1" spans="1:9" s="0"/>' for _ in range(10**6)), CLOSE)),
-    "three million cells": ("elements", lambda: of_sheet(OPEN, (b"<row>" + b"<c/>" * 10_000 + b"</row>" for _ in range(300)), CLOSE)),
-    "attributes": ("", lambda: of_sheet(
+    "1 GB of spaces": ("MiB in its parts", lambda: workbook_of_sheet(OPEN, (b" " * 2**20 for _ in range(2**10)), CLOSE)),
+    "lines": ("", lambda: workbook_of_sheet(OPEN, (b"\n" * 2**20 for _ in range(95)), CLOSE)),
+    "formatted rows": (None, lambda: workbook_of_sheet(OPEN, (b'<row ht="15" customHeight="1" spans="1:9" s="0"/>' for _ in range(10**6)), CLOSE)),
+    "three million cells": ("elements", lambda: workbook_of_sheet(OPEN, (b"<row>" + b"<c/>" * 10_000 + b"</row>" for _ in range(300)), CLOSE)),
+    "attributes": ("", lambda: workbook_of_sheet(
         OPEN, (b"<row%s/>" % b"".join(b' a%d=""' % number for number in range(3_000)) for _ in range(3_800)), CLOSE)),
-    "wide rows": ("cells before this one", lambda: of_sheet(
+    "wide rows": ("cells before this one", lambda: workbook_of_sheet(
         OPEN, (b"<row>" + b"<c><v>1</v></c>" * 16_000 + b"</row>" for _ in range(40)), CLOSE)),
-    "far cells": ("cells before this one", lambda: of_sheet(
+    "far cells": ("cells before this one", lambda: workbook_of_sheet(
         OPEN, (b'<row r="%d"><c r="XFD%d"><v>1</v></c></row>' % (at, at) for at in range(2, 9_000)), CLOSE)),
-    "many cells": ("", lambda: of_sheet(OPEN, (
+    "many cells": ("", lambda: workbook_of_sheet(OPEN, (
         b"<row>%s</row>" % b"".join(b"<c t='str'><v>%d.%d</v></c>" % (row, at) for at in range(30)) for row in range(9_990)), CLOSE)),
-    "wide characters": ("", lambda: of_sheet(
+    "wide characters": ("", lambda: workbook_of_sheet(
         OPEN, (b"<row><c t='str'><v>" + b"\xf0\x9f\x98\x80" * 400 + b"</v></c></row>" for _ in range(10_000)), CLOSE)),
-    "formats": (None, lambda: of_sheet(OPEN, order(1), CLOSE, **{"xl/styles.xml": formats(5_000, b"[" * 20)})),
-    "much text of formats": ("characters in its number formats", lambda: of_sheet(
+    "formats": (None, lambda: workbook_of_sheet(OPEN, order(1), CLOSE, **{"xl/styles.xml": formats(5_000, b"[" * 20)})),
+    "much text of formats": ("characters in its number formats", lambda: workbook_of_sheet(
         OPEN, order(1), CLOSE, **{"xl/styles.xml": formats(5_000, b"[" * 255)})),
-    "formats, and many cells": ("", lambda: of_sheet(OPEN, numbers(lambda at: b"0"), CLOSE, **{"xl/styles.xml": formats(5_000, b"0" * 20)})),
-    "long formats": ("a format has more than", lambda: of_sheet(OPEN, CLOSE, **{"xl/styles.xml": formats(1_500, b"[" * 60_000)})),
-    "many formats": ("number formats", lambda: of_sheet(OPEN, CLOSE, **{"xl/styles.xml": formats(10**6, b"[")})),
-    "unused strings": (None, lambda: of_sheet(OPEN, b"<row><c t='s'><v>5</v></c></row>", CLOSE, **{SHARED: strings(700_000, 3)})),
-    "strings of first rows": ("in the first rows of its sheets", lambda: of_sheets(
+    "formats, and many cells": ("", lambda: workbook_of_sheet(OPEN, numbers(lambda at: b"0"), CLOSE, **{"xl/styles.xml": formats(5_000, b"0" * 20)})),
+    "long formats": ("a format has more than", lambda: workbook_of_sheet(OPEN, CLOSE, **{"xl/styles.xml": formats(1_500, b"[" * 60_000)})),
+    "many formats": ("number formats", lambda: workbook_of_sheet(OPEN, CLOSE, **{"xl/styles.xml": formats(10**6, b"[")})),
+    "unused strings": (None, lambda: workbook_of_sheet(OPEN, b"<row><c t='s'><v>5</v></c></row>", CLOSE, **{SHARED: strings(700_000, 3)})),
+    "strings of first rows": ("in the first rows of its sheets", lambda: workbook_of_sheets(
         [[b"<row>", *(b"<c t='s'><v>%d</v></c>" % (2**14 * sheet + at) for at in range(2**14)), b"</row>"] for sheet in range(40)])),
-    "used strings": ("bytes of text in its cells", lambda: of_sheet(
+    "used strings": ("bytes of text in its cells", lambda: workbook_of_sheet(
         OPEN, (b"<row><c t='s'><v>%d</v></c></row>" % row for row in range(9_999)), CLOSE, **{SHARED: strings(10_000, 500)})),
-    "formatted cells": ("", lambda: of_sheet(OPEN, (
+    "formatted cells": ("", lambda: workbook_of_sheet(OPEN, (
         b"<row>%s</row>" % b"".join(b"<c s='3'><v>%d.%d</v></c>" % (row, at) for at in range(30)) for row in range(9_990)), CLOSE)),
-    "numbers with one format": ("", lambda: of_sheet(OPEN, numbers(lambda at: b"0"), CLOSE, **{"xl/styles.xml": one_format(1)})),
-    "formats in many spellings": ("", lambda: of_sheet(OPEN, numbers(spelled), CLOSE, **{"xl/styles.xml": one_format(30_000)})),
-    "these, and many parts": ("", lambda: of_sheet(
+    "numbers with one format": ("", lambda: workbook_of_sheet(OPEN, numbers(lambda at: b"0"), CLOSE, **{"xl/styles.xml": one_format(1)})),
+    "formats in many spellings": ("", lambda: workbook_of_sheet(OPEN, numbers(spelled), CLOSE, **{"xl/styles.xml": one_format(30_000)})),
+    "these, and many parts": ("", lambda: workbook_of_sheet(
         OPEN, numbers(spelled), CLOSE, **{"xl/styles.xml": one_format(30_000), **{str(at): b"" for at in range(1_980)}})),
     "a text of empty cells": ("a row has at most 16384 cells", lambda: TEXT + (b";" * 10**6 + b"\n") * 3 + b";" * 10**6 + b"a"),
     "a text of wide characters": ("bytes of text up to this line", lambda: TEXT + (b"\xf0\x9f\x98\x80" * 30_000 + b";\n") * 41),
     "a text of spaces": ("line 2", lambda: TEXT + (b"A;K;block;buy;1;7:00%sx;5\n" % (b" " * 30_000)) * 130),
-    "wide cells": ("bytes of text before this cell", lambda: of_sheet(
+    "wide cells": ("bytes of text before this cell", lambda: workbook_of_sheet(
         OPEN, (b"<row>" + b"<c t='str'><v>%s</v></c>" % (WIDE * 45) * 9 + b"</row>" for _ in range(10_000)), CLOSE)),
-    **{f"{count} wide strings": ("", lambda count=count, form=form: of_sheet(
+    **{f"{count} wide strings": ("", lambda count=count, form=form: workbook_of_sheet(
         OPEN, (b"<row>" + b"".join(b"<c t='s'><v>%d</v></c>" % at for at in range(row, min(row + 30, count))) + b"</row>"
                for row in range(0, count, 30)), CLOSE, **{SHARED: wide_strings(count, form)}))
        for count, form in ((299_900, WIDE * 6 + b"%d"), (210_000, WIDE * 4), (299_900, b"%d"), (210_000, WIDE + b"%d"))},
-    "blocks of many periods": ("BlocksFull", lambda: of_sheet(OPEN, (
+    "blocks of many periods": ("BlocksFull", lambda: workbook_of_sheet(OPEN, (
         b"<row>%s</row>" % b"".join(b"<c t='str'><v>%b</v></c>" % cell for cell in (b"A,K%d,block,sell,1,1-100,5" % at).split(b","))
         for at in range(9_999)), CLOSE)),
-    "one string often": ("bytes of text before this cell", lambda: of_sheet(
+    "one string often": ("bytes of text before this cell", lambda: workbook_of_sheet(
         OPEN, (b"<row>" + b"<c t='s'><v>0</v></c>" * 9 + b"</row>" for _ in range(9_999)), CLOSE, **{SHARED: strings(1, 32_000)})),
 }  # fmt: skip
 
 
-def limited(data, words):
+def fork_for_fault(data, words):
     """What is wrong with a read, in a process of its own that may take as much time and memory as is allowed."""
     reading, writing = os.pipe()
     child = os.fork()
     if child == 0:
         try:
             os.close(reading)
-            os.write(writing, told(data, words).encode()[:2_000])
+            os.write(writing, time_read_for_fault(data, words).encode()[:2_000])
         finally:
             os._exit(0)
     os.close(writing)
@@ -602,7 +602,7 @@ def limited(data, words):
     return f"it ends with {os.waitstatus_to_exitcode(status)}" if status else found
 
 
-def told(data, words):
+def time_read_for_fault(data, words):
     """The fault of a read in this process, whose limits are set."""
     pages = int(Path("/proc/self/statm").read_text().split()[0])
     resource.setrlimit(resource.RLIMIT_AS, (pages * resource.getpagesize() + MOST_MEMORY,) * 2)
@@ -626,12 +626,12 @@ def main():
     args = parser.parse_args()
     counts = Counts()
     for number in range(args.first, args.first + args.count):
-        wrong = trouble(random.Random(f"workbooks {args.seed} {number}"))
+        wrong = draw_and_find_fault(random.Random(f"workbooks {args.seed} {number}"))
         counts.check(f"case {number} of seed {args.seed}: {wrong}", wrong is None)
     for name, (words, make) in {**FEW, **(LARGE if args.large else {})}.items():
         data = make()
         began = sum(resource.getrusage(resource.RUSAGE_CHILDREN)[:2])
-        wrong = limited(data, words) or (len(data) > MOST_BYTES and f"the case has {len(data)} bytes")
+        wrong = fork_for_fault(data, words) or (len(data) > MOST_BYTES and f"the case has {len(data)} bytes")
         seconds = sum(resource.getrusage(resource.RUSAGE_CHILDREN)[:2]) - began
         counts.check(f"{name}: {wrong} ({seconds:.1f} s)", not wrong)
     return counts.print_totals()

@@ -8,7 +8,7 @@ from typing import NamedTuple
 import judge
 from lib.base import rules
 from lib.runs.by_library import MOST_NODES
-from preload import EVERY, Program, Refusal
+from preload import EVERY, HostileProgram, RefusedCalls
 from shared.printed import Printed
 
 REFUSALS = Path(__file__).resolve().parents[2] / "crates/dam_refusals/out/dam_refusals"
@@ -18,7 +18,7 @@ SPREAD = 40  # of the calls for memory of a long beginning, as many as this are 
 COPIED = 30  # orders of a book that is copied with each number of them
 
 
-class Again(NamedTuple):
+class RowOfRetries(NamedTuple):
     """A row of calls, each of which is refused memory once and then answered."""
 
     about: str
@@ -30,90 +30,90 @@ class Again(NamedTuple):
     goes_on: bool = False  # whether a refused call for memory may change nothing: for a thread, whose work the caller does, or in `clap`
     beginning: list = ()  # the words of a row that is this one's long beginning
 
-    def told(self, refused):
+    def right_output(self, refused):
         return Printed(0, f"{self.answer}, {refused} calls refused\n".encode(), b"")
 
     def is_right(self, printed):
         """Whether a run may print this, in which a call of the row itself was refused."""
-        return printed == self.told(1) or self.goes_on and printed == self.told(0)
+        return printed == self.right_output(1) or self.goes_on and printed == self.right_output(0)
 
 
-class Refusals:
+class RetryingRuns:
     """Runs of `dam_refusals`."""
 
     def __init__(self, runs, room):
         self.runs = runs
-        self.program = Program(REFUSALS, room)
+        self.program = HostileProgram(REFUSALS, room)
 
-    def printed(self, row, refusal):
+    def run_refused(self, row, refusal):
         return self.program.run(row.words, row.data, refusal)[0]
 
-    def calls(self, words, data):
+    def count_calls(self, words, data):
         """How many calls for memory it makes."""
-        return self.program.run(words, data, Refusal("memory", EVERY, EVERY))[1]
+        return self.program.run(words, data, RefusedCalls("memory", EVERY, EVERY))[1]
 
-    def numbers(self, row, total):
+    def refused_numbers(self, row, total):
         """The calls for memory that are refused: each, but of a long beginning only some; and one that no run comes to."""
-        first = self.calls(row.beginning, row.data) if row.beginning else 0
+        first = self.count_calls(row.beginning, row.data) if row.beginning else 0
         begun = {1 + at * first // SPREAD for at in range(SPREAD)} if first else set()
         return sorted(begun | set(range(first + 1, total + 2)))
 
-    def run(self, row):
+    def run_row(self, row):
         """Refuses one call for memory after another. The first ones come before the row's calls; the others come from these, each of
         which is refused once and then answered."""
         check = self.runs.check
-        check(f"{row.about}, nothing refused", self.printed(row, judge.NOTHING_REFUSED) == row.told(0))
-        total = self.calls(row.words, row.data)
-        numbers = self.numbers(row, total)
-        *printed, last = self.runs.pool.map(lambda number: self.printed(row, Refusal("memory", number, number)), numbers)
+        check(f"{row.about}, nothing refused", self.run_refused(row, judge.NOTHING_REFUSED) == row.right_output(0))
+        total = self.count_calls(row.words, row.data)
+        numbers = self.refused_numbers(row, total)
+        *printed, last = self.runs.pool.map(lambda number: self.run_refused(row, RefusedCalls("memory", number, number)), numbers)
         # one call for memory, for the words, is made again by the kit if it is refused
-        before = next((at for at, got in enumerate(printed) if got not in BEFORE | {row.told(0)}), len(printed))
-        check(f"{row.about}: refused calls change nothing", row.goes_on or printed[:before].count(row.told(0)) <= 1)
+        before = next((at for at, got in enumerate(printed) if got not in BEFORE | {row.right_output(0)}), len(printed))
+        check(f"{row.about}: refused calls change nothing", row.goes_on or printed[:before].count(row.right_output(0)) <= 1)
         again = 0
         for number, got in list(zip(numbers, printed))[before:]:
-            again += got == row.told(1)
+            again += got == row.right_output(1)
             is_right = row.is_right(got) or row.is_split and got in BEFORE
             check(f"{row.about}: call {number}: {got.stdout!r}, {got.stderr[:80]!r}", is_right)
-        check(f"{row.about}, no such call", row.is_right(last) if row.goes_on else last == row.told(0))
+        check(f"{row.about}, no such call", row.is_right(last) if row.goes_on else last == row.right_output(0))
         check(f"{row.about}: {again} calls are made again, and not {row.least}", again >= row.least)
         return again
 
 
-def days(given):
+def journals_at_gate(given):
     """Journals that are entered at a gate."""
     for about, data in given:
         entries = data.count(b"\n")
-        yield Again(f"{about} at a gate", [], data, f"{entries} entries", least=entries)
+        yield RowOfRetries(f"{about} at a gate", [], data, f"{entries} entries", least=entries)
 
 
-def gates():
+def rows_of_gates():
     """Gates that refuse a call for another reason than memory: a full journal, and passes and receipts of others."""
-    yield Again("a journal that is filled", ["full"], b"", "10000 entries", least=2, beginning=["filled"])
-    yield Again("a gate that gives nine passes", ["others"], b"", "0 entries", least=9)
-    yield Again("receipts of other gates", ["settle"], b"", "2 entries", least=12, is_split=True)
+    yield RowOfRetries("a journal that is filled", ["full"], b"", "10000 entries", least=2, beginning=["filled"])
+    yield RowOfRetries("a gate that gives nine passes", ["others"], b"", "0 entries", least=9)
+    yield RowOfRetries("receipts of other gates", ["settle"], b"", "2 entries", least=12, is_split=True)
 
 
-def texts(program, given, written):
+def rows_of_texts(program, given, written):
     """Texts that are read, and journals that are written."""
     for about, data in given:
         replies, _ = program.run(["replay"], data, judge.NOTHING_REFUSED)
         commands = replies.stdout.count(b"\n") - 1
         answer = replies.stderr.decode().rstrip("\n") if replies.status else f"{commands} commands"
-        yield Again(f"{about}, read", ["read"], data, answer, least=commands >= 0)
+        yield RowOfRetries(f"{about}, read", ["read"], data, answer, least=commands >= 0)
     for about, data in written:
-        yield Again(f"{about}, written", ["write"], data, f"{data.count(LINE) - 1} entries")
+        yield RowOfRetries(f"{about}, written", ["write"], data, f"{data.count(LINE) - 1} entries")
 
 
-def searches(two_equal, group):
+def rows_of_searches(two_equal, group):
     """Searches of the books of two equal blocks and of a group: by one worker and by several, and one that ends unfinished."""
     for plan in ["--workers 2 --cut 1", "--workers 4 --cut 2", "--workers 8 --cut 0", "--workers 8 --cut 8"]:
         words = ["search", "clear", *plan.split()]
-        yield Again(f"search of two equal blocks by {plan}", words, two_equal, "welfare 20000", least=20, goes_on=True)
+        yield RowOfRetries(f"search of two equal blocks by {plan}", words, two_equal, "welfare 20000", least=20, goes_on=True)
     words = ["search", "clear", "--workers", "1", "--cut", "0"]
-    yield Again("search of a group", words, group, "welfare 30000", least=20, goes_on=True)
+    yield RowOfRetries("search of a group", words, group, "welfare 30000", least=20, goes_on=True)
     unfinished = [*words, "--nodes", "1"]
     answer = "unfinished: piece 0 after 1 nodes"
-    yield Again("search of a group within one node", unfinished, group, answer, least=20, goes_on=True)
+    yield RowOfRetries("search of a group within one node", unfinished, group, answer, least=20, goes_on=True)
 
 
 LINE = b"\n"
@@ -135,13 +135,13 @@ LINES = [
 ]
 
 
-def lines():
+def rows_of_lines():
     """Command lines that are read."""
     for line, answer in LINES:
-        yield Again(f"the line {line!r}", ["line", *line.split()], b"", answer, least=5, goes_on=True)
+        yield RowOfRetries(f"the line {line!r}", ["line", *line.split()], b"", answer, least=5, goes_on=True)
 
 
-def few_orders(periods):
+def records_of_few_orders(periods):
     """A day of some orders, every fifth of them a block."""
     yield b"day,%d,,,,,,,\n" % periods
     for at in range(COPIED):
@@ -149,18 +149,18 @@ def few_orders(periods):
         yield b"submit,A,%d,%b,%b,%d,%b,,\n" % (at, kind, [b"buy", b"sell"][at % 2], at, volumes)
 
 
-def copies_of_books(runs, room):
+def check_copies_of_books(runs, room):
     """A gate copies its book for the call after one that was refused memory. So each call for memory at a gate is refused in turn, on each
     length of a day: the call is made again, and takes as many calls for memory on each length."""
-    refusals, made = Refusals(runs, room), {}
+    refusals, made = RetryingRuns(runs, room), {}
     for periods in rules.DAYS:
-        data = b"".join(few_orders(periods))
-        row = Again(f"{COPIED} orders on {periods} periods", [], data, f"{COPIED + 1} entries")
-        plans = [Refusal("memory", number, number) for number in range(1, refusals.calls([], data) + 1)]
-        plans = plans[bisect.bisect_left(plans, True, key=lambda plan: refusals.printed(row, plan) == row.told(1)) :]
+        data = b"".join(records_of_few_orders(periods))
+        row = RowOfRetries(f"{COPIED} orders on {periods} periods", [], data, f"{COPIED + 1} entries")
+        plans = [RefusedCalls("memory", number, number) for number in range(1, refusals.count_calls([], data) + 1)]
+        plans = plans[bisect.bisect_left(plans, True, key=lambda plan: refusals.run_refused(row, plan) == row.right_output(1)) :]
         ran = list(runs.pool.map(lambda plan: refusals.program.run(row.words, row.data, plan), plans))
         for plan, (got, _) in zip(plans, ran):
-            runs.check(f"{row.about}: call {plan.first}: {got.stdout!r}, {got.stderr[:80]!r}", got == row.told(1))
+            runs.check(f"{row.about}: call {plan.first}: {got.stdout!r}, {got.stderr[:80]!r}", got == row.right_output(1))
         made[periods] = [count for _, count in ran]
     least = [*map(min, zip(*made.values()))]
     for periods, counts in made.items():
@@ -168,14 +168,14 @@ def copies_of_books(runs, room):
         runs.check(about, counts == least)
 
 
-def run(runs, room, rows):
+def run_rows(runs, room, rows):
     runs.check("dam_refusals is built", REFUSALS.exists())
     if not REFUSALS.exists():
         return
-    copies_of_books(runs, room)
-    refusals = Refusals(runs, room)
+    check_copies_of_books(runs, room)
+    refusals = RetryingRuns(runs, room)
     again, count = 0, 0
     for row in rows:
-        again += refusals.run(row)
+        again += refusals.run_row(row)
         count += 1
     print(f"memory refused to the calls of {count} rows: {again} calls made again", flush=True)

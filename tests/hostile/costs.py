@@ -21,7 +21,7 @@ import subprocess
 from typing import NamedTuple
 
 from again import REFUSALS
-from preload import Program, Refusal  # by which `lib` is found
+from preload import HostileProgram, RefusedCalls  # by which `lib` is found
 from lib.base import rules
 
 ORDERS = rules.MOST_HOURLY
@@ -33,8 +33,8 @@ SEARCH_TIMES = 1.5  # and as many for a search by relaxed welfares, most of whos
 UNFINISHED = 3  # the status of a search that came to its limit on nodes
 REFUSED = 500  # the commands that are refused, each after an accepted one
 SECONDS = 1_200  # for a run of some seconds, on a machine that has much else to do
-DRAWN = Refusal("random")
-FIXED = Refusal("random", first=1, error=errno.ENOSYS)
+DRAWN = RefusedCalls("random")
+FIXED = RefusedCalls("random", first=1, error=errno.ENOSYS)
 # Each engine by its words, and the two calls of the gate that take a seed by those of `dam_refusals`; those of `OPEN` take no close.
 ENGINES = [["replay"], ["clear"], ["day"], ["clear", "--nodes", "20"], ["clear", "--workers", "1"], ["day", "--workers", "1", "--cut", "0"]]
 GATES = {"begin_seeded": [], "run_commands": ["threads"]}
@@ -43,26 +43,26 @@ LOOKS = 49.7  # millions of instructions of the calls of `dam_refusals` up to a 
 COUNTED = re.compile(r"I +refs: +([\d,]+)")
 
 
-def instructions(program, words, data, refusal, status=0):
+def run_for_instructions(program, words, data, refusal, status=0):
     """How many instructions a run takes, which must end with this status."""
-    return counted(program, words, data, refusal, status)[0]
+    return run_for_counts(program, words, data, refusal, status)[0]
 
 
-def counted(program, words, data, refusal, status=0):
+def run_for_counts(program, words, data, refusal, status=0):
     """The same, and how many calls for memory it makes."""
-    log = program.counts().with_suffix(".valgrind")
+    log = program.counts_file().with_suffix(".valgrind")
     count = [shutil.which("valgrind"), "--tool=cachegrind", "--cache-sim=no", "--cachegrind-out-file=/dev/null", f"--log-file={log}"]
-    printed, _, growths = program.counted(words, data, refusal, seconds=SECONDS, under=count)
+    printed, _, growths = program.run_counting(words, data, refusal, seconds=SECONDS, under=count)
     if printed.status != status:
         raise ValueError(f"{words} under valgrind: status {printed.status}, {printed.stderr[:80]!r}")
     return int(COUNTED.search(log.read_text())[1].replace(",", "")), growths
 
 
-def journal(records, is_closed=True, periods=24):
+def journal_text(records, is_closed=True, periods=24):
     return "".join([f"day,{periods},,,,,,,\n", *records, *["close,,,,,,,,\n"] * is_closed]).encode()
 
 
-def submits(names):
+def submits_of(names):
     return [f"submit,A,{name},hour,buy,0,1:1,,\n" for name in names]
 
 
@@ -70,23 +70,23 @@ def ordinary_names():
     return [f"N-{number:010}" for number in range(ORDERS)]
 
 
-def colliding_names(room):
+def run_for_colliding_names(room):
     return subprocess.run([room / "collide", str(ORDERS)], stdout=subprocess.PIPE, text=True, check=True).stdout.split()
 
 
-def names(runs):
+def check_names(runs):
     """Tries each engine and each call of the gate with a seed that is drawn and with the fixed one, and with a drawn one on a longer day
     with a second participant too."""
-    refusals = Program(REFUSALS, runs.program.room)
+    refusals = HostileProgram(REFUSALS, runs.program.room)
     tried = [(" ".join(words), runs.program, words) for words in ENGINES] + [(call, refusals, words) for call, words in GATES.items()]
-    lists = submits(ordinary_names()), submits(colliding_names(runs.program.room))
+    lists = submits_of(ordinary_names()), submits_of(run_for_colliding_names(runs.program.room))
     asked = [
-        (program, words, journal(more + records, words not in OPEN, periods), refusal)
+        (program, words, journal_text(more + records, words not in OPEN, periods), refusal)
         for _, program, words in tried
         for refusal, periods, more in ((DRAWN, 24, []), (FIXED, 24, []), (DRAWN, 96, ["submit,B,N-1,hour,buy,0,1:1,,\n"]))
         for records in lists
     ]
-    counts = list(runs.pool.map(lambda it: instructions(*it), asked))
+    counts = list(runs.pool.map(lambda it: run_for_instructions(*it), asked))
     for at, (about, _, _) in enumerate(tried):
         drawn, fixed, long = (counts[6 * at + pair + 1] / counts[6 * at + pair] for pair in (0, 2, 4))
         took = f"{drawn:.1f} times the instructions of others, {fixed:.1f} times with the fixed seed"
@@ -96,90 +96,90 @@ def names(runs):
         runs.check(f"{about}: with the fixed seed, names that collide take only {fixed:.1f} times those of others", fixed > TIMES)
 
 
-def numbered(numbers):
-    return submits(f"N-{number}" for number in numbers)
+def numbered_submits(numbers):
+    return submits_of(f"N-{number}" for number in numbers)
 
 
-def cancelled(numbers):
+def cancels_of(numbers):
     return [f"cancel,A,N-{number},,,,,,\n" for number in numbers]
 
 
-def by_turns(*lists):
+def in_alternation(*lists):
     return [record for records in zip(*lists) for record in records]
 
 
-def with_cancels():
+def journals_with_cancels():
     """The records after the submits of a book's orders, by name, each with those that they are compared with."""
     oldest, newest = range(AGAIN), [ORDERS - 1] * AGAIN
-    from_the_back = cancelled(reversed(range(ORDERS)))
-    last_again = by_turns(cancelled(newest), numbered(newest))
+    from_the_back = cancels_of(reversed(range(ORDERS)))
+    last_again = in_alternation(cancels_of(newest), numbered_submits(newest))
     return {
-        "cancels from the front": (cancelled(range(ORDERS)), from_the_back),
-        "the oldest order cancelled and its name used again": (by_turns(cancelled(oldest), numbered(oldest)), last_again),
-        "one order cancelled and its name used again": (by_turns(cancelled([0] * AGAIN), numbered([0] * AGAIN)), last_again),
+        "cancels from the front": (cancels_of(range(ORDERS)), from_the_back),
+        "the oldest order cancelled and its name used again": (in_alternation(cancels_of(oldest), numbered_submits(oldest)), last_again),
+        "one order cancelled and its name used again": (in_alternation(cancels_of([0] * AGAIN), numbered_submits([0] * AGAIN)), last_again),
     }
 
 
-def cancels(runs):
+def check_cancels(runs):
     """Counts the instructions of each journal with cancels, and of the one that it is compared with."""
-    begin = numbered(range(ORDERS))
-    tried = {name: tuple(journal(begin + records) for records in both) for name, both in with_cancels().items()}
-    needed = {journal(begin)}.union(*tried.values())
-    counts = dict(zip(needed, runs.pool.map(lambda data: instructions(runs.program, ["replay"], data, DRAWN), needed)))
-    alone = counts[journal(begin)]
+    begin = numbered_submits(range(ORDERS))
+    tried = {name: tuple(journal_text(begin + records) for records in both) for name, both in journals_with_cancels().items()}
+    needed = {journal_text(begin)}.union(*tried.values())
+    counts = dict(zip(needed, runs.pool.map(lambda data: run_for_instructions(runs.program, ["replay"], data, DRAWN), needed)))
+    alone = counts[journal_text(begin)]
     for name, (one, other) in tried.items():
         times = (counts[one] - alone) / (counts[other] - alone)
         print(f"replay, {name}: {times:.2f} times the instructions of the same from the back", flush=True)
         runs.check(f"replay: {name} takes {times:.2f} times the instructions of the same from the back", times < CANCEL_TIMES)
 
 
-def codes():
+def participant_codes():
     """The codes of as many participants as a day may have, again and again."""
     return itertools.cycle("ABCDEFGH"[: rules.MOST_DAY_PARTICIPANTS])
 
 
-def volumes(periods, volume):
+def volumes_text(periods, volume):
     return ";".join(f"{period}:{volume(period)}" for period in range(1, periods + 1))
 
 
-def book(periods, orders=ORDERS, blocks=rules.MOST_BLOCKS):
+def submits_of_book(periods, orders=ORDERS, blocks=rules.MOST_BLOCKS):
     """As many orders, half of them of each side, and as many blocks, with a volume in each period."""
-    for at, code in zip(range(orders), codes()):
+    for at, code in zip(range(orders), participant_codes()):
         side, cents, period = ("buy", "sell")[at % 2], 4_000 + at * 7_919 % 4_001, 1 + at // 2 % periods
         yield f"submit,{code},N-{at},hour,{side},{cents},{period}:{10 + at * 104_729 % 891},,\n"
-    for at, code in zip(range(blocks), codes()):
+    for at, code in zip(range(blocks), participant_codes()):
         side, cents = ("buy", "sell")[at % 2], 5_500 + at * 617 % 1_001
-        yield f"submit,{code},K-{at},block,{side},{cents},{volumes(periods, lambda period: 5 + (at + 1) * period * 37 % 56)},,\n"
+        yield f"submit,{code},K-{at},block,{side},{cents},{volumes_text(periods, lambda period: 5 + (at + 1) * period * 37 % 56)},,\n"
 
 
 def full_journal():
     """A full book, an amend of each hourly order, and as many cancels as there may be before the close of a day."""
-    records = [*book(24), *(f"amend,{code},N-{at},,,{4_000 + at},{1 + at % 24}:7,,\n" for at, code in zip(range(ORDERS), codes()))]
+    records = [*submits_of_book(24), *(f"amend,{code},N-{at},,,{4_000 + at},{1 + at % 24}:7,,\n" for at, code in zip(range(ORDERS), participant_codes()))]
     left = rules.MOST_DAY_COMMANDS - len(records)
-    return records + [f"cancel,{code},N-{at},,,,,,\n" for at, code in zip(range(left), codes())]
+    return records + [f"cancel,{code},N-{at},,,,,,\n" for at, code in zip(range(left), participant_codes())]
 
 
 def refused_commands():
     """A full book, and by turns an amend and a submit that is refused because its order is there."""
-    begin = [*book(24)]
-    amends = [f"amend,{code},N-{at},,,{4_000 + at},{1 + at % 24}:7,,\n" for at, code in zip(range(REFUSED), codes())]
-    return begin + by_turns(amends, begin)
+    begin = [*submits_of_book(24)]
+    amends = [f"amend,{code},N-{at},,,{4_000 + at},{1 + at % 24}:7,,\n" for at, code in zip(range(REFUSED), participant_codes())]
+    return begin + in_alternation(amends, begin)
 
 
-def crowded():
+def crowded_book():
     """A full book whose hourly orders are all in one period."""
-    return [*book(1, blocks=0), *book(24, orders=0)]
+    return [*submits_of_book(1, blocks=0), *submits_of_book(24, orders=0)]
 
 
-def long_amends():
+def submits_with_long_amends():
     """Amends of a block in each period of the longest day."""
     periods = rules.GREATEST_PERIOD
-    yield f"submit,A,K-1,block,sell,5000,{volumes(periods, lambda period: period)},,\n"
+    yield f"submit,A,K-1,block,sell,5000,{volumes_text(periods, lambda period: period)},,\n"
     for cents in range(1_000):
-        yield f"amend,A,K-1,,,{cents},{volumes(periods, lambda period: period + cents)},,\n"
+        yield f"amend,A,K-1,,,{cents},{volumes_text(periods, lambda period: period + cents)},,\n"
 
 
-class Work(NamedTuple):
+class WorkOfRun(NamedTuple):
     """A run: the day's periods, the records, the words, the millions of instructions that were counted, how many times as many are too
     many, and the status."""
 
@@ -191,36 +191,36 @@ class Work(NamedTuple):
     status: int = 0
 
 
-def works():
+def runs_by_name():
     """Each run, by its name."""
     clear, day = ["clear", "--workers", "1"], ["day", "--workers", "1"]
     limited = [*clear, "--cut", "0", "--nodes"]
     return {
-        "replay of a full journal": Work(24, full_journal(), ["replay"], 30.1),
-        "clear of a full book": Work(24, book(24), clear, 18.5),
-        "clear of a full book of quarter-hours": Work(96, book(96), clear, 24.2),
-        "clear of 12 blocks within 8,000 nodes": Work(24, book(24, orders=480, blocks=12), [*limited, "8000"], 60.9),
-        "clear of 24 blocks by 4 workers": Work(24, book(24, orders=480), ["clear", "--workers", "4"], 3.94, SEARCH_TIMES),
-        "clear of a crowded period up to 2,000 nodes": Work(24, crowded(), [*limited, "2000"], 83.1, SEARCH_TIMES, UNFINISHED),
-        "day of a full journal": Work(24, full_journal(), day, 96.5),
-        "day of a full book and refused commands": Work(24, refused_commands(), day, 54.3),
-        "day of amends of 100 volumes": Work(rules.GREATEST_PERIOD, long_amends(), day, 60.8),
+        "replay of a full journal": WorkOfRun(24, full_journal(), ["replay"], 30.1),
+        "clear of a full book": WorkOfRun(24, submits_of_book(24), clear, 18.5),
+        "clear of a full book of quarter-hours": WorkOfRun(96, submits_of_book(96), clear, 24.2),
+        "clear of 12 blocks within 8,000 nodes": WorkOfRun(24, submits_of_book(24, orders=480, blocks=12), [*limited, "8000"], 60.9),
+        "clear of 24 blocks by 4 workers": WorkOfRun(24, submits_of_book(24, orders=480), ["clear", "--workers", "4"], 3.94, SEARCH_TIMES),
+        "clear of a crowded period up to 2,000 nodes": WorkOfRun(24, crowded_book(), [*limited, "2000"], 83.1, SEARCH_TIMES, UNFINISHED),
+        "day of a full journal": WorkOfRun(24, full_journal(), day, 96.5),
+        "day of a full book and refused commands": WorkOfRun(24, refused_commands(), day, 54.3),
+        "day of amends of 100 volumes": WorkOfRun(rules.GREATEST_PERIOD, submits_with_long_amends(), day, 60.8),
     }
 
 
-def compare(runs, about, count, millions, times):
+def check_and_print_millions(runs, about, count, millions, times):
     """Compares the instructions of a run with the millions that were counted before."""
     took = f"{about}: {count / 1e6:.1f} million instructions"
     print(took, flush=True)
     runs.check(f"{took}, more than {times} times {millions} million", count < times * millions * 1e6)
 
 
-def full(runs):
+def check_full_books(runs):
     """Counts the instructions of runs on full books, and of a journal that is filled at a gate."""
-    tried = works()
-    asked = [(it.words, journal(it.records, it.words[0] != "day", it.periods), DRAWN, it.status) for it in tried.values()]
-    counts = runs.pool.map(lambda it: instructions(runs.program, *it), asked)
+    tried = runs_by_name()
+    asked = [(it.words, journal_text(it.records, it.words[0] != "day", it.periods), DRAWN, it.status) for it in tried.values()]
+    counts = runs.pool.map(lambda it: run_for_instructions(runs.program, *it), asked)
     for (about, work), count in zip(tried.items(), counts):
-        compare(runs, about, count, work.millions, work.times)
-    looks = instructions(Program(REFUSALS, runs.program.room), ["full"], b"", DRAWN)
-    compare(runs, "calls up to a full journal, each with a look after it", looks, LOOKS, MOST_TIMES)
+        check_and_print_millions(runs, about, count, work.millions, work.times)
+    looks = run_for_instructions(HostileProgram(REFUSALS, runs.program.room), ["full"], b"", DRAWN)
+    check_and_print_millions(runs, "calls up to a full journal, each with a look after it", looks, LOOKS, MOST_TIMES)

@@ -3,19 +3,19 @@
 import re
 import threading
 
-from preload import Refusal
+from preload import RefusedCalls
 from shared.printed import Printed, faults_of_journal
 from lib.journal import journal
 from lib.results import results
 
-NOTHING_REFUSED = Refusal("memory")
+NOTHING_REFUSED = RefusedCalls("memory")
 MACHINE = 4  # the status of a fault of the machine
 MEMORY = Printed(MACHINE, b"", b"memory\n")
 READ = Printed(MACHINE, b"", b"device: read\n")
 WRITE = re.compile(rb"device: write after (\d+) bytes\n")
 
 
-class Answer:
+class RightAnswer:
     """The output of a run with no call refused. The text of a day is one of many, each of which is looked at once: its journal has
     each participant's commands in their order and then the close, and its results are those that the program makes of that
     journal."""
@@ -28,7 +28,7 @@ class Answer:
         self.texts = {}
         self.lock = threading.Lock()
 
-    def is_given(self, got):
+    def is_given_answer(self, got):
         if not self.is_day or got.status or got.stderr:
             return got == self.usual
         with self.lock:
@@ -46,24 +46,24 @@ class Answer:
         return not wrong and cleared == Printed(0, published, b"")
 
 
-def memory(answer, refusal, got, calls):
+def is_right_without_memory(answer, refusal, got, calls):
     """Memory is refused: the usual answer, or the line for memory, which needs no memory itself."""
-    return answer.is_given(got) or calls >= refusal.first and got == MEMORY
+    return answer.is_given_answer(got) or calls >= refusal.first and got == MEMORY
 
 
-def unchanged(answer, _refusal, got, _calls):
+def is_unchanged(answer, _refusal, got, _calls):
     """A refused thread or refused random bytes change no answer."""
-    return answer.is_given(got)
+    return answer.is_given_answer(got)
 
 
-def read(answer, refusal, got, calls):
+def is_right_after_read(answer, refusal, got, calls):
     """A failed read ends the run, and nothing is written."""
     if calls < refusal.first:
-        return answer.is_given(got)
+        return answer.is_given_answer(got)
     return got == READ
 
 
-def write(answer, refusal, got, calls):
+def is_right_after_write(answer, refusal, got, calls):
     """A failed write ends the run; the written bytes are the first of the text, and the line says how many."""
     text = answer.usual.stdout
     if calls < refusal.first:
@@ -73,7 +73,7 @@ def write(answer, refusal, got, calls):
     return line is not None and int(line[1]) == len(written) and got == Printed(MACHINE, written, got.stderr)
 
 
-def report(answer, refusal, got, calls):
+def is_right_after_report(answer, refusal, got, calls):
     """If the fault's line can't be written, its first bytes are there, and its status stays."""
     line = answer.usual.stderr
     if calls < refusal.first:

@@ -12,7 +12,7 @@ calls twice, holds at most as much each time."""
 import itertools
 
 from again import REFUSALS
-from preload import Program, Refusal  # by which `lib` is found
+from preload import HostileProgram, RefusedCalls  # by which `lib` is found
 from shared.printed import Printed
 from lib.base import rules
 
@@ -29,109 +29,109 @@ PERIODS = b";".join(b"%d:%d" % (period, rules.GREATEST_VOLUME) for period in ran
 NAMES = [b"K-%010d" % number for number in range(rules.MOST_BLOCKS)]
 
 
-def filled(begin, part, end=b""):
+def filled_text(begin, part, end=b""):
     """A text of the greatest length, or a few bytes less, with that part as often as it fits."""
     return begin + part * ((LONGEST - len(begin) - len(end)) // len(part)) + end
 
 
-def faulty():
+def faulty_texts():
     """Yields texts that aren't journals, each with the line of its fault."""
     for number, begin in [(1, b"day,24"), (2, DAY_RECORD)]:
         line = b"input: FieldCount in record %d\n" % number
-        yield f"commas in record {number}", filled(begin, b","), line
-        yield f"quoted empty fields in record {number}", filled(begin + b",", b'"",'), line
+        yield f"commas in record {number}", filled_text(begin, b","), line
+        yield f"quoted empty fields in record {number}", filled_text(begin + b",", b'"",'), line
     line = b"input: FieldCount in record 2\n"
-    yield "one field", filled(DAY_RECORD, b"A"), line
-    yield "one quoted field", filled(DAY_RECORD + b'"', b"A", b'"'), line
-    yield "one field with doubled quotes", filled(DAY_RECORD + b'"', b"A" * 1_000 + b'""', b'"'), line
-    yield "one field, quoted in part", filled(DAY_RECORD + b'"A"', b"A"), line
-    yield "quotes alone", filled(b"", b'"'), b"input: NotDay\n"
-    yield "a long name", filled(DAY_RECORD + b'cancel,A,"', b"A" * 1_000 + b'""', b'",,,,,,\n'), b"input: BadField in record 2 field 3\n"
-    yield "many records", filled(DAY_RECORD, CLOSE), b"input: TooManyRecords\n"
+    yield "one field", filled_text(DAY_RECORD, b"A"), line
+    yield "one quoted field", filled_text(DAY_RECORD + b'"', b"A", b'"'), line
+    yield "one field with doubled quotes", filled_text(DAY_RECORD + b'"', b"A" * 1_000 + b'""', b'"'), line
+    yield "one field, quoted in part", filled_text(DAY_RECORD + b'"A"', b"A"), line
+    yield "quotes alone", filled_text(b"", b'"'), b"input: NotDay\n"
+    yield "a long name", filled_text(DAY_RECORD + b'cancel,A,"', b"A" * 1_000 + b'""', b'",,,,,,\n'), b"input: BadField in record 2 field 3\n"
+    yield "many records", filled_text(DAY_RECORD, CLOSE), b"input: TooManyRecords\n"
     last = DAY_RECORD + CLOSE * (rules.MOST_RECORDS - 2) + CLOSE.replace(b"\n", b"x\n")
-    yield "a bad field in the last record", filled(last, b"\n"), b"input: BadField in record %d field 9\n" % rules.MOST_RECORDS
-    yield "a last byte that isn't ASCII", filled(DAY_RECORD, b"\n", b"\xff"), b"input: NotAscii at %d\n" % (LONGEST - 1)
-    yield "empty lines", filled(b"", b"\r\n"), b"input: NotDay\n"
-    yield "a byte too many", filled(b"", b"A") + b"A", b"input: TooLong\n"
+    yield "a bad field in the last record", filled_text(last, b"\n"), b"input: BadField in record %d field 9\n" % rules.MOST_RECORDS
+    yield "a last byte that isn't ASCII", filled_text(DAY_RECORD, b"\n", b"\xff"), b"input: NotAscii at %d\n" % (LONGEST - 1)
+    yield "empty lines", filled_text(b"", b"\r\n"), b"input: NotDay\n"
+    yield "a byte too many", filled_text(b"", b"A") + b"A", b"input: TooLong\n"
 
 
-def blocks(name):
+def block_submit(name):
     return b"submit,ABCDEFGH,%b,block,sell,%d,%b,,G-%b\n" % (name, rules.HIGHEST_PRICE, PERIODS, name[2:])
 
 
-def amends(name):
+def block_amend(name):
     return b"amend,ABCDEFGH,%b,,,%d,%b,,\n" % (name, rules.HIGHEST_PRICE, PERIODS)
 
 
-def in_quotes(records):
+def with_quotes(records):
     return b"".join(b'"%b"\r\n' % record.replace(b",", b'","') for record in b"".join(records).splitlines())
 
 
-def orders(count):
+def hourly_submits(count):
     """As many hourly orders, in the shortest form."""
     sides = [b"buy", b"sell"]
     return [b"submit,A,%d,hour,%b,0,%d:1,,\n" % (at, sides[at % 2], at % 100 + 1) for at in range(count)]
 
 
-def journals():
+def long_journals():
     """Yields journals, each with the engines that take it."""
-    begin = [DAY_RECORD, *map(blocks, NAMES)]
-    full = [*begin, *(amends(NAMES[at % len(NAMES)]) for at in range(rules.MOST_DAY_COMMANDS - len(NAMES)))]
-    text = in_quotes(full)
+    begin = [DAY_RECORD, *map(block_submit, NAMES)]
+    full = [*begin, *(block_amend(NAMES[at % len(NAMES)]) for at in range(rules.MOST_DAY_COMMANDS - len(NAMES)))]
+    text = with_quotes(full)
     yield "blocks of every period, in quotes", text + b"\n" * (LONGEST - len(text)), [REPLAY, DAY]
     yield "blocks of every period", b"".join([*full, CLOSE]), [REPLAY, CLEAR]
-    short = b"".join([*begin, *orders(rules.MOST_HOURLY)])
+    short = b"".join([*begin, *hourly_submits(rules.MOST_HOURLY)])
     yield "a full book", short, [REPLAY, DAY]
     yield "a full book, closed", short + CLOSE, [REPLAY, CLEAR]
     yield "short commands", DAY_RECORD + b"cancel,A,X,,,,,,\n" * rules.MOST_DAY_COMMANDS, [REPLAY, DAY]
     whose = itertools.cycle(b",%c," % code for code in b"ABCDEFGH"[: rules.MOST_DAY_PARTICIPANTS])
-    shared = b"".join([DAY_RECORD, *(record.replace(b",A,", who, 1) for record, who in zip(orders(rules.MOST_DAY_COMMANDS), whose))])
+    shared = b"".join([DAY_RECORD, *(record.replace(b",A,", who, 1) for record, who in zip(hourly_submits(rules.MOST_DAY_COMMANDS), whose))])
     yield "commands of all participants by turns", shared, [REPLAY, DAY]
     few = b"".join([DAY_RECORD, *(b"cancel,%c,X,,,,,,\n" % code for code in b"ABCDEFGH"[: rules.MOST_DAY_PARTICIPANTS])])
     yield "a command of each participant", few, [REPLAY, DAY]
     yield "a command of each participant, closed", few + CLOSE, [REPLAY, CLEAR]
-    some = b"".join([DAY_RECORD, *orders(SOME // 40)])
+    some = b"".join([DAY_RECORD, *hourly_submits(SOME // 40)])
     yield "some orders", some, [REPLAY, DAY]
     yield "some orders, closed", some + CLOSE, [REPLAY, CLEAR]
-    yield "a close after empty lines", filled(DAY_RECORD, b"\n", CLOSE), [REPLAY, CLEAR]
+    yield "a close after empty lines", filled_text(DAY_RECORD, b"\n", CLOSE), [REPLAY, CLEAR]
 
 
-def texts():
+def texts_with_engines():
     """Yields each text, with the engines that it is tried with and the line of its fault, if it has one."""
-    for about, text, line in faulty():
+    for about, text, line in faulty_texts():
         yield about, text, ENGINES, line
-    for about, text, engines in journals():
+    for about, text, engines in long_journals():
         yield about, text, engines, b""
 
 
-def most_held(engine, size):
+def most_bytes_of(engine, size):
     """The most bytes that an engine may hold at once, of a text of this size."""
     if size < SOME:
         return LITTLE + EACH * size * (size >= FEW)
     return HELD[engine] * MORE * 1e6 if size < SHORT else TIMES * size + ROOM
 
 
-def peaks(runs):
+def check_peaks(runs):
     """Runs each text, and compares the most bytes that the program held with the text's."""
     most = 0
-    for about, text, engines, line in texts():
-        found = runs.pool.map(lambda words: (words[0], *runs.program.run(words, text, Refusal("peak"))), engines)
+    for about, text, engines, line in texts_with_engines():
+        found = runs.pool.map(lambda words: (words[0], *runs.program.run(words, text, RefusedCalls("peak"))), engines)
         for word, got, peak in found:
             is_right = got == Printed(1, b"", line) if line else got.status == 0 and got.stdout != b""
             runs.check(f"{word} of {about}: status {got.status}, {got.stderr[:80]!r}", is_right)
-            fits = 0 < peak <= most_held(word, len(text))
+            fits = 0 < peak <= most_bytes_of(word, len(text))
             runs.check(f"{word} of {about}: {peak:,} bytes were held, and the text has {len(text):,}", fits)
             most = max(most, peak)
-        runs.program.given(text).unlink()
-    journals_read(runs)
+        runs.program.write_input(text).unlink()
+    check_journals_read(runs)
     print(f"the longest texts: at most {most / 1e6:.1f} MB were held at once", flush=True)
 
 
-def journals_read(runs):
+def check_journals_read(runs):
     """The same of the journals that `read_journal` returns, of short texts: `dam_refusals` holds two of each."""
-    reader = Program(REFUSALS, runs.program.room)
-    for about, text, _ in journals() if REFUSALS.exists() else ():
+    reader = HostileProgram(REFUSALS, runs.program.room)
+    for about, text, _ in long_journals() if REFUSALS.exists() else ():
         if len(text) < SOME:
-            got, peak = reader.run(["read"], text, Refusal("peak"))
-            is_right = got.stdout.endswith(b" commands, 0 calls refused\n") and 0 < peak <= 2 * most_held("read", len(text))
+            got, peak = reader.run(["read"], text, RefusedCalls("peak"))
+            is_right = got.stdout.endswith(b" commands, 0 calls refused\n") and 0 < peak <= 2 * most_bytes_of("read", len(text))
             runs.check(f"read_journal of {about}: {got.stdout[:80]!r}, {peak:,} bytes were held, and the text has {len(text):,}", is_right)

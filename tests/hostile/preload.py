@@ -18,7 +18,7 @@ NONE = -1
 LEFT = b"written before each thread was joined\n"
 
 
-class Refusal(NamedTuple):
+class RefusedCalls(NamedTuple):
     """The calls of a kind that fail, by their numbers from 1, with an error number or, if that is 0, with 0 bytes moved; and how many
     bytes every other call moves at most, if that isn't 0."""
 
@@ -33,7 +33,7 @@ class Refusal(NamedTuple):
         return min(count, (self.first - 1) * (self.most or count))
 
 
-class Program:
+class HostileProgram:
     """The program, and a folder for the inputs and the counts of its runs."""
 
     def __init__(self, path, room):
@@ -41,13 +41,13 @@ class Program:
         self.room = Path(room)
         self.own = threading.local()
 
-    def counts(self):
+    def counts_file(self):
         """The file that a run of this thread counts its calls in."""
         if not hasattr(self.own, "calls"):
             self.own.calls = self.room / f"calls-{threading.get_ident()}"
         return self.own.calls
 
-    def given(self, data):
+    def write_input(self, data):
         """The file of an input."""
         file = self.room / f"input-{hashlib.sha256(data).hexdigest()}"
         if not file.exists():
@@ -58,25 +58,25 @@ class Program:
 
     def run(self, words, data, refusal, **how):
         """Its output, and how many calls of the refusal's kind it made."""
-        printed, made, _ = self.counted(words, data, refusal, **how)
+        printed, made, _ = self.run_counting(words, data, refusal, **how)
         return printed, made
 
-    def held(self, words, data):
+    def run_for_peak(self, words, data):
         """Its output, the most bytes that it held at once, and how many calls for memory it made."""
-        return self.counted(words, data, Refusal("peak"))
+        return self.run_counting(words, data, RefusedCalls("peak"))
 
-    def counted(self, words, data, refusal, source=None, stdout=subprocess.PIPE, seconds=SECONDS, under=()):
+    def run_counting(self, words, data, refusal, source=None, stdout=subprocess.PIPE, seconds=SECONDS, under=()):
         """Its output, and the numbers that the library counts. The input is the data, or comes from the source. The words of `under` go
         before the program. A program that writes before it has joined each thread that it started is at fault: that thread may still be
         running."""
-        calls = self.counts()
+        calls = self.counts_file()
         calls.write_bytes(bytes(24))
         surroundings = {
             "LD_PRELOAD": str(self.room / "refuse.so"),
             "HOSTILE": " ".join(map(str, refusal)),
             "HOSTILE_CALLS": str(calls),
         }
-        with open(self.given(data), "rb") as stdin:
+        with open(self.write_input(data), "rb") as stdin:
             how = {"stdin": source or stdin, "stdout": stdout, "stderr": subprocess.PIPE, "env": surroundings, "timeout": seconds}
             try:
                 ran = subprocess.run([*under, self.path, *words], close_fds=False, **how)

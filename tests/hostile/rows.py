@@ -19,7 +19,7 @@ import costs
 import judge
 import peaks
 import shapes
-from preload import EVERY, LEFT, SECONDS, Program, Refusal
+from preload import EVERY, LEFT, SECONDS, HostileProgram, RefusedCalls
 from shared import cases
 from shared.counts import Counts
 from shared.printed import Printed
@@ -34,7 +34,7 @@ ANY = 10_000  # more calls than any row makes of which each has to be refused
 UNFINISHED = 3  # the status of a search that came to its limit on nodes
 
 
-class Row(NamedTuple):
+class RowOfRuns(NamedTuple):
     """Runs on one input that differ in the number of the refused call."""
 
     about: str
@@ -48,11 +48,11 @@ class Row(NamedTuple):
     each: int = FEW  # without --all, each call is refused if a run has no more than this
     some: int = FEW  # of a run that has more, as many as this, evenly spread
 
-    def refusal(self, number):
-        return Refusal(self.kind, number, self.last or number, self.error, self.most)
+    def refused_calls(self, number):
+        return RefusedCalls(self.kind, number, self.last or number, self.error, self.most)
 
 
-def records(name, wanted=lambda record: True):
+def records_of_example(name, wanted=lambda record: True):
     """The records of an example that are wanted, with the day's."""
     day, *rest = (EXAMPLES / name).read_bytes().splitlines(keepends=True)
     return b"".join([day, *filter(wanted, rest)])
@@ -62,17 +62,17 @@ def is_command(record):
     return not record.startswith(b"close")
 
 
-def worked_cases():
+def read_worked_cases():
     """The worked cases for the built program: each with its name, its words and its input."""
     return [(case.name, case.words, case.stdin) for case in cases.read_every()]
 
 
-AUCTION = records("auction-day.csv")
-FIRST = records("first-day.csv")
-QUARTERS = records("quarter-hours.csv")
-OPEN_AUCTION = records("auction-day.csv", is_command)
-OPEN_FIRST = records("first-day.csv", is_command)
-ONE_PARTICIPANT = records("auction-day.csv", lambda record: b",GAS," in record)
+AUCTION = records_of_example("auction-day.csv")
+FIRST = records_of_example("first-day.csv")
+QUARTERS = records_of_example("quarter-hours.csv")
+OPEN_AUCTION = records_of_example("auction-day.csv", is_command)
+OPEN_FIRST = records_of_example("first-day.csv", is_command)
+ONE_PARTICIPANT = records_of_example("auction-day.csv", lambda record: b",GAS," in record)
 BROKEN = AUCTION + b"amend,NORD\n"
 QUOTED = b"".join(b'"%b"\r\n' % record.replace(b",", b'","') for record in AUCTION.splitlines())
 QUOTED_IN_PART = AUCTION.replace(b"submit", b'"sub"mit').replace(b"close", b'"clo"se')
@@ -104,19 +104,19 @@ AMENDS = [9, 1_100, rules.MOST_DAY_COMMANDS - rules.MOST_BLOCKS]  # of all perio
 SMALL_BOOK = 30  # orders
 
 
-def worked_rows():
+def rows_of_cases():
     """One call for memory refused in the worked cases: each in turn, but in a few large ones."""
-    for about, words, data in worked_cases():
-        yield Row(f"{about}, one growth", words, data, "memory", judge.memory, each=SMALL)
+    for about, words, data in read_worked_cases():
+        yield RowOfRuns(f"{about}, one growth", words, data, "memory", judge.is_right_without_memory, each=SMALL)
 
 
-def worked_rows_without_memory():
+def rows_of_cases_without_memory():
     """All calls for memory refused from one on, in the worked cases."""
-    for about, words, data in worked_cases():
-        yield Row(f"{about}, all growths from one on", words, data, "memory", judge.memory, last=EVERY, each=0, some=8)
+    for about, words, data in read_worked_cases():
+        yield RowOfRuns(f"{about}, all growths from one on", words, data, "memory", judge.is_right_without_memory, last=EVERY, each=0, some=8)
 
 
-def memory_rows():
+def rows_of_memory():
     """A call for memory refused alone, and with all that come later."""
     inputs = [
         ("clear of two blocks by eight workers", ["clear", "--workers", "8", "--cut", "8"], TWO_BLOCKS + CLOSE, ANY),
@@ -141,39 +141,39 @@ def memory_rows():
                for plan in CUTTINGS for word, data in [("clear", AUCTION), ("day", OPEN_AUCTION)]]
     for about, words, data, some in inputs:
         each = ANY if some == ANY else FEW
-        yield Row(f"{about}, one growth", words, data, "memory", judge.memory, each=each, some=some)
-        yield Row(f"{about}, all growths from one on", words, data, "memory", judge.memory, last=EVERY, each=each, some=some // 2)
+        yield RowOfRuns(f"{about}, one growth", words, data, "memory", judge.is_right_without_memory, each=each, some=some)
+        yield RowOfRuns(f"{about}, all growths from one on", words, data, "memory", judge.is_right_without_memory, last=EVERY, each=each, some=some // 2)
 
 
 def rows_of_calls(program):
     """Rows whose calls `dam_refusals` makes, each again if it was refused memory."""
-    worked = {name: (words, data) for name, words, data in worked_cases()}
+    worked = {name: (words, data) for name, words, data in read_worked_cases()}
     days = [("two orders", TWO_ORDERS)]
     days += [(f"the commands of {name}", worked[f"replay/{name}"][1]) for name in ["stored-run", "closed", "links"]]
-    yield from again.days([*days, ("the longest day", LONGEST), ("the auction day", OPEN_AUCTION)])
-    yield from again.gates()
+    yield from again.journals_at_gate([*days, ("the longest day", LONGEST), ("the auction day", OPEN_AUCTION)])
+    yield from again.rows_of_gates()
     texts = [(name, data) for name, (words, data) in worked.items() if words == ["replay"] or name == "clear/quoted-crlf"]
     written = [("two orders", TWO_ORDERS + CLOSE), ("the longest day", LONGEST + CLOSE), ("the auction day", AUCTION)]
-    yield from again.texts(program, [*texts, ("the longest day", LONGEST + CLOSE)], written)
-    yield from again.searches(worked["clear/two-equal-blocks"][1], worked["clear/group"][1])
-    yield from again.lines()
+    yield from again.rows_of_texts(program, [*texts, ("the longest day", LONGEST + CLOSE)], written)
+    yield from again.rows_of_searches(worked["clear/two-equal-blocks"][1], worked["clear/group"][1])
+    yield from again.rows_of_lines()
 
 
-def thread_rows():
+def rows_of_threads():
     for plan in CUTTINGS:
         for word, data in [("clear", AUCTION), ("day", OPEN_AUCTION)]:
             about, words = f"{word} by {' '.join(plan)}", [word, *plan]
-            yield Row(f"{about}, one thread", words, data, "thread", judge.unchanged, error=errno.EAGAIN)
-            yield Row(f"{about}, all threads from one on", words, data, "thread", judge.unchanged, last=EVERY, error=errno.EAGAIN)
+            yield RowOfRuns(f"{about}, one thread", words, data, "thread", judge.is_unchanged, error=errno.EAGAIN)
+            yield RowOfRuns(f"{about}, all threads from one on", words, data, "thread", judge.is_unchanged, last=EVERY, error=errno.EAGAIN)
 
 
-def random_rows():
+def rows_of_random_bytes():
     for words, data in [(["replay"], AUCTION), (["clear"], AUCTION), (["day"], OPEN_AUCTION)]:
         for error in [errno.EIO, errno.ENOSYS]:
-            yield Row(f"{words[0]} without random bytes", words, data, "random", judge.unchanged, error=error)
+            yield RowOfRuns(f"{words[0]} without random bytes", words, data, "random", judge.is_unchanged, error=error)
 
 
-def device_rows():
+def rows_of_devices():
     jobs = [(["replay"], CLOSED_FIRST, ANY), (["replay"], FIRST, FEW), (["replay"], AUCTION, FEW), (["clear"], AUCTION, FEW),
             (["day"], ONE_PARTICIPANT, FEW)]
     for words, data, each in jobs:
@@ -181,26 +181,26 @@ def device_rows():
             about = f"{words[0]} of {len(data)} bytes, " + (f"{most} at a time" if most else "as they come")
             for error in [errno.EIO, errno.EINTR, errno.EAGAIN]:
                 named = errno.errorcode[error]
-                yield Row(f"{about}, a read with {named}", words, data, "read", judge.read, error=error, most=most, each=each)
-            yield Row(f"{about}, a read of 0 bytes", words, data, "read", end_of_input, most=most, each=each)
+                yield RowOfRuns(f"{about}, a read with {named}", words, data, "read", judge.is_right_after_read, error=error, most=most, each=each)
+            yield RowOfRuns(f"{about}, a read of 0 bytes", words, data, "read", is_right_at_end_of_input, most=most, each=each)
             for error in [errno.EIO, errno.ENOSPC, errno.EINTR, errno.EAGAIN]:
                 named = errno.errorcode[error]
-                yield Row(f"{about}, a write with {named}", words, data, "write", judge.write, error=error, most=most, each=each)
-            yield Row(f"{about}, a write of 0 bytes", words, data, "write", judge.write, most=most, each=each)
+                yield RowOfRuns(f"{about}, a write with {named}", words, data, "write", judge.is_right_after_write, error=error, most=most, each=each)
+            yield RowOfRuns(f"{about}, a write of 0 bytes", words, data, "write", judge.is_right_after_write, most=most, each=each)
     for words, data in [(["replay"], BROKEN), (["clear"], OPEN_AUCTION), (["day"], AUCTION), (["clear", "--cut", "9"], b"")]:
         for error in [errno.EIO, 0]:
             about = f"{' '.join(words)} with a fault, its line with " + (errno.errorcode.get(error) or "0 bytes taken")
-            yield Row(about, words, data, "report", judge.report, last=EVERY, error=error, most=1)
+            yield RowOfRuns(about, words, data, "report", judge.is_right_after_report, last=EVERY, error=error, most=1)
 
 
-def end_of_input(answer, refusal, got, calls):
+def is_right_at_end_of_input(answer, refusal, got, calls):
     """A read of 0 bytes is the end of the input: the answer is the answer to the bytes before it."""
     if calls < refusal.first:
-        return answer.is_given(got)
-    return answer.of_front(refusal.moved_before(len(answer.data))).is_given(got)
+        return answer.is_given_answer(got)
+    return answer.run_for_front(refusal.moved_before(len(answer.data))).is_given_answer(got)
 
 
-class Runs(Counts):
+class RunsOfRows(Counts):
     """The runs of rows, side by side, and how many were right."""
 
     def __init__(self, program, whole):
@@ -212,40 +212,40 @@ class Runs(Counts):
         self.tried = self.calls = 0  # the runs, and how many there would be if each call were refused
         self.rows = self.whole_rows = 0  # all rows, and those of which each call was refused
 
-    def answer(self, words, data):
+    def run_for_answer(self, words, data):
         key = (tuple(words), data)
         if key not in self.answers:
-            self.answers[key] = Answer(self, words, data)
+            self.answers[key] = AnswerToRow(self, words, data)
         return self.answers[key]
 
-    def numbers(self, row, total):
+    def refused_numbers(self, row, total):
         """The refused calls: each, and one that no run comes to; or some of them, evenly spread."""
         if self.whole or total <= row.each:
             return list(range(1, total + 2))
         return sorted({1 + at * total // (row.some - 1) for at in range(row.some)})
 
-    def difference(self, row, answer, number):
+    def run_for_difference(self, row, answer, number):
         """The fault of a run, or nothing."""
-        refusal = row.refusal(number)
+        refusal = row.refused_calls(number)
         got, calls = self.program.run(row.words, row.data, refusal)
         if row.judge(answer, refusal, got, calls):
             return None
         return f"differs: {row.about}: call {number}: status {got.status}, {len(got.stdout)} bytes, {got.stderr[:80]!r}"
 
-    def run(self, row):
+    def run_row(self, row):
         begun = time.monotonic()
-        answer = self.answer(row.words, row.data)
-        _, total = self.program.run(row.words, row.data, row.refusal(EVERY))
+        answer = self.run_for_answer(row.words, row.data)
+        _, total = self.program.run(row.words, row.data, row.refused_calls(EVERY))
         if row.kind == "memory":
             self.check(f"{row.about}: {total} calls are counted", total > 0)
-        numbers = self.numbers(row, total)
+        numbers = self.refused_numbers(row, total)
         if row.each == ANY:
             self.check(f"{row.about}: each of {total} calls is refused", len(numbers) == total + 1)
         self.tried += len(numbers)
         self.calls += total + 1
         self.rows += 1
         self.whole_rows += len(numbers) == total + 1
-        found = list(self.pool.map(lambda number: self.difference(row, answer, number), numbers))
+        found = list(self.pool.map(lambda number: self.run_for_difference(row, answer, number), numbers))
         wrong = [line for line in found if line]
         self.passed += found.count(None)
         self.failed += len(wrong)
@@ -258,7 +258,7 @@ class Runs(Counts):
         begun, passed, failed = time.monotonic(), self.passed, self.failed
         before = self.tried, self.calls, self.rows, self.whole_rows
         for row in rows:
-            self.run(row)
+            self.run_row(row)
         after = self.tried, self.calls, self.rows, self.whole_rows
         tried, calls, count, whole = (now - then for now, then in zip(after, before))
         shown = f"each call in {whole} of {count} rows; {tried} of {calls} runs, {calls - tried} left out"
@@ -266,32 +266,32 @@ class Runs(Counts):
         print(f"{about}: {shown}; {self.passed - passed} right, {self.failed - failed} wrong, {took:.1f} s", flush=True)
 
 
-class Answer(judge.Answer):
+class AnswerToRow(judge.RightAnswer):
     def __init__(self, runs, words, data):
         super().__init__(runs.program, words, data)
         self.runs = runs
         self.words = words
 
-    def of_front(self, count):
+    def run_for_front(self, count):
         """The answer to the first `count` bytes."""
-        return self.runs.answer(self.words, self.data[:count])
+        return self.runs.run_for_answer(self.words, self.data[:count])
 
 
-def closed(program, words, data, stream):
+def run_with_closed_stream(program, words, data, stream):
     """The output if a standard stream is closed from the start."""
     command = ["sh", "-c", f'exec "$0" "$@" {stream}', program.path, *words]
-    with open(program.given(data), "rb") as stdin:
+    with open(program.write_input(data), "rb") as stdin:
         ran = subprocess.run(command, stdin=stdin, stdout=subprocess.PIPE, stderr=subprocess.PIPE, timeout=SECONDS)
     return Printed(ran.returncode, ran.stdout, ran.stderr)
 
 
-def devices(runs):
+def check_devices(runs):
     """Standard streams that are closed or full, or that no program reads."""
     for words, data in [(["replay"], AUCTION), (["clear"], AUCTION), (["day"], OPEN_AUCTION), (["--help"], b"")]:
-        runs.check(f"{words[0]} to a closed stream", is_failed_write(closed(runs.program, words, data, ">&-")))
-        runs.check(f"{words[0]} with no standard error", closed(runs.program, words, data, ">&- 2>&-").status == judge.MACHINE)
+        runs.check(f"{words[0]} to a closed stream", is_failed_write(run_with_closed_stream(runs.program, words, data, ">&-")))
+        runs.check(f"{words[0]} with no standard error", run_with_closed_stream(runs.program, words, data, ">&- 2>&-").status == judge.MACHINE)
         if data:
-            runs.check(f"{words[0]} of a closed stream", closed(runs.program, words, data, "<&-") == judge.READ)
+            runs.check(f"{words[0]} of a closed stream", run_with_closed_stream(runs.program, words, data, "<&-") == judge.READ)
         with open("/dev/full", "wb") as full:
             got, _ = runs.program.run(words, data, judge.NOTHING_REFUSED, stdout=full)
         runs.check(f"{words[0]} to a full device", is_failed_write(got))
@@ -307,14 +307,14 @@ def is_failed_write(got):
     return line is not None and line[1] == b"0" and got == Printed(judge.MACHINE, b"", got.stderr)
 
 
-def seeds(runs):
+def check_seeds(runs):
     """Each engine draws one seed. This also shows that calls are counted at all."""
     for words, data in [(["replay"], AUCTION), (["clear"], AUCTION), (["day"], OPEN_AUCTION)]:
-        _, asked = runs.program.run(words, data, Refusal("random"))
+        _, asked = runs.program.run(words, data, RefusedCalls("random"))
         runs.check(f"{words[0]} asks for random bytes {asked} times, and not once", asked == 1)
 
 
-def threads(runs):
+def check_threads(runs):
     """A search starts a thread for each worker but one, whose work the calling thread does, and so does a day for its participants."""
     lines = [b"cancel,%c,X,,,,,,\n" % ord(code) for code in "ABCDEFGH"[: rules.MOST_DAY_PARTICIPANTS]]
     days = [(others, DAY + b"".join(lines[: others + 1])) for others in range(len(lines))]
@@ -330,57 +330,57 @@ def threads(runs):
     for word, data, others, counts, more in tried:
         for workers in counts:
             words = [word, "--workers", str(workers), "--cut", "8", *more]
-            _, started = runs.program.run(words, data, Refusal("thread"))
+            _, started = runs.program.run(words, data, RefusedCalls("thread"))
             runs.check(f"{' '.join(words)}, {others} participants more: {started} threads", started == workers - 1 + others)
 
 
-def strays(runs):
+def check_strays(runs):
     """A program that writes while a thread of it still runs is found, so the runs of the rows leave none, whatever call is refused."""
     script = "import threading; threading.Thread(target=threading.Event().wait, daemon=True).start(); print()"
-    got, _ = Program(sys.executable, runs.program.room).run(["-c", script], b"", judge.NOTHING_REFUSED)
+    got, _ = HostileProgram(sys.executable, runs.program.room).run(["-c", script], b"", judge.NOTHING_REFUSED)
     runs.check("a thread that isn't joined is found", got.stderr == LEFT)
 
 
-def texts(runs):
+def check_freed_texts(runs):
     """The journal's text is freed before the search, and before the participants of a day are started."""
     for word, data in [("clear", AUCTION), ("day", OPEN_AUCTION)]:
         words, text = [word, "--workers", "8"], data + b"\n" * (1 << 20)
         for least, is_held in [(len(text), False), (1, True)]:
-            _, started = runs.program.run(words, text, Refusal("held", most=least))
+            _, started = runs.program.run(words, text, RefusedCalls("held", most=least))
             runs.check(f"{word} starts {started} threads with a block of {least} bytes or more", (started > 0) == is_held)
     # as often as a run that has the text, and then comes to a fault
     for word, data, faulty in [("clear", AUCTION, OPEN_AUCTION), ("day", OPEN_AUCTION, AUCTION)]:
         for workers in map(str, range(1, shapes.MOST_WORKERS + 1)):
-            tried = (([word, "--workers", workers], it + b"\n" * (1 << 20), Refusal("beside", most=1 << 20)) for it in (data, faulty))
+            tried = (([word, "--workers", workers], it + b"\n" * (1 << 20), RefusedCalls("beside", most=1 << 20)) for it in (data, faulty))
             (_, made), (_, least) = (runs.program.run(*it) for it in tried)
             runs.check(f"{word} --workers {workers} asks for memory {made} times with its text, and not {least}", made == least)
 
 
-def reads(runs):
+def check_reads(runs):
     """A text is read in pieces of 65,536 bytes. A program that reads it byte by byte would be seen: it has as many reads as bytes."""
     for word, data in [("replay", AUCTION), ("clear", AUCTION), ("day", OPEN_AUCTION)]:
         text = data + b"\n" * (1 << 18)
         for most, least, greatest in [(0, 1, len(text) // CHUNK + 2), (1, len(text), len(text) + 1)]:
-            _, made = runs.program.run([word], text, Refusal("read", most=most))
+            _, made = runs.program.run([word], text, RefusedCalls("read", most=most))
             at_once = "one byte" if most else "as much as it asks for"
             runs.check(f"{word} reads {len(text)} bytes by {made} calls that give {at_once}", least <= made <= greatest)
         for length in LENGTHS:
-            read_whole(runs, word, data + b"\n" * (length - len(data)))
+            check_whole_reads(runs, word, data + b"\n" * (length - len(data)))
 
 
-def read_whole(runs, word, text):
+def check_whole_reads(runs, word, text):
     """A text of any length is read by as few calls, from a file and from a pipe that holds it."""
     about, right = f"{word} reads {len(text):,} bytes of", -(-len(text) // CHUNK) + 1
-    got, made = runs.program.run([word], text, Refusal("read"))
+    got, made = runs.program.run([word], text, RefusedCalls("read"))
     runs.check(f"{about} a file by {made} calls, and not {right}", (got.status, made) == (0, right))
     if len(text) <= PIPE:
-        with full_pipe(text) as pipe:
-            got, made = runs.program.run([word], text, Refusal("read"), source=pipe)
+        with open_full_pipe(text) as pipe:
+            got, made = runs.program.run([word], text, RefusedCalls("read"), source=pipe)
         runs.check(f"{about} a pipe by {made} calls, and not {right}", (got.status, made) == (0, right))
-    runs.program.given(text).unlink()
+    runs.program.write_input(text).unlink()
 
 
-def full_pipe(text):
+def open_full_pipe(text):
     """The end of a pipe that has this text, and then nothing more."""
     ours, theirs = os.pipe()
     fcntl.fcntl(theirs, fcntl.F_SETPIPE_SZ, PIPE)
@@ -389,28 +389,28 @@ def full_pipe(text):
     return open(ours, "rb", buffering=0)
 
 
-def writes(runs):
+def check_writes(runs):
     """A text of any length is written by one call, if the stream takes it whole."""
     refused = DAY + b"cancel,ABCDEFGH,NAME-NUMBER1,,,,,,\n" * rules.MOST_DAY_COMMANDS
     tried = [("replay", AUCTION, 500), ("replay", refused, 200_000), ("clear", AUCTION, 500), ("day", OPEN_AUCTION, 500)]
     for count in AMENDS:
         names = itertools.islice(itertools.cycle(peaks.NAMES), count)
-        tried.append(("day", b"".join([peaks.DAY_RECORD, *map(peaks.blocks, peaks.NAMES), *map(peaks.amends, names)]), 900 * count))
+        tried.append(("day", b"".join([peaks.DAY_RECORD, *map(peaks.block_submit, peaks.NAMES), *map(peaks.block_amend, names)]), 900 * count))
     for word, data, least in tried:
-        got, made = runs.program.run([word], data, Refusal("write"))
+        got, made = runs.program.run([word], data, RefusedCalls("write"))
         about = f"{word} writes {len(got.stdout):,} bytes by {made} calls: status {got.status}, {got.stderr[:80]!r}"
         runs.check(about, got.status == 0 and len(got.stdout) >= least and made == 1)
-        runs.program.given(data).unlink()
+        runs.program.write_input(data).unlink()
 
 
-def small_books(runs):
+def check_small_books(runs):
     """Books of a few orders, on each length of a day. With one order more, a run asks for memory at least as often, and holds at least as
     many bytes: a copy that is made of books of one size only would be seen."""
     for words, periods in itertools.product([shapes.REPLAY, shapes.CLEAR, shapes.DAY], rules.DAYS):
         orders = [b"submit,A,%d,hour,%b,%d,%d:1,,\n" % (at, [b"buy", b"sell"][at % 2], at, at % 23 + 1) for at in range(SMALL_BOOK)]
         begin, end = b"day,%d,,,,,,,\n" % periods, CLOSE * (words != shapes.DAY)
         texts = [begin + b"".join(orders[:count]) + end for count in range(SMALL_BOOK + 1)]
-        found = list(runs.pool.map(lambda text: runs.program.held(words, text), texts))
+        found = list(runs.pool.map(lambda text: runs.program.run_for_peak(words, text), texts))
         for count, ((got, held, growths), (_, more_held, more)) in enumerate(zip(found, [*found[1:], found[-1]])):
             about = f"{words[0]} of {count} orders on {periods} periods"
             runs.check(f"{about}: status {got.status}, {got.stderr[:80]!r}", (got.status, got.stderr) == (0, b""))
@@ -418,7 +418,7 @@ def small_books(runs):
             runs.check(f"{about}: {held} bytes, and {more_held} with one order more", held <= more_held)
 
 
-def stacks(runs):
+def check_stacks(runs):
     """512 KiB of stack are enough for a search, also of these books, whose search has prices of its own for the decisions on most of the 24
     blocks, one after the other."""
     small = ["sh", "-c", 'ulimit -s 512; exec "$@"', "sh"]
@@ -431,14 +431,14 @@ def stacks(runs):
             runs.check(f"{about}: status {got.status}, {got.stderr[:80]!r}", got.status == status)
 
 
-def copies(runs):
+def check_copies(runs):
     """A day asks for memory as often for each command, however many orders the book holds: no command copies the book."""
     records = {"submits": b"submit,A,N-%d,hour,buy,0,1:1,,\n", "amends": b"amend,A,N-%d,,,1,1:1,,\n", "cancels": b"cancel,A,N-%d,,,,,,\n"}
     for last, about in enumerate(records):
         kinds = list(records.values())[: last + 1]
         most = min(rules.MOST_HOURLY, rules.MOST_DAY_COMMANDS // len(kinds))
         few, many = (b"".join([DAY, *(kind % at for kind in kinds for at in range(count))]) for count in (most // 2, most))
-        asked, twice = (runs.program.run(["day"], data, Refusal("memory"))[1] for data in (few, many))
+        asked, twice = (runs.program.run(["day"], data, RefusedCalls("memory"))[1] for data in (few, many))
         wrong = f"day with {about} asks for memory {asked} times, and {twice} times with twice the orders"
         runs.check(wrong, most // 2 < asked < twice < 3 * asked)
 
@@ -447,32 +447,32 @@ def main():
     room, program, *rest = sys.argv[1:]
     if rest not in ([], ["--all"], ["--count"]):
         sys.exit("usage: tests/hostile/run PROGRAM [--all | --count]")
-    runs = Runs(Program(program, room), rest == ["--all"])
+    runs = RunsOfRows(HostileProgram(program, room), rest == ["--all"])
     if rest == ["--count"]:
-        return shapes.write(shapes.HERE, shapes.costs_of(runs))
-    runs.run_rows("memory refused once in the worked cases", worked_rows())
-    runs.run_rows("memory refused from one call on in the worked cases", worked_rows_without_memory())
-    runs.run_rows("memory refused in days and other runs", memory_rows())
-    runs.run_rows("threads refused", thread_rows())
-    runs.run_rows("random bytes refused", random_rows())
-    runs.run_rows("reads and writes that fail", device_rows())
-    devices(runs)
-    again.run(runs, room, rows_of_calls(runs.program))
-    seeds(runs)
-    threads(runs)
-    strays(runs)
-    texts(runs)
-    reads(runs)
-    writes(runs)
-    small_books(runs)
-    stacks(runs)
-    copies(runs)
-    peaks.peaks(runs)
+        return shapes.write_tables(shapes.HERE, shapes.run_for_costs(runs))
+    runs.run_rows("memory refused once in the worked cases", rows_of_cases())
+    runs.run_rows("memory refused from one call on in the worked cases", rows_of_cases_without_memory())
+    runs.run_rows("memory refused in days and other runs", rows_of_memory())
+    runs.run_rows("threads refused", rows_of_threads())
+    runs.run_rows("random bytes refused", rows_of_random_bytes())
+    runs.run_rows("reads and writes that fail", rows_of_devices())
+    check_devices(runs)
+    again.run_rows(runs, room, rows_of_calls(runs.program))
+    check_seeds(runs)
+    check_threads(runs)
+    check_strays(runs)
+    check_freed_texts(runs)
+    check_reads(runs)
+    check_writes(runs)
+    check_small_books(runs)
+    check_stacks(runs)
+    check_copies(runs)
+    peaks.check_peaks(runs)
     if shutil.which("valgrind"):
-        costs.names(runs)
-        costs.cancels(runs)
-        costs.full(runs)
-        shapes.compare(runs, shapes.HERE, shapes.costs_of(runs))
+        costs.check_names(runs)
+        costs.check_cancels(runs)
+        costs.check_full_books(runs)
+        shapes.check_costs(runs, shapes.HERE, shapes.run_for_costs(runs))
     else:
         runs.leave_out("names that collide, many cancels, full books, and shapes: valgrind, which counts instructions, is missing", 4)
     return runs.print_totals()

@@ -10,7 +10,7 @@ import tempfile
 import types
 from importlib.machinery import SourceFileLoader
 
-from repository import FORKING, Case
+from repository import FORKING, RepositoryCase
 
 # A part of a check: it starts a process that doesn't end at SIGTERM, and while any of them runs, the file `running` is open.
 PART = """#!/bin/sh
@@ -20,22 +20,22 @@ wait
 """
 
 
-class Check(Case):
-    def ends(self, status, signals, ignored=()):
+class CheckTests(RepositoryCase):
+    def check_end(self, status, signals, ignored=()):
         """Starts a check that ignores some signals, sends signals to it, but not to the part that is running, and sees how both end."""
         running = os.open(f"{self.at.top}/running", os.O_RDONLY | os.O_NONBLOCK)
         shell = [f"trap '' {name}" for name in ignored] + ['exec "$0" --no-install']
         words = ["sh", "-c", "; ".join(shell), f"{self.at.top}/check"]
         with self.at.start(*words) as process:
-            self.wait_for(lambda: self.read(running) == b"begun\n")
+            self.wait_for(lambda: self.read_pipe(running) == b"begun\n")
             for number in signals:
                 process.send_signal(number)
             out, error = process.communicate(timeout=60)
         self.assertEqual((process.returncode, out, error), (status, "== edits: tests/wrong-bodies --apply-only\n", ""))
-        self.wait_for(lambda: self.read(running) == b"")
+        self.wait_for(lambda: self.read_pipe(running) == b"")
         os.close(running)
 
-    def read(self, running):
+    def read_pipe(self, running):
         """The written bytes: nothing (None) as yet, or no bytes if nobody has it open for writing."""
         try:
             return os.read(running, 100)
@@ -108,5 +108,5 @@ class Check(Case):
         os.chmod(f"{self.at.top}/tests/wrong-bodies", 0o755)
         os.mkfifo(f"{self.at.top}/running")
         for number in (signal.SIGTERM, signal.SIGINT, signal.SIGHUP):
-            self.ends(128 + number, [number])
-        self.ends(128 + signal.SIGTERM, [signal.SIGHUP, signal.SIGINT, signal.SIGTERM], ["HUP", "INT"])
+            self.check_end(128 + number, [number])
+        self.check_end(128 + signal.SIGTERM, [signal.SIGHUP, signal.SIGINT, signal.SIGTERM], ["HUP", "INT"])

@@ -8,44 +8,44 @@ import time
 from repository import IGNORING, PROGRAM, DamCase
 
 
-class Launcher(DamCase):
+class LaunchTests(DamCase):
     """Which program ./dam runs, before and after it is proved; its input, output and status."""
 
     def test_answers_before_anything_is_proved(self):
         for count in range(3):
-            ran = self.at.dam("clear", "a b", "--cut", "9", given="text")
-            self.assertEqual(ran, (0, "words: clear a b --cut 9\ntext", self.line()))
-        self.assertEqual(self.verbs(), ["try"], "compiled once")
-        self.assertEqual(len(self.kept()), 1)
+            ran = self.at.run_dam("clear", "a b", "--cut", "9", given="text")
+            self.assertEqual(ran, (0, "words: clear a b --cut 9\ntext", self.line_of_unproved()))
+        self.assertEqual(self.read_verbs(), ["try"], "compiled once")
+        self.assertEqual(len(self.list_kept()), 1)
         self.assertFalse(os.path.exists(self.at.program))
 
     def test_once_proved_the_line_goes(self):
-        self.at.dam("clear", given="text")
-        status, out, error = self.at.dam("prove")
+        self.at.run_dam("clear", given="text")
+        status, out, error = self.at.run_dam("prove")
         self.assertEqual((status, out), (0, ""))
         self.assertRegex(error, r"(?m)^proved dam_cli in \d+ s")
-        self.assertEqual({it[1] for it in self.at.said()}, {"low", "left", "right", "high", "dam_cli", "dam_desk"})
+        self.assertEqual({it[1] for it in self.at.read_calls()}, {"low", "left", "right", "high", "dam_cli", "dam_desk"})
         for words in ([], ["--proved"]):
-            self.assertEqual(self.at.dam(*words, "clear", given="text"), (0, "words: clear\ntext", ""))
-        self.assertEqual(self.verbs().count("try"), 1)
-        self.assertTrue(self.at.is_clean())
+            self.assertEqual(self.at.run_dam(*words, "clear", given="text"), (0, "words: clear\ntext", ""))
+        self.assertEqual(self.read_verbs().count("try"), 1)
+        self.assertTrue(self.at.has_no_copy())
 
     def test_the_words_of_prove_are_those_of_the_tool(self):
-        status, out, error = self.at.dam("prove", "--plan", "--jobs", "2")
+        status, out, error = self.at.run_dam("prove", "--plan", "--jobs", "2")
         self.assertEqual((status, error), (0, ""))
         self.assertIn("of a processor", out)
-        self.assertEqual(self.at.dam("prove", "--jobs", "0")[0], 2)
+        self.assertEqual(self.at.run_dam("prove", "--jobs", "0")[0], 2)
         # in another place it is a word of the program
-        self.assertEqual(self.at.dam("clear", "prove")[1], "words: clear prove\n")
+        self.assertEqual(self.at.run_dam("clear", "prove")[1], "words: clear prove\n")
 
     def test_status_and_error_are_the_programs(self):
-        for line in (self.line(), ""):
+        for line in (self.line_of_unproved(), ""):
             for status in (0, 1, 2, 3, 6, 70, 126):
-                self.assertEqual(self.at.dam("ends", str(status)), (status, f"words: ends {status}\n", line))
-            self.assertEqual(self.at.dam("says", "no\\n"), (0, "words: says no\\n\n", line + "no\n"))
-            self.assertEqual(self.at.dam(), (2, "", line + "help\n"))
-            self.assertEqual(self.at.dam("--help"), (0, "help\n", line))
-            self.prove_it()
+                self.assertEqual(self.at.run_dam("ends", str(status)), (status, f"words: ends {status}\n", line))
+            self.assertEqual(self.at.run_dam("says", "no\\n"), (0, "words: says no\\n\n", line + "no\n"))
+            self.assertEqual(self.at.run_dam(), (2, "", line + "help\n"))
+            self.assertEqual(self.at.run_dam("--help"), (0, "help\n", line))
+            self.prove_program()
 
     def test_the_status_is_seen_from_a_process_that_ignores_it(self):
         for status in (0, 3):
@@ -70,16 +70,16 @@ class Launcher(DamCase):
             out = self.at.run("sh", "-c", words, "", f"{self.at.top}/dam")[1]
             self.assertEqual(out, "words: x\n0\nwords: x\nwords: x\n")
             if not before:
-                self.prove_it()
+                self.prove_program()
 
     def test_a_directory_as_input(self):
         """Python doesn't start with it, and the program says what it says of it."""
         for before in (False, True):
             status, out, error = self.at.run("sh", "-c", '"$1" x < /', "", f"{self.at.top}/dam")
             self.assertEqual((status, out), (0, "words: x\n"))
-            self.assertTrue(error.startswith(f"{'' if before else self.line()}cat: "), error)
+            self.assertTrue(error.startswith(f"{'' if before else self.line_of_unproved()}cat: "), error)
             if not before:
-                self.prove_it()
+                self.prove_program()
         # the sums are looked at
         self.at.write("crates/low/src/lib.rt", "# edited\n")
         self.at.make_newer("crates/low/src/lib.rt")
@@ -87,7 +87,7 @@ class Launcher(DamCase):
         self.assertIn("low changed since", error)
 
     def test_an_edit_after_the_proof(self):
-        self.prove_it()
+        self.prove_program()
         paths = ("crates/low/src/lib.rt", "crates/dam_cli/src/main.rt", "crates/high/proofs/p.antt", "crates.txt")
         for count, path in enumerate(paths):
             before = self.at.read(path) if os.path.exists(f"{self.at.top}/{path}") else None
@@ -95,11 +95,11 @@ class Launcher(DamCase):
             self.at.make_newer(path)
             changed = "low, left, right, high" if path == "crates.txt" else path.split("/")[1]
             name = "crates/dam_cli/out/dam_cli was built of other sources"
-            status, out, error = self.at.dam("x", given="text")
+            status, out, error = self.at.run_dam("x", given="text")
             if path != "crates.txt":
-                self.assertEqual((status, out, error), (0, "words: x\ntext", self.line(f"{name}: {changed} changed since")), path)
-                self.assertEqual(self.verbs().count("try"), count + 1)
-                status, out, error = self.at.dam("--proved", "x", given="text")
+                self.assertEqual((status, out, error), (0, "words: x\ntext", self.line_of_unproved(f"{name}: {changed} changed since")), path)
+                self.assertEqual(self.read_verbs().count("try"), count + 1)
+                status, out, error = self.at.run_dam("--proved", "x", given="text")
                 self.assertEqual((status, out), (70, ""))
                 self.assertEqual(error, f"dam: {name}: {changed} changed since: './dam prove' proves and builds the program\n")
             # as it was, at a later date: the sums decide
@@ -108,7 +108,7 @@ class Launcher(DamCase):
             else:
                 self.at.write(path, before)
             for words in ([], ["--proved"]):
-                self.assertEqual(self.at.dam(*words, "x", given="text"), (0, "words: x\ntext", ""))
+                self.assertEqual(self.at.run_dam(*words, "x", given="text"), (0, "words: x\ntext", ""))
                 # the sums needn't be looked at again
                 dates = [os.path.getmtime(it) for it in (self.at.program, f"{self.at.top}/{path}") if os.path.exists(it)]
                 self.assertEqual(max(dates), dates[0])
@@ -116,37 +116,37 @@ class Launcher(DamCase):
         for path in ("crates/far/src/lib.rt", "crates/other/src/main.rt", "crates/dam_cli/args"):
             self.at.write(path, "edited")
             self.at.make_newer(path)
-        self.assertEqual(self.at.dam("--proved", "x", given="text"), (0, "words: x\ntext", ""))
+        self.assertEqual(self.at.run_dam("--proved", "x", given="text"), (0, "words: x\ntext", ""))
 
     def test_proved_runs_nothing_else(self):
-        status, out, error = self.at.dam("--proved", "x", given="text")
+        status, out, error = self.at.run_dam("--proved", "x", given="text")
         self.assertEqual((status, out), (70, ""))
         self.assertEqual(error, "dam: crates/dam_cli/out/dam_cli is missing: './dam prove' proves and builds the program\n")
-        self.at.dam("x")
-        self.assertEqual(self.at.dam("--proved", "x")[0], 70, "compiled without proofs")
-        self.prove_it()
+        self.at.run_dam("x")
+        self.assertEqual(self.at.run_dam("--proved", "x")[0], 70, "compiled without proofs")
+        self.prove_program()
         self.at.write("crates/dam_cli/out/dam_cli", f"{PROGRAM}# another")
-        self.assertIn("another one took its place", self.at.dam("--proved", "x")[2])
+        self.assertIn("another one took its place", self.at.run_dam("--proved", "x")[2])
         os.remove(f"{self.at.program}.json")
-        self.assertIn("has no record", self.at.dam("--proved", "x")[2])
-        status, out, error = self.at.dam("x", given="text")
+        self.assertIn("has no record", self.at.run_dam("--proved", "x")[2])
+        status, out, error = self.at.run_dam("x", given="text")
         why = "crates/dam_cli/out/dam_cli has no record of the sources that it was built of"
-        self.assertEqual((status, out, error), (0, "words: x\ntext", self.line(why)))
+        self.assertEqual((status, out, error), (0, "words: x\ntext", self.line_of_unproved(why)))
 
     def test_unproved_runs_nothing_that_is_proved(self):
-        self.prove_it()
-        line = self.line("--unproved asks for this")
-        self.assertEqual(self.at.dam("--unproved", "x", "a b", "--", "--unproved", given="text"), (0, "words: x a b -- --unproved\ntext", line))
-        self.assertEqual(self.verbs().count("try"), 1)
+        self.prove_program()
+        line = self.line_of_unproved("--unproved asks for this")
+        self.assertEqual(self.at.run_dam("--unproved", "x", "a b", "--", "--unproved", given="text"), (0, "words: x a b -- --unproved\ntext", line))
+        self.assertEqual(self.read_verbs().count("try"), 1)
 
     def test_without_python(self):
-        lacks = self.at.without("python3")
+        lacks = self.at.environment_without("python3")
         for words in (["x"], ["--unproved", "x"], ["--proved", "x"], ["prove"]):
-            status, out, error = self.at.dam(*words, env=lacks)
+            status, out, error = self.at.run_dam(*words, env=lacks)
             self.assertEqual((status, out), (70, ""))
             self.assertIn("there is no python3 on the path", error)
-        self.prove_it()
-        self.assertEqual(self.at.dam("x", given="text", env=lacks), (0, "words: x\ntext", ""))
+        self.prove_program()
+        self.assertEqual(self.at.run_dam("x", given="text", env=lacks), (0, "words: x\ntext", ""))
 
     def test_through_links(self):
         os.makedirs(f"{self.at.top}/some where/deep")
@@ -155,13 +155,13 @@ class Launcher(DamCase):
         for way in ([f"{self.at.top}/some where/deep/two"], ["sh", "some where/deep/two"], ["some where/one", "--unproved"]):
             status, out, _ = self.at.run(*way, "x", given="text", cwd=self.at.top)
             self.assertEqual((status, out), (0, "words: x\ntext"))
-        self.assertEqual(len(self.kept()), 1)
+        self.assertEqual(len(self.list_kept()), 1)
 
     def test_version(self):
-        self.assertEqual(self.at.dam("--version", env=self.at.without("rt")), (0, "dam 1.2.3\n", ""))
-        self.assertEqual(self.at.said(), [])
+        self.assertEqual(self.at.run_dam("--version", env=self.at.environment_without("rt")), (0, "dam 1.2.3\n", ""))
+        self.assertEqual(self.at.read_calls(), [])
         # it is no word of the program
-        self.assertEqual(self.at.dam("clear", "--version")[:2], (0, "words: clear --version\n"))
+        self.assertEqual(self.at.run_dam("clear", "--version")[:2], (0, "words: clear --version\n"))
 
     def test_signals(self):
         """While it compiles and while the program runs, to the whole group and to the launcher alone."""
@@ -178,6 +178,6 @@ class Launcher(DamCase):
                     process.communicate(timeout=60)
                 self.assertEqual(process.returncode, 128 + number)
                 self.assertEqual(os.listdir(room), [])
-                self.assertEqual(len(self.kept()), int(runs))
+                self.assertEqual(len(self.list_kept()), int(runs))
                 if runs:
                     os.remove(f"{self.at.top}/began")

@@ -7,16 +7,16 @@ import subprocess
 import sys
 import time
 
-from repository import FORKING, IGNORING, LIBRARIES, PROGRAM, TOP, Case, Terminal
+from repository import FORKING, IGNORING, LIBRARIES, PROGRAM, TOP, RepositoryCase, TerminalRun
 
 
-class Prove(Case):
+class ProveTests(RepositoryCase):
     def test_order_and_copies(self):
         for name in ("left", "right"):
             self.at.write(f"crates/{name}/src/lib.rt", f"SECONDS 0.6 {name}")
-        status, out, error = self.at.prove("--jobs", "2", "dam_cli")
+        status, out, error = self.at.run_prove("--jobs", "2", "dam_cli")
         self.assertEqual((status, out), (0, ""))
-        said = {name: (verb, words, float(began), float(ended)) for verb, name, words, began, ended, _, _ in self.at.said()}
+        said = {name: (verb, words, float(began), float(ended)) for verb, name, words, began, ended, _, _ in self.at.read_calls()}
         for name, below in LIBRARIES.items():
             for it in below.split():
                 self.assertLess(said[it][3], said[name][2], f"{it} before {name}")
@@ -25,7 +25,7 @@ class Prove(Case):
         self.assertEqual(said["dam_cli"][:2], ("run", "--jobs 2 -- greets"))
         self.assertRegex(error, r"(?m)^proving left \(1 job\)\n")
         self.assertRegex(error, r"(?m)^proved dam_cli in \d+ s \(\d+ s of a processor\)\n\Z")
-        self.assertTrue(self.at.is_clean())
+        self.assertTrue(self.at.has_no_copy())
         for name in ("low", "left", "right", "high"):
             self.assertEqual(self.at.read(f"crates/{name}/out/rlib/{name}.rlib/checked"), name)
 
@@ -36,87 +36,87 @@ class Prove(Case):
         self.assertEqual(self.at.run(*words)[0], 1)
 
     def test_kept_work(self):
-        self.at.prove("dam_cli")
-        self.at.prove("dam_cli")
+        self.at.run_prove("dam_cli")
+        self.at.run_prove("dam_cli")
         self.assertEqual(self.at.read("crates/low/out/incremental/begun"), "begun\n" * 2)
 
     def test_other_programs(self):
-        self.assertEqual(self.at.prove("other")[0], 0)
+        self.assertEqual(self.at.run_prove("other")[0], 0)
         self.assertTrue(os.access(f"{self.at.top}/crates/other/out/other", os.X_OK))
         for wrong in (["low"], ["nothing"], ["--jobs", "0", "dam_cli"], []):
-            status, out, error = self.at.prove(*wrong)
+            status, out, error = self.at.run_prove(*wrong)
             self.assertEqual((status, out), (2, ""))
 
     def test_two_programs(self):
         """They are proved side by side; each library is proved once, and each program is recorded."""
         for name in ("dam_cli", "dam_desk"):
             self.at.write(f"crates/{name}/src/main.rt", f"{PROGRAM}# SECONDS 1.5")
-        self.assertEqual(self.at.prove("--jobs", "4", "dam_cli", "dam_desk", "dam_cli")[:2], (0, ""))
-        said = self.at.said()
+        self.assertEqual(self.at.run_prove("--jobs", "4", "dam_cli", "dam_desk", "dam_cli")[:2], (0, ""))
+        said = self.at.read_calls()
         self.assertEqual(sorted(name for _, name, *_ in said), ["dam_cli", "dam_desk", "high", "left", "low", "right"])
         begins, ends = ({it[1]: float(it[at]) for it in said} for at in (3, 4))
         self.assertLess(max(begins["dam_cli"], begins["dam_desk"]), min(ends["dam_cli"], ends["dam_desk"]), "side by side")
         for name in ("dam_cli", "dam_desk"):
-            self.assertIsNone(self.fault(name))
-        self.assertTrue(self.at.is_clean())
+            self.assertIsNone(self.run_for_fault(name))
+        self.assertTrue(self.at.has_no_copy())
         for wrong in (["dam_cli", "low"], ["low", "dam_cli"]):
-            self.assertEqual(self.at.prove(*wrong)[:2], (2, ""))
+            self.assertEqual(self.at.run_prove(*wrong)[:2], (2, ""))
 
     def test_one_of_two_programs_fails(self):
         for refused, other in (("dam_cli", "dam_desk"), ("dam_desk", "dam_cli")):
             self.at.write(f"crates/{refused}/src/main.rt", f"{PROGRAM}# REFUSED")
-            status, _, error = self.at.prove("dam_cli", "dam_desk")
+            status, _, error = self.at.run_prove("dam_cli", "dam_desk")
             self.assertEqual(status, 1)
             self.assertIn(f"{refused} is not proved", error)
-            self.assertEqual(self.fault(refused), f"crates/{refused}/out/{refused} is missing")
+            self.assertEqual(self.run_for_fault(refused), f"crates/{refused}/out/{refused} is missing")
             self.at.write(f"crates/{refused}/src/main.rt", PROGRAM)
-            self.assertEqual(self.at.prove("dam_cli", "dam_desk")[0], 0)
-            self.assertIsNone(self.fault(refused))
+            self.assertEqual(self.at.run_prove("dam_cli", "dam_desk")[0], 0)
+            self.assertIsNone(self.run_for_fault(refused))
             shutil.rmtree(f"{self.at.top}/crates/{other}/out")
 
     def test_the_files_of_a_programs_run(self):
         """The files of data/ are in the folder of the run, and none of them gets into the crate's."""
         self.at.write("crates/dam_desk/data/of/it", "the data")
         self.at.write("crates/dam_desk/src/main.rt", '#!/bin/sh\n[ "$(cat of/it)" = "the data" ] && : > of/made && : > made')
-        self.assertEqual(self.at.prove("dam_desk")[0], 0)
+        self.assertEqual(self.at.run_prove("dam_desk")[0], 0)
         self.assertEqual(sorted(os.listdir(f"{self.at.top}/crates/dam_desk")), ["args", "data", "out", "src", "stdin"])
         self.assertEqual(os.listdir(f"{self.at.top}/crates/dam_desk/data/of"), ["it"])
         self.at.write("crates/dam_desk/data/of/it", "other data")
-        self.assertEqual(self.at.prove("dam_desk")[0], 1)
+        self.assertEqual(self.at.run_prove("dam_desk")[0], 1)
 
     def test_a_program_runs_while_it_is_proved(self):
-        self.at.prove("dam_cli")
+        self.at.run_prove("dam_cli")
         self.at.write("crates/dam_cli/out/more", "kept")
         self.at.write("crates/dam_cli/src/main.rt", f"{PROGRAM}# SECONDS 1.5")
         with self.at.start(f"{self.at.top}/tools/prove", "dam_cli") as process:
-            self.wait_for(lambda: self.at.moved("dam_cli") == "begun\n" * 2)
+            self.wait_for(lambda: self.at.read_moved("dam_cli") == "begun\n" * 2)
             self.assertEqual(self.at.run(self.at.program, "x", given="text"), (0, "words: x\ntext", ""))
             process.communicate(timeout=60)
         self.assertEqual(process.returncode, 0)
         self.assertIn("SECONDS 1.5", self.at.read("crates/dam_cli/out/dam_cli"))
-        self.assertIsNone(self.fault())
+        self.assertIsNone(self.run_for_fault())
         self.assertEqual(self.at.read("crates/dam_cli/out/incremental/begun"), "begun\n" * 2)
         self.assertEqual(self.at.read("crates/dam_cli/out/more"), "kept")
-        self.assertTrue(self.at.is_clean())
+        self.assertTrue(self.at.has_no_copy())
 
     def test_a_crate_fails(self):
         self.at.write("crates/left/src/lib.rt", "REFUSED")
         self.at.write("crates/right/src/lib.rt", "SECONDS 100")
         self.at.write("crates/right/out/incremental/begun", "before\n")
         began = time.time()
-        status, _, error = self.at.prove("--jobs", "2", "dam_cli")
+        status, _, error = self.at.run_prove("--jobs", "2", "dam_cli")
         self.assertEqual(status, 1)
         self.assertLess(time.time() - began, 60)
         self.assertIn("crate left: not proved", error)
         self.assertIn("left is not proved: rt ended with status 1\n", error)
         self.assertEqual(self.at.read("crates/right/out/incremental/begun"), "before\nbegun\n")
         self.assertEqual(self.at.read("crates/left/out/incremental/begun"), "begun\n")
-        self.assertFalse([it for it in self.at.said() if it[1] in ("high", "dam_cli")])
-        self.assertTrue(self.at.is_clean())
+        self.assertFalse([it for it in self.at.read_calls() if it[1] in ("high", "dam_cli")])
+        self.assertTrue(self.at.has_no_copy())
 
     def test_the_program_fails(self):
         self.at.write("crates/dam_cli/src/main.rt", f"{PROGRAM}# REFUSED")
-        status, _, error = self.at.prove("dam_cli")
+        status, _, error = self.at.run_prove("dam_cli")
         self.assertEqual(status, 1)
         self.assertIn("dam_cli is not proved", error)
         self.assertFalse(os.path.exists(self.at.program))
@@ -128,12 +128,12 @@ class Prove(Case):
             self.at.write("crates/high/src/lib.rt", "edited")
             process.communicate(timeout=60)
         self.assertEqual(process.returncode, 0)
-        sources = {name: source for _, name, _, _, _, _, source in self.at.said()}
+        sources = {name: source for _, name, _, _, _, _, source in self.at.read_calls()}
         self.assertEqual(sources["high"], "// high")
         self.assertLess(os.path.getmtime(self.at.program), os.path.getmtime(f"{self.at.top}/crates/high/src/lib.rt"))
         self.assertFalse(os.path.exists(f"{self.at.program}.json"))
 
-    def fault(self, name="dam_cli"):
+    def run_for_fault(self, name="dam_cli"):
         """Returns the answer of tools/lib/crates/sources.py about a program."""
         path = f"{self.at.top}/crates/{name}/out/{name}"
         asked = f"from lib.crates import sources; print(sources.build_fault({path!r}, {name!r}) or '')"
@@ -143,35 +143,35 @@ class Prove(Case):
 
     def test_the_record_of_the_sources(self):
         name = "crates/dam_cli/out/dam_cli"
-        self.assertEqual(self.fault(), f"{name} is missing")
-        self.at.prove("dam_cli")
-        self.assertIsNone(self.fault())
+        self.assertEqual(self.run_for_fault(), f"{name} is missing")
+        self.at.run_prove("dam_cli")
+        self.assertIsNone(self.run_for_fault())
         self.assertIn('"kit": "no kit logic none"', self.at.read(f"{name}.json"))
         self.at.write("crates/far/src/lib.rt", "of another program")
-        self.assertIsNone(self.fault())
+        self.assertIsNone(self.run_for_fault())
         self.at.write("crates/low/src/more.rt", "")
         self.at.write("crates/high/proofs/one", "")
-        self.assertEqual(self.fault(), f"{name} was built of other sources: high, low changed since")
-        self.at.prove("dam_cli")
-        self.assertIsNone(self.fault())
+        self.assertEqual(self.run_for_fault(), f"{name} was built of other sources: high, low changed since")
+        self.at.run_prove("dam_cli")
+        self.assertIsNone(self.run_for_fault())
         self.at.write(name, "another")
-        self.assertEqual(self.fault(), f"{name} is not the file that was built: another one took its place")
+        self.assertEqual(self.run_for_fault(), f"{name} is not the file that was built: another one took its place")
         os.remove(f"{self.at.program}.json")
-        self.assertEqual(self.fault(), f"{name} has no record of the sources that it was built of")
+        self.assertEqual(self.run_for_fault(), f"{name} has no record of the sources that it was built of")
 
     def test_stopped_while_it_waits(self):
         self.at.write("crates/low/src/lib.rt", "SECONDS 1.5")
         with self.at.start(f"{self.at.top}/tools/prove", "dam_cli") as first:
-            self.wait_for(lambda: "begun" in self.at.moved("low"))
+            self.wait_for(lambda: "begun" in self.at.read_moved("low"))
             with self.at.start(f"{self.at.top}/tools/prove", "dam_cli") as second:
                 self.assertIn("waiting for another run of rt to end", second.stderr.readline())
                 second.terminate()
                 second.communicate(timeout=30)
             self.assertEqual(second.returncode, 128 + signal.SIGTERM)
-            self.assertIn("begun", self.at.moved("low"))
+            self.assertIn("begun", self.at.read_moved("low"))
             first.communicate(timeout=30)
         self.assertEqual(first.returncode, 0)
-        self.assertTrue(self.at.is_clean())
+        self.assertTrue(self.at.has_no_copy())
 
     def test_killed(self):
         self.at.write("crates/low/src/lib.rt", "LOCKED SECONDS 1.5")
@@ -184,7 +184,7 @@ class Prove(Case):
             process.stderr.close()
             process.wait(30)
         self.at.write("crates/low/src/lib.rt", "")
-        status, _, error = self.at.prove("dam_cli")
+        status, _, error = self.at.run_prove("dam_cli")
         self.assertEqual(status, 0)
         self.assertIn("waiting for another run of rt to end", error)
         self.assertEqual(self.at.read("crates/low/out/incremental/begun"), "before\nbegun\nbegun\n")
@@ -199,7 +199,7 @@ class Prove(Case):
 
     def test_the_bar_of_a_proof(self):
         self.at.write("crates/left/src/lib.rt", "SECONDS 2")
-        terminal = Terminal(self.at, f"{self.at.top}/dam", "prove")
+        terminal = TerminalRun(self.at, f"{self.at.top}/dam", "prove")
         self.assertEqual(terminal.close(), (0, ""))
         self.assertRegex(terminal.shown, r"\r\x1b\[Kdam: proving \[#*\.*\] \d+% \d s, (some \d+ min|less than a minute) left: left")
         self.assertRegex(terminal.shown, r"\r\x1b\[Kproved low in \d+ s")

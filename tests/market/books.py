@@ -17,7 +17,7 @@ MOST_BLOCKS = 8
 SPAN = rules.HIGHEST_PRICE - rules.LOWEST_PRICE
 
 
-class Row(NamedTuple):
+class OrderRow(NamedTuple):
     who: str
     name: str
     order: Order
@@ -31,7 +31,7 @@ class Row(NamedTuple):
         return self.order.kind == "block"
 
 
-class Book(NamedTuple):
+class MarketBook(NamedTuple):
     periods: int
     rows: tuple  # in book order
 
@@ -43,7 +43,7 @@ class Book(NamedTuple):
     def blocks(self):
         return [row for row in self.rows if row.is_block]
 
-    def journal(self):
+    def journal_text(self):
         """The journal that submits the rows in their order, and closes the book."""
         submits = [Submit(row.who, row.name, row.order) for row in self.rows]
         return journal.journal_text(Journal(self.periods, [*submits, Close()])).encode()
@@ -61,19 +61,19 @@ class Book(NamedTuple):
     def without(self, row):
         return self._replace(rows=tuple(other for other in self.rows if other != row))
 
-    def with_one_more(self, rng):
+    def draw_with_one_more(self, rng):
         """The book with a block more at its end: like another one, with a limit that may be better or worse."""
         like = rng.choice(self.blocks)
-        limit = rng.choice([better_limit, worse_limit])(rng, like.order)
+        limit = rng.choice([draw_better_limit, draw_worse_limit])(rng, like.order)
         more = like._replace(name="MORE", order=like.order._replace(price=like.order.price if limit is None else limit))
         return self._replace(rows=(*self.rows, more))
 
-    def hourly_shuffled(self, rng):
+    def draw_hourly_shuffled(self, rng):
         """The book with its hourly orders in another order, at the places of hourly orders."""
         others = iter(rng.sample(self.hourly, len(self.hourly)))
         return self.changed(lambda row: row if row.is_block else next(others))
 
-    def blocks_shuffled(self, rng):
+    def draw_blocks_shuffled(self, rng):
         """The book with its blocks in another order, parents before their children, at the places of blocks."""
         left, placed = rng.sample(self.blocks, len(self.blocks)), []
         while left:
@@ -84,29 +84,29 @@ class Book(NamedTuple):
         return self.changed(lambda row: next(others) if row.is_block else row)
 
 
-def draw(rng):
+def draw_book(rng):
     """A closed book, with blocks, links and groups more often than not, and prices and volumes that meet or tie."""
     draft = days.Draft(rng)
     if rng.random() < 0.5:
         draft.periods = rng.choice([24, 96])
     if rng.random() < 0.5:
-        draft.meet()
-    days.mixed(draft, draft.hourly, rng.randint(1, MOST_BLOCKS))
+        draft.set_meeting_prices()
+    days.add_mixed(draft, draft.hourly, rng.randint(1, MOST_BLOCKS))
     read = journal.read_journal("".join(f"{line}\n" for line in draft.lines).encode())
     run, _ = book.run(read)
-    return Book(run.periods, tuple(Row(who, name, order) for (who, name), order in run.rows.items()))
+    return MarketBook(run.periods, tuple(OrderRow(who, name, order) for (who, name), order in run.rows.items()))
 
 
-def better_limit(rng, order):
+def draw_better_limit(rng, order):
     """A limit that is better than the order's own: higher for a buy, lower for a sell. None if there is none."""
-    return moved(rng, order, 1 if order.side == "buy" else -1)
+    return draw_moved(rng, order, 1 if order.side == "buy" else -1)
 
 
-def worse_limit(rng, order):
-    return moved(rng, order, -1 if order.side == "buy" else 1)
+def draw_worse_limit(rng, order):
+    return draw_moved(rng, order, -1 if order.side == "buy" else 1)
 
 
-def moved(rng, order, sign):
+def draw_moved(rng, order, sign):
     """A limit in that direction, often near; None if the order's own is at the end of the range."""
     end = rules.HIGHEST_PRICE if sign > 0 else rules.LOWEST_PRICE
     room = abs(end - order.price)

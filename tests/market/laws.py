@@ -27,11 +27,11 @@ class Results(NamedTuple):
         return {row.key for row in book.blocks if self.accepts(row)}
 
 
-class Refused(Exception):
+class NoResults(Exception):
     """The program printed no results."""
 
 
-def read(text):
+def parse_results(text):
     lines = [line.split(",") for line in text.decode().splitlines()]
     periods = [line for line in lines if line[0] == "period"]
     orders = {}
@@ -41,22 +41,22 @@ def read(text):
     return Results(welfare, [int(line[2]) for line in periods], [int(line[3]) for line in periods], orders)
 
 
-class Market:
+class MarketOfProgram:
     """The program, and its output for the books so far."""
 
     def __init__(self, program):
         self.program, self.kept = program, {}
 
-    def results(self, book):
+    def run_for_results(self, book):
         if book not in self.kept:
-            printed = self.program.printed(["clear"], book.journal())
+            printed = self.program.run_for_output(["clear"], book.journal_text())
             if printed.status:
-                raise Refused(printed.stderr.decode())
-            self.kept[book] = read(printed.stdout)
+                raise NoResults(printed.stderr.decode())
+            self.kept[book] = parse_results(printed.stdout)
         return self.kept[book]
 
 
-def side(order, amount):
+def signed_by_side(order, amount):
     return amount if order.side == "buy" else -amount
 
 
@@ -66,10 +66,10 @@ def surplus(row, printed):
         volumes = row.order.volumes if printed.accepts(row) else ()
     else:
         volumes = [(row.order.volumes[0][0], printed.orders[row.key])]
-    return sum(side(row.order, (row.order.price - printed.prices[period - 1]) * volume) for period, volume in volumes)
+    return sum(signed_by_side(row.order, (row.order.price - printed.prices[period - 1]) * volume) for period, volume in volumes)
 
 
-def traded(book, printed):
+def traded_volumes(book, printed):
     """The volume that each side trades in each period: of hourly orders and of accepted blocks."""
     volumes = {"buy": [0] * book.periods, "sell": [0] * book.periods}
     for row in book.rows:
@@ -86,7 +86,7 @@ def traded(book, printed):
 
 
 def welfare_is_shared_out(market, book, _):
-    printed = market.results(book)
+    printed = market.run_for_results(book)
     shares = sum(surplus(row, printed) for row in book.rows)
     if shares != printed.welfare:
         yield f"the welfare is {printed.welfare}, and the surpluses add up to {shares}"
@@ -96,14 +96,14 @@ def welfare_is_shared_out(market, book, _):
 
 
 def money_balances(market, book, _):
-    printed = market.results(book)
-    volumes = traded(book, printed)
+    printed = market.run_for_results(book)
+    volumes = traded_volumes(book, printed)
     if volumes["buy"] != volumes["sell"] or volumes["buy"] != printed.volumes:
         yield "buyers and sellers trade different volumes, or the published ones are others"
 
 
 def nobody_loses(market, book, _):
-    printed = market.results(book)
+    printed = market.run_for_results(book)
     gains = {}
     for row in book.rows:
         gain = surplus(row, printed)
@@ -123,11 +123,11 @@ def family_surplus(book, row, printed):
 
 
 def a_period_is_fair(market, book, _):
-    printed = market.results(book)
+    printed = market.run_for_results(book)
     seen = {}
     for row in book.hourly:
         ((period, volume),) = row.order.volumes
-        margin = side(row.order, row.order.price - printed.prices[period - 1])
+        margin = signed_by_side(row.order, row.order.price - printed.prices[period - 1])
         executed = printed.orders[row.key]
         if margin > 0 and executed != volume or margin < 0 and executed:
             yield f"the hourly order {row.name} is better than the price and cut, or worse and executed"
@@ -139,11 +139,11 @@ def a_period_is_fair(market, book, _):
 
 
 def a_better_limit_keeps_a_block(market, book, rng):
-    printed = market.results(book)
+    printed = market.run_for_results(book)
     for row in book.blocks:
-        limit = books.better_limit(rng, row.order)
+        limit = books.draw_better_limit(rng, row.order)
         if printed.accepts(row) and limit is not None:
-            if not market.results(book.with_limit(row, limit)).accepts(row):
+            if not market.run_for_results(book.with_limit(row, limit)).accepts(row):
                 yield f"block {row.name} is accepted, and with the better limit {limit} it isn't"
 
 
@@ -152,9 +152,9 @@ def there_is_a_worst_limit(market, book, rng):
     if not book.blocks:
         return
     row = rng.choice(book.blocks)
-    drawn = {limit for _ in range(3) for move in (books.better_limit, books.worse_limit) if (limit := move(rng, row.order)) is not None}
-    limits = sorted(drawn, key=lambda limit: side(row.order, limit))
-    accepted = [market.results(other).accepts(book_row(other, row)) for other in (book.with_limit(row, limit) for limit in limits)]
+    drawn = {limit for _ in range(3) for move in (books.draw_better_limit, books.draw_worse_limit) if (limit := move(rng, row.order)) is not None}
+    limits = sorted(drawn, key=lambda limit: signed_by_side(row.order, limit))
+    accepted = [market.run_for_results(other).accepts(book_row(other, row)) for other in (book.with_limit(row, limit) for limit in limits)]
     if accepted != sorted(accepted):
         yield f"block {row.name} is accepted with some limit and not with a better one: {limits}"
 
@@ -164,49 +164,49 @@ def book_row(book, row):
 
 
 def a_worse_limit_keeps_a_rejection(market, book, rng):
-    printed = market.results(book)
+    printed = market.run_for_results(book)
     for row in book.blocks:
-        limit = books.worse_limit(rng, row.order)
+        limit = books.draw_worse_limit(rng, row.order)
         if not printed.accepts(row) and limit is not None:
-            other = market.results(book.with_limit(row, limit))
+            other = market.run_for_results(book.with_limit(row, limit))
             if other.accepts(row) or other.lines_but(row.key) != printed.lines_but(row.key):
                 yield f"block {row.name} is rejected, and with the worse limit {limit} the results are others"
 
 
 def the_better_of_two_blocks_goes_first(market, book, rng):
     """Of the book, and of it with one more block that is like one of the others, with another limit."""
-    more = [book.with_one_more(rng)] if book.blocks and len(book.blocks) < rules.MOST_BLOCKS else []
+    more = [book.draw_with_one_more(rng)] if book.blocks and len(book.blocks) < rules.MOST_BLOCKS else []
     for other in (book, *more):
-        printed = market.results(other)
+        printed = market.run_for_results(other)
         alone = [row for row in other.blocks if not (row.order.parent or row.order.group or other.children(row))]
         for better, worse in itertools.permutations(alone, 2):
             alike = (better.order.side, better.order.volumes) == (worse.order.side, worse.order.volumes)
-            if alike and side(better.order, better.order.price) > side(worse.order, worse.order.price):
+            if alike and signed_by_side(better.order, better.order.price) > signed_by_side(worse.order, worse.order.price):
                 if printed.accepts(worse) and not printed.accepts(better):
                     yield f"block {worse.name} is accepted, and {better.name}, which is better, isn't"
 
 
 def a_rejected_block_withdrawn_changes_nothing(market, book, _):
-    printed = market.results(book)
+    printed = market.run_for_results(book)
     for row in book.blocks:
         if not printed.accepts(row) and not book.children(row):
-            if market.results(book.without(row)) != printed.lines_but(row.key):
+            if market.run_for_results(book.without(row)) != printed.lines_but(row.key):
                 yield f"block {row.name} is rejected, and without it the results are others"
 
 
 def a_block_more_never_lowers_welfare(market, book, rng):
     """Each block without children is one more than the others; and one like another, with another limit, comes at the end."""
-    printed = market.results(book)
+    printed = market.run_for_results(book)
     for row in book.blocks:
-        if not book.children(row) and market.results(book.without(row)).welfare > printed.welfare:
+        if not book.children(row) and market.run_for_results(book.without(row)).welfare > printed.welfare:
             yield f"without block {row.name} the welfare is greater"
     if book.blocks and len(book.blocks) < rules.MOST_BLOCKS:
-        if market.results(book.with_one_more(rng)).welfare < printed.welfare:
+        if market.run_for_results(book.draw_with_one_more(rng)).welfare < printed.welfare:
             yield "with a block more at the end the welfare is less"
 
 
 def book_order_of_hourly_orders_decides_only_ties(market, book, rng):
-    printed, other = market.results(book), market.results(book.hourly_shuffled(rng))
+    printed, other = market.run_for_results(book), market.run_for_results(book.draw_hourly_shuffled(rng))
     if (other.welfare, other.prices, other.volumes, other.accepted_keys(book)) != (
         printed.welfare,
         printed.prices,
@@ -217,7 +217,7 @@ def book_order_of_hourly_orders_decides_only_ties(market, book, rng):
 
 
 def book_order_of_blocks_decides_only_ties(market, book, rng):
-    printed, other = market.results(book), market.results(book.blocks_shuffled(rng))
+    printed, other = market.run_for_results(book), market.run_for_results(book.draw_blocks_shuffled(rng))
     if other.welfare != printed.welfare:
         yield "with the blocks in another order the welfare is another"
     if other.accepted_keys(book) == printed.accepted_keys(book) and other != printed:

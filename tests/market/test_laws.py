@@ -5,33 +5,33 @@ import unittest
 
 import books
 import laws
-from books import Book, Row
+from books import MarketBook, OrderRow
 from laws import Results
 from lib.base import rules
 from lib.journal.journal import Order
 
-UNIT = Row("GEN", "UNIT", Order("block", "sell", 4_000, ((1, 20),)))
-START = Row("GAS", "START", Order("block", "sell", 3_000, ((1, 10),)))
-TOWN = Row("CITY", "TOWN", Order("hour", "buy", 5_000, ((1, 20),)))
-MILL = Row("MILL", "SAW", Order("hour", "buy", 5_000, ((1, 20),)))
-BOOK = Book(1, (UNIT, TOWN))
+UNIT = OrderRow("GEN", "UNIT", Order("block", "sell", 4_000, ((1, 20),)))
+START = OrderRow("GAS", "START", Order("block", "sell", 3_000, ((1, 10),)))
+TOWN = OrderRow("CITY", "TOWN", Order("hour", "buy", 5_000, ((1, 20),)))
+MILL = OrderRow("MILL", "SAW", Order("hour", "buy", 5_000, ((1, 20),)))
+BOOK = MarketBook(1, (UNIT, TOWN))
 RIGHT = Results(20_000, [5_000], [20], {UNIT.key: (True, 20_000), TOWN.key: 20})
 NOTHING = Results(0, [5_000], [0], {UNIT.key: (False, 20_000), TOWN.key: 0})
 
 
-class Fixed:
+class FixedMarket:
     """A market whose results are given: for one book, and for every other."""
 
     def __init__(self, book, printed, others=None):
         self.book, self.printed, self.others = book, printed, others
 
-    def results(self, book):
+    def run_for_results(self, book):
         return self.printed if book == self.book else self.others
 
 
 def wrong(law, printed, others=None, book=BOOK):
     """The faults that a law finds by several changes of the book."""
-    return [text for seed in range(10) for text in law(Fixed(book, printed, others), book, random.Random(seed))]
+    return [text for seed in range(10) for text in law(FixedMarket(book, printed, others), book, random.Random(seed))]
 
 
 class Laws(unittest.TestCase):
@@ -52,14 +52,14 @@ class Laws(unittest.TestCase):
         self.check(laws.nobody_loses, [RIGHT], [RIGHT._replace(prices=[3_999])])
 
     def test_a_family_may_not_lose(self):
-        child = Row("GEN", "NEXT", Order("block", "sell", 5_010, ((1, 20),), parent="UNIT"))
-        book = Book(1, (UNIT, child, TOWN))
+        child = OrderRow("GEN", "NEXT", Order("block", "sell", 5_010, ((1, 20),), parent="UNIT"))
+        book = MarketBook(1, (UNIT, child, TOWN))
         printed = RIGHT._replace(orders={**RIGHT.orders, child.key: (False, -200)})
         self.check(laws.nobody_loses, [printed], [printed._replace(welfare=19_800, orders={**printed.orders, child.key: (True, -200)})], book)
 
     def test_the_better_of_two_blocks(self):
         start = START._replace(order=UNIT.order._replace(price=3_000))
-        book = Book(1, (UNIT, start, TOWN))
+        book = MarketBook(1, (UNIT, start, TOWN))
         right = RIGHT._replace(orders={UNIT.key: (False, 20_000), start.key: (True, 40_000), TOWN.key: 20})
         breaking = right._replace(orders={UNIT.key: (True, 20_000), start.key: (False, 40_000), TOWN.key: 20})
         keys = (UNIT.key, start.key, ("GEN", "MORE"), ("GAS", "MORE"))
@@ -67,7 +67,7 @@ class Laws(unittest.TestCase):
         self.check(laws.the_better_of_two_blocks_goes_first, [right, others], [breaking, others], book)
 
     def test_fair_in_a_period(self):
-        two = Book(1, (UNIT, TOWN, MILL))
+        two = MarketBook(1, (UNIT, TOWN, MILL))
         first = RIGHT._replace(orders={**RIGHT.orders, MILL.key: 0})
         self.check(laws.a_period_is_fair, [first], [first._replace(orders={**first.orders, TOWN.key: 0, MILL.key: 20})], two)
         self.check(laws.a_period_is_fair, [RIGHT], [RIGHT._replace(prices=[4_999], orders={**RIGHT.orders, TOWN.key: 19})])
@@ -77,8 +77,8 @@ class Laws(unittest.TestCase):
         self.check(laws.a_better_limit_keeps_a_block, [RIGHT, RIGHT], [RIGHT, NOTHING])
 
     def test_there_is_a_worst_limit(self):
-        class Best(Fixed):
-            def results(self, book):
+        class Best(FixedMarket):
+            def run_for_results(self, book):
                 return RIGHT if (book.rows[0].order.price <= 4_000) == self.printed else NOTHING
 
         self.assertEqual(list(laws.there_is_a_worst_limit(Best(None, True), BOOK, random.Random(1))), [])
@@ -101,7 +101,7 @@ class Laws(unittest.TestCase):
             def __init__(self, *welfares):
                 self.welfares = welfares
 
-            def results(self, book):
+            def run_for_results(self, book):
                 return RIGHT._replace(welfare=self.welfares[len(book.blocks)])
 
         for welfares, is_kept in (((0, 0, 5), True), ((1, 0, 5), False), ((0, 5, 0), False)):
@@ -109,7 +109,7 @@ class Laws(unittest.TestCase):
             self.assertEqual(found == [], is_kept)
 
     def test_book_order(self):
-        hourly = Book(1, (UNIT, TOWN, MILL, START))
+        hourly = MarketBook(1, (UNIT, TOWN, MILL, START))
         given = RIGHT._replace(orders={**RIGHT.orders, MILL.key: 0, START.key: (False, 0)})
         turned = RIGHT._replace(orders={**given.orders, TOWN.key: 0, MILL.key: 20})
         other = given._replace(orders={**given.orders, UNIT.key: (False, 0), START.key: (True, 0)})
@@ -121,23 +121,23 @@ class Laws(unittest.TestCase):
 
 class Books(unittest.TestCase):
     def test_parents_stay_before_their_children(self):
-        parent = Row("A", "K1", Order("block", "sell", 0, ((1, 1),)))
-        child = Row("A", "K2", Order("block", "sell", 0, ((1, 1),), "K1"))
-        book = Book(24, (parent, START, child, TOWN))
-        shuffled = {book.blocks_shuffled(random.Random(seed)).rows for seed in range(50)}
+        parent = OrderRow("A", "K1", Order("block", "sell", 0, ((1, 1),)))
+        child = OrderRow("A", "K2", Order("block", "sell", 0, ((1, 1),), "K1"))
+        book = MarketBook(24, (parent, START, child, TOWN))
+        shuffled = {book.draw_blocks_shuffled(random.Random(seed)).rows for seed in range(50)}
         self.assertEqual(len(shuffled), 3)
         self.assertTrue(all(rows.index(parent) < rows.index(child) and rows[3] == TOWN for rows in shuffled))
 
     def test_limits_move_as_they_should(self):
         for seed in range(100):
             rng = random.Random(seed)
-            self.assertLess(books.better_limit(rng, UNIT.order), 4_000)
-            self.assertGreater(books.worse_limit(rng, UNIT.order), 4_000)
-            self.assertGreater(books.better_limit(rng, TOWN.order), 5_000)
-            self.assertIsNone(books.better_limit(rng, UNIT.order._replace(price=rules.LOWEST_PRICE)))
+            self.assertLess(books.draw_better_limit(rng, UNIT.order), 4_000)
+            self.assertGreater(books.draw_worse_limit(rng, UNIT.order), 4_000)
+            self.assertGreater(books.draw_better_limit(rng, TOWN.order), 5_000)
+            self.assertIsNone(books.draw_better_limit(rng, UNIT.order._replace(price=rules.LOWEST_PRICE)))
 
     def test_drawn_books_have_what_the_laws_are_about(self):
-        drawn = [books.draw(random.Random(f"market check {number}")) for number in range(1, 201)]
+        drawn = [books.draw_book(random.Random(f"market check {number}")) for number in range(1, 201)]
         self.assertTrue(any(book.periods == 24 for book in drawn))
         self.assertTrue(any(book.periods == 96 for book in drawn))
         for has in ("parent", "group"):

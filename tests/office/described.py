@@ -17,7 +17,7 @@ WAIT_SECONDS = 20  # for the office to take requests again
 TYPES = {"string": str, "integer": int, "number": (int, float), "boolean": bool, "array": list, "object": dict}
 
 
-def resolved(described):
+def referred_to(described):
     """A part of the description, or the component to which it refers."""
     if "$ref" not in described:
         return described
@@ -25,11 +25,11 @@ def resolved(described):
     return API[components][kind][name]
 
 
-def wrong(value, schema, at="answer"):
+def fault_of_value(value, schema, at="answer"):
     """How a value breaks a schema; None if it doesn't."""
-    schema = resolved(schema)
+    schema = referred_to(schema)
     if "oneOf" in schema:
-        return None if sum(wrong(value, one, at) is None for one in schema["oneOf"]) == 1 else f"{at} is none of several"
+        return None if sum(fault_of_value(value, one, at) is None for one in schema["oneOf"]) == 1 else f"{at} is none of several"
     kind = schema.get("type")
     if kind and (not isinstance(value, TYPES[kind]) or kind != "boolean" and isinstance(value, bool)):
         return f"{at} should be a {kind}"
@@ -38,7 +38,7 @@ def wrong(value, schema, at="answer"):
     if "pattern" in schema and not re.search(schema["pattern"], value):
         return f"{at} is {value!r}"
     if kind == "array":
-        found = (wrong(one, schema.get("items", {}), f"{at}[{number}]") for number, one in enumerate(value))
+        found = (fault_of_value(one, schema.get("items", {}), f"{at}[{number}]") for number, one in enumerate(value))
         return next((fault for fault in found if fault), None)
     if kind == "object":
         if missing := [name for name in schema.get("required", ()) if name not in value]:
@@ -46,24 +46,24 @@ def wrong(value, schema, at="answer"):
         properties = schema.get("properties", {})
         if schema.get("additionalProperties") is False and (more := set(value) - set(properties)):
             return f"{at} has {sorted(more)[0]}"
-        found = (wrong(one, properties.get(name, {}), f"{at}.{name}") for name, one in value.items())
+        found = (fault_of_value(one, properties.get(name, {}), f"{at}.{name}") for name, one in value.items())
         return next((fault for fault in found if fault), None)
     return None
 
 
-def asked(office, counts, method, template, values, headers=None, body=None, query=""):
+def send_and_check(office, counts, method, template, values, headers=None, body=None, query=""):
     """Sends a request, and compares the answer with its description. Returns the status and the body."""
-    status, got, data = office.get(template.format(**values) + query, headers, method, body)
+    status, got, data = office.request(template.format(**values) + query, headers, method, body)
     described = API["paths"][template][method.lower()]["responses"].get(str(status))
     about = f"{method} {template} {values} {query} {(body or b'')[:200]!r}: {status} {data[:200]!r}"
     if described is None:
         counts.check(f"{about}: the status isn't described", False)
         return status, data
-    kinds = resolved(described).get("content", {})
+    kinds = referred_to(described).get("content", {})
     kind = got.get("Content-Type", "").partition(";")[0]
     fault = None if kind in kinds or not kinds else f"the type is {kind}"
     if kind == "application/json" and kind in kinds:
-        fault = fault or wrong(json.loads(data), kinds[kind]["schema"])
+        fault = fault or fault_of_value(json.loads(data), kinds[kind]["schema"])
     counts.check(f"{about}: {fault}", fault is None)
     return status, data
 
@@ -71,7 +71,7 @@ def asked(office, counts, method, template, values, headers=None, body=None, que
 def check_of_demo(counts, method, template, answer):
     """The answer to a request that only a demo answers is as described."""
     described = DEMO["paths"][template][method]["responses"]["200"]["content"]["application/json"]["schema"]
-    fault = wrong(json.loads(answer), described)
+    fault = fault_of_value(json.loads(answer), described)
     counts.check(f"{method} {template} in a demo: {fault}", fault is None)
 
 
@@ -92,7 +92,7 @@ def check_all_are_described(counts):
     counts.check(f"requests that may come too often, and don't say so: {unsaid}", len(every) > 20 and not unsaid)
 
 
-def random_command(rng, periods):
+def draw_command(rng, periods):
     """A command in JSON, mostly right."""
     name = rng.choice(["A", "B", "ABCDEFGHIJKL", "A-1"])
     volumes = [[period, rng.choice([1, 99_999, 7])] for period in sorted(rng.sample(range(1, periods + 1), rng.choice([1, 1, periods])))]
@@ -116,7 +116,7 @@ def random_command(rng, periods):
     return made
 
 
-def check(office, counts, periods):
+def check_routes(office, counts, periods):
     rng = random.Random(f"described {periods}")
     if periods == min(rules.DAYS):
         check_all_are_described(counts)
@@ -126,44 +126,44 @@ def check(office, counts, periods):
     typed = {**token, "Content-Type": "application/json"}
     entered, records = 0, []
     for _ in range(RANDOM):
-        commands = [random_command(rng, periods) for _ in range(rng.choice([1, 1, 1, 3]))]
+        commands = [draw_command(rng, periods) for _ in range(rng.choice([1, 1, 1, 3]))]
         number = entered + rng.choice([1, 1, 1, 1, 2, 0])
         number = max(1, number)
         body = json.dumps(commands if len(commands) > 1 or rng.random() < 0.5 else commands[0]).encode()
-        status, data = asked(office, counts, "PUT", "/days/{day}/commands/{who}/{number}", {**values, "number": number}, typed, body)
+        status, data = send_and_check(office, counts, "PUT", "/days/{day}/commands/{who}/{number}", {**values, "number": number}, typed, body)
         if status == 200:
             found = [heads.parse(line, heads.parse_receipt) for line in data.splitlines(keepends=True)]
             counts.check("receipts are in their written form", all(is_written for _, is_written in found) and len(found) == len(commands))
-            again = asked(office, counts, "PUT", "/days/{day}/commands/{who}/{number}", {**values, "number": number}, typed, body)
+            again = send_and_check(office, counts, "PUT", "/days/{day}/commands/{who}/{number}", {**values, "number": number}, typed, body)
             counts.check("the same request again gets the same receipts", again == (200, data))
             records = records[: number - 1] + [receipt.record for receipt, _ in found]
             entered = max(entered, number - 1 + len(found))
         elif status == 409:
             counts.check("a conflict says the next number", json.loads(data)["next"] == entered + 1)
-    counts.check("commands were entered", entered > 5 and office.journal() == records)
+    counts.check("commands were entered", entered > 5 and office.run_desk_for_journal() == records)
     for template, methods in API["paths"].items():
         for method in methods:
             if method == "get":
                 for header in (token, {}):
-                    asked(office, counts, "GET", template, values, header)
-                    asked(office, counts, "GET", template, {**values, "day": "nothing", "who": office.who[0], "number": 99_999}, header)
+                    send_and_check(office, counts, "GET", template, values, header)
+                    send_and_check(office, counts, "GET", template, {**values, "day": "nothing", "who": office.who[0], "number": 99_999}, header)
     for query in ("?since=0", "?since=1", "?since=99999", "?since=x", "?since=-1", "?since="):
-        asked(office, counts, "GET", "/days/{day}/head", values, query=query)
-        asked(office, counts, "GET", "/days/{day}/commands/{who}", values, token, query=query)
+        send_and_check(office, counts, "GET", "/days/{day}/head", values, query=query)
+        send_and_check(office, counts, "GET", "/days/{day}/commands/{who}", values, token, query=query)
     table = f"participant,order,kind,side,price_eur_mwh,periods,volume_mw\n{who},T,block,sell,12.5,1-{periods},3\n"
     for data in (table, table.replace(who, "OTHER"), "", "x\n", "PK\x03\x04"):
-        asked(office, counts, "POST", "/days/{day}/tables/{who}", values, token, data.encode())
+        send_and_check(office, counts, "POST", "/days/{day}/tables/{who}", values, token, data.encode())
     office.close_day()
-    office.tool("publish", office.folder)
+    office.run_tool("publish", office.folder)
     until = time.monotonic() + WAIT_SECONDS
-    while office.get(f"/days/{office.day}/orders/{who}", token)[0] == 429 and time.monotonic() < until:  # tables count as many requests
+    while office.request(f"/days/{office.day}/orders/{who}", token)[0] == 429 and time.monotonic() < until:  # tables count as many requests
         time.sleep(0.1)
     time.sleep(1)  # in which it allows enough for what follows
     for template in API["paths"]:
         if template.startswith("/days/") and "get" in API["paths"][template]:
-            status, _ = asked(office, counts, "GET", template, values, token)
+            status, _ = send_and_check(office, counts, "GET", template, values, token)
             counts.check(f"{template} after the close", status == 200 or template.endswith("statement/{who}"))
-    answer = asked(
+    answer = send_and_check(
         office,
         counts,
         "PUT",

@@ -17,7 +17,7 @@ MOST_IDLE = 20 << 10  # KiB of 150 connections over TLS
 MOST_KEPT, KEPT_SECONDS = 60 << 10, 15  # KiB of as many slow downloads, and how long it may take until all is kept
 
 
-def said(office, data, wait=True, context=None):
+def send_for_answer(office, data, wait=True, context=None):
     """Sends bytes, and returns all that comes until the connection ends."""
     with contextlib.closing(socket.create_connection(("127.0.0.1", office.port), timeout=SECONDS)) as plain:
         connection = context.wrap_socket(plain, server_hostname="localhost") if context else plain
@@ -32,7 +32,7 @@ def said(office, data, wait=True, context=None):
         return found
 
 
-def request(method, path, headers=(), body=b""):
+def request_bytes(method, path, headers=(), body=b""):
     lines = [f"{method} {path} HTTP/1.1", "Host: x", "Connection: close", *headers]
     lines += [f"Content-Length: {len(body)}"] if body else []
     return "".join(f"{line}\r\n" for line in lines).encode("latin-1") + b"\r\n" + body
@@ -41,16 +41,16 @@ def request(method, path, headers=(), body=b""):
 def wide_headers(size):
     """Headers with which a request for the days has a head of this number of bytes."""
     headers = []
-    while (left := size - len(request("GET", "/days", headers)) - len("X: \r\n")) > 3_000:
+    while (left := size - len(request_bytes("GET", "/days", headers)) - len("X: \r\n")) > 3_000:
         headers.append(f"X: {'a' * 2_900}")
     return [*headers, f"X: {'a' * left}"]
 
 
-def status(answer):
+def status_of(answer):
     return int(answer[9:12]) if answer.startswith((b"HTTP/1.1 ", b"HTTP/1.0 ")) else None
 
 
-def peak(office):
+def read_peak_memory(office):
     """The greatest memory of the office so far, in KiB."""
     return int(re.search(r"VmHWM:\s+(\d+) kB", Path(f"/proc/{office.process.pid}/status").read_text())[1])
 
@@ -69,22 +69,22 @@ def check_tokens(office, counts):
         ("two", f"Bearer {right} {right}"),
         ("odd bytes", "Bearer \xff\x01"),
     ):
-        answer = said(office, request("GET", path, [f"Authorization: {header}"] if header is not None else []))
-        counts.check(f"{words} is refused", status(answer) in (400, 401) and right.encode() not in answer)
+        answer = send_for_answer(office, request_bytes("GET", path, [f"Authorization: {header}"] if header is not None else []))
+        counts.check(f"{words} is refused", status_of(answer) in (400, 401) and right.encode() not in answer)
     for name in ("orders", "commands", "receipts", "statement"):
-        answer = said(office, request("GET", f"/days/{office.day}/{name}/{other}", [f"Authorization: Bearer {right}"]))
-        counts.check(f"{name} of another are refused", status(answer) == 401)
+        answer = send_for_answer(office, request_bytes("GET", f"/days/{office.day}/{name}/{other}", [f"Authorization: Bearer {right}"]))
+        counts.check(f"{name} of another are refused", status_of(answer) == 401)
     body = f"cancel,{other},A,,,,,,".encode()
     headers = [f"Authorization: Bearer {right}", "Content-Type: text/csv"]
-    counts.check("a command of another is refused", status(said(office, request("PUT", f"{path}/1", headers, body))) == 400)
-    answer = said(office, request("PUT", f"/days/{office.day}/commands/{other}/1", headers, body))
-    counts.check("and so is one under its name", status(answer) == 401)
+    counts.check("a command of another is refused", status_of(send_for_answer(office, request_bytes("PUT", f"{path}/1", headers, body))) == 400)
+    answer = send_for_answer(office, request_bytes("PUT", f"/days/{office.day}/commands/{other}/1", headers, body))
+    counts.check("and so is one under its name", status_of(answer) == 401)
     counts.check(
-        "a right token is taken after many wrong ones", all(status(said(office, request("GET", path, headers))) == 200 for _ in range(3))
+        "a right token is taken after many wrong ones", all(status_of(send_for_answer(office, request_bytes("GET", path, headers))) == 200 for _ in range(3))
     )
-    many = [status(said(office, request("GET", path, ["Authorization: Bearer x"]))) for _ in range(60)]
+    many = [status_of(send_for_answer(office, request_bytes("GET", path, ["Authorization: Bearer x"]))) for _ in range(60)]
     counts.check("many wrong ones are slowed down", set(many) == {401, 429})
-    counts.check("and the right one isn't", status(said(office, request("GET", path, headers))) == 200)
+    counts.check("and the right one isn't", status_of(send_for_answer(office, request_bytes("GET", path, headers))) == 200)
 
 
 def check_paths(office, counts):
@@ -110,12 +110,12 @@ def check_paths(office, counts):
         f"/days/{office.day}/close",
         "*",
     ):
-        answer = said(office, request("GET", path))
-        is_right = status(answer) in (400, 403, 404, 405) or path.startswith("http") and status(answer) == 200
+        answer = send_for_answer(office, request_bytes("GET", path))
+        is_right = status_of(answer) in (400, 403, 404, 405) or path.startswith("http") and status_of(answer) == 200
         head = answer.partition(b"\r\n\r\n")[0]
         counts.check(f"GET {path}", is_right and secret not in answer and b"script>" not in answer and b"\nx-evil" not in head.lower())
     for method in ("DELETE", "POST", "TRACE", "CONNECT", "PATCH", "FOO", "get"):
-        counts.check(f"{method} /days", status(said(office, request(method, "/days"))) in (400, 404, 405, 501))
+        counts.check(f"{method} /days", status_of(send_for_answer(office, request_bytes(method, "/days"))) in (400, 404, 405, 501))
 
 
 def check_messages(office, counts):
@@ -130,67 +130,67 @@ def check_messages(office, counts):
         ("a script", b"<script>alert(1)</script>\r\n\r\n"),
         ("no version", b"GET /days\r\n\r\n"),
         ("a header without a colon", b"GET /days HTTP/1.1\r\nevil<script>\r\n\r\n"),
-        ("a header of 100 kB", request("GET", "/days", [f"X: {'a' * 100_000}"])),
-        ("a head of 32 KiB and a byte", request("GET", "/days", wide_headers(32_769))),
-        ("a head of 47 KiB", request("GET", "/days", wide_headers(47 << 10))),
-        ("10,000 headers", request("GET", "/days", [f"X-{number}: {'a' * 100}" for number in range(10_000)])),
-        ("a length that is none", request("PUT", path, [token, "Content-Length: -1"])),
-        ("a length and chunks", request("PUT", path, both, body)),
-        ("a chunk that is none", request("PUT", path, both) + b"zz\r\n"),
+        ("a header of 100 kB", request_bytes("GET", "/days", [f"X: {'a' * 100_000}"])),
+        ("a head of 32 KiB and a byte", request_bytes("GET", "/days", wide_headers(32_769))),
+        ("a head of 47 KiB", request_bytes("GET", "/days", wide_headers(47 << 10))),
+        ("10,000 headers", request_bytes("GET", "/days", [f"X-{number}: {'a' * 100}" for number in range(10_000)])),
+        ("a length that is none", request_bytes("PUT", path, [token, "Content-Length: -1"])),
+        ("a length and chunks", request_bytes("PUT", path, both, body)),
+        ("a chunk that is none", request_bytes("PUT", path, both) + b"zz\r\n"),
     ):
-        answer = said(office, data, wait=False)
-        counts.check(f"{words} is refused", status(answer) in (400, 404, 413, 431, None) and b"<script>" not in answer)
-    counts.check("a head of 32 KiB is taken", status(said(office, request("GET", "/days", wide_headers(32_768)))) == 200)
+        answer = send_for_answer(office, data, wait=False)
+        counts.check(f"{words} is refused", status_of(answer) in (400, 404, 413, 431, None) and b"<script>" not in answer)
+    counts.check("a head of 32 KiB is taken", status_of(send_for_answer(office, request_bytes("GET", "/days", wide_headers(32_768)))) == 200)
     for odd in (": x", ": -9"):  # it comes before the length
-        answer = said(office, request("PUT", path, [token, "Content-Type: text/csv", odd], body))
-        counts.check(f"a length behind {odd} is refused: {status(answer)}", status(answer) == 400)
-    answer = said(office, request("GET", "/days", ["Expect: <script>alert(1)</script>"]))
-    counts.check("an expectation isn't said again", status(answer) == 200 and b"<script>" not in answer)
+        answer = send_for_answer(office, request_bytes("PUT", path, [token, "Content-Type: text/csv", odd], body))
+        counts.check(f"a length behind {odd} is refused: {status_of(answer)}", status_of(answer) == 400)
+    answer = send_for_answer(office, request_bytes("GET", "/days", ["Expect: <script>alert(1)</script>"]))
+    counts.check("an expectation isn't said again", status_of(answer) == 200 and b"<script>" not in answer)
     for method, odd in ("GET", "/nothing"), ("DELETE", "/days"):
-        answer = said(office, request(method, odd, ["Expect: <script>alert(1)</script>"]))
-        counts.check(f"nor at {method} {odd}", status(answer) in (404, 405) and b"<script>" not in answer)
+        answer = send_for_answer(office, request_bytes(method, odd, ["Expect: <script>alert(1)</script>"]))
+        counts.check(f"nor at {method} {odd}", status_of(answer) in (404, 405) and b"<script>" not in answer)
     before_log = len(office.log.read_bytes())
-    said(office, b"GET http://[INJECTED]/days HTTP/1.1\r\nHost: x\r\n\r\n", wait=False)
+    send_for_answer(office, b"GET http://[INJECTED]/days HTTP/1.1\r\nHost: x\r\n\r\n", wait=False)
     counts.check("a request's words aren't in the log", b"INJECTED" not in office.log.read_bytes()[before_log:])
     before_log = len(office.log.read_bytes())
-    said(office, b"CONNECT x:1 HTTP/1.1\r\nHost: x\r\n\r\n" + b"a" * 100, wait=False)
-    said(office, request("GET", "/days", ["Connection: Upgrade", "Upgrade: h2c"]) + b"a" * 100, wait=False)
+    send_for_answer(office, b"CONNECT x:1 HTTP/1.1\r\nHost: x\r\n\r\n" + b"a" * 100, wait=False)
+    send_for_answer(office, request_bytes("GET", "/days", ["Connection: Upgrade", "Upgrade: h2c"]) + b"a" * 100, wait=False)
     counts.check("nor requests for another protocol", b"defect" not in office.log.read_bytes()[before_log:])
-    said(office, request("GET", "/days"), wait=False)
+    send_for_answer(office, request_bytes("GET", "/days"), wait=False)
     counts.check("a client that ends before its answer isn't a defect", b"defect" not in office.log.read_bytes()[before_log:])
     check_names(office, counts)
-    answer = said(office, request("PUT", path, [token, "Expect: 100-continue", "Content-Type: text/csv"], b"cancel"))
+    answer = send_for_answer(office, request_bytes("PUT", path, [token, "Expect: 100-continue", "Content-Type: text/csv"], b"cancel"))
     counts.check("a client that waits may go on", answer.startswith(b"HTTP/1.1 100 Continue\r\n\r\nHTTP/1.1 400 "))
     bomb = gzip.compress(bytes(300 << 20))
     other = office.who[1]  # whose rate this uses up
     headers = [f"Authorization: Bearer {office.tokens[other]}", "Content-Encoding: gzip", "Content-Type: text/csv"]
-    data = request("PUT", f"/days/{office.day}/commands/{other}/1", headers, bomb)
-    before = peak(office)
-    counts.check("a body that is a bomb is refused", status(said(office, data)) == 400)
-    counts.check("a body that is a bomb takes no memory", peak(office) - before < 50 << 10)
-    many = said(office, b"GET /days HTTP/1.1\r\nHost: x\r\n\r\n" * 200_000)
-    counts.check("requests without end aren't answered, and take no memory", len(many) < 10 << 20 and peak(office) - before < 100 << 10)
+    data = request_bytes("PUT", f"/days/{office.day}/commands/{other}/1", headers, bomb)
+    before = read_peak_memory(office)
+    counts.check("a body that is a bomb is refused", status_of(send_for_answer(office, data)) == 400)
+    counts.check("a body that is a bomb takes no memory", read_peak_memory(office) - before < 50 << 10)
+    many = send_for_answer(office, b"GET /days HTTP/1.1\r\nHost: x\r\n\r\n" * 200_000)
+    counts.check("requests without end aren't answered, and take no memory", len(many) < 10 << 20 and read_peak_memory(office) - before < 100 << 10)
     chunks = b"".join(b"1000\r\n" + b"a" * 4096 + b"\r\n" for _ in range(400)) + b"0\r\n\r\n"
-    counts.check("a body without a length isn't read", status(said(office, request("PUT", path, both) + chunks)) == 400)
+    counts.check("a body without a length isn't read", status_of(send_for_answer(office, request_bytes("PUT", path, both) + chunks)) == 400)
     with contextlib.ExitStack() as stack:
         for _ in range(20):
             one = stack.enter_context(socket.create_connection(("127.0.0.1", office.port), timeout=SECONDS))
             with contextlib.suppress(OSError):
-                one.sendall(request("GET", "/days", ["Transfer-Encoding: chunked"]) + b"1\r\na\r\n" * 90_000)
+                one.sendall(request_bytes("GET", "/days", ["Transfer-Encoding: chunked"]) + b"1\r\na\r\n" * 90_000)
         began = time.monotonic()
-        counts.check("tiny chunks hold up nobody", office.get("/days")[0] == 200 and time.monotonic() - began < 3)
-    before = peak(office)
+        counts.check("tiny chunks hold up nobody", office.request("/days")[0] == 200 and time.monotonic() - began < 3)
+    before = read_peak_memory(office)
     with contextlib.ExitStack() as stack:
         for _ in range(6):
             one = stack.enter_context(socket.create_connection(("127.0.0.1", office.port), timeout=SECONDS))
             one.setsockopt(socket.SOL_SOCKET, socket.SO_RCVBUF, 4_096)
-            wide = request("GET", "/openapi.json", [f"X-{number}: {'a' * 4_000}" for number in range(100)])
+            wide = request_bytes("GET", "/openapi.json", [f"X-{number}: {'a' * 4_000}" for number in range(100)])
             with contextlib.suppress(OSError):
-                one.sendall(request("GET", "/openapi.json") * 4 + wide * 60)
-        counts.check(f"answers that aren't read keep no memory: {peak(office) - before} KiB", peak(office) - before < 30 << 10)
-    counts.check("a body of 2 MB is refused", status(said(office, request("PUT", path, [token], b"a" * (2 << 20)))) == 413)
-    counts.check("without a token it isn't read", status(said(office, request("PUT", path, [], b"a" * (2 << 20)))) == 401)
-    counts.check("nothing was entered", office.client(who).next(office.day) == 1)
+                one.sendall(request_bytes("GET", "/openapi.json") * 4 + wide * 60)
+        counts.check(f"answers that aren't read keep no memory: {read_peak_memory(office) - before} KiB", read_peak_memory(office) - before < 30 << 10)
+    counts.check("a body of 2 MB is refused", status_of(send_for_answer(office, request_bytes("PUT", path, [token], b"a" * (2 << 20)))) == 413)
+    counts.check("without a token it isn't read", status_of(send_for_answer(office, request_bytes("PUT", path, [], b"a" * (2 << 20)))) == 401)
+    counts.check("nothing was entered", office.client_of(who).next(office.day) == 1)
 
 
 def check_names(office, counts):
@@ -200,14 +200,14 @@ def check_names(office, counts):
         with contextlib.closing(socket.create_connection(("127.0.0.1", office.port), timeout=SECONDS)) as one:
             began = time.monotonic()
             one.sendall(f"{line} HTTP/1.1\r\nHost: x\r\n\r\n".encode())
-            counts.check(f"{line[:12]} holds up nobody", office.get("/days")[0] == 200 and time.monotonic() - began < 1)
+            counts.check(f"{line[:12]} holds up nobody", office.request("/days")[0] == 200 and time.monotonic() - began < 1)
 
 
 def check_slow(office, counts):
     """Half a head and half a body: the connection ends, and others are served in the meantime."""
     who = office.who[0]
     token = f"Authorization: Bearer {office.tokens[who]}"
-    halves = [b"GET /days HTT", request("PUT", f"/days/{office.day}/commands/{who}/1", [token, "Content-Length: 100"])[:-2] + b"\r\ncancel"]
+    halves = [b"GET /days HTT", request_bytes("PUT", f"/days/{office.day}/commands/{who}/1", [token, "Content-Length: 100"])[:-2] + b"\r\ncancel"]
     with contextlib.ExitStack() as stack:
         slow = [
             stack.enter_context(contextlib.closing(socket.create_connection(("127.0.0.1", office.port), timeout=SECONDS)))
@@ -216,13 +216,13 @@ def check_slow(office, counts):
         began = time.monotonic()
         for number, one in enumerate(slow):
             one.sendall(halves[number % 2])
-        counts.check("others are served next to 200 slow ones", office.get("/days")[0] == 200 and time.monotonic() - began < 12)
+        counts.check("others are served next to 200 slow ones", office.request("/days")[0] == 200 and time.monotonic() - began < 12)
         answers = []
         for one in slow:
             with contextlib.suppress(ConnectionError):
                 answers.append(one.recv(65_536))
-        counts.check("slow ones end", time.monotonic() - began < SECONDS and all(status(one) in (400, None) for one in answers))
-    counts.check("half a body enters nothing", office.client(who).next(office.day) == 1)
+        counts.check("slow ones end", time.monotonic() - began < SECONDS and all(status_of(one) in (400, None) for one in answers))
+    counts.check("half a body enters nothing", office.client_of(who).next(office.day) == 1)
 
 
 def check_tables(office, counts):
@@ -231,7 +231,7 @@ def check_tables(office, counts):
     answers, tables = [], {who: ("participant,order,kind,side,price_eur_mwh,periods,volume_mw\n" + rows).format(who=who) for who in office.who[:2]}
 
     def send(who):
-        answers.append((who, office.get(f"/days/{office.day}/tables/{who}", office.bearer(who), "POST", tables[who])[0]))
+        answers.append((who, office.request(f"/days/{office.day}/tables/{who}", office.bearer_header(who), "POST", tables[who])[0]))
 
     who, other = office.who[:2]
     threads = [threading.Thread(target=send, args=[one]) for one in (who, who, who, other)]
@@ -247,14 +247,14 @@ def check_tables(office, counts):
 def check_charges(office, counts):
     """Each command of a request counts, however short it is, and the length of an answer too."""
     who = office.who[2]
-    day, bearer = f"/days/{office.day}", office.bearer(who)
+    day, bearer = f"/days/{office.day}", office.bearer_header(who)
     put = f"{day}/commands/{who}"
-    code, _, text = office.get(f"{put}/1", bearer, "PUT", f"cancel,{who},A,,,,,,\n" * 3_300)
+    code, _, text = office.request(f"{put}/1", bearer, "PUT", f"cancel,{who},A,,,,,,\n" * 3_300)
     counts.check("many short commands are entered", code == 200 and text.count(b"\n") == 3_300)
-    counts.check("and each counts", office.get(f"{put}/3301", bearer, "PUT", f"cancel,{who},A,,,,,,")[0] == 429)
-    code, _, text = office.get(f"{day}/receipts/{who}", bearer)
+    counts.check("and each counts", office.request(f"{put}/3301", bearer, "PUT", f"cancel,{who},A,,,,,,")[0] == 429)
+    code, _, text = office.request(f"{day}/receipts/{who}", bearer)
     counts.check("all receipts are given", code == 200 and text.count(b"\n") == 3_300)
-    counts.check("and their length counts", office.get(f"{day}/orders/{who}", bearer)[0] == 429)
+    counts.check("and their length counts", office.request(f"{day}/orders/{who}", bearer)[0] == 429)
 
 
 def check_silent(office, counts):
@@ -274,24 +274,24 @@ def check_silent(office, counts):
 
 def check_downloads(office, counts, context):
     """Slow readers of what is published, over TLS: each keeps little memory."""
-    office.tool("publish", office.folder, office.day)
+    office.run_tool("publish", office.folder, office.day)
     (office.files / "journal.csv").write_bytes(b"x" * (9 << 20))
     with contextlib.ExitStack() as stack:
-        readers, start = [], peak(office)
+        readers, start = [], read_peak_memory(office)
         for _ in range(150):
             plain = socket.socket()
             plain.setsockopt(socket.SOL_SOCKET, socket.SO_RCVBUF, 4_096)
             plain.settimeout(SECONDS)
             plain.connect(("127.0.0.1", office.port))
             readers.append(stack.enter_context(context.wrap_socket(plain, server_hostname="localhost")))
-        before = peak(office)
+        before = read_peak_memory(office)
         counts.check(f"a connection over TLS takes little memory: {before - start} KiB", before - start < MOST_IDLE)
         for one in readers:
-            one.sendall(request("GET", f"/days/{office.day}/journal"))
+            one.sendall(request_bytes("GET", f"/days/{office.day}/journal"))
         for one in readers:
             one.recv(1)  # the answer has begun
         until = time.monotonic() + KEPT_SECONDS
-        while (kept := peak(office) - before) < MOST_KEPT and time.monotonic() < until:
+        while (kept := read_peak_memory(office) - before) < MOST_KEPT and time.monotonic() < until:
             time.sleep(0.5)
         counts.check(f"slow downloads keep little memory: {kept} KiB", kept < MOST_KEPT)
 
@@ -306,8 +306,8 @@ def check_many(office, counts, most):
     until = time.monotonic() + 20
     while not office.is_ready() and time.monotonic() < until:
         time.sleep(0.1)
-    counts.check(f"it serves after {most} connections", office.get("/days")[0] == 200)
-    counts.check("it refused some", office.measured("dam_office_connections_refused_total") > 0)
+    counts.check(f"it serves after {most} connections", office.request("/days")[0] == 200)
+    counts.check("it refused some", office.read_metric("dam_office_connections_refused_total") > 0)
 
 
 def check_headers(office, counts):
@@ -318,7 +318,7 @@ def check_headers(office, counts):
         ("/nothing", 404),
         (f"/days/{office.day}/orders/{office.who[0]}", 401),
     ):
-        found, headers, _ = office.get(path)
+        found, headers, _ = office.request(path)
         policy = headers.get("Content-Security-Policy", "")
         is_right = "default-src 'none'" in policy and "unsafe" not in policy and headers.get("X-Content-Type-Options") == "nosniff"
         counts.check(
@@ -338,7 +338,7 @@ def check_secrets(office, counts):
     counts.check(f"no file is for others: {private}", not private)
 
 
-def certificate(room):
+def make_certificate(room):
     """A certificate and its key, made by openssl."""
     cert, key = Path(room, "cert.pem"), Path(room, "key.pem")
     words = [
@@ -374,16 +374,16 @@ def check_tls(office, cert, counts):
         "-verify_return_error",
         "-quiet",
     ]
-    ran = subprocess.run(words, input=request("GET", "/days"), capture_output=True, timeout=SECONDS)
-    counts.check("openssl s_client gets the days", status(ran.stdout) == 200 and b"max-age" in ran.stdout)
+    ran = subprocess.run(words, input=request_bytes("GET", "/days"), capture_output=True, timeout=SECONDS)
+    counts.check("openssl s_client gets the days", status_of(ran.stdout) == 200 and b"max-age" in ran.stdout)
     for version in ("-tls1", "-tls1_1"):
         ran = subprocess.run([*words, version, "-cipher", "DEFAULT@SECLEVEL=0"], input=b"", capture_output=True, timeout=SECONDS)
         counts.check(f"{version} is refused", ran.returncode != 0)
     context = ssl.create_default_context(cafile=cert)
-    client = office.client(office.who[0])
+    client = office.client_of(office.who[0])
     client.url, client.context = f"https://localhost:{office.port}", context
     counts.check(
         "the client enters a command over TLS",
         client.enter(office.day, f"cancel,{office.who[0]},A,,,,,,")[0]["reply"] == "refused,UnknownOrder",
     )
-    counts.check("plain HTTP gets nothing", status(said(office, request("GET", "/days"))) != 200)
+    counts.check("plain HTTP gets nothing", status_of(send_for_answer(office, request_bytes("GET", "/days"))) != 200)

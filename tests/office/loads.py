@@ -11,7 +11,7 @@ from served import OfficeFault
 from lib.seal import heads, merkle, signing
 
 
-def record(rng, who, number, live):
+def draw_record(rng, who, number, live):
     """A command of a participant; `live` are its orders."""
     what = rng.random()
     price, volumes = rng.randint(-500, 9_000), f"{rng.randint(1, 24)}:{rng.randint(1, 999)}"
@@ -23,27 +23,27 @@ def record(rng, who, number, live):
     return f"cancel,{who},{live.pop(rng.randrange(len(live)))},,,,,,"
 
 
-class Load:
+class OfficeLoad:
     """Commands, their receipts and the seconds that each took."""
 
     def __init__(self, office, seed="load"):
         self.office, self.seed = office, seed
         self.acknowledged, self.seconds = [], []
 
-    async def one(self, who, count, until):
+    async def send_commands(self, who, count, until):
         rng, live = random.Random(f"{self.seed} {who}"), []
-        async with self.office.asynchronous(who) as client:
+        async with self.office.asynchronous_client_of(who) as client:
             for number in range(1, count + 1):
-                line = record(rng, who, number, live)
+                line = draw_record(rng, who, number, live)
                 began = time.perf_counter()
                 if began > until:
                     return
-                (receipt,) = await self.entered(client, line)
+                (receipt,) = await self.send_until_entered(client, line)
                 self.seconds.append(time.perf_counter() - began)
                 assert receipt["record"] == line, receipt
                 self.acknowledged.append((who, number, receipt))
 
-    async def entered(self, client, line):
+    async def send_until_entered(self, client, line):
         """The receipt of a command, which is sent until it comes: the office may be down for long."""
         while True:
             try:
@@ -52,25 +52,25 @@ class Load:
                 if fault.status not in (None, 503):
                     raise
 
-    async def run(self, count, seconds=600):
+    async def send_all(self, count, seconds=600):
         """Sends that many commands of each participant, or as many as there is time for. Returns the seconds that it took."""
         began = time.perf_counter()
-        await asyncio.gather(*(self.one(who, count, began + seconds) for who in self.office.who))
+        await asyncio.gather(*(self.send_commands(who, count, began + seconds) for who in self.office.who))
         return time.perf_counter() - began
 
-    def summary(self, took):
+    def summary_text(self, took):
         found = sorted(self.seconds)
         rate, middle, late = len(found) / took, statistics.median(found), found[int(len(found) * 0.99)]
         return f"{len(found)} commands, {rate:.0f} a second, median {middle * 1e3:.1f} ms, 99% within {late * 1e3:.1f} ms"
 
 
-def replies_of(dam, records, periods=24):
+def run_dam_for_replies(dam, records, periods=24):
     text = "".join(f"{line}\n" for line in [f"day,{periods},,,,,,,", *records])
     ran = subprocess.run([dam, "replay"], input=text.encode(), capture_output=True, check=True)
     return [line.partition(",")[2] for line in ran.stdout.decode().splitlines()[1:]]
 
 
-def faults(load, records, replies, key, sample=300):
+def faults_of_load(load, records, replies, key, sample=300):
     """What is wrong with the acknowledged commands, compared with the journal and its replay: one lost, changed or entered twice, or a
     receipt that doesn't prove it."""
     own = {}
@@ -91,11 +91,11 @@ def faults(load, records, replies, key, sample=300):
             yield f"the receipt of entry {found.number} proves nothing"
 
 
-async def with_kills(office, kills, count, seed):
+async def run_with_kills(office, kills, count, seed):
     """A load in which the office, its desk or both are killed, and the office is started again. Returns it with the seconds of the
     starts."""
-    load, starts, rng = Load(office, seed), [], random.Random(seed)
-    running = asyncio.create_task(load.run(count))
+    load, starts, rng = OfficeLoad(office, seed), [], random.Random(seed)
+    running = asyncio.create_task(load.send_all(count))
     for number in range(kills):
         await asyncio.sleep(rng.uniform(0.1, 0.6))
         parts = (("office",), ("desk",), ("office", "desk"))[number % 3]
@@ -108,4 +108,4 @@ async def with_kills(office, kills, count, seed):
     return load, starts
 
 
-__all__ = ["Load", "OfficeFault", "faults", "replies_of", "with_kills"]
+__all__ = ["OfficeLoad", "OfficeFault", "faults_of_load", "run_dam_for_replies", "run_with_kills"]

@@ -15,7 +15,7 @@ from pathlib import Path
 
 import hostile
 import loads
-from served import TOOL, TOP, OfficeFault, day_of, served
+from served import TOOL, TOP, OfficeFault, day_of, office_for_test
 from shared import browser
 from shared.ports import find_free_port
 
@@ -28,15 +28,15 @@ CONNECTIONS, ALL_CONNECTIONS = 50, 200  # of a load, each of a participant; with
 SECONDS = 12  # that a load may take in the check
 
 
-def key_of(office):
+def read_key(office):
     return signing.parse_public((office.folder / "operator.pem.pub").read_bytes())
 
 
-def tool(name, *words):
+def run_tool(name, *words):
     return subprocess.run([sys.executable, "-I", "-B", TOP / "tools" / name, *map(str, words)], capture_output=True, text=True)
 
 
-def refused(call, fault):
+def is_refused(call, fault):
     """Whether a call is refused with a fault of this name."""
     try:
         call()
@@ -45,8 +45,8 @@ def refused(call, fault):
     return False
 
 
-def strangers(args, counts):
-    with served(args.dam, args.desk) as office:
+def check_strangers(args, counts):
+    with office_for_test(args.dam, args.desk) as office:
         office.start()
         hostile.check_headers(office, counts)
         hostile.check_messages(office, counts)
@@ -57,17 +57,17 @@ def strangers(args, counts):
         hostile.check_many(office, counts, 10_000 if args.all else 1_300)
         hostile.check_tokens(office, counts)
         who = office.who[0]
-        client = office.client(who)
+        client = office.client_of(who)
         client.enter(office.day, f"cancel,{who},A,,,,,,")
-        office.tool("revoke", office.folder, who)
-        counts.check("a revoked token is refused at once", refused(lambda: client.orders(office.day), "Token"))
+        office.run_tool("revoke", office.folder, who)
+        counts.check("a revoked token is refused at once", is_refused(lambda: client.orders(office.day), "Token"))
         hostile.check_secrets(office, counts)
 
 
-def tls(args, counts):
+def check_tls(args, counts):
     with tempfile.TemporaryDirectory() as room:
-        cert, key = hostile.certificate(room)
-        with served(args.dam, args.desk, words=["--tls", cert, key]) as office:
+        cert, key = hostile.make_certificate(room)
+        with office_for_test(args.dam, args.desk, words=["--tls", cert, key]) as office:
             with contextlib.suppress(RuntimeError):
                 office.is_ready = lambda: office.process.poll() is None and b'"serving"' in office.log.read_bytes()
                 office.start()
@@ -79,7 +79,7 @@ def tls(args, counts):
             hostile.check_downloads(office, counts, ssl.create_default_context(cafile=cert))
 
 
-def disk(args, counts):
+def check_full_disk(args, counts):
     """A disk that is full: commands wait or are refused, and are entered once there is room."""
     with tempfile.TemporaryDirectory() as room:
         full, limited = Path(room, "full"), Path(room, "desk")
@@ -87,67 +87,67 @@ def disk(args, counts):
         limited.write_text(f'#!/bin/sh\ntrap "" XFSZ\n[ ! -e {full} ] || ulimit -f 16\nexec {args.desk} "$@"\n')
         limited.chmod(0o755)
         full.touch()
-        with served(args.dam, limited) as office:
+        with office_for_test(args.dam, limited) as office:
             office.start()
             who = office.who[0]
             record = f"submit,{who},%s,block,buy,1,{';'.join(f'{period}:1' for period in range(1, 25))},,"
             entered, path = 0, f"/days/{office.day}/commands/{who}/"
-            while (answer := office.get(f"{path}{entered + 1}", office.bearer(who), "PUT", record % f"B-{entered}"))[0] == 200:
+            while (answer := office.request(f"{path}{entered + 1}", office.bearer_header(who), "PUT", record % f"B-{entered}"))[0] == 200:
                 entered += 1
             counts.check(f"a full disk is answered by 503, after {entered} commands", answer[0] == 503 and 10 < entered < 200)
-            counts.check("and the ends of the desk are counted", office.measured("dam_office_desk_ends_total") > 0)
+            counts.check("and the ends of the desk are counted", office.read_metric("dam_office_desk_ends_total") > 0)
             full.unlink()
-            receipt = office.client(who).enter(office.day, record % f"B-{entered}")[0]
-            counts.check("with room the same command is entered once", receipt["number"] == entered + 1 == len(office.journal()))
+            receipt = office.client_of(who).enter(office.day, record % f"B-{entered}")[0]
+            counts.check("with room the same command is entered once", receipt["number"] == entered + 1 == len(office.run_desk_for_journal()))
             for part in (("desk",), ("office",)):
                 office.kill(*part)
                 if "office" in part:
                     office.start()
                 counts.check(
-                    "and it stays", [one["entry"] for one in office.client(who).commands(office.day)] == list(range(1, entered + 2))
+                    "and it stays", [one["entry"] for one in office.client_of(who).commands(office.day)] == list(range(1, entered + 2))
                 )
 
 
-def full_office(args, counts):
+def check_full_office(args, counts):
     """A disk that is full for the office too: it is unavailable until there is room, without a command that shows it; and while the files
     of a closed day can't be made."""
-    with served(args.dam, args.desk) as office:
+    with office_for_test(args.dam, args.desk) as office:
         office.start()
         who = office.who[0]
         record = f"submit,{who},%s,block,buy,1,{';'.join(f'{period}:1' for period in range(1, 25))},,"
-        office.client(who).enter(office.day, *(record % f"A-{number}" for number in range(40)))
-        fill(office, 4_096)  # the desk inherits it at its next start
+        office.client_of(who).enter(office.day, *(record % f"A-{number}" for number in range(40)))
+        limit_files(office, 4_096)  # the desk inherits it at its next start
         office.kill("desk")
-        answer = office.get(f"/days/{office.day}/commands/{who}/41", office.bearer(who), "PUT", record % "B")
+        answer = office.request(f"/days/{office.day}/commands/{who}/41", office.bearer_header(who), "PUT", record % "B")
         counts.check(f"a full disk is answered by 503: {answer[2]}", answer[0] == 503)
-        found = [office.get("/healthz")[0] for _ in range(40) if time.sleep(0.1) is None]
+        found = [office.request("/healthz")[0] for _ in range(40) if time.sleep(0.1) is None]
         counts.check(f"and the office is unavailable as long as the disk is full: {found}", set(found) == {503})
-        values = [office.measured(name) for name in (f'dam_office_ready{{day="{office.day}"}}', "dam_office_right")]
+        values = [office.read_metric(name) for name in (f'dam_office_ready{{day="{office.day}"}}', "dam_office_right")]
         counts.check(f"and says so in its counts: {values}", values == [0, 0])
-        fill(office, resource.RLIM_INFINITY)
+        limit_files(office, resource.RLIM_INFINITY)
         office.kill("desk")  # which has the limit
-        counts.check("with room it is available again, without a command", until(office.is_ready))
-        counts.check("and its counts say so", until(lambda: office.measured("dam_office_right") == 1))
-        fill(office, 4_096)
+        counts.check("with room it is available again, without a command", wait_until(office.is_ready))
+        counts.check("and its counts say so", wait_until(lambda: office.read_metric("dam_office_right") == 1))
+        limit_files(office, 4_096)
         said = office.folder.parent / "said"
         with said.open("wb") as stream:
             began = subprocess.Popen([*TOOL, "close", office.folder], env=office.environment, stdout=stream, stderr=stream)
-        counts.check("and not while a closed day has no files", until(lambda: office.get("/healthz")[0] == 503))
-        state = json.loads(office.tool("status", office.folder, "--json").stdout)["days"][0]["state"]
-        counts.check(f"both name the same state: {state}", state == json.loads(office.get(f"/days/{office.day}")[2])["state"] != "open")
-        counts.check("close says that it waits", until(lambda: b"has no head yet" in said.read_bytes()))
-        fill(office, resource.RLIM_INFINITY)
+        counts.check("and not while a closed day has no files", wait_until(lambda: office.request("/healthz")[0] == 503))
+        state = json.loads(office.run_tool("status", office.folder, "--json").stdout)["days"][0]["state"]
+        counts.check(f"both name the same state: {state}", state == json.loads(office.request(f"/days/{office.day}")[2])["state"] != "open")
+        counts.check("close says that it waits", wait_until(lambda: b"has no head yet" in said.read_bytes()))
+        limit_files(office, resource.RLIM_INFINITY)
         status = began.wait(60)
         counts.check(f"and ends with the results: {said.read_bytes()}", status == 0 and b"has its results" in said.read_bytes())
-        counts.check("and the office is available once they are there", until(office.is_ready))
+        counts.check("and the office is available once they are there", wait_until(office.is_ready))
 
 
-def fill(office, size):
+def limit_files(office, size):
     """Lets the office write no file beyond this size."""
     resource.prlimit(office.process.pid, resource.RLIMIT_FSIZE, (size, resource.RLIM_INFINITY))
 
 
-def until(holds, seconds=20):
+def wait_until(holds, seconds=20):
     """Whether something holds within these seconds."""
     end = time.monotonic() + seconds
     while not (found := holds()) and time.monotonic() < end:
@@ -155,116 +155,116 @@ def until(holds, seconds=20):
     return bool(found)
 
 
-def desk_ends(args, counts):
+def check_ended_desk(args, counts):
     """A desk that ends while no command comes, and whose file can't be opened for some time."""
     with tempfile.TemporaryDirectory() as room:
         unreadable, wrapped = Path(room, "unreadable"), Path(room, "desk")
         wrapped.write_text(f'#!/bin/sh\n[ ! -e {unreadable} ] || {{ echo unreadable >&2; exit 4; }}\nexec {args.desk} "$@"\n')
         wrapped.chmod(0o755)
-        with served(args.dam, wrapped) as office:
+        with office_for_test(args.dam, wrapped) as office:
             office.start()
-            (first,) = office.desks()
+            (first,) = office.find_desk_processes()
             office.kill("desk")
-            counts.check("an idle desk that ends is opened again", until(lambda: office.desks() not in ([], [first]) and office.is_ready()))
+            counts.check("an idle desk that ends is opened again", wait_until(lambda: office.find_desk_processes() not in ([], [first]) and office.is_ready()))
             unreadable.touch()
             office.kill("desk")
-            counts.check("without one the office is unavailable", until(lambda: office.get("/healthz")[0] == 503, 5))
+            counts.check("without one the office is unavailable", wait_until(lambda: office.request("/healthz")[0] == 503, 5))
             unreadable.unlink()
-            counts.check("until it opens again", until(office.is_ready))
+            counts.check("until it opens again", wait_until(office.is_ready))
             office.stop()
             events = [json.loads(line)["event"] for line in office.log.read_text().splitlines()]
             counts.check(f"an office that is ended says so: {events}", events[-1] == "ended" and "stopped" not in events)
 
 
-def rolled_back(args, counts):
+def check_rolled_back(args, counts):
     """A desk's file that is put back by an entry while no office runs, and one that is lost."""
-    with served(args.dam, args.desk) as office:
+    with office_for_test(args.dam, args.desk) as office:
         office.start()
         who, desk, signed = office.who[0], office.files / "desk", office.files / "signed-head.json"
-        client = office.client(who)
+        client = office.client_of(who)
         client.enter(office.day, f"cancel,{who},A,,,,,,")
         earlier = desk.read_bytes()
         client.enter(office.day, f"cancel,{who},B,,,,,,")
-        counts.check("the newest head is soon in its file", until(lambda: signed.exists() and json.loads(signed.read_bytes())["size"] == 2))
+        counts.check("the newest head is soon in its file", wait_until(lambda: signed.exists() and json.loads(signed.read_bytes())["size"] == 2))
         office.kill("office", "desk")
         later = desk.read_bytes()
         for lost in (earlier, None):
             for _ in range(2):
                 desk.unlink() if lost is None else desk.write_bytes(lost)
-                started = office.started()
+                started = office.start_for_readiness()
                 said = office.log.read_text()
                 counts.check(f"a journal without signed entries isn't served: {said[-300:]}", not started and "LostEntries" in said)
-                counts.check("and no head of it is signed", office.get(f"/days/{office.day}/head")[0] == 503)
-                counts.check("and it says that it is stopped", json.loads(office.get("/days")[2])["days"][0]["state"] == "stopped")
+                counts.check("and no head of it is signed", office.request(f"/days/{office.day}/head")[0] == 503)
+                counts.check("and it says that it is stopped", json.loads(office.request("/days")[2])["days"][0]["state"] == "stopped")
                 office.stop()
                 office.log.write_text("")
         desk.write_bytes(later)
         office.start()
-        counts.check("with its file back the day goes on", office.client(who).enter(office.day, f"cancel,{who},C,,,,,,")[0]["number"] == 3)
+        counts.check("with its file back the day goes on", office.client_of(who).enter(office.day, f"cancel,{who},C,,,,,,")[0]["number"] == 3)
         office.stop()
         counts.check("an orderly end has the newest head", json.loads(signed.read_bytes())["size"] == 3)
         desk.write_bytes(earlier)
         signed.unlink()
         office.start()
-        counts.check("and without the head's file a shorter journal is served", len(office.client(who).commands(office.day)) == 1)
-    restored(args, counts)
+        counts.check("and without the head's file a shorter journal is served", len(office.client_of(who).commands(office.day)) == 1)
+    check_restored(args, counts)
 
 
-def restored(args, counts):
+def check_restored(args, counts):
     """A day whose last entries are on no disk any more: receipts have them, and a desk's file of their records gives the same receipts."""
-    with served(args.dam, args.desk) as office:
+    with office_for_test(args.dam, args.desk) as office:
         office.start()
-        entered = [(who, office.client(who).enter(office.day, f"cancel,{who},{name},,,,,,")[0]) for name in "AB" for who in office.who]
-        path, head = f"/days/{office.day}/commands", office.get(f"/days/{office.day}/head")[2]
+        entered = [(who, office.client_of(who).enter(office.day, f"cancel,{who},{name},,,,,,")[0]) for name in "AB" for who in office.who]
+        path, head = f"/days/{office.day}/commands", office.request(f"/days/{office.day}/head")[2]
         office.kill("office", "desk")
-        backup = [f"day,{office.periods},,,,,,,", *office.journal()[:2]]
+        backup = [f"day,{office.periods},,,,,,,", *office.run_desk_for_journal()[:2]]
         after = sorted((receipt for _, receipt in entered if receipt["number"] > 2), key=lambda receipt: receipt["number"])
         for name in ("desk", "desk-wal", "signed-head.json"):
             (office.files / name).unlink()
         records = "".join(f"{record}\n" for record in [*backup, *(receipt["record"] for receipt in after)])
         subprocess.run([args.desk, office.files / "desk"], input=records.encode(), capture_output=True, check=True)
         office.start()
-        again = [(who, json.loads(office.get(f"{path}/{who}/{number}", office.bearer(who))[2])) for number in (1, 2) for who in office.who]
+        again = [(who, json.loads(office.request(f"{path}/{who}/{number}", office.bearer_header(who))[2])) for number in (1, 2) for who in office.who]
         counts.check("a day that was restored from receipts gives the same ones", again == entered)
-        counts.check("and has the same head", office.get(f"/days/{office.day}/head")[2] == head)
+        counts.check("and has the same head", office.request(f"/days/{office.day}/head")[2] == head)
 
 
-def kills(args, counts):
+def check_kills(args, counts):
     """SIGKILL of the office, its desk and both, in the middle of a load, after which clients send again."""
     count, rounds = (ALL_KILLS, 5) if args.all else (KILLS, 1)
     for number in range(rounds):
-        with served(args.dam, args.desk, count=20) as office:
+        with office_for_test(args.dam, args.desk, count=20) as office:
             office.start()
-            load, starts = asyncio.run(loads.with_kills(office, count // rounds, 60, f"kills {number}"))
-            records = office.journal()
-            replies = loads.replies_of(args.dam, records)
-            wrong = list(loads.faults(load, records, replies, key_of(office)))
+            load, starts = asyncio.run(loads.run_with_kills(office, count // rounds, 60, f"kills {number}"))
+            records = office.run_desk_for_journal()
+            replies = loads.run_dam_for_replies(args.dam, records)
+            wrong = list(loads.faults_of_load(load, records, replies, read_key(office)))
             counts.check(f"no acknowledged command is lost, changed or doubled: {wrong[:3]}", not wrong)
             counts.check("each command is acknowledged", len(load.acknowledged) == len(records) == 20 * 60)
             office.close_day()
-            counts.check("a day with kills is closed", office.journal()[-1] == "close,,,,,,,,")
+            counts.check("a day with kills is closed", office.run_desk_for_journal()[-1] == "close,,,,,,,,")
             receipts, head = office.folder / "r.jsonl", office.folder / "h.json"
-            client = office.client(office.who[0])
+            client = office.client_of(office.who[0])
             receipts.write_bytes(client.receipts(office.day))
             head.write_bytes(client.head(office.day))
-            ran = tool("receipts", "verify", receipts, "--head", head, "--key", office.folder / "operator.pem.pub")
+            ran = run_tool("receipts", "verify", receipts, "--head", head, "--key", office.folder / "operator.pem.pub")
             counts.check(f"the receipts are right: {ran.stdout[-200:]}", ran.returncode == 0)
             print(f"{count // rounds} kills, {len(records)} commands: ready again after {max(starts):.2f} s at most")
 
 
-def whole_day(args, counts):
+def check_whole_day(args, counts):
     """A day of 9,999 commands, or as many as there is time for, from 50 connections, or 200; then a crash, the close, and what is
     published."""
     connections = ALL_CONNECTIONS if args.all else CONNECTIONS
     most = (rules.MOST_RECORDS - 2) // connections  # of each
-    with served(args.dam, args.desk, count=connections) as office:
+    with office_for_test(args.dam, args.desk, count=connections) as office:
         office.start()
-        load = loads.Load(office)
-        took = asyncio.run(load.run(most, 600 if args.all else SECONDS))
-        print(f"{connections} connections: {load.summary(took)}")
-        records = office.journal()
-        replies = loads.replies_of(args.dam, records)
-        wrong = list(loads.faults(load, records, replies, key_of(office)))
+        load = loads.OfficeLoad(office)
+        took = asyncio.run(load.send_all(most, 600 if args.all else SECONDS))
+        print(f"{connections} connections: {load.summary_text(took)}")
+        records = office.run_desk_for_journal()
+        replies = loads.run_dam_for_replies(args.dam, records)
+        wrong = list(loads.faults_of_load(load, records, replies, read_key(office)))
         counts.check(f"no reply is lost, wrong or twice: {wrong[:3]}", not wrong and len(load.acknowledged) == len(records))
         office.kill("office", "desk")
         again = office.start()
@@ -273,68 +273,68 @@ def whole_day(args, counts):
         print(f"from the close to the results: {published:.2f} s")
         check_published(args, counts, office)
         office.kill("office", "desk")
-        office.begin()
-        wrong = list(other_answers(office, len(records) + 1))
+        office.start_process()
+        wrong = list(start_for_answers(office, len(records) + 1))
         counts.check(f"a closed day that is read again gives no other answers: {wrong[:3]}", not wrong)
-        counts.check("another's share isn't touched", office.client(office.who[0]).next(office.day) <= most + 1)
+        counts.check("another's share isn't touched", office.client_of(office.who[0]).next(office.day) <= most + 1)
 
 
-def other_answers(office, size):
+def start_for_answers(office, size):
     """The answers of an office that starts, until it is ready, which aren't those of a closed day with this number of entries."""
     who, is_ready = office.who[0], False
     while not is_ready:
         is_ready = office.is_ready()
         for path in (f"/days/{office.day}/head", f"/days/{office.day}/commands/{who}/1", f"/days/{office.day}/receipts/{who}"):
             with contextlib.suppress(OSError):  # it doesn't listen yet
-                status, _, data = office.get(path, office.bearer(who))
+                status, _, data = office.request(path, office.bearer_header(who))
                 if status != 503 and (status != 200 or path.endswith("head") and json.loads(data)["size"] != size):
                     yield path, status, data[:100]
     if office.process.poll() is not None:
         yield "it ended", office.log.read_text()[-500:]
 
 
-def week(args, counts):
+def check_week(args, counts):
     """A second day and a new participant, while the first day is open; a new token; an office that is served twice; a start after a
     close."""
-    with served(args.dam, args.desk) as office:
+    with office_for_test(args.dam, args.desk) as office:
         office.start()
         first, later, who = office.day, "2099-11-30", office.who[0]
-        office.client(who).enter(first, f"cancel,{who},A,,,,,,")
+        office.client_of(who).enter(first, f"cancel,{who},A,,,,,,")
         table = office.folder.parent / "more.csv"
         table.write_text(f"participant,commands\n{who},7\nNEW,9\n")
-        made = office.tool("init", office.folder, "--day", later, "--periods", 96, "--close", "12:00", "--participants", table, "--json")
+        made = office.run_tool("init", office.folder, "--day", later, "--periods", 96, "--close", "12:00", "--participants", table, "--json")
         office.tokens.update(json.loads(made.stdout)["tokens"])
         until = time.monotonic() + 10
-        while office.get(f"/days/{later}")[0] != 200 and time.monotonic() < until:
+        while office.request(f"/days/{later}")[0] != 200 and time.monotonic() < until:
             time.sleep(0.05)
-        new = office.client("NEW")
+        new = office.client_of("NEW")
         counts.check("a day is added while another is open", new.enter(later, "submit,NEW,A,hour,buy,1,96:1,,")[0]["reply"] == "done")
         counts.check("days have journals of their own", [one["entries"] for one in new.days()] == [1, 1])
         counts.check(
-            "and shares of their own", refused(lambda: office.client(who).enter(later, *[f"cancel,{who},A,,,,,,"] * 8), "ShareUsed")
+            "and shares of their own", is_refused(lambda: office.client_of(who).enter(later, *[f"cancel,{who},A,,,,,,"] * 8), "ShareUsed")
         )
-        counts.check("a participant of one day has none of another", refused(lambda: new.enter(first, "cancel,NEW,A,,,,,,"), "ShareUsed"))
+        counts.check("a participant of one day has none of another", is_refused(lambda: new.enter(first, "cancel,NEW,A,,,,,,"), "ShareUsed"))
         again = subprocess.run([*TOOL, "serve", office.folder, "--port", "0"], env=office.environment, capture_output=True, text=True)
         counts.check(f"an office is served once: {again.stderr}", again.returncode == 3 and "another process serves" in again.stderr)
-        old, token = office.client("NEW"), office.tool("renew", office.folder, "NEW").stdout.decode().strip()
+        old, token = office.client_of("NEW"), office.run_tool("renew", office.folder, "NEW").stdout.decode().strip()
         office.tokens["NEW"] = token
         counts.check(
-            "a renewed token ends the old one", refused(lambda: old.orders(later), "Token") and len(office.client("NEW").orders(later)) == 1
+            "a renewed token ends the old one", is_refused(lambda: old.orders(later), "Token") and len(office.client_of("NEW").orders(later)) == 1
         )
-        office.tool("close", office.folder, first)
-        state = json.loads(office.tool("status", office.folder, "--json").stdout)
+        office.run_tool("close", office.folder, first)
+        state = json.loads(office.run_tool("status", office.folder, "--json").stdout)
         counts.check(
             "one day is closed, and the other open", [day["state"] for day in state["days"]] == ["results", "open"] and state["served"]
         )
         office.process.send_signal(signal.SIGINT)
         counts.check("an office ends at Ctrl-C", office.process.wait(SECONDS) == 0)
         office.start()
-        receipts = office.client(who).receipts(first)
+        receipts = office.client_of(who).receipts(first)
         counts.check("a closed day is served after a start", heads.parse(receipts, heads.parse_receipt)[0].head.size == 2)
-        counts.check("and the other day is still open", office.client("NEW").enter(later, "cancel,NEW,A,,,,,,")[0]["number"] == 2)
+        counts.check("and the other day is still open", office.client_of("NEW").enter(later, "cancel,NEW,A,,,,,,")[0]["number"] == 2)
 
 
-def demo(args, counts):
+def check_demo(args, counts):
     """The demo, without a browser: its page, its tokens, a close at once, results."""
     import described
 
@@ -373,15 +373,15 @@ def demo(args, counts):
 def check_published(args, counts, office):
     """The published texts are the program's own, the audit accepts them with the head, and each participant has its statement."""
     who = office.who[0]
-    client = office.client(who)
-    counts.check("the journal isn't published by itself", refused(lambda: client.text(office.day, "journal"), "NotFound"))
-    office.tool("publish", office.folder)
+    client = office.client_of(who)
+    counts.check("the journal isn't published by itself", is_refused(lambda: client.text(office.day, "journal"), "NotFound"))
+    office.run_tool("publish", office.folder)
     journal, results, replies = (client.text(office.day, name) for name in ("journal", "results", "replies"))
     cleared = subprocess.run([args.dam, "clear"], input=journal, capture_output=True, check=True).stdout
     counts.check("the results are dam clear's", results == cleared)
     odd = {"If-Modified-Since": f"Fri, 01 Jan {10**20} 00:00:00 GMT"}
-    counts.check("an impossible date changes nothing", office.get(f"/days/{office.day}/results", odd)[2] == results)
-    status, headers, data = office.get(f"/days/{office.day}/results", method="HEAD")
+    counts.check("an impossible date changes nothing", office.request(f"/days/{office.day}/results", odd)[2] == results)
+    status, headers, data = office.request(f"/days/{office.day}/results", method="HEAD")
     counts.check("a head has the length alone", (status, int(headers["Content-Length"]), data) == (200, len(results), b""))
     counts.check(
         "the replies are dam replay's",
@@ -391,9 +391,9 @@ def check_published(args, counts, office):
     words = ["--head", folder / "head.json", "--salts", folder / "salts.json", "--key", office.folder / "operator.pem.pub"]
     for texts in (["results.txt"], ["replies.txt", "--replies"]):
         name, *more = texts
-        ran = tool("audit", folder / "journal.csv", folder / name, *more, *words)
+        ran = run_tool("audit", folder / "journal.csv", folder / name, *more, *words)
         counts.check(f"the audit accepts {name}: {ran.stdout[-300:]}{ran.stderr[-300:]}", ran.returncode == 0)
-    while refused(lambda: client.statement(office.day), "NotFound"):
+    while is_refused(lambda: client.statement(office.day), "NotFound"):
         time.sleep(0.1)
     rows = client.statement(office.day)
     counts.check(
@@ -401,28 +401,28 @@ def check_published(args, counts, office):
         len(rows) == client.next(office.day) - 1 and {row["participant"] for row in rows} <= {who},
     )
     first = heads.parse_extension(heads.json.loads(client.head(office.day, 1)))
-    counts.check("the last head goes on from the first", first.is_valid() and first.new.size == len(office.journal()))
+    counts.check("the last head goes on from the first", first.is_valid() and first.new.size == len(office.run_desk_for_journal()))
 
 
-def routes(args, counts):
+def check_routes(args, counts):
     """Each route as the description has it, and random requests by it."""
     import described
 
     for periods in sorted(rules.DAYS):
-        with served(args.dam, args.desk, periods=periods, day=day_of(periods)) as office:
+        with office_for_test(args.dam, args.desk, periods=periods, day=day_of(periods)) as office:
             office.start()
             check_alerts(office, counts)
-            described.check(office, counts, periods)
+            described.check_routes(office, counts, periods)
 
 
 def check_alerts(office, counts):
     """The alerts of the example ask for measures that the office has from its start: one that begins later never grows from 0."""
     asked = set(re.findall(r"\bdam_office_\w+", (TOP / "examples" / "operating" / "alerts.yml").read_text()))
-    missing = sorted(asked - set(re.findall(r"^\w+", office.get("/metrics")[2].decode(), re.MULTILINE)))
+    missing = sorted(asked - set(re.findall(r"^\w+", office.request("/metrics")[2].decode(), re.MULTILINE)))
     counts.check(f"the office has each of {len(asked)} measures of the alerts: {missing}", len(asked) > 4 and not missing)
 
 
-def page(args, counts):
+def check_page(args, counts):
     if browser.find_browser() is None:
         counts.leave_out("the page: chromium is missing")
         return

@@ -30,12 +30,12 @@ def day_of(periods):
     return CLOCKS_CHANGE.get(periods, DAY)
 
 
-def names(count):
+def names_of_participants(count):
     """Names of participants, from short to long ones."""
     return [f"{'P' * (1 + number % 6)}{chr(65 + number // 26)}{chr(65 + number % 26)}" for number in range(count)]
 
 
-class Served:
+class ServedOffice:
     """The office: its folder, its tokens, and the process that serves it, which a test may end."""
 
     def __init__(self, dam, desk, count=3, periods=24, words=(), day=DAY):
@@ -43,14 +43,14 @@ class Served:
         self.folder, self.port, self.words, self.day = Path(self.room.name, "office"), find_free_port(), list(words), day
         self.periods = periods
         self.environment = {**os.environ, "DAM": str(dam), "DAM_DESK": str(desk)}
-        self.who = names(count)
+        self.who = names_of_participants(count)
         table = Path(self.room.name, "p.csv")
         table.write_text("".join(f"{name}\n" for name in ["participant", *self.who]))
-        made = self.tool("init", self.folder, "--day", day, "--periods", periods, "--close", CLOSE, "--participants", table, "--json")
+        made = self.run_tool("init", self.folder, "--day", day, "--periods", periods, "--close", CLOSE, "--participants", table, "--json")
         self.tokens = json.loads(made.stdout)["tokens"]
         self.process, self.log = None, Path(self.room.name, "log")
 
-    def tool(self, *words):
+    def run_tool(self, *words):
         return subprocess.run([*TOOL, *map(str, words)], env=self.environment, capture_output=True, check=True)
 
     @property
@@ -64,21 +64,21 @@ class Served:
     def start(self):
         """Serves the office, and returns the seconds until the day takes commands."""
         began = time.monotonic()
-        self.begin()
+        self.start_process()
         while not self.is_ready():
             if self.process.poll() is not None or time.monotonic() - began > START_SECONDS:
                 raise RuntimeError(f"the office doesn't start: {self.log.read_text()[-2_000:]}")
             time.sleep(STEP)
         return time.monotonic() - began
 
-    def begin(self):
+    def start_process(self):
         with self.log.open("ab") as log:
             words = [*TOOL, "serve", self.folder, "--port", str(self.port), *self.words]
             self.process = subprocess.Popen(words, env=self.environment, stdout=subprocess.DEVNULL, stderr=log)
 
-    def started(self):
+    def start_for_readiness(self):
         """Serves the office, and returns whether the day takes commands, or its log says that it is stopped."""
-        self.begin()
+        self.start_process()
         while not (self.is_ready() or b'"stopped"' in self.log.read_bytes() and self.listens()):
             if self.process.poll() is not None:
                 raise RuntimeError(f"the office doesn't start: {self.log.read_text()[-2_000:]}")
@@ -92,11 +92,11 @@ class Served:
 
     def is_ready(self):
         try:
-            return self.get("/healthz")[0] == 200
+            return self.request("/healthz")[0] == 200
         except OSError:
             return False
 
-    def get(self, path, headers=None, method="GET", body=None):
+    def request(self, path, headers=None, method="GET", body=None):
         """The status, the headers and the body of an answer, without any client's help."""
         connection = http.client.HTTPConnection("127.0.0.1", self.port, timeout=30)
         try:
@@ -108,28 +108,28 @@ class Served:
         finally:
             connection.close()
 
-    def measured(self, name):
+    def read_metric(self, name):
         """A value of /metrics by its name, with its labels if it has any; None without it."""
-        found = re.search(rf"^{re.escape(name)} (\S+)$", self.get("/metrics")[2].decode(), re.MULTILINE)
+        found = re.search(rf"^{re.escape(name)} (\S+)$", self.request("/metrics")[2].decode(), re.MULTILINE)
         return float(found[1]) if found else None
 
-    def bearer(self, who):
+    def bearer_header(self, who):
         return {"Authorization": f"Bearer {self.tokens[who]}", "Content-Type": "text/csv"}
 
-    def client(self, who):
+    def client_of(self, who):
         return Office(self.url, self.tokens[who])
 
-    def asynchronous(self, who):
+    def asynchronous_client_of(self, who):
         return AsyncOffice(self.url, self.tokens[who])
 
-    def desks(self):
+    def find_desk_processes(self):
         """The processes of desks of this office: those that it started."""
         found = subprocess.run(["ps", "-o", "pid=,args=", "--ppid", str(self.process.pid)], capture_output=True, text=True).stdout
         return [int(line.split()[0]) for line in found.splitlines() if str(self.files / "desk") in line]
 
     def kill(self, *parts):
         """Kills the office, its desk or both."""
-        victims = self.desks() if "desk" in parts else []
+        victims = self.find_desk_processes() if "desk" in parts else []
         victims += [self.process.pid] if "office" in parts else []
         for victim in victims:
             with contextlib.suppress(ProcessLookupError):
@@ -142,7 +142,7 @@ class Served:
             self.process.terminate()
             self.process.wait(30)
 
-    def journal(self):
+    def run_desk_for_journal(self):
         """The records in the desk's file, without the day."""
         shown = subprocess.run([self.environment["DAM_DESK"], "--journal", self.files / "desk"], capture_output=True, check=True)
         return shown.stdout.decode().splitlines()[1:]
@@ -151,7 +151,7 @@ class Served:
         """Closes the day, and returns the seconds until the results are published."""
         began = time.monotonic()
         (self.files / "close-now").touch()
-        while self.get(f"/days/{self.day}/prices")[0] != 200:
+        while self.request(f"/days/{self.day}/prices")[0] != 200:
             if time.monotonic() - began > START_SECONDS:
                 raise RuntimeError(f"there are no results: {self.log.read_text()[-2_000:]}")
             time.sleep(STEP)
@@ -159,7 +159,7 @@ class Served:
 
 
 @contextlib.contextmanager
-def served(*words, kind=Served, **how):
+def office_for_test(*words, kind=ServedOffice, **how):
     office = kind(*words, **how)
     try:
         yield office
@@ -168,4 +168,4 @@ def served(*words, kind=Served, **how):
         office.room.cleanup()
 
 
-__all__ = ["DAY", "OfficeFault", "Served", "day_of", "served"]
+__all__ = ["DAY", "OfficeFault", "ServedOffice", "day_of", "office_for_test"]

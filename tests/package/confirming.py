@@ -97,7 +97,7 @@ def check_hostile_packages(counts, folder, room):
         ("a large file", {"large": 70 << 20}, 3, "isn't a package of dam: it unpacks to more than 67,108,864 bytes"),
     ):
         path = room / "hostile.tar.xz"
-        path.write_bytes(changed_archive(room, change))
+        path.write_bytes(read_changed_archive(room, change))
         ended, out, error = run_tool(folder, "--confirm", path)
         is_said = out.splitlines() == said if status == 1 else out == "" and error.count("\n") == 1 and said in error
         counts.check(f"--confirm of {what}: {ended} {out[:500]}{error[:500]}", ended == status and is_said)
@@ -110,7 +110,7 @@ def check_hostile_packages(counts, folder, room):
     counts.check(f"--confirm of a large Debian package: {error}", (status, out) == (3, "") and "it unpacks to more than" in error)
 
 
-def changed_archive(room, change):
+def read_changed_archive(room, change):
     """The archive that runs in place, with other files: their bytes, their JSON, or how many zeros they have. Of one that has a name of the
     archive but isn't the provenance, both are there."""
     made = io.BytesIO()

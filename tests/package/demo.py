@@ -22,7 +22,7 @@ SECONDS, STEP = 60, 0.05
 MOST_SECONDS = 150  # after which the office is ended, whatever it does
 
 
-def programs(parent):
+def find_programs(parent):
     """The programs that a process has started, and that haven't ended."""
     found = []
     for process in filter(str.isdigit, os.listdir("/proc")):
@@ -34,30 +34,30 @@ def programs(parent):
     return found
 
 
-def fetched(url):
+def fetch_kind(url):
     """The kind of a file of the page, and whether it is served and isn't empty."""
     with urllib.request.urlopen(url, timeout=SECONDS) as answer:
         return [answer.headers.get_content_type(), answer.status == 200 and len(answer.read()) > 100]
 
 
-def outcome(office, day, log):
+def wait_for_outcome(office, day, log):
     """The price of the order's period, and what became of the order; None for both if the log says that nothing is published."""
     until = time.monotonic() + SECONDS
     while time.monotonic() < until:
         if office.days()[0]["has_statement"]:
             return [office.prices(day)[7], office.statement(day)[0]["executed_mwh"]]
-        if "not made" in text_of(log):
+        if "not made" in read_log(log):
             break
         time.sleep(STEP)
     return [None, None]
 
 
-def text_of(log):
+def read_log(log):
     log.seek(0)
     return log.read()
 
 
-def seen(process, log):
+def use_demo(process, log):
     found = re.search(r"http://127\.0\.0\.1:\d+", process.stdout.readline())
     if not found:
         return {"fault": "it names no page"}
@@ -65,9 +65,9 @@ def seen(process, log):
     office = Office(url, Office(url, "").get("/demo")["participants"]["GAS"])
     (day,) = (one["day"] for one in office.days())
     (receipt,) = office.enter(day, ORDER)
-    told = {"files": [fetched(url + path) for path in PATHS], "programs": programs(process.pid), "reply": receipt["reply"]}
+    told = {"files": [fetch_kind(url + path) for path in PATHS], "programs": find_programs(process.pid), "reply": receipt["reply"]}
     office.ask(Asked("POST", f"/days/{day}/close"))
-    told["price"], told["executed"] = outcome(office, day, log)
+    told["price"], told["executed"] = wait_for_outcome(office, day, log)
     told["head"] = json.loads(office.head(day))["size"]
     return told
 
@@ -79,14 +79,14 @@ def main(command):
             timer = threading.Timer(MOST_SECONDS, process.kill)
             timer.start()
             try:
-                told = seen(process, log)
+                told = use_demo(process, log)
             except (OfficeFault, OSError) as fault:
                 told = {"fault": str(fault)}
             finally:
                 process.send_signal(signal.SIGINT)
                 process.wait()
                 timer.cancel()
-        print(json.dumps({**told, "status": process.returncode, "log": text_of(log)[-2_000:]}))
+        print(json.dumps({**told, "status": process.returncode, "log": read_log(log)[-2_000:]}))
 
 
 if __name__ == "__main__":

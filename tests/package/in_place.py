@@ -66,7 +66,7 @@ def check_office(counts, at, folder, own, clears):
     status, out, error = run_command(["/usr/bin/python3", "-B", installed.DEMO, at / "bin/dam-office"], folder, env=own)
     counts.check(f"the demo in place: {error[-500:]}", status == 0)
     if status == 0:
-        installed.demo(counts, json.loads(out), at, clears)
+        installed.check_told_by_demo(counts, json.loads(out), at, clears)
 
 
 def check_in_place(counts, room, clears):

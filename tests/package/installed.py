@@ -31,7 +31,7 @@ SECONDS = 1_800
 ENTRIES = 94  # the orders of the demo, GAS's own one and the close
 
 
-def demo(counts, told, at, clears):
+def check_told_by_demo(counts, told, at, clears):
     """What demo.py told of an office below this folder: its page, the programs that it ran, and what became of an order."""
     log = told.get("log", "")
     wanted = [["text/html", True], ["text/css", True], ["text/javascript", True], ["application/json", True]]
@@ -48,13 +48,13 @@ def demo(counts, told, at, clears):
     counts.check(f"the demo ends at Ctrl-C: {told.get('status')}", told.get("status") == 0)
 
 
-class System:
+class MinimalSystem:
     """A root folder, in which commands are run."""
 
     def __init__(self, root):
         self.root = root
 
-    def words(self):
+    def words_of_start(self):
         """The words that start a command in it. It gets a /proc of its own, and its processes end with it."""
         inside = f'mount -t proc proc "$0/proc" && cd "$0" && exec {shutil.which("chroot")} "$0" "$@"'
         return ["unshare", "--mount", "--pid", "--fork", "sh", "-c", inside, self.root]
@@ -62,13 +62,13 @@ class System:
     def run(self, *words, data=b""):
         """The status, the output and the errors of a command."""
         clean = ["env", "-i", "PATH=/usr/bin:/usr/sbin:/bin:/sbin", f"HOME={DAY}", "LC_ALL=C.UTF-8", "DEBIAN_FRONTEND=noninteractive"]
-        ran = subprocess.run([*self.words(), *clean, *words], input=data, capture_output=True, timeout=SECONDS)
+        ran = subprocess.run([*self.words_of_start(), *clean, *words], input=data, capture_output=True, timeout=SECONDS)
         return ran.returncode, ran.stdout, ran.stderr.decode(errors="replace")
 
-    def shell(self, line):
+    def run_in_shell(self, line):
         return self.run("sh", "-c", f"mkdir -p {DAY} && cd {DAY} && {line}")
 
-    def files(self):
+    def list_files(self):
         """The paths of all files, but for those of the day and those that Debian's tools keep."""
         found = set()
         for at, folders, names in os.walk(self.root):
@@ -78,7 +78,7 @@ class System:
         return found
 
 
-def release():
+def find_release():
     """The name of this machine's release of Debian, and where it has its packages from; None if that isn't known."""
     with open("/etc/os-release", encoding="utf-8") as text:
         told = dict(line.rstrip().split("=", 1) for line in text if "=" in line)
@@ -92,7 +92,7 @@ def release():
     return None
 
 
-def begin(root, name, place):
+def make_system(root, name, place):
     """Makes the system, with the sources of packages that this machine has."""
     ran = subprocess.run(["debootstrap", "--variant=minbase", name, root, place], stdout=subprocess.PIPE, stderr=subprocess.STDOUT)
     if ran.returncode:
@@ -106,16 +106,16 @@ def begin(root, name, place):
     return None
 
 
-def apt(counts, system, *words):
+def run_apt(counts, system, *words):
     """A run of apt-get, which has to succeed."""
     status, _, error = system.run("apt-get", "-qy", "--no-install-recommends", *words)
     counts.check(f"apt-get {words[0]}: {error[-500:]}", status == 0)
 
 
-def day(counts, system):
+def check_day(counts, system):
     """The sunny day by the installed commands."""
     def check(what, line, wanted):
-        status, out, error = system.shell(line)
+        status, out, error = system.run_in_shell(line)
         counts.check(f"installed: {what}: status {status}, {error[-500:]}", status == 0 and wanted(out))
 
     results = RESULTS.read_bytes()
@@ -140,57 +140,57 @@ def day(counts, system):
           lambda out: out.split() == [b"??5??????", page.encode()])
 
 
-def office(counts, system):
+def check_office(counts, system):
     """The office, from an order to the results, by the installed programs."""
     shutil.copy(DEMO, f"{system.root}{DAY}/demo.py")
-    status, out, error = system.shell("python3 -B demo.py dam-office")
+    status, out, error = system.run_in_shell("python3 -B demo.py dam-office")
     counts.check(f"installed: the demo: status {status}, {error[-500:]}", status == 0)
     if status == 0:
-        demo(counts, json.loads(out), "/usr", True)
+        check_told_by_demo(counts, json.loads(out), "/usr", True)
 
 
-def in_c(counts, system, caller):
+def check_in_c(counts, system, caller):
     """A program in C, with the flags of pkg-config."""
     shutil.copy(caller, f"{system.root}{DAY}/caller.c")
     line = f"gcc -Wall -Werror caller.c $(pkg-config --cflags --libs dam) -o caller && ./caller clear < {SUNNY}"
-    status, out, error = system.shell(line)
+    status, out, error = system.run_in_shell(line)
     counts.check(f"installed: a program in C: {error[-500:]}", status == 0 and out == RESULTS.read_bytes())
 
 
-def tests(counts, package, archive, caller):
+def check_installed(counts, package, archive, caller):
     """Every test of the installed package."""
     missing = [name for name in ("debootstrap", "unshare", "chroot", "apt-get") if not shutil.which(name)]
-    found = None if missing else release()
+    found = None if missing else find_release()
     if missing or os.geteuid() or not found:
         why = f"{', '.join(missing)} missing" if missing else "not root" if os.geteuid() else "this machine's release of Debian isn't known"
         counts.leave_out(f"the package in a fresh system: {why}")
         return
     with tempfile.TemporaryDirectory(prefix="installed-") as folder:
         root = f"{folder}/root"
-        wrong = begin(root, *found)
+        wrong = make_system(root, *found)
         if wrong is not None:
             counts.leave_out(f"the package in a fresh system: debootstrap failed: {' '.join(wrong)}")
             return
-        in_system(counts, System(root), package, archive, caller)
+        check_in_system(counts, MinimalSystem(root), package, archive, caller)
 
 
-def field(package, name):
+def read_field(package, name):
     return subprocess.run(["dpkg-deb", "--field", package, name], stdout=subprocess.PIPE).stdout.decode().strip()
 
 
-def in_system(counts, system, package, archive, caller):
-    status, out, _ = system.shell(f"command -v {FOREIGN}")
+def check_in_system(counts, system, package, archive, caller):
+    status, out, _ = system.run_in_shell(f"command -v {FOREIGN}")
     counts.check(f"a fresh system has none of {FOREIGN}: {out}", status != 0 and not out)
     shutil.copy(package, f"{system.root}/dam.deb")
-    apt(counts, system, "update")
-    apt(counts, system, "satisfy", f"{field(package, 'Depends')}, {field(package, 'Recommends')}, {OF_THE_REPORT}, {OF_THE_OFFICE}, {OF_THE_PAGES}")
-    before = system.files()
-    apt(counts, system, "install", "/dam.deb")
-    day(counts, system)
-    office(counts, system)
-    reader.in_system(counts, system, package, archive)
-    apt(counts, system, "purge", "dam")
-    left = sorted(system.files() - before)
+    run_apt(counts, system, "update")
+    run_apt(counts, system, "satisfy", f"{read_field(package, 'Depends')}, {read_field(package, 'Recommends')}, {OF_THE_REPORT}, {OF_THE_OFFICE}, {OF_THE_PAGES}")
+    before = system.list_files()
+    run_apt(counts, system, "install", "/dam.deb")
+    check_day(counts, system)
+    check_office(counts, system)
+    reader.check_pages_in_system(counts, system, package, archive)
+    run_apt(counts, system, "purge", "dam")
+    left = sorted(system.list_files() - before)
     counts.check(f"left after the package was removed: {left[:10]}", not left)
-    apt(counts, system, "install", "/dam.deb", "gcc", "libc6-dev", "pkgconf")
-    in_c(counts, system, caller)
+    run_apt(counts, system, "install", "/dam.deb", "gcc", "libc6-dev", "pkgconf")
+    check_in_c(counts, system, caller)

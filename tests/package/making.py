@@ -72,7 +72,7 @@ def record_as_built(folder, name, crate):
     run_command([sys.executable, "tools/lib/crates/sources.py", crate, folder.parent / "sums", folder / name], folder)
 
 
-def compile_stand_ins(folder, given):
+def compile_or_copy_stand_ins(folder, given):
     """Compiles the stand-ins of the built files, in place of those that aren't given."""
     folder.mkdir()
     subprocess.run(["cc", HERE / "stand_in.c", "-o", folder / "dam_cli"], check=True)
@@ -115,6 +115,6 @@ def read_contents(room):
         return {it.name.partition("/")[2]: archive.extractfile(it).read() for it in archive if it.isfile()}
 
 
-def run_for_commands(program):
+def run_for_command_names(program):
     """The commands in the help of `dam`."""
     return re.findall(r"^  (\w+) ", run_command([program, "--help"])[1].partition("\nCommands:\n")[2].partition("\n\n")[0], re.MULTILINE)

@@ -21,7 +21,7 @@ SYSTEM_PATH = "/usr/local/bin:/usr/bin:/bin"
 ROOM = "srv/day/reader"  # in a system
 
 
-class Place(NamedTuple):
+class PackagePlace(NamedTuple):
     """Where the package is: the folder of its files, the words that start a program there, and its environment."""
 
     what: str
@@ -31,7 +31,7 @@ class Place(NamedTuple):
     root: Path = Path("/")
 
 
-def tests(counts, debian, archive, program=None):
+def check_pages(counts, debian, archive, program=None):
     """The commands of each page. With a stand-in for the library, the tools run `program` of the package instead."""
     if not os.geteuid() and not shutil.which("setpriv"):
         counts.leave_out("the commands of the pages, installed: setpriv is missing")
@@ -39,31 +39,31 @@ def tests(counts, debian, archive, program=None):
     with tempfile.TemporaryDirectory(prefix="reader-") as folder:
         room = Path(folder).resolve()
         room.chmod(0o755)
-        at = unpacked(archive, room)
-        before = state(at)
+        at = unpack_for_reading(archive, room)
+        before = read_state(at)
         given = {"DEB": shutil.copy(debian, room), "ARCHIVE": shutil.copy(archive, room), **({"DAM": f"{at}/{program}"} if program else {})}
         path = f"{at / 'bin'}:{SYSTEM_PATH}"
         own = {"PATH": path, "PREFIX": str(at), "PYTHONPATH": str(at / "lib/python3/dist-packages")}
         for name in PAGES:
-            one(counts, name, Place("in place", at, own), room, given)
-        counts.check("the commands of the pages leave the package as it was", state(at) == before)
+            check_page(counts, name, PackagePlace("in place", at, own), room, given)
+        counts.check("the commands of the pages leave the package as it was", read_state(at) == before)
 
 
-def in_system(counts, system, debian, archive):
+def check_pages_in_system(counts, system, debian, archive):
     """The commands of each page, by the package that a fresh system has installed."""
     root = Path(system.root)
     room = root / ROOM
     room.mkdir(parents=True)
-    given = {name: str(session.inside(Path(shutil.copy(path, room)), root)) for name, path in (("DEB", debian), ("ARCHIVE", archive))}
-    place = Place("in a fresh system", root / "usr", {"PATH": SYSTEM_PATH, "PREFIX": "/usr"}, system.words(), root)
-    before = state(root / "usr")
+    given = {name: str(session.path_inside(Path(shutil.copy(path, room)), root)) for name, path in (("DEB", debian), ("ARCHIVE", archive))}
+    place = PackagePlace("in a fresh system", root / "usr", {"PATH": SYSTEM_PATH, "PREFIX": "/usr"}, system.words_of_start(), root)
+    before = read_state(root / "usr")
     for name in PAGES:
-        one(counts, name, place, room, given)
-    counts.check("the commands of the pages leave the system as it was", state(root / "usr") == before)
+        check_page(counts, name, place, room, given)
+    counts.check("the commands of the pages leave the system as it was", read_state(root / "usr") == before)
     shutil.rmtree(room)
 
 
-def unpacked(archive, room):
+def unpack_for_reading(archive, room):
     """The folder of the package, in which nobody may write but root."""
     subprocess.run(["tar", "-xJf", archive, "-C", room, "--no-same-owner"], check=True)
     (at,) = (path for path in room.iterdir() if path.is_dir())
@@ -71,12 +71,12 @@ def unpacked(archive, room):
     return at
 
 
-def state(at):
+def read_state(at):
     """The files of the package, with their sizes and times."""
     return {path: (found.st_size, found.st_mtime_ns) for path in at.rglob("*") for found in [path.lstat()]}
 
 
-def as_user():
+def words_of_user():
     """The words that start a shell as an ordinary user, and the number of that user."""
     if os.geteuid():
         return [], os.geteuid()
@@ -84,16 +84,16 @@ def as_user():
     return ["setpriv", f"--reuid={user.pw_uid}", f"--regid={user.pw_gid}", "--clear-groups", "--no-new-privs"], user.pw_uid
 
 
-def one(counts, name, place, room, given):
+def check_page(counts, name, place, room, given):
     """The commands of a page, in a folder of the user with a copy of the examples."""
-    words, user = as_user()
+    words, user = words_of_user()
     with tempfile.TemporaryDirectory(dir=room, ignore_cleanup_errors=True) as folder:
         own = Path(folder)
         home = own / "home"
         shutil.copytree(place.files / "share/doc/dam/examples", home / "examples")
-        environment = session.environment(home, {**place.environment, **given}, place.root)
-        reader = session.Reader(INSTALLED, place.files / "share/doc/dam", [*place.shell, *words], environment, place.root)
-        if missing := session.missing(name, reader):
+        environment = session.make_environment(home, {**place.environment, **given}, place.root)
+        reader = session.PageReader(INSTALLED, place.files / "share/doc/dam", [*place.shell, *words], environment, place.root)
+        if missing := session.missing_needs(name, reader):
             counts.leave_out(f"the commands of {name}, {place.what}: {', '.join(missing)} missing")
             return
         subprocess.run(["chmod", "-R", "u+w", home], check=True)
@@ -102,4 +102,4 @@ def one(counts, name, place, room, given):
         prefix = place.environment["PREFIX"]
         asked = [*reader.shell, "test", "-w", f"{prefix}/bin", "-o", "-w", f"{prefix}/share/doc/dam"]
         counts.check(f"{name}: the user may write to the package", subprocess.run(asked).returncode == 1)
-        session.run(counts, name, reader, own)
+        session.run_commands(counts, name, reader, own)

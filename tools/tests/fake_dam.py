@@ -31,14 +31,14 @@ def shuffled(commands):
 def day(data):
     try:
         given = journal.read_journal(data)
-        fault = compare.day_faults(given)
+        fault = compare.fault_of_day(given)
     except journal.Fault as found:
         fault = found
     if fault:
-        return compare.refused(fault)
+        return compare.refused_output(fault)
     run = journal.Journal(given.periods, [*shuffled(given.commands), journal.Close()])
     text = journal.journal_text(run).encode() + b"results\n"
-    return Printed(0, text + compare.wanted_results(run).stdout, b"")
+    return Printed(0, text + compare.right_results(run).stdout, b"")
 
 
 def lower(data):
@@ -57,7 +57,7 @@ def limited(answer, words, data, more):
 
 def answered(command, words, data, defect):
     """The answer to a command with its options."""
-    answer = day(data) if command == "day" else compare.wanted(command, data)
+    answer = day(data) if command == "day" else compare.right_output(command, data)
     if defect == "late" and data:
         time.sleep(60)
     if defect == "price" and NOMINAL in answer.stdout:

@@ -78,7 +78,7 @@ def problem(data):
 def drawn():
     """Random days of few blocks, each with its eligible selections by the plain reading of the rules."""
     for number in itertools.count():
-        day = problem(days.text(random.Random(f"few blocks {number}"), 6).replace(b"close,,,,,,,,\n", b"") + b"close,,,,,,,,\n")
+        day = problem(days.draw_text(random.Random(f"few blocks {number}"), 6).replace(b"close,,,,,,,,\n", b"") + b"close,,,,,,,,\n")
         if 0 < len(day.blocks) <= 6:
             yield day, ranked(day)
 
@@ -157,16 +157,16 @@ def load(name):
 
 def copied(path, words, data=b""):
     """A run of a script in a copy of this process."""
-    with compare.in_memory(data) as stdin, compare.in_memory() as stdout, compare.in_memory() as stderr:
+    with compare.open_in_memory(data) as stdin, compare.open_in_memory() as stdout, compare.open_in_memory() as stderr:
         child = os.fork()
         if child == 0:
             run_in_copy(path, words, [stdin, stdout, stderr])
-        is_late = not compare.wait_for(child, SECONDS)
+        is_late = not compare.wait_for_end(child, SECONDS)
         if is_late:
             os.kill(child, signal.SIGKILL)
         status = os.waitstatus_to_exitcode(os.waitpid(child, 0)[1])
         assert not is_late, f"{path} {words}: no end after {SECONDS} seconds"
-        return status, compare.contents(stdout), compare.contents(stderr).decode()
+        return status, compare.read_contents(stdout), compare.read_contents(stderr).decode()
 
 
 def run_in_copy(path, words, files):

@@ -225,7 +225,7 @@ class Text(unittest.TestCase):
 
     def test_the_written_journal_reads_back(self):
         for number in range(300):
-            text = days.text(random.Random(number), 8)
+            text = days.draw_text(random.Random(number), 8)
             read = journal.read_journal(text)
             self.assertEqual(journal.journal_text(read).encode(), text)
             self.assertEqual(journal.read_journal(text.replace(b"\n", b"\r\n\r\n")), read)

@@ -15,7 +15,7 @@ import support
 import compare
 import doctored
 import fake_dam
-from days import Profiles, hours_of
+from days import Profiles, periods_by_hour
 from lib.base import rules
 from lib.tool import command, modules
 
@@ -35,10 +35,10 @@ class Called:
     def __init__(self, path, seconds=compare.SECONDS):
         self.defect = Path(path).suffix.removeprefix(".")
 
-    def printed(self, words, data):
+    def run_for_output(self, words, data):
         return fake_dam.answered(words[0], words[1:], data, self.defect)
 
-    def takes(self, words):
+    def runs_command(self, words):
         return True
 
 
@@ -46,7 +46,7 @@ def called(script, folder, *words, defect=""):
     """A run of a fuzzer with such a program: its status and output."""
     program = Path(folder, f"dam.{defect}")
     program.touch()
-    with mock.patch.object(compare, "Program", Called):
+    with mock.patch.object(compare, "TimedProgram", Called):
         status, out, err = support.copied(str(support.TOP / "tests" / "fuzz" / script), [str(program), *map(str, words)])
     return status, out.decode() + err
 
@@ -64,7 +64,7 @@ class OfBlocks(unittest.TestCase):
 
     def test_the_hours_of_each_day(self):
         for periods in rules.DAYS:
-            hours = hours_of(periods)
+            hours = periods_by_hour(periods)
             self.assertEqual((len(hours), [period for own in hours for period in own]), (periods // len(hours[0]), [*range(1, periods + 1)]))
             self.assertIn(len(hours), rules.HOURS)
 
@@ -183,18 +183,18 @@ class Doctored(unittest.TestCase):
         data, alike = support.printed(support.AUCTION), 0
         for number in range(500):
             rng = random.Random(number)
-            alike += doctored.doctored(rng, data)[1] == data
-            words, other = doctored.encoded(rng, data)
-            self.assertEqual((other != data, doctored.decoded(other)), (True, data), words)
+            alike += doctored.draw_doctored(rng, data)[1] == data
+            words, other = doctored.draw_other_encoding(rng, data)
+            self.assertEqual((other != data, doctored.decoded_or_none(other)), (True, data), words)
         self.assertLess(alike, 50)
         for text in (b"a,b\n\nc\n", b'"a,b",c\n', b"\xff\n"):
-            self.assertIsNone(doctored.decoded(text))
+            self.assertIsNone(doctored.decoded_or_none(text))
 
 
 class Selections(unittest.TestCase):
     def selections(self, *words, defect=""):
         with tempfile.TemporaryDirectory() as folder:
-            return called("selections.py", folder, *words, defect=defect)
+            return called("enumerated.py", folder, *words, defect=defect)
 
     def test_a_program_that_is_right(self):
         status, out = self.selections("--blocks", "7", "--count", "10")

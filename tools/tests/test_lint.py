@@ -210,7 +210,7 @@ class Random(unittest.TestCase):
         refused = faulty = 0
         for number in range(1_500):
             rng = random.Random(f"lint {number}")
-            data = self.spoilt(rng, days.text(rng, 6))
+            data = self.spoilt(rng, days.draw_text(rng, 6))
             found = lint.faults(data, "replay")
             told = [fault for fault in found if not fault.refusal]
             try:

@@ -290,7 +290,7 @@ class Drawn(unittest.TestCase):
         """Random days and a participant's commands in them."""
         for number in range(count):
             rng = random.Random(f"sent {number}")
-            read = journal.read_journal(days.text(rng, 8))
+            read = journal.read_journal(days.draw_text(rng, 8))
             commands = [entry for entry in read.commands if getattr(entry, "who", None) == "A"]
             if commands:
                 yield rng, read, [sent.Sent(at, entry) for at, entry in enumerate(commands, 1)]

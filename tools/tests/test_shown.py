@@ -49,15 +49,15 @@ class Scenes(unittest.TestCase):
             room = Path(folder).resolve()
             (room / "home").mkdir()
             (room / "page.md").write_text(page)
-            reader = session.Reader(form, room, [], session.environment(room / "home", {"PATH": "/usr/bin:/bin"}))
-            session.run(counts, "page.md", reader, room)
+            reader = session.PageReader(form, room, [], session.make_environment(room / "home", {"PATH": "/usr/bin:/bin"}))
+            session.run_commands(counts, "page.md", reader, room)
         return counts.passed, counts.failed
 
     def test_each_text_is_on_its_page(self):
         for name in PAGES:
             for form in BOTH:
                 with self.subTest(name, form=form):
-                    self.assertTrue(list(session.steps(name, (TOP / name).read_text(), form)))
+                    self.assertTrue(list(session.steps_or_raise(name, (TOP / name).read_text(), form)))
 
     def test_a_line_that_is_left_out(self):
         out = Out("why")

@@ -38,7 +38,7 @@ def order(number, name, *others):
 
 
 def book(*pieces):
-    return made.of_sheet(made.OPEN, *pieces, made.CLOSE)
+    return made.workbook_of_sheet(made.OPEN, *pieces, made.CLOSE)
 
 
 def styles_without_formats():
@@ -68,7 +68,7 @@ class Faults(Read):
         rows = [order(2, "K1", ("I2", "G1")), order(3, "K2", ("I3", "G1")), order(4, "K3", ("I4", "G1"))]
         for size in ("A1:I3", "A1:G5", "A1", "A1:XFD1048576", "no size"):
             heads = made.OPEN.replace(b"<sheetData>", f'<dimension ref="{size}"/><sheetData>'.encode())
-            self.assertEqual(self.orders(made.of_sheet(heads, *rows, made.CLOSE)), [(name, "G1") for name in ("K1", "K2", "K3")], size)
+            self.assertEqual(self.orders(made.workbook_of_sheet(heads, *rows, made.CLOSE)), [(name, "G1") for name in ("K1", "K2", "K3")], size)
 
     def test_each_fault_has_its_place(self):
         sheet = "sheet 'orders', "
@@ -97,10 +97,10 @@ class Faults(Read):
         for ref in ("I2:I3", "I9:I2", "I9:A2", "A9:I2", "I2:A1", "A1:I1", "$A$3:$B$3"):
             close = made.CLOSE.replace(b"</worksheet>", f'<mergeCells><mergeCell ref="{ref}"/></mergeCells></worksheet>'.encode())
             said = f"sheet 'orders': the cells {ref} are merged, but each row of a table has its own"
-            self.assertEqual(self.fault(made.of_sheet(made.OPEN, *rows, close)), said)
+            self.assertEqual(self.fault(made.workbook_of_sheet(made.OPEN, *rows, close)), said)
         for ref in (b"K1:L9", b"L9:K1", b"A9:C4", b"K9:L1"):
             others = close.replace(b"$A$3:$B$3", ref)
-            self.assertEqual(self.orders(made.of_sheet(made.OPEN, *rows, others)), [("K1", "G1"), ("K2", "")])
+            self.assertEqual(self.orders(made.workbook_of_sheet(made.OPEN, *rows, others)), [("K1", "G1"), ("K2", "")])
 
     def test_a_table_has_no_more_rows_than_a_journal(self):
         said = f"a table has at most {order_table.MOST_ROWS:,} rows after its first"
@@ -144,11 +144,11 @@ class Faults(Read):
         periods = b"".join(order(at, f"K{at}").replace(b"<v>8</v>", b"<v>1-100</v>") for at in range(2, 2_002))
         formats = {"xl/styles.xml": made.one_format(30_000)}
         for data, most, more in (
-            (made.of_sheet(made.OPEN, made.numbers(made.spelled, 60_000), made.CLOSE, **formats), 9, "\nand 19,980 more\n"),
-            (made.of_sheet(made.OPEN, *[cells] * 1_000, made.CLOSE), 9, "\nand 8,980 more\n"),
-            (made.of_sheet(made.OPEN, *shared, made.CLOSE, **strings), 12, "\nand 19,980 more\n"),
-            (made.of_sheet(made.OPEN, periods, made.CLOSE), 8, "\nand 1,956 more\n"),
-            (made.of_sheet(made.OPEN, *[cells] * 3_000, made.CLOSE), 8, "bytes of text before this cell"),
+            (made.workbook_of_sheet(made.OPEN, made.numbers(made.spelled, 60_000), made.CLOSE, **formats), 9, "\nand 19,980 more\n"),
+            (made.workbook_of_sheet(made.OPEN, *[cells] * 1_000, made.CLOSE), 9, "\nand 8,980 more\n"),
+            (made.workbook_of_sheet(made.OPEN, *shared, made.CLOSE, **strings), 12, "\nand 19,980 more\n"),
+            (made.workbook_of_sheet(made.OPEN, periods, made.CLOSE), 8, "\nand 1,956 more\n"),
+            (made.workbook_of_sheet(made.OPEN, *[cells] * 3_000, made.CLOSE), 8, "bytes of text before this cell"),
         ):
             tracemalloc.start()
             with self.assertRaises(order_table.BadOrders) as wrong:
@@ -234,13 +234,13 @@ class Faults(Read):
 
     def test_other_archives(self):
         said = "line 1: the Excel workbook can't be read: it isn't an Excel workbook (.xlsx), but another archive"
-        self.assertEqual(self.fault(made.archive({"xl/other": b""})), said)
-        self.assertEqual(self.fault(made.archive({"other": b""})), "this is an archive (.zip): unzip FILE unpacks it")
+        self.assertEqual(self.fault(made.archive_bytes({"xl/other": b""})), said)
+        self.assertEqual(self.fault(made.archive_bytes({"other": b""})), "this is an archive (.zip): unzip FILE unpacks it")
 
     def test_another_sheet_that_cant_be_read(self):
         """The sheet with the columns of orders is read, whatever the others are."""
         for other in (b"<worksheet", made.OPEN + b"<row r='0'/>" + made.CLOSE, made.OPEN + made.CLOSE + b"x"):
-            data = made.of_sheet(made.OPEN, order(2, "K1"), made.CLOSE, **{"xl/worksheets/other.xml": other})
+            data = made.workbook_of_sheet(made.OPEN, order(2, "K1"), made.CLOSE, **{"xl/worksheets/other.xml": other})
             self.assertEqual(self.orders(data), [("K1", "")])
 
 
@@ -254,7 +254,7 @@ class Places(Read):
         """A workbook of two orders, in which a part of its sheet is another one."""
         cells = b"".join([made.OPEN, *self.ROWS, made.CLOSE])
         self.assertEqual(cells.count(old), 1, old)
-        return made.of_sheet(cells.replace(old, new), **parts)
+        return made.workbook_of_sheet(cells.replace(old, new), **parts)
 
     def test_elements_in_a_wrong_place(self):
         row, cell, end, mc = self.ROWS[1], b'<c r="I2" t="str"><v>G1</v></c>', b"</sheetData>", b'xmlns:m="other"'
@@ -333,10 +333,10 @@ class Places(Read):
             (f"{sheets}<formats/>", "an element 'formats' stands in 'workbook'"),
         ):
             found = {"xl/workbook.xml": listed.format(made.MAIN[0], made.OFFICE[0], content).encode()}
-            self.assertEqual(self.fault(made.of_sheet(made.OPEN, made.CLOSE, **found)), cant + said, content)
+            self.assertEqual(self.fault(made.workbook_of_sheet(made.OPEN, made.CLOSE, **found)), cant + said, content)
         for styles in ("<dxfs><cellXfs/></dxfs>", "<cellXfs/><cellXfs/>", "<cellXfs/>x", "<cellXfs><b><xf/></b></cellXfs>"):
             found = {"xl/styles.xml": f'<styleSheet xmlns="{made.MAIN[0]}">{styles}</styleSheet>'.encode()}
-            self.assertIn(cant, self.fault(made.of_sheet(made.OPEN, made.CLOSE, **found)), styles)
+            self.assertIn(cant, self.fault(made.workbook_of_sheet(made.OPEN, made.CLOSE, **found)), styles)
 
     def test_right_places(self):
         """Extensions at the ends, further elements of Excel, and those of other namespaces, as Excel writes them."""
@@ -347,7 +347,7 @@ class Places(Read):
         spoken = "<is><t>G1</t><rPh sb='0' eb='1'><t>no</t></rPh><phoneticPr/></is>"
         cells = f"<c r='I2' t='inlineStr'>{spoken}<extLst/></c><extLst><ext>a</ext></extLst></row>\n "
         row = self.ROWS[0].replace(b"</row>", cells.encode())
-        data = made.of_sheet(made.OPEN.replace(b"<sheetData>", b"<sheetPr/>\n<cols><col/></cols><sheetData>"), row,
+        data = made.workbook_of_sheet(made.OPEN.replace(b"<sheetData>", b"<sheetPr/>\n<cols><col/></cols><sheetData>"), row,
                              made.CLOSE.replace(b"</sheetData>", ends.encode()))  # fmt: skip
         self.assertEqual(self.orders(data), [("K1", "G1")])
 
@@ -362,7 +362,7 @@ class Unlike(unittest.TestCase):
     def read(self, parts=(), **cells):
         """The order of a workbook, of which some cells are given by their column, and the first line of its faults."""
         plain = {letter: f"<c t='str'><v>{words}</v></c>" for letter, words in zip(self.COLUMNS, "A,K,block,buy,1,8,5,,,x".split(","))}
-        data = made.of_sheet(self.HEADS, f"<row>{''.join({**plain, **cells}.values())}</row>".encode(), made.CLOSE, **dict(parts))
+        data = made.workbook_of_sheet(self.HEADS, f"<row>{''.join({**plain, **cells}.values())}</row>".encode(), made.CLOSE, **dict(parts))
         try:
             return order_table.read_tables([("", data)], 24).submits[0][1], None
         except order_table.BadOrders as fault:
@@ -403,7 +403,7 @@ class Unlike(unittest.TestCase):
             (b'<c r="E2"><f>5*4</f><v>0.1</v></c>', b"", False),
         ):
             close = made.CLOSE.replace(b"</sheetData>", b"</sheetData><sheetCalcPr%s/>" % due)
-            data = made.of_sheet(made.OPEN, order(2, "K1").replace(price, cell), order(3, "K2"), close)
+            data = made.workbook_of_sheet(made.OPEN, order(2, "K1").replace(price, cell), order(3, "K2"), close)
             with self.subTest(cell, due=due):
                 if refused:
                     said = "^sheet 'orders', cell E2: its formula was saved without its value: open the workbook in Excel, and save it$"
@@ -415,7 +415,7 @@ class Unlike(unittest.TestCase):
     def test_a_heading_without_its_value(self):
         heads = made.OPEN.replace(b"<is><t>group</t></is>", b"<f>A1</f>").replace(b"<c t='inlineStr'><f>", b"<c><f>")
         with self.assertRaisesRegex(order_table.BadOrders, "^line 1, column 9: '=A1' is a formula that was saved without its value"):
-            order_table.read_tables([("", made.of_sheet(heads, order(2, "K1"), made.CLOSE))], 24)
+            order_table.read_tables([("", made.workbook_of_sheet(heads, order(2, "K1"), made.CLOSE))], 24)
 
     def test_names_that_excel_shows_in_another_way(self):
         """A name such as 8-20 becomes a date, 007 may be a 7 with a format, and TRUE is another word in another language."""
@@ -582,9 +582,9 @@ class Unlike(unittest.TestCase):
             with self.subTest(value, row=row):
                 if said:
                     with self.assertRaisesRegex(order_table.BadOrders, re.escape(f"line 2, column price_eur_mwh: {said}")):
-                        order_table.read_tables([("", made.of_sheet(heads, row, made.CLOSE))], 24)
+                        order_table.read_tables([("", made.workbook_of_sheet(heads, row, made.CLOSE))], 24)
                 else:
-                    self.assertEqual(len(order_table.read_tables([("", made.of_sheet(heads, row, made.CLOSE))], 24).submits), 1)
+                    self.assertEqual(len(order_table.read_tables([("", made.workbook_of_sheet(heads, row, made.CLOSE))], 24).submits), 1)
 
     def test_names_of_many_digits(self):
         """Excel shows 123456789012 as 1.23457E+11, unless its format is 0."""
@@ -602,7 +602,7 @@ class Unlike(unittest.TestCase):
                     self.assertEqual(said, fault, (style, number))
         with self.assertRaisesRegex(order_table.BadOrders, "column order: '123456789012' is a number of which"):
             plain = b"<row><c t='str'><v>A</v></c><c><v>123456789012</v></c></row>"
-            order_table.read_tables([("", made.of_sheet(made.OPEN, plain, made.CLOSE, **{"xl/styles.xml": styles_without_formats()}))], 24)
+            order_table.read_tables([("", made.workbook_of_sheet(made.OPEN, plain, made.CLOSE, **{"xl/styles.xml": styles_without_formats()}))], 24)
         found, _ = self.read(styles, E='<c s="0"><v>0.10</v></c>')  # a price is what it is
         self.assertEqual(found.order.price, 10)
 
@@ -648,7 +648,7 @@ class Unlike(unittest.TestCase):
             ('<numFmt numFmtId="164" formatCode="0"/><numFmt numFmtId="164" formatCode="0"/>', None),
         ):
             styles = f'<styleSheet xmlns="{made.MAIN[0]}"><numFmts>{formats}</numFmts><cellXfs><xf numFmtId="164"/></cellXfs></styleSheet>'
-            data = made.of_sheet(made.OPEN, order(2, "K1"), made.CLOSE, **{"xl/styles.xml": styles.encode()})
+            data = made.workbook_of_sheet(made.OPEN, order(2, "K1"), made.CLOSE, **{"xl/styles.xml": styles.encode()})
             if fault:
                 with self.assertRaisesRegex(sheets.BadTable, f"^line 1: the Excel workbook can't be read: {fault}$"):
                     sheets.read_rows(data)
@@ -668,7 +668,7 @@ class Unlike(unittest.TestCase):
         styles = f'<styleSheet xmlns="{made.MAIN[0]}"><dxfs><dxf><font/></dxf>{changed}</dxfs></styleSheet>'
         for number, is_read in (("0", True), ("1", False), (" 02", False), ("3", False), ("4", False), ("5", True), ("9", True)):
             close = made.CLOSE.replace(b"</sheetData>", f"</sheetData>{condition.format(0)}{condition.format(number)}".encode())
-            data = made.of_sheet(made.OPEN, order(2, "K1"), close, **{"xl/styles.xml": styles.encode()})
+            data = made.workbook_of_sheet(made.OPEN, order(2, "K1"), close, **{"xl/styles.xml": styles.encode()})
             with self.subTest(number):
                 if is_read:
                     self.assertEqual(len(order_table.read_tables([("", data)], 24).submits), 1)
@@ -676,7 +676,7 @@ class Unlike(unittest.TestCase):
                     with self.assertRaisesRegex(sheets.BadTable, said):
                         sheets.read_rows(data)
         extension = '</sheetData><extLst><ext><x:dxf xmlns:x="urn:x"><numFmt formatCode="0%"/></x:dxf></ext></extLst>'
-        data = made.of_sheet(made.OPEN, order(2, "K1"), made.CLOSE.replace(b"</sheetData>", extension.encode()))
+        data = made.workbook_of_sheet(made.OPEN, order(2, "K1"), made.CLOSE.replace(b"</sheetData>", extension.encode()))
         with self.assertRaisesRegex(sheets.BadTable, "an element 'numFmt' stands in 'extLst'"):
             sheets.read_rows(data)
 
@@ -696,7 +696,7 @@ class Unlike(unittest.TestCase):
             (("a", hidden, "b", very), "K1", "of 2 sheets, 'a' was read, a hidden one; 'b' has the columns of orders too"),
         ):
             workbook = {"xl/workbook.xml": listed.format(made.MAIN[0], made.OFFICE[0], *names).encode()}
-            orders = order_table.read_tables([("", made.of_sheet(made.OPEN, order(2, "K1"), made.CLOSE, **parts, **workbook))], 24)
+            orders = order_table.read_tables([("", made.workbook_of_sheet(made.OPEN, order(2, "K1"), made.CLOSE, **parts, **workbook))], 24)
             self.assertEqual(([submit.name for _, submit in orders.submits], orders.notes), ([wanted], [note]))
 
     def test_a_sheet_of_macros(self):
@@ -711,7 +711,7 @@ class Unlike(unittest.TestCase):
                     "xl/_rels/workbook.xml.rels": f'<Relationships xmlns="{made.RELATIONS}">{relations}</Relationships>',
                     "xl/sheets/1.xml": f'<worksheet xmlns="{made.MAIN[0]}"><sheetData/></worksheet>',
                 }
-                data = made.of_sheet(made.OPEN, made.CLOSE, **{name: part.encode() for name, part in parts.items()})
+                data = made.workbook_of_sheet(made.OPEN, made.CLOSE, **{name: part.encode() for name, part in parts.items()})
                 if said:
                     with self.assertRaisesRegex(sheets.BadTable, said):
                         sheets.read_rows(data)
@@ -726,7 +726,7 @@ class Unlike(unittest.TestCase):
         other = made.OPEN + order(2, "K9") + made.CLOSE
         for names, read in ((("a", "Orders"), "K1"), (("ORDERS", "b"), "K9"), (("orders", "Orders"), None)):
             sheets = listed.format(made.MAIN[0], made.OFFICE[0], *names).encode()
-            data = made.of_sheet(made.OPEN, order(2, "K1"), made.CLOSE, **{"xl/workbook.xml": sheets, "xl/worksheets/other.xml": other})
+            data = made.workbook_of_sheet(made.OPEN, order(2, "K1"), made.CLOSE, **{"xl/workbook.xml": sheets, "xl/worksheets/other.xml": other})
             if read:
                 self.assertEqual(order_table.read_tables([("", data)], 24).submits[0][1].name, read)
             else:
@@ -740,7 +740,7 @@ class Unlike(unittest.TestCase):
             ('<c s="3"><v>4</v></c>', "'4' is a number with a format: make the cell one of text"),
             ("<c><f>A1</f></c>", "'=A1' is a formula that was saved without its value"),
         ):
-            data = made.of_sheet(made.OPEN.replace(b">group<", b">scenario<"), b"<row r='2'>" + b"<c/>" * 8 + cell.encode() + b"</row>", made.CLOSE)
+            data = made.workbook_of_sheet(made.OPEN.replace(b">group<", b">scenario<"), b"<row r='2'>" + b"<c/>" * 8 + cell.encode() + b"</row>", made.CLOSE)
             with self.assertRaisesRegex(errors.Fault, f"^a table: line 2, column scenario: {said}"):
                 scenarios.read_table("a table", data, Book(24))
 

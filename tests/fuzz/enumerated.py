@@ -32,8 +32,8 @@ LEAST_BLOCKS, MOST_BLOCKS = 5, 24
 FEW_BLOCKS = 12  # of a day, without numpy
 
 
-def arguments():
-    parser = parser_of_cases("tests/fuzz/selections.py", __doc__, "cases", 200)
+def parse_arguments():
+    parser = parser_of_cases("tests/fuzz/enumerated.py", __doc__, "cases", 200)
     parser.add_argument("--blocks", type=int, help="how many blocks are submitted (any number up to 24)")
     parser.add_argument("--wait", type=float, default=compare.SECONDS, help="how many seconds the program may take to answer (60)")
     kinds = parser.add_mutually_exclusive_group()
@@ -45,7 +45,7 @@ def arguments():
     return parser.parse_args()
 
 
-def inputs(args):
+def draw_inputs(args):
     """The days, each with a name."""
     wanted = slice(args.first - 1, args.first - 1 + args.count)
     if args.families or args.books or args.thin:
@@ -55,30 +55,30 @@ def inputs(args):
 
         books = make_family.BOOKS if args.families else make_blocks.MORE if args.thin else make_blocks.BOOKS
         for drawn in books[wanted]:
-            yield f"book {drawn.name}", made(drawn.script, drawn.words)
+            yield f"book {drawn.name}", run_script(drawn.script, drawn.words)
     else:
         for number in range(args.first, args.first + args.count):
-            yield f"case {number} of seed {args.seed}", draw(random.Random(f"selections {args.seed} {number}"), args)
+            yield f"case {number} of seed {args.seed}", draw_day(random.Random(f"selections {args.seed} {number}"), args)
 
 
-def made(script, words):
+def run_script(script, words):
     """The output of a script of the bench."""
     return subprocess.run([sys.executable, BENCH / script, *words], capture_output=True, check=True).stdout
 
 
-def draw(rng, args):
+def draw_day(rng, args):
     """A closed day with blocks whose prices and volumes meet, or not; or with profiles as users have them."""
     blocks = args.blocks or min(rng.randint(LEAST_BLOCKS, MOST_BLOCKS), args.most_blocks)
     if args.profiles:
-        return days.with_profiles(rng, blocks)
+        return days.draw_day_with_profiles(rng, blocks)
     draft = days.Draft(rng)
     if rng.random() < 0.7:
-        draft.meet()
-    days.mixed(draft, draft.hourly, blocks)
-    return days.whole([*draft.lines, "close,,,,,,,,"])
+        draft.set_meeting_prices()
+    days.add_mixed(draft, draft.hourly, blocks)
+    return days.text_of_lines([*draft.lines, "close,,,,,,,,"])
 
 
-def lower(problem, accepted, welfare):
+def lower_selection(problem, accepted, welfare):
     """The best eligible selection below this one, and its welfare, of those that take one block in or out; a block that is out
     takes its descendants along, and one that is in takes its ancestors along and its rivals away. None if there is none."""
     found = []
@@ -105,10 +105,10 @@ def best_above(problem, said, jobs):
     return found and (found.accepted, found.welfare)
 
 
-def wrong_of(program, data, jobs):
+def run_for_faults(program, data, jobs):
     """The faults of a day, in words; and the altered results, None if they couldn't be."""
     problem = selection.Problem(book.run(journal.read_journal(data))[0])
-    got = program.printed(["clear"], data)
+    got = program.run_for_output(["clear"], data)
     if got.status:
         return f"the program ends with {got.stderr.decode().strip() or f'status {got.status}'}", None
     said, wrong = check.differences(problem, got.stdout)
@@ -118,7 +118,7 @@ def wrong_of(program, data, jobs):
     if above:
         return f"the selection {sorted(above[0])} is better, with {above[1]}", None
     accepted = frozenset(said.accepted)
-    altered = lower(problem, accepted, said.welfare)
+    altered = lower_selection(problem, accepted, said.welfare)
     if altered is None:
         return None, None
     kind = "of less welfare" if altered[1] < said.welfare else "of the same welfare"
@@ -133,14 +133,14 @@ def wrong_of(program, data, jobs):
 
 
 def main():
-    args = arguments()
+    args = parse_arguments()
     modules.restart_with("numpy")
     if args.families or args.books or args.thin or (args.blocks or 0) > FEW_BLOCKS:
         modules.refuse_missing("numpy")
     args.most_blocks = MOST_BLOCKS if modules.has_module("numpy") else FEW_BLOCKS
-    program, counts, altered = compare.Program(args.program, args.wait), Counts(), {}
-    for name, data in inputs(args):
-        wrong, kind = wrong_of(program, data, args.jobs)
+    program, counts, altered = compare.TimedProgram(args.program, args.wait), Counts(), {}
+    for name, data in draw_inputs(args):
+        wrong, kind = run_for_faults(program, data, args.jobs)
         altered[kind] = altered.get(kind, 0) + 1
         counts.check(f"{name}: {wrong}", wrong is None)
     for kind in sorted(kind for kind in altered if kind):
