@@ -9,7 +9,6 @@ import socket
 import subprocess
 import time
 
-import images
 import journals
 import kills
 import streams

@@ -16,7 +16,6 @@ import crashes
 import images
 import journals
 from device import ADVICE, CUT, EVERY, INPUT, LOCK, OPEN, OUTPUT, READ, SECONDS, STAT, SYNC, WRITE, RefusedFileCalls
-from images import DiskMoment
 
 MODE = "M"
 # The errors of each kind of call.

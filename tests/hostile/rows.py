@@ -1,29 +1,17 @@
-"""rows.py ROOM PROGRAM [--all | --count]: runs the program on examples with each of its calls refused in turn, by ROOM/refuse.so."""
+"""Rows of runs of the program: on one input, with each of its calls refused in turn."""
 
 import errno
-import fcntl
-import itertools
 import os
-import shutil
-import subprocess
-import sys
 import time
 from concurrent.futures import ThreadPoolExecutor
 from pathlib import Path
 from typing import NamedTuple
 
-sys.dont_write_bytecode = True
-
 import again
-import costs
 import judge
-import peaks
-import shapes
-from preload import EVERY, LEFT, SECONDS, HostileProgram, RefusedCalls
+from preload import EVERY, RefusedCalls
 from shared import cases
 from shared.counts import Counts
-from shared.printed import Printed
-from lib.base import rules
 
 TOP = Path(__file__).resolve().parents[2]
 EXAMPLES = TOP / "examples"
@@ -31,7 +19,6 @@ SHOWN = 10  # differences of a row
 FEW, MANY = 40, 200  # how many calls of a row are refused if not each is
 SMALL = 1_100  # each call for memory of a worked case is refused if it makes no more than this
 ANY = 10_000  # more calls than any row makes of which each has to be refused
-UNFINISHED = 3  # the status of a search that came to its limit on nodes
 
 
 class RowOfRuns(NamedTuple):
@@ -97,11 +84,6 @@ cancel,SELLERAB,PARENT-BLOCK,,,,,,
 CLOSED_FIRST = DAY + CLOSE + b"submit,A,B1,hour,buy,5000,1:10,,\namend,A,B1,,,5000,1:10,,\ncancel,A,B1,,,,,,\n" + CLOSE
 
 CUTTINGS = [["--workers", "1", "--cut", "0"], ["--workers", "2", "--cut", "3"], ["--workers", "8", "--cut", "8"]]
-CHUNK = 65_536  # bytes of a read
-LENGTHS = [10_000, 100_000, 1_000_000, 4_000_000, 10_000_000, rules.MOST_BYTES]  # of texts that are read
-PIPE = 1 << 20  # the most bytes of a pipe
-AMENDS = [9, 1_100, rules.MOST_DAY_COMMANDS - rules.MOST_BLOCKS]  # of all periods, whose journals have 30 KB, one megabyte and nine
-SMALL_BOOK = 30  # orders
 
 
 def rows_of_cases():
@@ -275,207 +257,3 @@ class AnswerToRow(judge.RightAnswer):
     def run_for_front(self, count):
         """The answer to the first `count` bytes."""
         return self.runs.run_for_answer(self.words, self.data[:count])
-
-
-def run_with_closed_stream(program, words, data, stream):
-    """The output if a standard stream is closed from the start."""
-    command = ["sh", "-c", f'exec "$0" "$@" {stream}', program.path, *words]
-    with open(program.write_input(data), "rb") as stdin:
-        ran = subprocess.run(command, stdin=stdin, stdout=subprocess.PIPE, stderr=subprocess.PIPE, timeout=SECONDS)
-    return Printed(ran.returncode, ran.stdout, ran.stderr)
-
-
-def check_devices(runs):
-    """Standard streams that are closed or full, or that no program reads."""
-    for words, data in [(["replay"], AUCTION), (["clear"], AUCTION), (["day"], OPEN_AUCTION), (["--help"], b"")]:
-        runs.check(f"{words[0]} to a closed stream", is_failed_write(run_with_closed_stream(runs.program, words, data, ">&-")))
-        runs.check(f"{words[0]} with no standard error", run_with_closed_stream(runs.program, words, data, ">&- 2>&-").status == judge.MACHINE)
-        if data:
-            runs.check(f"{words[0]} of a closed stream", run_with_closed_stream(runs.program, words, data, "<&-") == judge.READ)
-        with open("/dev/full", "wb") as full:
-            got, _ = runs.program.run(words, data, judge.NOTHING_REFUSED, stdout=full)
-        runs.check(f"{words[0]} to a full device", is_failed_write(got))
-        ours, theirs = os.pipe()
-        os.close(ours)
-        got, _ = runs.program.run(words, data, judge.NOTHING_REFUSED, stdout=theirs)
-        os.close(theirs)
-        runs.check(f"{words[0]} to a closed pipe", is_failed_write(got))
-
-
-def is_failed_write(got):
-    line = judge.WRITE.fullmatch(got.stderr)
-    return line is not None and line[1] == b"0" and got == Printed(judge.MACHINE, b"", got.stderr)
-
-
-def check_seeds(runs):
-    """Each engine draws one seed. This also shows that calls are counted at all."""
-    for words, data in [(["replay"], AUCTION), (["clear"], AUCTION), (["day"], OPEN_AUCTION)]:
-        _, asked = runs.program.run(words, data, RefusedCalls("random"))
-        runs.check(f"{words[0]} asks for random bytes {asked} times, and not once", asked == 1)
-
-
-def check_threads(runs):
-    """A search starts a thread for each worker but one, whose work the calling thread does, and so does a day for its participants."""
-    lines = [b"cancel,%c,X,,,,,,\n" % ord(code) for code in "ABCDEFGH"[: rules.MOST_DAY_PARTICIPANTS]]
-    days = [(others, DAY + b"".join(lines[: others + 1])) for others in range(len(lines))]
-    many = b"day,96,,,,,,,\n" + 40 * b"".join(lines)
-    tried = [
-        ("clear", AUCTION, 0, range(1, 9), []),
-        ("clear", AUCTION, 0, (1, 8), ["--nodes", "67108863"]),
-        ("clear", QUARTERS, 0, (1, 2, 8), []),
-        ("day", OPEN_AUCTION, 7, (1, 3, 8), []),
-        ("day", many, len(lines) - 1, (1,), []),
-        *(("day", data, others, (1,), []) for others, data in days),
-    ]
-    for word, data, others, counts, more in tried:
-        for workers in counts:
-            words = [word, "--workers", str(workers), "--cut", "8", *more]
-            _, started = runs.program.run(words, data, RefusedCalls("thread"))
-            runs.check(f"{' '.join(words)}, {others} participants more: {started} threads", started == workers - 1 + others)
-
-
-def check_strays(runs):
-    """A program that writes while a thread of it still runs is found, so the runs of the rows leave none, whatever call is refused."""
-    script = "import threading; threading.Thread(target=threading.Event().wait, daemon=True).start(); print()"
-    got, _ = HostileProgram(sys.executable, runs.program.room).run(["-c", script], b"", judge.NOTHING_REFUSED)
-    runs.check("a thread that isn't joined is found", got.stderr == LEFT)
-
-
-def check_freed_texts(runs):
-    """The journal's text is freed before the search, and before the participants of a day are started."""
-    for word, data in [("clear", AUCTION), ("day", OPEN_AUCTION)]:
-        words, text = [word, "--workers", "8"], data + b"\n" * (1 << 20)
-        for least, is_held in [(len(text), False), (1, True)]:
-            _, started = runs.program.run(words, text, RefusedCalls("held", most=least))
-            runs.check(f"{word} starts {started} threads with a block of {least} bytes or more", (started > 0) == is_held)
-    # as often as a run that has the text, and then comes to a fault
-    for word, data, faulty in [("clear", AUCTION, OPEN_AUCTION), ("day", OPEN_AUCTION, AUCTION)]:
-        for workers in map(str, range(1, shapes.MOST_WORKERS + 1)):
-            tried = (([word, "--workers", workers], it + b"\n" * (1 << 20), RefusedCalls("beside", most=1 << 20)) for it in (data, faulty))
-            (_, made), (_, least) = (runs.program.run(*it) for it in tried)
-            runs.check(f"{word} --workers {workers} asks for memory {made} times with its text, and not {least}", made == least)
-
-
-def check_reads(runs):
-    """A text is read in pieces of 65,536 bytes. A program that reads it byte by byte would be seen: it has as many reads as bytes."""
-    for word, data in [("replay", AUCTION), ("clear", AUCTION), ("day", OPEN_AUCTION)]:
-        text = data + b"\n" * (1 << 18)
-        for most, least, greatest in [(0, 1, len(text) // CHUNK + 2), (1, len(text), len(text) + 1)]:
-            _, made = runs.program.run([word], text, RefusedCalls("read", most=most))
-            at_once = "one byte" if most else "as much as it asks for"
-            runs.check(f"{word} reads {len(text)} bytes by {made} calls that give {at_once}", least <= made <= greatest)
-        for length in LENGTHS:
-            check_whole_reads(runs, word, data + b"\n" * (length - len(data)))
-
-
-def check_whole_reads(runs, word, text):
-    """A text of any length is read by as few calls, from a file and from a pipe that holds it."""
-    about, right = f"{word} reads {len(text):,} bytes of", -(-len(text) // CHUNK) + 1
-    got, made = runs.program.run([word], text, RefusedCalls("read"))
-    runs.check(f"{about} a file by {made} calls, and not {right}", (got.status, made) == (0, right))
-    if len(text) <= PIPE:
-        with open_full_pipe(text) as pipe:
-            got, made = runs.program.run([word], text, RefusedCalls("read"), source=pipe)
-        runs.check(f"{about} a pipe by {made} calls, and not {right}", (got.status, made) == (0, right))
-    runs.program.write_input(text).unlink()
-
-
-def open_full_pipe(text):
-    """The end of a pipe that has this text, and then nothing more."""
-    ours, theirs = os.pipe()
-    fcntl.fcntl(theirs, fcntl.F_SETPIPE_SZ, PIPE)
-    os.write(theirs, text)
-    os.close(theirs)
-    return open(ours, "rb", buffering=0)
-
-
-def check_writes(runs):
-    """A text of any length is written by one call, if the stream takes it whole."""
-    refused = DAY + b"cancel,ABCDEFGH,NAME-NUMBER1,,,,,,\n" * rules.MOST_DAY_COMMANDS
-    tried = [("replay", AUCTION, 500), ("replay", refused, 200_000), ("clear", AUCTION, 500), ("day", OPEN_AUCTION, 500)]
-    for count in AMENDS:
-        names = itertools.islice(itertools.cycle(peaks.NAMES), count)
-        tried.append(("day", b"".join([peaks.DAY_RECORD, *map(peaks.block_submit, peaks.NAMES), *map(peaks.block_amend, names)]), 900 * count))
-    for word, data, least in tried:
-        got, made = runs.program.run([word], data, RefusedCalls("write"))
-        about = f"{word} writes {len(got.stdout):,} bytes by {made} calls: status {got.status}, {got.stderr[:80]!r}"
-        runs.check(about, got.status == 0 and len(got.stdout) >= least and made == 1)
-        runs.program.write_input(data).unlink()
-
-
-def check_small_books(runs):
-    """Books of a few orders, on each length of a day. With one order more, a run asks for memory at least as often, and holds at least as
-    many bytes: a copy that is made of books of one size only would be seen."""
-    for words, periods in itertools.product([shapes.REPLAY, shapes.CLEAR, shapes.DAY], rules.DAYS):
-        orders = [b"submit,A,%d,hour,%b,%d,%d:1,,\n" % (at, [b"buy", b"sell"][at % 2], at, at % 23 + 1) for at in range(SMALL_BOOK)]
-        begin, end = b"day,%d,,,,,,,\n" % periods, CLOSE * (words != shapes.DAY)
-        texts = [begin + b"".join(orders[:count]) + end for count in range(SMALL_BOOK + 1)]
-        found = list(runs.pool.map(lambda text: runs.program.run_for_peak(words, text), texts))
-        for count, ((got, held, growths), (_, more_held, more)) in enumerate(zip(found, [*found[1:], found[-1]])):
-            about = f"{words[0]} of {count} orders on {periods} periods"
-            runs.check(f"{about}: status {got.status}, {got.stderr[:80]!r}", (got.status, got.stderr) == (0, b""))
-            runs.check(f"{about}: {growths} calls for memory, and {more} with one order more", growths <= more)
-            runs.check(f"{about}: {held} bytes, and {more_held} with one order more", held <= more_held)
-
-
-def check_stacks(runs):
-    """512 KiB of stack are enough for a search, also of these books, whose search has prices of its own for the decisions on most of the 24
-    blocks, one after the other."""
-    small = ["sh", "-c", 'ulimit -s 512; exec "$@"', "sh"]
-    for family in (["paradox", "500"], ["paradox", "4000", "24", "4"], ["nearties", "4000"]):
-        data = subprocess.run([sys.executable, TOP / "bench" / "make_family.py", *family], stdout=subprocess.PIPE, check=True).stdout
-        for limit, status in ([], 0), (["--nodes", "100"], UNFINISHED):
-            words = ["clear", "--workers", "1", "--cut", "0", *limit]
-            got, _ = runs.program.run(words, data, judge.NOTHING_REFUSED, under=small)
-            about = f"{' '.join(words)} of {' '.join(family)} with 512 KiB of stack"
-            runs.check(f"{about}: status {got.status}, {got.stderr[:80]!r}", got.status == status)
-
-
-def check_copies(runs):
-    """A day asks for memory as often for each command, however many orders the book holds: no command copies the book."""
-    records = {"submits": b"submit,A,N-%d,hour,buy,0,1:1,,\n", "amends": b"amend,A,N-%d,,,1,1:1,,\n", "cancels": b"cancel,A,N-%d,,,,,,\n"}
-    for last, about in enumerate(records):
-        kinds = list(records.values())[: last + 1]
-        most = min(rules.MOST_HOURLY, rules.MOST_DAY_COMMANDS // len(kinds))
-        few, many = (b"".join([DAY, *(kind % at for kind in kinds for at in range(count))]) for count in (most // 2, most))
-        asked, twice = (runs.program.run(["day"], data, RefusedCalls("memory"))[1] for data in (few, many))
-        wrong = f"day with {about} asks for memory {asked} times, and {twice} times with twice the orders"
-        runs.check(wrong, most // 2 < asked < twice < 3 * asked)
-
-
-def main():
-    room, program, *rest = sys.argv[1:]
-    if rest not in ([], ["--all"], ["--count"]):
-        sys.exit("usage: tests/hostile/run PROGRAM [--all | --count]")
-    runs = RunsOfRows(HostileProgram(program, room), rest == ["--all"])
-    if rest == ["--count"]:
-        return shapes.write_tables(shapes.HERE, shapes.run_for_costs(runs))
-    runs.run_rows("memory refused once in the worked cases", rows_of_cases())
-    runs.run_rows("memory refused from one call on in the worked cases", rows_of_cases_without_memory())
-    runs.run_rows("memory refused in days and other runs", rows_of_memory())
-    runs.run_rows("threads refused", rows_of_threads())
-    runs.run_rows("random bytes refused", rows_of_random_bytes())
-    runs.run_rows("reads and writes that fail", rows_of_devices())
-    check_devices(runs)
-    again.run_rows(runs, room, rows_of_calls(runs.program))
-    check_seeds(runs)
-    check_threads(runs)
-    check_strays(runs)
-    check_freed_texts(runs)
-    check_reads(runs)
-    check_writes(runs)
-    check_small_books(runs)
-    check_stacks(runs)
-    check_copies(runs)
-    peaks.check_peaks(runs)
-    if shutil.which("valgrind"):
-        costs.check_names(runs)
-        costs.check_cancels(runs)
-        costs.check_full_books(runs)
-        shapes.check_costs(runs, shapes.HERE, shapes.run_for_costs(runs))
-    else:
-        runs.leave_out("names that collide, many cancels, full books, and shapes: valgrind, which counts instructions, is missing", 4)
-    return runs.print_totals()
-
-
-sys.exit(main())

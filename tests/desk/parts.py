@@ -1,4 +1,4 @@
-"""rows.py ROOM [--all | --count] [PART..]: runs the parts of the tests of a desk, on ROOM/dam-desk."""
+"""parts.py ROOM [--all | --count] [PART..]: runs the parts of the tests of a desk, on ROOM/dam-desk."""
 
 import os
 import resource

@@ -1,0 +1,89 @@
+"""parts.py ROOM PROGRAM [--all | --count] [PART..]: runs the parts of the tests of a hostile system, with ROOM/refuse.so and ROOM/collide."""
+
+import shutil
+import sys
+
+sys.dont_write_bytecode = True
+
+import again
+import checks
+import costs
+import peaks
+import rows
+import shapes
+from preload import HostileProgram
+
+
+def run_memory(runs):
+    runs.run_rows("memory refused once in the worked cases", rows.rows_of_cases())
+    runs.run_rows("memory refused from one call on in the worked cases", rows.rows_of_cases_without_memory())
+    runs.run_rows("memory refused in days and other runs", rows.rows_of_memory())
+
+
+def run_calls(runs):
+    runs.run_rows("threads refused", rows.rows_of_threads())
+    runs.run_rows("random bytes refused", rows.rows_of_random_bytes())
+    runs.run_rows("reads and writes that fail", rows.rows_of_devices())
+    checks.check_devices(runs)
+
+
+def run_retries(runs):
+    again.run_rows(runs, runs.program.room, rows.rows_of_calls(runs.program))
+
+
+def check_texts(runs):
+    checks.check_freed_texts(runs)
+    checks.check_reads(runs)
+    checks.check_writes(runs)
+
+
+def check_threads(runs):
+    checks.check_seeds(runs)
+    checks.check_threads(runs)
+    checks.check_strays(runs)
+
+
+def check_books(runs):
+    checks.check_small_books(runs)
+    checks.check_copies(runs)
+
+
+def check_shapes(runs):
+    shapes.check_costs(runs, shapes.HERE, shapes.run_for_costs(runs))
+
+
+PARTS = {
+    "memory": run_memory,
+    "calls": run_calls,
+    "retries": run_retries,
+    "threads": check_threads,
+    "texts": check_texts,
+    "books": check_books,
+    "stacks": checks.check_stacks,
+    "peaks": peaks.check_peaks,
+    "names": costs.check_names,
+    "cancels": costs.check_cancels,
+    "full": costs.check_full_books,
+    "shapes": check_shapes,
+}
+COUNTED = ["names", "cancels", "full", "shapes"]  # by valgrind
+
+
+def main():
+    room, program, *words = sys.argv[1:]
+    chosen = [word for word in words if word not in ("--all", "--count")]
+    if not set(chosen) <= set(PARTS):
+        sys.exit(f"the parts are {', '.join(PARTS)}")
+    runs = rows.RunsOfRows(HostileProgram(program, room), "--all" in words)
+    if "--count" in words:
+        return shapes.write_tables(shapes.HERE, shapes.run_for_costs(runs))
+    for name in chosen or PARTS:
+        if name in COUNTED and not shutil.which("valgrind"):
+            runs.leave_out(f"{name}: valgrind, which counts instructions, is missing")
+        else:
+            PARTS[name](runs)
+    return runs.print_totals()
+
+
+if __name__ == "__main__":
+    sys.exit(main())
