@@ -1,6 +1,6 @@
 -- The answer of a walk that counts nodes as the limit does.
 use Rattle.dam_search.proofs.Seats.{walked_is}
-use Rattle.dam_search.proofs.piece_walk.PrefixWalkPieceWalk.walk_piece.Goals as goal
+use Rattle.dam_search.proofs.prefix_walk.PrefixWalkPieceWalk.walk_piece.Goals as goal
 
 pub returns-clause-walked : goal.returns-clause-walked
 returns-clause-walked g c =
