@@ -56,7 +56,7 @@ by B's. Each part's script describes its method, [make_blocks.py](../bench/make_
 [make_family.py](../bench/make_family.py) the families. `cut 8` cuts a search into up to 256 pieces. The baseline and the twin are
 [plain Rust programs](../crates/NOTES.md#words). The load is the minute's before.
 
-A part's CSV file has all figures with a target ([some set later](../bench/NOTES.md)). This page shows some, and missed targets by kind;
+A part's CSV file has all figures and targets ([some set later](../bench/NOTES.md)). This page shows some, and missed targets by kind;
 `grep MISSED bench/measured/*.csv` prints all.
 """
 
