@@ -1,5 +1,5 @@
 #!/usr/bin/env python3
-"""The search on thin markets with 24 blocks that each move the prices, and on mixed and wide books (each block in every period).
+"""The search on thin markets with 24 blocks that each move the prices, on mixed books, and on wide ones (blocks in every period).
 
 The thin ones have 200 to 1,500 hourly orders on days of 24 and of 96 periods, every kind of block, links and groups, and limits mostly
 within 50 cents of the mean price; ten are the hardest of a random search. Next to the wide books stand mixed ones, with baseload, peak,
