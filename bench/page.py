@@ -54,7 +54,7 @@ HEAD = """# Measured figures
 second runs once, as does an office's whole day. Compared programs run alternately. `A compared with B` is A's time, rate or memory divided
 by B's. Each part's script describes its method, [make_blocks.py](../bench/make_blocks.py) the kinds of books and their spread, and
 [make_family.py](../bench/make_family.py) the families. `cut 8` cuts a search into up to 256 pieces. The baseline and the twin are
-[plain Rust programs](../crates/NOTES.md#words). The load is the minute's before.
+[plain Rust programs](../crates/NOTES.md#words). The load is the minute's before `bench/run`.
 
 A part's CSV file has all figures and targets ([some set later](../bench/NOTES.md)). This page shows some, and missed targets by kind;
 `grep MISSED bench/measured/*.csv` prints all.
@@ -82,8 +82,9 @@ def query_facts_of_run(part):
     processors = re.findall(r"(?m)^model name\s*: (.*)", Path("/proc/cpuinfo").read_text()) or [os.uname().machine]
     load, limit, before = (os.environ.get(name, "") for name in ("LOAD", "PEER_LIMIT", "BEFORE_IS"))
     peers = f"HiGHS (of SciPy {query_version('python3-scipy')}) and CBC ({query_version('coinor-cbc')})"
-    notes = [f"{peers}: the time of solving alone, at most {limit} s"] if limit and part in ("blocks", "thin") else []
-    notes += [f"the program before is {before}"] if before else []
+    notes = []
+    if part in ("blocks", "thin"):
+        notes = [f"{peers}: the time of solving alone, at most {limit} s"] * bool(limit) + [f"the program before is {before}"] * bool(before)
     machine = f"{os.cpu_count()} processors ({processors[0]})"
     return [part, str(datetime.date.today()), commit, machine, load, run_for_output("rt", "version"), "; ".join(notes)]
 
