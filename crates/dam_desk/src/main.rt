@@ -9,6 +9,7 @@ mod command_line;
 mod desk;
 mod desk_day;
 mod device;
+mod entering;
 mod fault;
 mod fault_line;
 mod input_line;
