@@ -78,7 +78,7 @@ fn index_of(participants: &[Participant], who: &Participant) -> Option<usize>
     None
 }
 
-/// Adds the place of the command to the share of the participant who gives it.
+/// Adds the place of the command to those of the participant who gives it.
 fn add_place(
     all_places: &mut [CommandPlaces],
     participants: &[Participant],

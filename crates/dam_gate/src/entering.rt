@@ -80,7 +80,7 @@ fn enter_all<J: GateName + Send + Sync, R: Threads + Wait + Sync, T: Turnstile +
     );
 }
 
-/// Whether no call was refused: each pass has as many receipts as there are places in its share.
+/// Whether no call was refused: each pass has as many receipts as it has places of commands.
 fn have_all_entered<J: GateName>(passes: &[Pass<J>], all_places: &[CommandPlaces]) -> bool
     ensures all { result ≡ true → (i : ℕ) (d : Knowledge) → i < length passes.now
         → HasAll (places_of all_places.now i) (slice_index_or passes.now i d).account }
