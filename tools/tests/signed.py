@@ -5,7 +5,7 @@ import unittest
 from pathlib import Path
 from unittest import mock
 
-from support import AUCTION, AUCTION_RESULTS, new_folder, tool
+from support import AUCTION, AUCTION_RESULTS, new_folder, run_tool
 
 from lib.journal import book, journal
 from lib.seal import heads
@@ -54,7 +54,7 @@ class InFolder(unittest.TestCase):
 
     def run_tool(self, status, *words):
         """The output of `tools/receipts`, which ends with a status. A verdict is on standard output alone."""
-        ran = tool("receipts", *map(str, words))
+        ran = run_tool("receipts", *map(str, words))
         self.assertEqual(ran[0], status, ran)
         if status == command.DIFFERS:
             self.assertTrue(ran[1])
@@ -82,6 +82,6 @@ class Audited(InFolder):
 
     def audit(self, status, journal="day.csv", *words, results="results.txt"):
         signed = ["--head", "sealed/head.json", "--salts", "sealed/salts.json", "--key", "key.pem.pub"]
-        ran = tool("audit", journal, results, *signed, *map(str, words))
+        ran = run_tool("audit", journal, results, *signed, *map(str, words))
         self.assertEqual(ran[0], status, ran)
         return ran[1].decode()

@@ -34,7 +34,7 @@ AUCTION_RESULTS, QUARTERS_RESULTS, SUNNY_RESULTS = (worked.FOLDER / f"{it.stem}.
 FIRST = (TOP / "examples" / "first-day.csv").read_bytes()
 
 
-def loaded(name):
+def load_tool(name):
     """A tool without an ending, as a module."""
     loader = importlib.machinery.SourceFileLoader(name.replace("-", "_"), str(TOOLS / name))
     module = importlib.util.module_from_spec(importlib.util.spec_from_loader(loader.name, loader))
@@ -66,7 +66,7 @@ def cleared_cases():
     return [(name, case.stdin, case.right_stdout) for name, case in cases("clear").items() if case.status == 0]
 
 
-def printed(example):
+def read_results(example):
     """The results of one of the three examples."""
     return (worked.FOLDER / f"{example.stem}.stdout").read_bytes()
 
@@ -103,7 +103,7 @@ def ranked(day):
 
 
 @contextlib.contextmanager
-def written(**contents):
+def writing_files(**contents):
     """The paths of files with these bytes, each of its name, which are removed at the end."""
     with tempfile.TemporaryDirectory() as folder:
         paths = [Path(folder, name) for name in contents]
@@ -114,7 +114,7 @@ def written(**contents):
 
 def day_of(data, text):
     """A day as the tools have it, of bytes."""
-    with written(journal=data, results=text) as paths:
+    with writing_files(journal=data, results=text) as paths:
         return day_files.Day(*map(str, paths))
 
 
@@ -129,38 +129,38 @@ def journal_of(*lines):
     return "".join(f"{line}\n" for line in ["day,24,,,,,,,", *lines, "close,,,,,,,,"]).encode()
 
 
-def tool(name, *words, data=b"", python=None):
+def run_tool(name, *words, data=b"", python=None):
     """A run of a tool: its status, output and errors. If no Python is named, it runs in a copy of this process, which has loaded already
     modules that a new Python loads each time. But HiGHS has threads, and a copy of a process that has used it would wait for them."""
     words = list(map(str, words))
     if python is None and "highs" not in words:
-        load(name)
-        return copied(str(TOOLS / name), words, data)
+        load_packages(name)
+        return run_in_fork(str(TOOLS / name), words, data)
     ran = subprocess.run([*(python or [sys.executable]), TOOLS / name, *words], input=data, capture_output=True)
     return ran.returncode, ran.stdout, ran.stderr.decode()
 
 
-def unsaid(name, record, *parts):
+def run_help_for_unsaid(name, record, *parts):
     """The members of a record of receipts or an office, and of its parts, that neither docs/FORMATS.md nor its command's help names."""
     page = (TOP / "docs" / "FORMATS.md").read_text().partition("\nThose of `tools/receipts` and `tools/office` have ")[2]
-    text = tool(name, record["command"], "--help")[1].decode()
+    text = run_tool(name, record["command"], "--help")[1].decode()
     words = re.search(r"^  --json +print .*?\bJSON,\s+with (.*?)(?=^  -|^$)", text, re.MULTILINE | re.DOTALL)[1]
     known = {*re.findall(r"`(\w+)`", page), *re.findall(r"\w+", words)}
     return {member for part in (record, *parts) for member in part} - known
 
 
-def load(name):
+def load_packages(name):
     """Loads the packages that a tool needs, for all runs of it."""
     if name in ("plot", "report") and modules.has_module("matplotlib") and modules.has_module("jinja2"):
         importlib.import_module("lib.report.page")
 
 
-def copied(path, words, data=b""):
+def run_in_fork(path, words, data=b""):
     """A run of a script in a copy of this process."""
     with compare.open_in_memory(data) as stdin, compare.open_in_memory() as stdout, compare.open_in_memory() as stderr:
         child = os.fork()
         if child == 0:
-            run_in_copy(path, words, [stdin, stdout, stderr])
+            run_and_exit(path, words, [stdin, stdout, stderr])
         is_late = not compare.wait_for_end(child, SECONDS)
         if is_late:
             os.kill(child, signal.SIGKILL)
@@ -169,7 +169,7 @@ def copied(path, words, data=b""):
         return status, compare.read_contents(stdout), compare.read_contents(stderr).decode()
 
 
-def run_in_copy(path, words, files):
+def run_and_exit(path, words, files):
     """Runs a script in this process, with these files as its streams, and ends the process as Python does."""
     status = 1
     try:
@@ -194,7 +194,7 @@ def run_in_copy(path, words, files):
         os._exit(status)
 
 
-def doctored(folder, program, mark, edit):
+def write_doctored_program(folder, program, mark, edit):
     """A program that prints the output of another one, with an edit of sed if the journal has a mark."""
     made = Path(folder, "doctored")
     run = f"printf '%s\\n' \"$text\" | {shlex.quote(str(program))} \"$@\""
@@ -203,7 +203,7 @@ def doctored(folder, program, mark, edit):
     return made
 
 
-def audit(data, text, *words):
+def run_audit(data, text, *words):
     """A run of the audit on a journal and results."""
-    with written(journal=data, results=text) as paths:
-        return tool("audit", *words, *paths)
+    with writing_files(journal=data, results=text) as paths:
+        return run_tool("audit", *words, *paths)

@@ -13,8 +13,8 @@ import unittest.mock
 from fractions import Fraction
 
 import support
-from support import AUCTION, AUCTION_RESULTS, FIRST, QUARTERS, audit, cleared_cases, journal_of, printed, problem, ranked, results_of
-from support import small_problems, tool
+from support import AUCTION, AUCTION_RESULTS, FIRST, QUARTERS, cleared_cases, journal_of, problem, ranked, read_results, results_of
+from support import run_audit, run_tool, small_problems
 
 import days
 from lib.audit import best, verdict
@@ -79,7 +79,7 @@ class Results(unittest.TestCase):
             self.assertGreater(swapped, 20)
 
     def test_each_turned_block_is_refused(self):
-        data, text = AUCTION.read_bytes(), printed(AUCTION)
+        data, text = AUCTION.read_bytes(), read_results(AUCTION)
         turned = 0
         for word, other in ((b"accepted", b"rejected"), (b"rejected", b"accepted")):
             for found in re.finditer(word, text):
@@ -89,7 +89,7 @@ class Results(unittest.TestCase):
         self.assertEqual(turned, 9)
 
     def test_form(self):
-        data, text = AUCTION.read_bytes(), printed(AUCTION)
+        data, text = AUCTION.read_bytes(), read_results(AUCTION)
         lines = text.splitlines(keepends=True)
         broken = {
             "no line end at the end": text[:-1],
@@ -116,13 +116,13 @@ class Results(unittest.TestCase):
                 self.assertNotEqual(differences(data, other), [])
 
     def test_links_groups_and_losses_are_named(self):
-        wrong = "\n".join(differences(AUCTION.read_bytes(), printed(AUCTION).replace(b"STAY,accepted", b"STAY,rejected")))
+        wrong = "\n".join(differences(AUCTION.read_bytes(), read_results(AUCTION).replace(b"STAY,accepted", b"STAY,rejected")))
         self.assertIn("results line 111: block GAS,EVENING is accepted and its parent GAS,STAY isn't", wrong)
-        wrong = "\n".join(differences(AUCTION.read_bytes(), printed(AUCTION).replace(b"NOON,rejected", b"NOON,accepted")))
+        wrong = "\n".join(differences(AUCTION.read_bytes(), read_results(AUCTION).replace(b"NOON,rejected", b"NOON,accepted")))
         self.assertRegex(wrong, r"results line \d+: group FILL of PUMP has 2 accepted blocks: PUMP,DAWN PUMP,NOON")
-        wrong = "\n".join(differences(AUCTION.read_bytes(), printed(AUCTION).replace(b"UNIT-7,rejected", b"UNIT-7,accepted")))
+        wrong = "\n".join(differences(AUCTION.read_bytes(), read_results(AUCTION).replace(b"UNIT-7,rejected", b"UNIT-7,accepted")))
         self.assertIn("block OLD,UNIT-7: it is accepted and loses 270000", wrong)
-        wrong = "\n".join(differences(AUCTION.read_bytes(), printed(AUCTION).replace(b"EVENING,accepted", b"EVENING,rejected")))
+        wrong = "\n".join(differences(AUCTION.read_bytes(), read_results(AUCTION).replace(b"EVENING,accepted", b"EVENING,rejected")))
         self.assertIn("block GAS,START: it is accepted and loses 320000 together with its accepted descendants", wrong)
 
     def test_a_family_makes_its_root_good_and_no_child(self):
@@ -144,7 +144,7 @@ class Results(unittest.TestCase):
         ]
         volumes = ";".join(f"{number}:100" for number in range(1, 25))
         data = journal_of(*hourly, f"submit,A,K,block,sell,4000,{volumes},,")
-        status, out, _ = audit(data, results_of(data, frozenset()).replace(b"rejected", b"accepted"))
+        status, out, _ = run_audit(data, results_of(data, frozenset()).replace(b"rejected", b"accepted"))
         lines = out.decode().splitlines()
         self.assertEqual((status, len(lines)), (command.DIFFERS, 21))
         self.assertRegex(lines[0], r"^results line 75: block A,K: it is accepted and loses \d+$")
@@ -154,7 +154,7 @@ class Results(unittest.TestCase):
 
     def test_faults_come_in_their_order(self):
         """Links and groups, losses, the welfare, periods, hourly orders, surpluses, sums."""
-        data, text = AUCTION.read_bytes(), printed(AUCTION)
+        data, text = AUCTION.read_bytes(), read_results(AUCTION)
         text = text.replace(b"STAY,accepted", b"STAY,rejected").replace(b"UNIT-7,rejected", b"UNIT-7,accepted")
         kinds = [
             r"^results line 111: block GAS,EVENING is accepted and its parent",
@@ -366,36 +366,36 @@ class Best(unittest.TestCase):
         # The unit that is paradoxically rejected would make the welfare greater, and lose.
         for method in self.methods():
             with self.subTest(method):
-                self.assertEqual(audit(data, without)[0], 0)
-                status, out, _ = audit(data, without, "--best", "--by", method)
+                self.assertEqual(run_audit(data, without)[0], 0)
+                status, out, _ = run_audit(data, without, "--best", "--by", method)
                 self.assertEqual(status, 1)
                 self.assertIn(b"a better selection accepts", out)
-                self.assertEqual(audit(data, printed(AUCTION), "--best", "--by", method)[0], 0)
+                self.assertEqual(run_audit(data, read_results(AUCTION), "--best", "--by", method)[0], 0)
 
     def test_of_equal_selections_the_earlier_block_is_accepted(self):
         data = support.cases("clear")["two-equal-blocks"].stdin
         for method in self.methods():
             with self.subTest(method):
-                status, out, _ = audit(data, results_of(data, frozenset({1})), "--best", "--by", method)
+                status, out, _ = run_audit(data, results_of(data, frozenset({1})), "--best", "--by", method)
                 self.assertEqual((status, b"an equally good selection takes precedence: it accepts A,K1, which is earlier" in out), (1, True))
 
 
 class CommandLine(unittest.TestCase):
     def test_statuses(self):
-        self.assertEqual(audit(AUCTION.read_bytes(), printed(AUCTION))[0], command.DONE)
-        self.assertEqual(audit(AUCTION.read_bytes(), b"day,24\n")[0], command.DIFFERS)
-        self.assertEqual(tool("audit")[0], command.COMMAND_LINE)
-        status, _, err = audit(b"day,24\n", b"")
+        self.assertEqual(run_audit(AUCTION.read_bytes(), read_results(AUCTION))[0], command.DONE)
+        self.assertEqual(run_audit(AUCTION.read_bytes(), b"day,24\n")[0], command.DIFFERS)
+        self.assertEqual(run_tool("audit")[0], command.COMMAND_LINE)
+        status, _, err = run_audit(b"day,24\n", b"")
         self.assertEqual((status, "input: FieldCount in record 1" in err), (command.NO_INPUT, True))
-        status, _, err = tool("audit", "/nowhere/journal", "/nowhere/results")
+        status, _, err = run_tool("audit", "/nowhere/journal", "/nowhere/results")
         self.assertEqual(
             (status, err), (command.NO_INPUT, "audit: /nowhere/journal can't be read: No such file or directory\n")
         )
-        self.assertEqual(audit(b"day,24,,,,,,,\n", b"day,24\n")[0], command.DIFFERS)
+        self.assertEqual(run_audit(b"day,24,,,,,,,\n", b"day,24\n")[0], command.DIFFERS)
 
     def test_replies(self):
         data, text = journal_of("cancel,A,B,,,,,,"), b"day,24\n1,refused,UnknownOrder\n2,done\n"
-        self.assertEqual(audit(data, text, "--replies")[0], command.DONE)
+        self.assertEqual(run_audit(data, text, "--replies")[0], command.DONE)
         for other, said in (
             (text + b"3,done\n", "replies line 4: '3,done' is not a line of these replies"),
             (b"1,done\n" + text, "replies line 1: '1,done' is not a line of these replies"),
@@ -405,31 +405,31 @@ class CommandLine(unittest.TestCase):
                 "replies line 2: it is '1,done' and should be '1,refused,UnknownOrder'",
             ),
         ):
-            self.assertEqual(audit(data, other, "--replies"), (command.DIFFERS, f"{said}\n".encode(), ""))
-        self.assertEqual(audit(data, b"", "--replies")[0], command.DIFFERS)
+            self.assertEqual(run_audit(data, other, "--replies"), (command.DIFFERS, f"{said}\n".encode(), ""))
+        self.assertEqual(run_audit(data, b"", "--replies")[0], command.DIFFERS)
         said = b"the encoding differs: the last line has no line end\nas the rules say: 2 replies, 1 of 2 commands refused\n"
-        self.assertEqual(audit(data, text[:-1], "--replies"), (command.ENCODING, said, ""))
+        self.assertEqual(run_audit(data, text[:-1], "--replies"), (command.ENCODING, said, ""))
 
     def test_the_text_of_a_day(self):
-        day = AUCTION.read_bytes() + b"results\n" + printed(AUCTION)
-        self.assertEqual(tool("audit", "-", data=day)[0], command.DONE)
-        self.assertEqual(tool("audit", "-", data=day.replace(b"welfare,3", b"welfare,4"))[0], command.DIFFERS)
-        self.assertEqual(tool("audit", "-", data=day.replace(b"day,24,", b'"day",24,'))[0], command.ENCODING)
-        self.assertEqual(tool("audit", "-", data=AUCTION.read_bytes())[0], command.NO_INPUT)
+        day = AUCTION.read_bytes() + b"results\n" + read_results(AUCTION)
+        self.assertEqual(run_tool("audit", "-", data=day)[0], command.DONE)
+        self.assertEqual(run_tool("audit", "-", data=day.replace(b"welfare,3", b"welfare,4"))[0], command.DIFFERS)
+        self.assertEqual(run_tool("audit", "-", data=day.replace(b"day,24,", b'"day",24,'))[0], command.ENCODING)
+        self.assertEqual(run_tool("audit", "-", data=AUCTION.read_bytes())[0], command.NO_INPUT)
         for other in (b"\xef\xbb\xbf" + day, day.replace(b"\n", b"\r"), day.replace(b"\nresults\n", b'\n"results"\n')):
-            self.assertEqual(tool("audit", "-", data=other)[:2], (command.NO_INPUT, b""))
+            self.assertEqual(run_tool("audit", "-", data=other)[:2], (command.NO_INPUT, b""))
 
     def test_the_most_blocks(self):
         blocks = [f"submit,A,K{number},block,sell,1,1:1,," for number in range(rules.MOST_BLOCKS)]
         data = journal_of(*blocks)
         text = results_of(data, frozenset())
         wanted = command.DONE if modules.has_module("numpy") or modules.debian_has("numpy") else command.FAILED
-        self.assertEqual(audit(data, text, "--best")[0], wanted)
+        self.assertEqual(run_audit(data, text, "--best")[0], wanted)
 
     def test_a_tool_without_its_parts_has_no_verdict(self):
         """If Python leaves the tool's folder out, the tool finds it; a copy without it says so, and never that the results are wrong."""
         words = [AUCTION, AUCTION_RESULTS, "--quiet"]
-        self.assertEqual(tool("audit", *words, python=(sys.executable, "-I")), (command.DONE, b"", ""))
+        self.assertEqual(run_tool("audit", *words, python=(sys.executable, "-I")), (command.DONE, b"", ""))
         with tempfile.TemporaryDirectory() as folder:
             copy = shutil.copy(support.TOOLS / "audit", folder)
             ran = subprocess.run([sys.executable, copy, *words], capture_output=True)
@@ -438,12 +438,12 @@ class CommandLine(unittest.TestCase):
 
     def test_what_was_not_checked_is_said(self):
         """Without --best, the status of the selection; for a wrong form, the status of the numbers."""
-        data, text = AUCTION.read_bytes(), printed(AUCTION)
+        data, text = AUCTION.read_bytes(), read_results(AUCTION)
         said = "welfare 3,021,520.00 EUR, 1 of 94 commands refused" + verdict.NOT_CHECKED
-        self.assertTrue(audit(data, text)[1].decode().splitlines()[0].endswith(said))
-        self.assertNotIn(b"not checked", audit(data, text, "--best")[1])
-        self.assertNotIn(b"not checked", audit(journal_of(), results_of(journal_of(), frozenset()))[1])
-        status, out, _ = audit(data, text.replace(b"period,20,", b"period,20,+"), "--best")
+        self.assertTrue(run_audit(data, text)[1].decode().splitlines()[0].endswith(said))
+        self.assertNotIn(b"not checked", run_audit(data, text, "--best")[1])
+        self.assertNotIn(b"not checked", run_audit(journal_of(), results_of(journal_of(), frozenset()))[1])
+        status, out, _ = run_audit(data, text.replace(b"period,20,", b"period,20,+"), "--best")
         number = text.split(b"period,20,")[1].split(b",")[0].decode()
         form = f"results line 22: period 20: '+{number}' isn't a number as dam writes it: no +, no leading zeros, no -0"
         self.assertEqual((status, out.decode().splitlines()), (command.DIFFERS, [form, verdict.NEITHER]))
@@ -454,26 +454,26 @@ class CommandLine(unittest.TestCase):
             (b"\x1f\x8b\x08\r\n", "is a compressed file (.gz) instead of results; gunzip FILE unpacks it"),
             (b"\n<!DOCTYPE html>\n", "is a web page (HTML) instead of results"),
         ):
-            status, out, err = audit(AUCTION.read_bytes(), data)
+            status, out, err = run_audit(AUCTION.read_bytes(), data)
             self.assertEqual((status, out, err.endswith(f"{said}\n")), (command.NO_INPUT, b"", True))
 
     def test_what_a_spreadsheet_changes_besides_the_encoding_is_wrong(self):
         """Padding to a rectangle, and other separators: docs/FORMATS.md says so."""
-        data, text = AUCTION.read_bytes(), printed(AUCTION)
+        data, text = AUCTION.read_bytes(), read_results(AUCTION)
         tabs = text.replace(b",", b"\t").decode().encode("utf-16")
         for other in (text.replace(b"day,24\n", b"day,24,,,\n"), text.replace(b",", b";"), tabs, text.replace(b"\n", b"\r\r\n")):
-            self.assertEqual(audit(data, other)[0], command.DIFFERS)
+            self.assertEqual(run_audit(data, other)[0], command.DIFFERS)
 
     def test_other_encodings_are_named_right(self):
         """UTF-32 isn't UTF-16, and a tab somewhere isn't a separator."""
-        for data in (printed(AUCTION).decode().encode("utf-32"), b"\x07\tday,24\n"):
-            status, out, _ = audit(AUCTION.read_bytes(), data)
+        for data in (read_results(AUCTION).decode().encode("utf-32"), b"\x07\tday,24\n"):
+            status, out, _ = run_audit(AUCTION.read_bytes(), data)
             self.assertEqual((status, b"none of the lines of the results belongs" in out), (command.DIFFERS, True), out)
             self.assertNotIn(b"separated", out)
             self.assertNotIn(b"UTF-16", out)
 
     def test_repeated_results_are_of_this_journal(self):
-        status, out, _ = audit(AUCTION.read_bytes(), printed(AUCTION) * 3)
+        status, out, _ = run_audit(AUCTION.read_bytes(), read_results(AUCTION) * 3)
         self.assertEqual((status, b"another journal" in out), (command.DIFFERS, False))
 
     def test_too_little_time(self):
@@ -482,14 +482,14 @@ class CommandLine(unittest.TestCase):
         if modules.has_module("scipy"):
             methods["highs"] = "HiGHS is still searching"
         for method, far in methods.items():
-            status, out, err = audit(AUCTION.read_bytes(), printed(AUCTION), "--best", "--by", method, "--seconds", "0")
+            status, out, err = run_audit(AUCTION.read_bytes(), read_results(AUCTION), "--best", "--by", method, "--seconds", "0")
             said = f"audit: the results obey the other rules, but after 0 seconds, {far}: --seconds gives more time\n"
             self.assertEqual((status, out, err), (command.UNDECIDED, b"", said))
 
     @unittest.skipUnless(modules.has_module("scipy"), "scipy is missing (Debian's python3-scipy)")
     def test_highs_without_blocks(self):
         """The day has one selection, and the answer is as without HiGHS."""
-        found = [audit(FIRST, results_of(FIRST, frozenset()), "--best", *words) for words in ((), ("--by", "highs"))]
+        found = [run_audit(FIRST, results_of(FIRST, frozenset()), "--best", *words) for words in ((), ("--by", "highs"))]
         self.assertEqual((found[0][0], found[0]), (command.DONE, found[1]))
         self.assertIn(b"; no selection is better: there is no block to select\n", found[1][1])
 
@@ -498,7 +498,7 @@ class CommandLine(unittest.TestCase):
         from lib.audit import solver
 
         day = problem(AUCTION.read_bytes())
-        accepted = frozenset(results.read_results(day, printed(AUCTION))[0].accepted)
+        accepted = frozenset(results.read_results(day, read_results(AUCTION))[0].accepted)
         welfare = selection.eligible_welfare(day, accepted)
         for offers, said in (
             ([None], "HiGHS found none better"),
@@ -515,15 +515,16 @@ class CommandLine(unittest.TestCase):
 
     def test_empty_lines_are_an_encoding_at_the_end_alone(self):
         for ends in (b"\n", b"\n\n\n", b"\r\n"):
-            status, out, _ = audit(AUCTION.read_bytes(), printed(AUCTION) + ends)
+            status, out, _ = run_audit(AUCTION.read_bytes(), read_results(AUCTION) + ends)
             self.assertEqual(status, command.ENCODING)
             self.assertIn(b"the encoding differs: empty lines follow the last line\n", out)
-        self.assertEqual(audit(AUCTION.read_bytes(), b"\n\n")[0], command.DIFFERS)
+        self.assertEqual(run_audit(AUCTION.read_bytes(), b"\n\n")[0], command.DIFFERS)
         said = f"results line 4: the line is empty, and should not be there\n{NOT_COMPARED}".encode()
-        self.assertEqual(audit(AUCTION.read_bytes(), printed(AUCTION).replace(b"period,2,", b"\nperiod,2,")), (command.DIFFERS, said, ""))
+        edited = read_results(AUCTION).replace(b"period,2,", b"\nperiod,2,")
+        self.assertEqual(run_audit(AUCTION.read_bytes(), edited), (command.DIFFERS, said, ""))
 
     def test_a_text_in_the_place_of_another_is_named(self):
-        journal_data, text = AUCTION.read_bytes(), printed(AUCTION)
+        journal_data, text = AUCTION.read_bytes(), read_results(AUCTION)
         replies, day = b"day,24\n1,done\n", journal_data + b"results\n" + text
         orders = sheets.table_text([tables.ORDER]).encode()
         for words, one, other, said in (
@@ -535,30 +536,30 @@ class CommandLine(unittest.TestCase):
             (["--replies"], journal_data, text, "results has results instead of replies"),
             ([], orders, text, "journal has a table of orders instead of a journal; tools/table --journal makes a journal of it"),
         ):
-            status, out, err = audit(one, other, *words)
+            status, out, err = run_audit(one, other, *words)
             self.assertEqual((status, out), (command.NO_INPUT, b""))
             self.assertTrue(err.startswith("audit: /") and err.endswith(f"/{said}\n"), err)
 
     def test_one_stray_or_missing_line_is_one_message(self):
-        data, lines = AUCTION.read_bytes(), printed(AUCTION).splitlines(keepends=True)
+        data, lines = AUCTION.read_bytes(), read_results(AUCTION).splitlines(keepends=True)
         for at in (0, 1, 2, 30, len(lines)):
             stray = b"".join([*lines[:at], b"stray,\xff\x0b\x1b,line\n", *lines[at:]])
             said = f"results line {at + 1}: 'stray,\\xff\\x0b\\x1b,line' doesn't belong here\n{NOT_COMPARED}".encode()
-            self.assertEqual(audit(data, stray), (command.DIFFERS, said, ""))
+            self.assertEqual(run_audit(data, stray), (command.DIFFERS, said, ""))
         for at, about in (0, "the day"), (1, "the welfare"), (4, "period 3"), (len(lines) - 1, "block OLD,UNIT-7"):
             missing = b"".join(lines[:at] + lines[at + 1 :])
             where = f"before results line {at + 1}" if at + 1 < len(lines) else f"at the end of the results, as line {at + 1}"
             said = f"the line for {about} is missing {where}\n{NOT_COMPARED}".encode()
-            self.assertEqual(audit(data, missing), (command.DIFFERS, said, ""))
+            self.assertEqual(run_audit(data, missing), (command.DIFFERS, said, ""))
         twice = b"".join(lines[:5] + lines[4:])
-        self.assertEqual(audit(data, twice)[1].count(b"\n"), 2)
+        self.assertEqual(run_audit(data, twice)[1].count(b"\n"), 2)
 
     def test_lines_in_another_order_are_said_to_be(self):
         """Which line stands where, and where it belongs: once for a line that moved, twice for two that were swapped."""
-        data, lines = AUCTION.read_bytes(), printed(AUCTION).splitlines(keepends=True)
+        data, lines = AUCTION.read_bytes(), read_results(AUCTION).splitlines(keepends=True)
 
         def told(*places):
-            *faults, last = audit(data, b"".join(lines[place] for place in places))[1].decode().splitlines()
+            *faults, last = run_audit(data, b"".join(lines[place] for place in places))[1].decode().splitlines()
             self.assertEqual(f"{last}\n", NOT_COMPARED)
             return faults
 
@@ -582,61 +583,61 @@ class CommandLine(unittest.TestCase):
 
     def test_results_of_another_journal_are_said_to_be(self):
         """First of all, for other orders and for other numbers; and not for one wrong block."""
-        data, text = AUCTION.read_bytes(), printed(AUCTION)
+        data, text = AUCTION.read_bytes(), read_results(AUCTION)
         renamed = re.sub(rb"^(hour|block),([A-Z]+),", rb"\1,\2X,", text, flags=re.MULTILINE)
-        status, out, _ = audit(data, renamed)
+        status, out, _ = run_audit(data, renamed)
         said = "these seem to be the results of another journal: 89 of their 89 lines of orders are"
         said += " of orders that this journal doesn't have"
         self.assertEqual((status, out.decode().splitlines()[0]), (command.DIFFERS, said))
         another = re.sub(rb"^((?:welfare|period|hour|block),(?:.*,)?)-?(\d+)$", rb"\g<1>1\2", text, flags=re.MULTILINE)
-        status, out, _ = audit(data, another)
+        status, out, _ = run_audit(data, another)
         said = r"^these seem to be the results of another journal: \d+ of their 115 lines are wrong$"
         self.assertRegex(out.decode().splitlines()[0], said)
         for word, other in ((b"STAY,accepted", b"STAY,rejected"), (b"UNIT-7,rejected", b"UNIT-7,accepted")):
-            self.assertNotIn(b"another journal", audit(data, text.replace(word, other))[1])
+            self.assertNotIn(b"another journal", run_audit(data, text.replace(word, other))[1])
 
     def test_a_price_without_a_choice(self):
-        status, out, _ = audit(AUCTION.read_bytes(), printed(AUCTION).replace(b"period,19,16500,", b"period,19,16501,"))
+        status, out, _ = run_audit(AUCTION.read_bytes(), read_results(AUCTION).replace(b"period,19,16500,", b"period,19,16501,"))
         self.assertIn(b"the price is 16501; the only supporting price is 16500 (cents)\n", out)
 
     def test_no_better_selection_is_looked_for_if_the_results_are_wrong(self):
-        wrong = printed(AUCTION).replace(b"welfare,3", b"welfare,4")
-        status, out, err = audit(AUCTION.read_bytes(), wrong, "--best")
+        wrong = read_results(AUCTION).replace(b"welfare,3", b"welfare,4")
+        status, out, err = run_audit(AUCTION.read_bytes(), wrong, "--best")
         self.assertEqual((status, out.count(b"\n"), err), (command.DIFFERS, 3, ""))
         self.assertTrue(out.endswith(b"\nno better selection was looked for, since the results break other rules\n"), out)
-        self.assertNotIn(b"no better selection", audit(AUCTION.read_bytes(), wrong)[1])
+        self.assertNotIn(b"no better selection", run_audit(AUCTION.read_bytes(), wrong)[1])
 
     def test_one_of_each_is_counted_so(self):
         data = journal_of("submit,A,B,hour,buy,1,24:1,,", "submit,A,K,block,buy,1,24:1,,")
-        status, out, _ = audit(data, results_of(data, frozenset()))
+        status, out, _ = run_audit(data, results_of(data, frozenset()))
         self.assertIn(b"24 periods, 1 hourly order, 0 of 1 block accepted,", out)
-        self.assertEqual(audit(journal_of(), b"day,24\n1,done\n", "--replies")[1], b"as the rules say: 1 reply\n")
+        self.assertEqual(run_audit(journal_of(), b"day,24\n1,done\n", "--replies")[1], b"as the rules say: 1 reply\n")
 
     def test_no_more_than_twenty_lines_are_told(self):
         data = AUCTION.read_bytes()
         junk = b"".join(b"%d\n" % number for number in range(500))
-        status, out, _ = audit(data, printed(AUCTION) + junk)
+        status, out, _ = run_audit(data, read_results(AUCTION) + junk)
         lines = out.decode().splitlines()
         self.assertEqual((status, len(lines), lines[-2]), (command.DIFFERS, 22, "and 480 more: --all prints every line"))
-        self.assertEqual(len(audit(data, printed(AUCTION) + junk, "--all")[1].splitlines()), 501)
+        self.assertEqual(len(run_audit(data, read_results(AUCTION) + junk, "--all")[1].splitlines()), 501)
         said = f"none of the lines of the results belongs to this journal: the first is '0'\n{NOT_COMPARED}".encode()
-        self.assertEqual(audit(data, junk), (command.DIFFERS, said, ""))
+        self.assertEqual(run_audit(data, junk), (command.DIFFERS, said, ""))
         for comma, name in (b";", b"semicolons"), (b"\t", b"tabs"):
-            other = printed(AUCTION).replace(b",", comma)
+            other = read_results(AUCTION).replace(b",", comma)
             shown = other.split(b"\n")[0].replace(b"\t", b"\\t")
             said = b"the fields of the results are separated by %s instead of commas: the first line is '%s'\n" % (name, shown)
-            self.assertEqual(audit(data, other), (command.DIFFERS, said + NOT_COMPARED.encode(), ""))
-        self.assertEqual(audit(data, b""), (command.DIFFERS, f"the results are empty\n{NOT_COMPARED}".encode(), ""))
-        self.assertEqual(len(audit(data, b"day,24\n" + junk, "--replies")[1].splitlines()), 21)
+            self.assertEqual(run_audit(data, other), (command.DIFFERS, said + NOT_COMPARED.encode(), ""))
+        self.assertEqual(run_audit(data, b""), (command.DIFFERS, f"the results are empty\n{NOT_COMPARED}".encode(), ""))
+        self.assertEqual(len(run_audit(data, b"day,24\n" + junk, "--replies")[1].splitlines()), 21)
 
     def test_refused_commands_are_counted(self):
         text = results_of(journal_of("submit,A,B,hour,buy,1,24:1,,"), frozenset())
         for command_line, said in (b"cancel,A,C,,,,,,\n", b"welfare 0.00 EUR, 1 of 3 commands refused"), (b"", b"welfare 0.00 EUR"):
             data = journal_of("submit,A,B,hour,buy,1,24:1,,").replace(b"close", command_line + b"close")
-            status, out, _ = audit(data, text)
+            status, out, _ = run_audit(data, text)
             self.assertEqual((status, out.splitlines()[0].endswith(said)), (command.DONE, True), out)
         data = journal_of("submit,A,B,hour,buy,1,25:1,,")
-        status, out, _ = audit(data, b"day,24\n1,refused,PeriodOutOfDay\n2,done\n", "--replies")
+        status, out, _ = run_audit(data, b"day,24\n1,refused,PeriodOutOfDay\n2,done\n", "--replies")
         self.assertEqual((status, out), (command.DONE, b"as the rules say: 2 replies, 1 of 2 commands refused\n"))
 
     def test_no_option_is_ignored_or_short(self):
@@ -655,11 +656,11 @@ class CommandLine(unittest.TestCase):
             ["--jobs", "2"],
             ["--best", "--replies"],
         ):
-            status, out, err = audit(AUCTION.read_bytes(), printed(AUCTION), *words)
+            status, out, err = run_audit(AUCTION.read_bytes(), read_results(AUCTION), *words)
             self.assertEqual((status, out), (command.COMMAND_LINE, b""), words)
             self.assertIn("audit: error: ", err)
         for words in (["-", "-"], ["--replies", "-"]):
-            self.assertEqual(tool("audit", *words)[0], command.COMMAND_LINE)
+            self.assertEqual(run_tool("audit", *words)[0], command.COMMAND_LINE)
 
     def test_amounts_have_the_digits_that_they_need(self):
         for amount, hours, said in (
@@ -674,7 +675,7 @@ class CommandLine(unittest.TestCase):
             self.assertEqual(exact_eur(amount, hours), said)
 
     def test_amounts_of_quarter_hours(self):
-        _, out, _ = audit(QUARTERS.read_bytes(), printed(QUARTERS))
+        _, out, _ = run_audit(QUARTERS.read_bytes(), read_results(QUARTERS))
         self.assertIn(b", welfare 3,098,696.75 EUR, ", out)
         self.assertIn(b"buyers pay 885,657.75 EUR, sellers receive 885,657.75 EUR; ", out)
 
@@ -687,16 +688,16 @@ class CommandLine(unittest.TestCase):
         self.assertEqual(best.tried_words(11, 7), "each of 2,048 selections was tried, of which links and groups admit 7")
 
     def test_quiet_and_help(self):
-        self.assertEqual(audit(AUCTION.read_bytes(), printed(AUCTION), "--quiet"), (0, b"", ""))
-        doctored = printed(AUCTION).replace(b"welfare,3", b"welfare,4")
-        self.assertEqual(audit(AUCTION.read_bytes(), doctored, "--quiet"), (command.DIFFERS, b"", ""))
-        status, out, err = audit(AUCTION.read_bytes(), AUCTION.read_bytes(), "--quiet")
+        self.assertEqual(run_audit(AUCTION.read_bytes(), read_results(AUCTION), "--quiet"), (0, b"", ""))
+        doctored = read_results(AUCTION).replace(b"welfare,3", b"welfare,4")
+        self.assertEqual(run_audit(AUCTION.read_bytes(), doctored, "--quiet"), (command.DIFFERS, b"", ""))
+        status, out, err = run_audit(AUCTION.read_bytes(), AUCTION.read_bytes(), "--quiet")
         self.assertEqual((status, out, "has a journal instead of results" in err), (command.NO_INPUT, b"", True))
-        status, out, _ = tool("audit", "--help")
+        status, out, _ = run_tool("audit", "--help")
         self.assertEqual((status, b"JOURNAL" in out), (0, True))
         self.assertIn(b"don't print the verdict and the faults", out)
         self.assertIn(b"tools/audit --best examples/auction-day.csv results.txt\n", out)
-        self.assertEqual(audit((support.TOP / "examples/auction-day.csv").read_bytes(), printed(AUCTION), "--best")[0], 0)
+        self.assertEqual(run_audit((support.TOP / "examples/auction-day.csv").read_bytes(), read_results(AUCTION), "--best")[0], 0)
 
 
 if __name__ == "__main__":

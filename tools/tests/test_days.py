@@ -14,7 +14,7 @@ import unittest
 import unittest.mock
 from pathlib import Path
 
-from support import AUCTION, QUARTERS, TOOLS, new_folder, printed, results_of, tool
+from support import AUCTION, QUARTERS, TOOLS, new_folder, read_results, results_of, run_tool
 
 from lib.audit import days, verdict
 from lib.base import record, text
@@ -22,7 +22,7 @@ from lib.results import faults
 from lib.runs import by_program
 from lib.tool import command, file_io
 
-DATA, TEXT = AUCTION.read_bytes(), printed(AUCTION)
+DATA, TEXT = AUCTION.read_bytes(), read_results(AUCTION)
 
 
 class Days(unittest.TestCase):
@@ -36,11 +36,11 @@ class Days(unittest.TestCase):
                 (self.folder / f"{name}.txt").write_bytes(text)
 
     def audit(self, *words, place=None):
-        status, out, err = tool("audit", "--days", place or self.folder, *words)
+        status, out, err = run_tool("audit", "--days", place or self.folder, *words)
         return status, out.decode(), err
 
     def test_right_days(self):
-        self.write(a=(DATA, TEXT), b=(QUARTERS.read_bytes(), printed(QUARTERS)), c=(DATA + b"results\n" + TEXT, None))
+        self.write(a=(DATA, TEXT), b=(QUARTERS.read_bytes(), read_results(QUARTERS)), c=(DATA + b"results\n" + TEXT, None))
         status, out, err = self.audit("--best", "--jobs", "2")
         lines = [line.split() for line in out.splitlines()]
         self.assertEqual((status, err, lines[0][:3]), (0, "", ["day", "verdict", "periods"]))

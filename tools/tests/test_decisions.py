@@ -4,7 +4,7 @@ import random
 import re
 import unittest
 
-from support import AUCTION, TOP, day_of, journal_of, printed, problem, results_of
+from support import AUCTION, TOP, day_of, journal_of, problem, read_results, results_of
 
 from lib.journal import book, journal
 from lib.results import decisions, families, period, selection
@@ -210,7 +210,7 @@ class Hand(unittest.TestCase):
         self.assertLessEqual(right - {"tie", "never", "less-welfare"}, found)
 
     def test_hourly_orders(self):
-        day = day_of(AUCTION.read_bytes(), printed(AUCTION))
+        day = day_of(AUCTION.read_bytes(), read_results(AUCTION))
         found = {name: (row.code, row.outcome, row.why) for (_, name), row in tables.results_by_row(day).items()}
         said = "its limit is the price, 92.00 EUR/MWh; not all that is offered at it is needed"
         self.assertEqual(found["FLEX-1"], ("at-the-price", "in part", said))
@@ -225,7 +225,7 @@ class Hand(unittest.TestCase):
         self.assertEqual(tables.results_by_row(day)["A", "B"].why, "nothing is traded in period 8")
 
     def test_the_auction_day(self):
-        day = day_of(AUCTION.read_bytes(), printed(AUCTION))
+        day = day_of(AUCTION.read_bytes(), read_results(AUCTION))
         found = decisions.decisions(day.problem, day.said.accepted, day.outcome)
         kinds = [decision.kind for decision in found]
         self.assertEqual(kinds[:5], [decisions.ACCEPTED] * 5)

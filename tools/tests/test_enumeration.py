@@ -7,7 +7,7 @@ import sys
 import unittest
 from unittest import mock
 
-from support import TOP, audit, journal_of, problem, results_of, small_problems, tool
+from support import TOP, journal_of, problem, results_of, run_audit, run_tool, small_problems
 
 from lib.audit import best
 from lib.base import rules
@@ -251,9 +251,9 @@ class CommandLine(unittest.TestCase):
         from lib.audit import enumeration
 
         found, _ = enumeration.find_better(day, frozenset(), selection.eligible_welfare(day, frozenset()), Progress("test", 600))
-        status, out, _ = audit(data, results_of(data, found.accepted), "--best", "--jobs", "2")
+        status, out, _ = run_audit(data, results_of(data, found.accepted), "--best", "--jobs", "2")
         self.assertEqual((status, b"each of 4,096 selections was tried" in out), (command.DONE, True))
-        status, out, _ = audit(data, results_of(data, frozenset()), "--best")
+        status, out, _ = run_audit(data, results_of(data, frozenset()), "--best")
         names = " ".join(str(day.blocks[place]) for place in sorted(found.accepted))
         lines = out.decode().splitlines()
         euros = day.euros(found.welfare)
@@ -276,7 +276,7 @@ class CommandLine(unittest.TestCase):
         found, _ = best.enumerate_all(problem(data))
         for accepted in found.accepted, frozenset():
             text = data + b"results\n" + results_of(data, accepted)
-            ran = [tool("audit", "--best", "-", data=text, python=python) for python in ([sys.executable], [sys.executable, "-S"])]
+            ran = [run_tool("audit", "--best", "-", data=text, python=python) for python in ([sys.executable], [sys.executable, "-S"])]
             self.assertEqual(ran[0][0], command.DONE if accepted else command.DIFFERS)
             self.assertEqual(ran[0][1].partition(b"; ")[0], ran[1][1].partition(b"; ")[0])
             self.assertEqual((ran[0][0], ran[0][2]), (ran[1][0], ran[1][2]))
@@ -286,7 +286,7 @@ class CommandLine(unittest.TestCase):
         for count, way in itertools.product(("6", "12"), ways if modules.has_module("scipy") else ways[:1]):
             data = family("market", "200", count)
             accepted = best.enumerate_all(problem(data))[0].accepted if count == "6" else frozenset()
-            status, out, err = audit(data, results_of(data, accepted), "--best", *way, "--seconds", "0")
+            status, out, err = run_audit(data, results_of(data, accepted), "--best", *way, "--seconds", "0")
             self.assertEqual((status, out), (command.UNDECIDED, b""), (way, err))
             self.assertIn("after 0 seconds", err)
 

@@ -7,7 +7,7 @@ import sys
 import unittest
 from fractions import Fraction
 
-from support import QUARTERS, SUNNY, SUNNY_RESULTS, TOP, book, journal, printed, problem, selection, tool
+from support import QUARTERS, SUNNY, SUNNY_RESULTS, TOP, book, journal, problem, read_results, run_tool, selection
 
 from lib.audit import best
 
@@ -21,12 +21,12 @@ class Examples(unittest.TestCase):
         self.assertEqual(ran.stdout, SUNNY.read_bytes())
 
     def test_no_selection_of_the_sunny_day_is_better(self):
-        status, said, _ = tool("audit", "--best", "--by", "enumeration", SUNNY, SUNNY_RESULTS)
+        status, said, _ = run_tool("audit", "--best", "--by", "enumeration", SUNNY, SUNNY_RESULTS)
         self.assertEqual(status, 0)
         self.assertIn(b"8 of 12 blocks accepted", said)
 
     def test_its_prices_differ_from_hour_to_hour(self):
-        prices = [int(line.split(b",")[2]) for line in printed(SUNNY).splitlines() if line.startswith(b"period")]
+        prices = [int(line.split(b",")[2]) for line in read_results(SUNNY).splitlines() if line.startswith(b"period")]
         self.assertGreater(len(set(prices)), 20)
         self.assertLess(min(prices), 0)
 
@@ -50,7 +50,7 @@ class Walk:
         self.text = walk(self.heading)
         self.problem = problem(self.example.read_bytes())
         names = {block.name: place for place, block in enumerate(self.problem.blocks)}
-        lines = printed(self.example).decode().splitlines()
+        lines = read_results(self.example).decode().splitlines()
         self.accepted = {names[line.split(",")[2]] for line in lines if re.match("block,.*,accepted,", line)}
         self.names = names
 
@@ -78,7 +78,8 @@ class Walk:
     def test_the_lines_are_printed(self):
         quoted = LINE.findall(self.text)
         self.assertGreater(len(quoted), 9)
-        self.assertEqual([line for line in quoted if line not in printed(self.example).decode().splitlines() + replies(self.example)], [])
+        printed = read_results(self.example).decode().splitlines() + replies(self.example)
+        self.assertEqual([line for line in quoted if line not in printed], [])
 
     def test_the_welfare(self):
         welfare = self.outcome()[0].welfare
@@ -117,7 +118,7 @@ class SunnyDay(Walk, unittest.TestCase):
         """Of those with hourly orders, only the two with the highest limits don't run."""
         limits = dict(re.findall(r"^submit,(\w+,[\w-]+),hour,sell,(-?\d+),20:", SUNNY.read_text(), re.MULTILINE))
         dearest = sorted(limits, key=lambda order: int(limits[order]))[-2:]
-        idle = [order for order in re.findall(r"^hour,(.*),0$", printed(SUNNY).decode(), re.MULTILINE) if order in limits]
+        idle = [order for order in re.findall(r"^hour,(.*),0$", read_results(SUNNY).decode(), re.MULTILINE) if order in limits]
         self.assertEqual(sorted(idle), sorted(dearest))
         self.assertIn("All plants with hourly orders run except the two most expensive.", self.text)
 

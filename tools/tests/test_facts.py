@@ -8,7 +8,7 @@ import sys
 import unittest
 from unittest import mock
 
-from support import TOP, loaded, worked
+from support import TOP, load_tool, worked
 
 from lib.base import rules
 from lib.journal import book
@@ -366,7 +366,7 @@ class Facts(unittest.TestCase):
 
     def test_the_numbers_of_definitions(self):
         """They are said in round numbers."""
-        tool, text = loaded("reading-list"), plain(TOP / "docs" / "ASSURANCE.md")
+        tool, text = load_tool("reading-list"), plain(TOP / "docs" / "ASSURANCE.md")
         repository = Repository(TOP)
         nodes = {node for _, _, new in tool.lists(repository) for node in new}
         sizes = dict(tool.reached_sizes(repository))["`run_clear`"]

@@ -15,7 +15,7 @@ import zipfile
 from pathlib import Path
 from unittest import mock
 
-from support import AUCTION, AUCTION_RESULTS, TOOLS, new_folder, printed, tool
+from support import AUCTION, AUCTION_RESULTS, TOOLS, new_folder, read_results, run_tool
 
 from lib.base import replacing
 from lib.sheets import tables
@@ -41,7 +41,7 @@ class Files(unittest.TestCase):
     def setUp(self):
         self.folder = new_folder(self)
         self.journal, self.results = self.folder / "day.csv", self.folder / "results.txt"
-        self.write(AUCTION.read_bytes(), printed(AUCTION))
+        self.write(AUCTION.read_bytes(), read_results(AUCTION))
 
     def write(self, data, text):
         self.journal.write_bytes(data)
@@ -54,17 +54,17 @@ class Files(unittest.TestCase):
         for name in TOOLS_HERE:
             for out in [link] if name == "plot" else [link, self.journal]:
                 said = f"{name}: {out} is one of the inputs, and would be lost: write to another file\n"
-                self.assertEqual(tool(name, *texts, "-o", out), (command.COMMAND_LINE, b"", said))
+                self.assertEqual(run_tool(name, *texts, "-o", out), (command.COMMAND_LINE, b"", said))
         orders = self.folder / "orders.csv"
-        self.assertEqual(tool("table", *texts, "--rows", "orders", "-o", orders)[0], 0)
+        self.assertEqual(run_tool("table", *texts, "--rows", "orders", "-o", orders)[0], 0)
         made = orders.read_bytes()
         for words in (["--journal", orders, "-o", orders], [self.journal, orders, "--all", self.folder]):
-            status, _, err = tool("table", *words)
+            status, _, err = run_tool("table", *words)
             self.assertEqual((status, "is one of the inputs" in err, orders.read_bytes()), (command.COMMAND_LINE, True, made))
         with orders.open() as given:
             words = [sys.executable, TOOLS / "table", "--journal", "-", "-o", orders]
             self.assertEqual(subprocess.run(words, stdin=given, stderr=subprocess.DEVNULL).returncode, command.COMMAND_LINE)
-        self.assertEqual([path.read_bytes() for path in (*texts, orders)], [AUCTION.read_bytes(), printed(AUCTION), made])
+        self.assertEqual([path.read_bytes() for path in (*texts, orders)], [AUCTION.read_bytes(), read_results(AUCTION), made])
 
     def test_an_old_file_stays_until_the_new_one_is_whole(self):
         out, words = self.folder / "a.csv", [sys.executable, TOOLS / "table", "--quiet", self.journal, self.results, "-o"]
@@ -81,7 +81,8 @@ class Files(unittest.TestCase):
         before = self.journal.read_bytes()
         for out in ("dir/", "a.csv/", "a.csv/.", "a.xlsx/", "day.csv/", "day.csv/.", "."):
             said = f"table: {self.folder}/{out} can't be written: Is a directory\n"
-            self.assertEqual(tool("table", "--quiet", self.journal, self.results, "-o", f"{self.folder}/{out}"), (command.NO_INPUT, b"", said))
+            found = run_tool("table", "--quiet", self.journal, self.results, "-o", f"{self.folder}/{out}")
+            self.assertEqual(found, (command.NO_INPUT, b"", said))
         self.assertEqual(self.journal.read_bytes(), before)
         self.assertEqual(sorted(path.name for path in self.folder.iterdir()), ["day.csv", "results.txt"])
 
@@ -168,13 +169,13 @@ class Files(unittest.TestCase):
             for kind in ("a file", "a link"):
                 own.write_bytes(b"mine") if kind == "a file" else own.symlink_to("gone")
                 said = f"{name}: {out} is there already: name it by --out to replace it\n"
-                self.assertEqual(tool(name, *texts, *words), (command.COMMAND_LINE, b"", said), kind)
+                self.assertEqual(run_tool(name, *texts, *words), (command.COMMAND_LINE, b"", said), kind)
                 self.assertEqual(own.is_symlink() or own.read_bytes(), kind == "a link" or b"mine")
                 own.unlink()
-            self.assertEqual(tool(name, *texts, *words), (0, b"", ""))
+            self.assertEqual(run_tool(name, *texts, *words), (0, b"", ""))
             right = own.read_bytes()
             own.write_bytes(b"mine")
-            self.assertEqual((tool(name, *texts, *words, "-o", out), own.read_bytes()), ((0, b"", ""), right))
+            self.assertEqual((run_tool(name, *texts, *words, "-o", out), own.read_bytes()), ((0, b"", ""), right))
 
     def test_no_file_of_another_run_is_replaced(self):
         """That run makes it after this one has looked, and before it writes."""
@@ -195,7 +196,7 @@ class Files(unittest.TestCase):
 
         for name, out, words, advice in lines:
             with mock.patch.object(file_io, "refuse_to_replace", functools.partial(looked, out)):
-                found = tool(name, *words)
+                found = run_tool(name, *words)
             said = f"{NOTE if '--all' in words else ''}{name}: {out} is there already{advice}\n"
             self.assertEqual((found, Path(out).read_bytes()), ((command.COMMAND_LINE, b"", said), b"of another run"))
         self.assertEqual([path for path in self.folder.rglob(".*")], [])
@@ -232,10 +233,10 @@ class Files(unittest.TestCase):
 
     def test_a_folder_is_made(self):
         texts, folder = [self.journal, self.results], self.folder / "a" / "b"
-        self.assertEqual(tool("table", *texts, "--all", folder), (0, b"", NOTE))
+        self.assertEqual(run_tool("table", *texts, "--all", folder), (0, b"", NOTE))
         self.assertEqual({path.name for path in folder.iterdir()}, {f"{name}.csv" for name in tables.TABLES})
         said = f"{NOTE}table: {self.journal} can't be made: File exists\n"
-        self.assertEqual(tool("table", *texts, "--all", self.journal), (command.NO_INPUT, b"", said))
+        self.assertEqual(run_tool("table", *texts, "--all", self.journal), (command.NO_INPUT, b"", said))
 
     def test_tables_replace_no_file_that_is_there(self):
         """Not by names that the tool gives them: the other tables aren't written either."""
@@ -248,22 +249,22 @@ class Files(unittest.TestCase):
                 own.symlink_to("gone.csv")
             for words in ([], ["--decimal-comma"]):
                 said = f"table: {own} is there already: name another folder, or replace it by --replace\n"
-                found = tool("table", *texts, "--all", self.folder, *words)
+                found = run_tool("table", *texts, "--all", self.folder, *words)
                 self.assertEqual(found, (command.COMMAND_LINE, b"", said), kind)
         self.assertEqual({path.name for path in self.folder.iterdir()}, {"day.csv", "results.txt", "orders.csv"})
-        self.assertEqual(tool("table", *texts, "--all", self.folder, "--json"), (0, b"", NOTE))
+        self.assertEqual(run_tool("table", *texts, "--all", self.folder, "--json"), (0, b"", NOTE))
         self.assertTrue(own.is_symlink())
 
     def test_tables_replace_all_files_or_none(self):
         """A folder has the name of one, or the disk is full."""
         texts, folder = (self.journal, self.results), self.folder / "tables"
-        self.assertEqual(tool("table", *texts, "--all", folder), (0, b"", NOTE))
+        self.assertEqual(run_tool("table", *texts, "--all", folder), (0, b"", NOTE))
         for path in folder.iterdir():
             path.write_bytes(b"old")
         names, limits = sorted(folder.iterdir()), resource.getrlimit(resource.RLIMIT_FSIZE)
         resource.setrlimit(resource.RLIMIT_FSIZE, (10_000, limits[1]))
         try:
-            found = tool("table", *texts, "--replace", "--all", folder)
+            found = run_tool("table", *texts, "--replace", "--all", folder)
         finally:
             resource.setrlimit(resource.RLIMIT_FSIZE, limits)
         said = f"{NOTE}table: {folder / 'statement.csv'} can't be written: File too large\n"
@@ -271,7 +272,7 @@ class Files(unittest.TestCase):
         (folder / "figures.csv").unlink()
         (folder / "figures.csv").mkdir()
         said = f"{NOTE}table: {folder / 'figures.csv'} can't be written: Is a directory\n"
-        self.assertEqual(tool("table", *texts, "--replace", "--all", folder), (command.NO_INPUT, b"", said))
+        self.assertEqual(run_tool("table", *texts, "--replace", "--all", folder), (command.NO_INPUT, b"", said))
         self.assertEqual({path.read_bytes() for path in folder.iterdir() if path.is_file()}, {b"old"})
         self.assertEqual(sorted(folder.iterdir()), names)
 
@@ -281,48 +282,49 @@ class Files(unittest.TestCase):
         Path(folder, "orders.csv").write_bytes(b"of another day\n")
         Path(folder, "mine.csv").write_bytes(b"mine\n")
         for _ in range(2):
-            self.assertEqual(tool("table", *texts, "--replace", "--all", folder), (0, b"", NOTE))
-        self.assertEqual(Path(folder, "orders.csv").read_bytes(), tool("table", *texts, "--rows", "orders")[1])
+            self.assertEqual(run_tool("table", *texts, "--replace", "--all", folder), (0, b"", NOTE))
+        self.assertEqual(Path(folder, "orders.csv").read_bytes(), run_tool("table", *texts, "--rows", "orders")[1])
         self.assertEqual(Path(folder, "mine.csv").read_bytes(), b"mine\n")
         said = f"table: {self.journal} is one of the inputs, and would be lost: write to another file\n"
         named = self.folder / "periods.csv"
         self.journal.rename(named)
         self.journal.symlink_to(named.name)
-        self.assertEqual(tool("table", *texts, "--replace", "--all", self.folder), (command.COMMAND_LINE, b"", said.replace("day.csv", "periods.csv")))
+        found = run_tool("table", *texts, "--replace", "--all", self.folder)
+        self.assertEqual(found, (command.COMMAND_LINE, b"", said.replace("day.csv", "periods.csv")))
         for words in ([], ["--all", self.folder / "a.xlsx"], ["-o", self.folder / "a.csv"], ["--journal"]):
-            status, out, err = tool("table", *texts, "--replace", *words)
+            status, out, err = run_tool("table", *texts, "--replace", *words)
             said = "--replace goes with --all and the name of a folder"
             self.assertEqual((status, out, said in err), (command.COMMAND_LINE, b"", True), words)
 
     def test_what_is_odd_about_results_is_said_in_words(self):
         """They are read nevertheless, and every tool first says the same as the audit."""
-        text = printed(AUCTION)
+        text = read_results(AUCTION)
         for name in TOOLS_HERE:
             words = ["-o", "-"]
             self.write(AUCTION.read_bytes(), text)
-            right = tool(name, self.journal, self.results, *words)
+            right = run_tool(name, self.journal, self.results, *words)
             for other, said in (
                 (text.replace(b"\n", b"\r\n"), "the lines end with CR LF instead of LF alone"),
                 (MARK + text, "the text begins with a byte order mark"),
             ):
                 self.write(AUCTION.read_bytes(), other)
-                status, out, err = tool(name, self.journal, self.results, *words)
+                status, out, err = run_tool(name, self.journal, self.results, *words)
                 self.assertEqual(status, 0)
                 if name != "report":  # which says it too
                     self.assertEqual(out, right[1])
                 self.assertEqual(err, f"{right[2]}{name}: the encoding of the results differs ({said}): see tools/audit\n")
 
     def test_results_that_break_the_rules_are_said_to(self):
-        self.write(AUCTION.read_bytes(), printed(AUCTION).replace(b"welfare,3", b"welfare,4"))
+        self.write(AUCTION.read_bytes(), read_results(AUCTION).replace(b"welfare,3", b"welfare,4"))
         for name in TOOLS_HERE:
-            status, _, err = tool(name, self.journal, self.results, "-o", "-")
+            status, _, err = run_tool(name, self.journal, self.results, "-o", "-")
             said = f"{name}: the results break the rules (results line 2: the welfare is 4"
             self.assertEqual((status, err.removeprefix(NOTE)[: len(said)]), (command.DIFFERS, said))
         day = [self.journal, self.results]
-        status, _, err = tool("compare", *day, AUCTION, AUCTION_RESULTS)
+        status, _, err = run_tool("compare", *day, AUCTION, AUCTION_RESULTS)
         said = "compare: the results break the rules"
         self.assertEqual((status, err[: len(said)]), (command.DIFFERS, said))
-        self.assertEqual(tool("compare", AUCTION, AUCTION_RESULTS, *day)[0], command.DIFFERS)
+        self.assertEqual(run_tool("compare", AUCTION, AUCTION_RESULTS, *day)[0], command.DIFFERS)
 
 
 class OtherKinds(unittest.TestCase):
@@ -358,25 +360,25 @@ class OtherKinds(unittest.TestCase):
         }
         for (name, words), (data, (kind, advice)) in itertools.product(tools.items(), files.items()):
             with self.subTest(name, kind=kind):
-                status, out, err = tool(name, *words, data=data)
+                status, out, err = run_tool(name, *words, data=data)
                 self.assertEqual(status, command.FAULTY if name == "lint" else command.NO_INPUT)
                 said = (out.decode() if name == "lint" else err).splitlines()[:2]
                 self.assertTrue(any(kind in line and advice in line for line in said), said)
 
     def test_results_and_tables_of_other_kinds(self):
-        packed = gzip.compress(printed(AUCTION))
+        packed = gzip.compress(read_results(AUCTION))
         for name in ("audit", *TOOLS_HERE):
-            status, _, err = tool(name, AUCTION, "-", *([] if name == "audit" else ["-o", "-"]), data=packed)
+            status, _, err = run_tool(name, AUCTION, "-", *([] if name == "audit" else ["-o", "-"]), data=packed)
             said = f"{name}: standard input is a compressed file (.gz) instead of results; gunzip FILE unpacks it\n"
             self.assertEqual((status, err), (command.NO_INPUT, said))
         # a workbook isn't results, and no tool makes results of it
-        _, _, err = tool("table", AUCTION, "-", data=self.archive("xl/workbook.xml"))
+        _, _, err = run_tool("table", AUCTION, "-", data=self.archive("xl/workbook.xml"))
         self.assertEqual(err, "table: standard input is an Excel workbook (.xlsx) instead of results\n")
         for data, kind in ((packed, "a compressed file (.gz): gunzip FILE"), (self.archive("a.csv"), "an archive (.zip): unzip FILE")):
-            status, _, err = tool("table", "--journal", "-", data=data)
+            status, _, err = run_tool("table", "--journal", "-", data=data)
             self.assertEqual((status, err), (command.NO_INPUT, f"table: standard input: this is {kind} unpacks it\n"))
         # alone, in place of the text of a day
-        _, _, err = tool("table", "-", data=packed)
+        _, _, err = run_tool("table", "-", data=packed)
         self.assertEqual(err, "table: standard input is a compressed file (.gz) instead of a journal; gunzip FILE unpacks it\n")
 
 

@@ -47,7 +47,7 @@ def called(script, folder, *words, defect=""):
     program = Path(folder, f"dam.{defect}")
     program.touch()
     with mock.patch.object(compare, "TimedProgram", Called):
-        status, out, err = support.copied(str(support.TOP / "tests" / "fuzz" / script), [str(program), *map(str, words)])
+        status, out, err = support.run_in_fork(str(support.TOP / "tests" / "fuzz" / script), [str(program), *map(str, words)])
     return status, out.decode() + err
 
 
@@ -180,7 +180,7 @@ class Doctored(unittest.TestCase):
 
     def test_the_changes(self):
         """Each kind of change alters the text, except for a field that was so before; the content is the text without its encoding."""
-        data, alike = support.printed(support.AUCTION), 0
+        data, alike = support.read_results(support.AUCTION), 0
         for number in range(500):
             rng = random.Random(number)
             alike += doctored.draw_doctored(rng, data)[1] == data

@@ -8,7 +8,7 @@ import tempfile
 import unittest
 from pathlib import Path
 
-from support import TOP, tool
+from support import TOP, run_tool
 
 from lib.base import place
 from lib.runs import which
@@ -25,7 +25,7 @@ EXAMPLE = re.compile(r"^  (\S*(?:tools/|dam ).*|echo .*)$", re.MULTILINE)
 
 class Help(unittest.TestCase):
     def examples(self, name):
-        status, out, _ = tool(name, "--help")
+        status, out, _ = run_tool(name, "--help")
         self.assertEqual(status, 0)
         text = out.decode()
         return EXAMPLE.findall(text[text.index("\nexamples:\n") :])
@@ -56,7 +56,7 @@ class Help(unittest.TestCase):
         tools_of = {status: set() for status in rows}
         needs_program = set()
         for name in place.TOOLS:
-            help_text = " ".join(tool(name, "--help")[1].decode().partition("\nstatuses: ")[2].split())
+            help_text = " ".join(run_tool(name, "--help")[1].decode().partition("\nstatuses: ")[2].split())
             with self.subTest(name):
                 statuses = dict(re.findall(r"(?:^|; )(\d+) ([^;]*)", help_text))
                 self.assertLessEqual({"0", "2", "5", "130"}, set(statuses))
@@ -93,13 +93,14 @@ class Help(unittest.TestCase):
             ("whatif", ["limit", "a", "--program="], "--program"),
         ):
             with self.subTest(words, name=name):
-                status, out, err = tool(name, *words)
+                status, out, err = run_tool(name, *words)
                 said = f"error: argument {argument}: it is empty"
                 self.assertEqual((status, out, err.splitlines()[-1].split(": ", 1)[1]), (command.COMMAND_LINE, b"", said))
 
     def test_defaults_are_said_to_be(self):
         for name, packages in {**TOOLS, "audit": []}.items():
-            text = re.sub(r"\s+", " ", tool(*COMMANDS.get(name, [name]), "--help")[1].decode().partition("options:")[2].partition("statuses:")[0])
+            page = run_tool(*COMMANDS.get(name, [name]), "--help")[1].decode()
+            text = re.sub(r"\s+", " ", page.partition("options:")[2].partition("statuses:")[0])
             with self.subTest(name):
                 self.assertIn("(default: ", text)
                 self.assertEqual([words for words in re.findall(r"\(([^)]*)\)", text) if not words.startswith("default: ")], [])

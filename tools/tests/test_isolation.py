@@ -12,7 +12,7 @@ import unittest
 from pathlib import Path
 from unittest import mock
 
-from support import AUCTION, AUCTION_RESULTS, TOOLS, TOP, new_folder, tool
+from support import AUCTION, AUCTION_RESULTS, TOOLS, TOP, new_folder, run_tool
 
 from lib.base import place, surroundings
 from lib.crates import sources
@@ -75,7 +75,7 @@ class Isolation(unittest.TestCase):
     def test_each_tool_starts_in_every_environment(self):
         """Its help is the same, although an optimising Python leaves docstrings out."""
         for name, *words in (*([name] for name in place.TOOLS), ["whatif", "scenarios"], ["receipts", "seal"], ["package"], ["manual"], ["reading-list"]):
-            status, right, err = tool(name, *words, "--help")
+            status, right, err = run_tool(name, *words, "--help")
             self.assertEqual((status, err), (0, ""), name)
             self.assertEqual(self.ran(name, *words, "--help", **STRANGE), (0, right, b""), name)
         self.assertEqual(self.ran(name, "--help", options=["-I", "-OO"]), (0, right, b""))
@@ -211,7 +211,7 @@ class Isolation(unittest.TestCase):
     @unittest.skipUnless(modules.has_module("matplotlib"), "matplotlib is missing (Debian's python3-matplotlib)")
     def test_no_settings_of_pictures_are_obeyed(self):
         settings, texts = self.folder / "matplotlibrc", (AUCTION, AUCTION_RESULTS, "-o", "-")
-        status, right, err = tool("plot", *texts)
+        status, right, err = run_tool("plot", *texts)
         self.assertEqual((status, err), (0, ""))
         settings.write_text("ytick.labelleft: False\ntext.usetex: True\n")
         self.assertEqual(self.ran("plot", *texts, **STRANGE), (0, right, b""))

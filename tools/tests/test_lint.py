@@ -11,7 +11,7 @@ import unittest
 import unittest.mock
 
 import support
-from support import AUCTION, AUCTION_RESULTS, FIRST, cases, journal_of, tool
+from support import AUCTION, AUCTION_RESULTS, FIRST, cases, journal_of, run_tool
 
 import days
 from lib.base import rules
@@ -69,7 +69,7 @@ class Hand(unittest.TestCase):
         self.assertIn("line 21: 80 lines from here on aren't ASCII either: save the file as plain CSV, in ASCII", found)
 
     def test_results_are_no_journal(self):
-        text = support.printed(AUCTION)
+        text = support.read_results(AUCTION)
         self.check(GOOD + b"results\n" + text, ("line 5", "the results of a day begin here, which aren't part of a journal"))
         self.check(b"day,24,,,,,,,\n" + text[7:], ("line 2", "these are results"), ("line 2", "no command closes the book"))
 
@@ -105,16 +105,16 @@ class Hand(unittest.TestCase):
             data = signature + bytes(range(256)) * 100
             self.check(data, ("line 1", said))
             for words in (["audit", "-", AUCTION], ["audit", AUCTION, "-"], ["table", "-", AUCTION], ["plot", AUCTION, "-"]):
-                status, out, err = tool(*words, data=data)
+                status, out, err = run_tool(*words, data=data)
                 self.assertEqual((status, out, err.count("\n") <= 2), (command.NO_INPUT, b"", True), err)
                 self.assertIn("xcel workbook", err)
 
     def test_other_kinds_of_files(self):
         """One line says which kind of file it seems to be, and which tool reads it."""
-        orders = tool("table", "--rows", "orders", AUCTION, AUCTION_RESULTS)[1]
+        orders = run_tool("table", "--rows", "orders", AUCTION, AUCTION_RESULTS)[1]
         replies = book.replies_text(journal.read_journal(AUCTION.read_bytes())).encode()
         for data, part in (
-            (support.printed(AUCTION), "these seem to be results, which aren't a journal: tools/audit reads them"),
+            (support.read_results(AUCTION), "these seem to be results, which aren't a journal: tools/audit reads them"),
             (replies, "these seem to be replies of `dam replay`, which aren't a journal: tools/audit --replies reads them"),
             (orders, "this seems to be a table of orders: tools/table --journal makes a journal of it"),
             (b"\xef\xbb\xbf" + orders.replace(b";", b" ").replace(b",", b";"), "this seems to be a table of orders"),
@@ -250,22 +250,22 @@ class CommandLine(unittest.TestCase):
                     self.assertEqual(len(found), case.right_stdout.count(b",refused,"))
 
     def test_statuses(self):
-        self.assertEqual(tool("lint", "-", data=GOOD), (command.DONE, b"nothing is wrong\n", ""))
-        status, out, _ = tool("lint", AUCTION)
+        self.assertEqual(run_tool("lint", "-", data=GOOD), (command.DONE, b"nothing is wrong\n", ""))
+        status, out, _ = run_tool("lint", AUCTION)
         self.assertEqual((status, out.splitlines()[-1], b"line 94, order: STAY of line 86" in out), (command.DIFFERS, b"1 refused command", True))
-        self.assertEqual(tool("lint", "-", data=b"day,24\nclose\nclose\n")[1].splitlines()[-1], b"3 faults, 1 refused command")
-        self.assertEqual(tool("lint", "--quiet", "-", data=FIRST), (command.DIFFERS, b"", ""))
-        self.assertEqual(tool("lint", "/nowhere/a.csv")[0], command.NO_INPUT)
-        self.assertEqual(tool("lint", "--fo", "day", AUCTION)[0], command.COMMAND_LINE)
+        self.assertEqual(run_tool("lint", "-", data=b"day,24\nclose\nclose\n")[1].splitlines()[-1], b"3 faults, 1 refused command")
+        self.assertEqual(run_tool("lint", "--quiet", "-", data=FIRST), (command.DIFFERS, b"", ""))
+        self.assertEqual(run_tool("lint", "/nowhere/a.csv")[0], command.NO_INPUT)
+        self.assertEqual(run_tool("lint", "--fo", "day", AUCTION)[0], command.COMMAND_LINE)
         for data, status in ((b"day,24\n", command.FAULTY), (GOOD.replace(b"close", b"cancel"), command.FAULTY), (FIRST, command.DIFFERS)):
-            self.assertEqual(tool("lint", "--quiet", "-", data=data), (status, b"", ""))
-        self.assertEqual(tool("lint", "--json", "--quiet", AUCTION)[0], command.COMMAND_LINE)
+            self.assertEqual(run_tool("lint", "--quiet", "-", data=data), (status, b"", ""))
+        self.assertEqual(run_tool("lint", "--json", "--quiet", AUCTION)[0], command.COMMAND_LINE)
 
     def test_faults_come_before_refused_commands(self):
         """A day whose book refuses thousands of commands, and that has a record too many."""
         again = HOUR + b"\n"
         data = GOOD.replace(again, again * rules.MOST_RECORDS)
-        status, out, _ = tool("lint", "-", data=data)
+        status, out, _ = run_tool("lint", "-", data=data)
         lines = out.decode().splitlines()
         self.assertEqual((status, len(lines)), (command.FAULTY, rules.MOST_RECORDS))
         self.assertEqual(lines[0], f"line {rules.MOST_RECORDS + 1}: a journal has at most 10000 commands: remove the rest")
@@ -274,7 +274,7 @@ class CommandLine(unittest.TestCase):
 
     def record(self, *words, data=b""):
         """The status of a run, its record, and its lines on standard error."""
-        status, out, err = tool("lint", "--json", *words, data=data)
+        status, out, err = run_tool("lint", "--json", *words, data=data)
         return status, json.loads(out), err
 
     def test_records(self):
@@ -318,7 +318,7 @@ class CommandLine(unittest.TestCase):
 
     def test_other_tools_say_the_same(self):
         data = journal_of("submit,NORD,WIND-8,hour,sell,12.50,8:450,,", *["x,,,,,,,,"] * 6)
-        status, _, err = tool("table", "--rows", "commands", "-", data=data)
+        status, _, err = run_tool("table", "--rows", "commands", "-", data=data)
         lines = err.splitlines()
         said = "table: standard input isn't a journal: input: BadField in record 2 field 6"
         self.assertEqual((status, lines[0]), (command.NO_INPUT, said))

@@ -15,7 +15,7 @@ import unittest
 from collections import Counter
 from pathlib import Path
 
-from support import TOOLS, TOP, tool
+from support import TOOLS, TOP, run_tool
 
 sys.path.append(str(TOP))
 
@@ -105,7 +105,7 @@ class Made(unittest.TestCase):
         cls.room = tempfile.TemporaryDirectory()
         cls.addClassCleanup(cls.room.cleanup)
         cls.folder = Path(cls.room.name, "site")
-        cls.ended = tool("manual", "--out", cls.folder)
+        cls.ended = run_tool("manual", "--out", cls.folder)
         assert cls.ended[0] == 0, cls.ended
         cls.site = Site(cls.folder)
 
@@ -115,7 +115,7 @@ class Made(unittest.TestCase):
 
     def definitions(self):
         """Each definition of the list, with its crate, module and sentence."""
-        listed = tool("reading-list", "--definitions")[1].decode()
+        listed = run_tool("reading-list", "--definitions")[1].decode()
         for crate, module, body in re.findall(r"^## `(\w+)/specs/(\w+)\.antt`\n(.*?)(?=^## |\Z)", listed, re.MULTILINE | re.DOTALL):
             yield from ((crate, module, name) for name in re.findall(r"^- `(\S+)`:", body, re.MULTILINE))
 
@@ -180,7 +180,7 @@ class Made(unittest.TestCase):
         others = Path(self.room.name, "others")
         others.mkdir()
         (others / "kept").write_text("")
-        status, out, err = tool("manual", "--out", others)
+        status, out, err = run_tool("manual", "--out", others)
         self.assertEqual((status, out, err), (3, b"", f"manual: {others} has other files: name a folder that is empty or missing\n"))
         self.assertEqual([path.name for path in others.iterdir()], ["kept"])
 

@@ -17,7 +17,7 @@ import unittest.mock
 from pathlib import Path
 
 import support
-from support import AUCTION, FIRST, QUARTERS, journal_of, new_folder, printed
+from support import AUCTION, FIRST, QUARTERS, journal_of, new_folder, read_results
 
 import dam_tools
 from dam_tools.lib.runs import by_library, by_program, engine, which
@@ -71,7 +71,7 @@ class Many(unittest.TestCase):
         given = [AUCTION, OPEN, dam_tools.read_journal(FIRST), "/nowhere/a.csv", QUARTERS.read_bytes(), b"x\n"]
         found = list(dam_tools.clear_many(given, program=self.program))
         self.assertEqual([isinstance(day, dam_tools.Fault) for day in found], [False, True, False, True, False, True])
-        self.assertEqual([found[0].text, found[4].text], [printed(AUCTION), printed(QUARTERS)])
+        self.assertEqual([found[0].text, found[4].text], [read_results(AUCTION), read_results(QUARTERS)])
         self.assertEqual([day.problem.periods for day in found[::2]], [24, 24, 96])
         self.assertEqual([day.wrong for day in found[::2]], [[], [], []])
         self.assertEqual(dam_tools.records(found[0], "orders"), dam_tools.records(dam_tools.clear(AUCTION, self.program), "orders"))
@@ -96,7 +96,7 @@ class Many(unittest.TestCase):
         bad = ["", "a\0b.csv", "\ud800.csv", self.folder, large, pipe, "/dev/zero"]
         given = [source for one in bad for source in (one, AUCTION)]
         found = list(dam_tools.clear_many(given, program=self.program))
-        self.assertEqual([day.text for day in found[1::2]], [printed(AUCTION)] * len(bad))
+        self.assertEqual([day.text for day in found[1::2]], [read_results(AUCTION)] * len(bad))
         name = "can't be read: its name has a NUL, or a character that this locale lacks"
         said = ["a file with an empty name can't be read", f"a\\x00b.csv {name}", f"\\ud800.csv {name}"]
         said += [f"{self.folder} can't be read: Is a directory", f"{large} has more than 67,108,864 bytes"]
@@ -214,7 +214,7 @@ class Many(unittest.TestCase):
         self.assertEqual((str(raised.exception) == begin + end, raised.exception.status), (True, 3), str(raised.exception)[:200])
         with unittest.mock.patch.object(by_program, "RELAYED", set()), contextlib.redirect_stderr(io.StringIO()) as said:
             found = dam_tools.clear(AUCTION, self.script("right", f'{much}; exec {self.program} "$@"')).text
-        self.assertEqual((found, said.getvalue() == f"{begin}{end}\n"), (printed(AUCTION), True), said.getvalue()[:200])
+        self.assertEqual((found, said.getvalue() == f"{begin}{end}\n"), (read_results(AUCTION), True), said.getvalue()[:200])
         for call in dam_tools.clear, dam_tools.replay:
             other = self.script("other", "exec head -c 60000000 /dev/zero")
             with self.assertRaisesRegex(dam_tools.Fault, f"^{other} printed more than {by_program.MOST_PRINTED:,} bytes$"):
@@ -248,7 +248,7 @@ class Many(unittest.TestCase):
         given = [AUCTION, QUARTERS] * 4
         with concurrent.futures.ThreadPoolExecutor(len(given)) as threads:
             found = threads.map(lambda path: dam_tools.clear(path, self.program).text, given)
-            self.assertEqual(list(found), list(map(printed, given)))
+            self.assertEqual(list(found), list(map(read_results, given)))
             library = self.library(ECHO.replace("    return found;", "    usleep(1000);\n    return found;"))
             texts = [str(number).encode() * 1_000 for number in range(100, 200)]
             self.assertEqual(list(threads.map(lambda text: by_library.cleared_by_library(library, text), texts)), texts)
@@ -283,14 +283,14 @@ class Many(unittest.TestCase):
         self.assertEqual((fault.status, raised.exception.status), (1, 1))
 
     def test_each_day_has_its_text(self):
-        self.assertEqual(dam_tools.clear(AUCTION, self.program).text, printed(AUCTION))
-        self.assertEqual(dam_tools.read_results(AUCTION, printed(AUCTION)).text, printed(AUCTION))
+        self.assertEqual(dam_tools.clear(AUCTION, self.program).text, read_results(AUCTION))
+        self.assertEqual(dam_tools.read_results(AUCTION, read_results(AUCTION)).text, read_results(AUCTION))
 
     def test_an_executor(self):
         given = [AUCTION, OPEN, QUARTERS, AUCTION]
         with concurrent.futures.ProcessPoolExecutor(2) as pool:
             found = list(dam_tools.clear_many(given, executor=pool, program=self.program))
-        self.assertEqual([found[at].text for at in (0, 2, 3)], [printed(AUCTION), printed(QUARTERS), printed(AUCTION)])
+        self.assertEqual([found[at].text for at in (0, 2, 3)], [read_results(AUCTION), read_results(QUARTERS), read_results(AUCTION)])
         self.assertEqual((str(found[1]), found[1].status), ("input: StillOpen", 1))
         with self.assertRaisesRegex(dam_tools.Fault, "^the executor takes no more journals: "):
             list(dam_tools.clear_many(given, executor=pool, program=self.program))

@@ -15,7 +15,7 @@ import unittest.mock
 from pathlib import Path
 
 import support
-from support import AUCTION, AUCTION_RESULTS, FIRST, TOP, new_folder, printed
+from support import AUCTION, AUCTION_RESULTS, FIRST, TOP, new_folder, read_results
 
 import dam_tools
 from dam_tools.lib.runs import which
@@ -72,7 +72,7 @@ class Module(unittest.TestCase):
         self.assertEqual(repr(dam_tools.read_journal(FIRST)), "<Journal: 24 periods, 15 commands>")
         day = dam_tools.read_results(AUCTION, AUCTION_RESULTS)
         self.assertEqual(repr(day), "<Day: 24 periods, 80 hourly orders, 9 blocks, welfare 3,021,520.00 EUR>")
-        day = dam_tools.read_results(AUCTION, printed(AUCTION).replace(b"UNIT-7,rejected,7", b"UNIT-7,rejected,8"))
+        day = dam_tools.read_results(AUCTION, read_results(AUCTION).replace(b"UNIT-7,rejected,7", b"UNIT-7,rejected,8"))
         self.assertTrue(repr(day).endswith(", 1 fault>"), day)
         self.assertRegex(dam_tools.__version__, r"^\d+\.\d+\.\d+$")
 
@@ -97,7 +97,7 @@ class Module(unittest.TestCase):
     def test_bytes_and_tables_of_orders(self):
         journal = dam_tools.read_journal(FIRST)
         self.assertEqual(dam_tools.records(journal, "commands")[12]["reason"], "PeriodOutOfDay")
-        day = dam_tools.read_results(AUCTION.read_bytes(), printed(AUCTION))
+        day = dam_tools.read_results(AUCTION.read_bytes(), read_results(AUCTION))
         text = sheets.table_text(tables.orders(day)).encode()
         made = dam_tools.journal_of_orders(text)
         self.assertEqual(dam_tools.clear(made, program=self.program).said.welfare, day.said.welfare)
@@ -141,7 +141,7 @@ class Module(unittest.TestCase):
     def test_the_lint(self):
         """The same findings as of the tool, from a file, a text and a journal."""
         found = dam_tools.lint(AUCTION)
-        told = json.loads(support.tool("lint", "--json", AUCTION)[1])
+        told = json.loads(support.run_tool("lint", "--json", AUCTION)[1])
         self.assertEqual(found, dam_tools.Lint("refused", [], [dam_tools.Finding(**one) for one in told["refused"]]))
         self.assertEqual((found, found.refused[0].reason), (dam_tools.lint(dam_tools.read_journal(AUCTION)), "HasChildren"))
         found = dam_tools.lint("day,24\nclose\n")
@@ -156,17 +156,17 @@ class Module(unittest.TestCase):
         day = dam_tools.read_results(AUCTION, AUCTION_RESULTS)
         right = dam_tools.audit(AUCTION, AUCTION_RESULTS)
         self.assertEqual((right.verdict, right.faults, right.checked), ("right", [], ["results", "sums"]))
-        both = AUCTION.read_bytes() + b"results\n" + printed(AUCTION)
-        for sources in ((day,), (both,), (AUCTION.read_bytes(), printed(AUCTION)), (day.journal, AUCTION_RESULTS)):
+        both = AUCTION.read_bytes() + b"results\n" + read_results(AUCTION)
+        for sources in ((day,), (both,), (AUCTION.read_bytes(), read_results(AUCTION)), (day.journal, AUCTION_RESULTS)):
             found = dam_tools.audit(*sources, best=True)
             self.assertEqual((found.verdict, found.checked[-1], found.better), ("right", "best selection", None))
             self.assertIn("each of 512 selections was tried", found.how)
-        wrong = printed(AUCTION).replace(b"period,1,9200", b"period,1,9300")
+        wrong = read_results(AUCTION).replace(b"period,1,9200", b"period,1,9300")
         found = dam_tools.audit(AUCTION, wrong)
-        told = json.loads(support.tool("audit", "--json", "-", data=AUCTION.read_bytes() + b"results\n" + wrong)[1])
+        told = json.loads(support.run_tool("audit", "--json", "-", data=AUCTION.read_bytes() + b"results\n" + wrong)[1])
         self.assertEqual(("wrong", [dam_tools.AuditFault(**one) for one in told["faults"]]), (found.verdict, found.faults))
         self.assertEqual((found.faults[0].kind, found.faults[0].line), ("price", 3))
-        self.assertEqual(dam_tools.audit(AUCTION, printed(AUCTION).replace(b"\n", b"\r\n")).verdict, "encoding")
+        self.assertEqual(dam_tools.audit(AUCTION, read_results(AUCTION).replace(b"\n", b"\r\n")).verdict, "encoding")
         # nothing is accepted, which obeys the other rules, and the search has no time
         worse = dam_tools.audit(FIRST, support.results_of(FIRST, frozenset()), best=True, seconds=0)
         self.assertEqual((worse.verdict, worse.message[:46]), ("undecided", "the results obey the other rules, but after 0 "))
@@ -204,7 +204,7 @@ class Module(unittest.TestCase):
         table = b"what,participant,order,price_eur_mwh,periods,volume_mw,Note\namend,GEN,UNIT,40,1,2,x\n"
         again = dam_tools.whatif_change(journal, table, "GEN", program=self.program)
         self.assertEqual(again, dam_tools.Changes(found.changes, ["the column 'Note' isn't used"]))
-        wrong = support.doctored(self.program.parent, self.program, "", "s/^welfare,/welfare,1/")
+        wrong = support.write_doctored_program(self.program.parent, self.program, "", "s/^welfare,/welfare,1/")
         for call in (dam_tools.whatif_limit, journal, "GEN", "UNIT", wrong), (dam_tools.whatif_change, journal, table, None, wrong):
             with self.assertRaisesRegex(dam_tools.Fault, r"^the program's results of the day break the rules \(results line 2: the welfare is 1"):
                 call[0](*call[1:])
@@ -262,7 +262,7 @@ class Module(unittest.TestCase):
             with self.assertRaises(dam_tools.Fault) as fault:
                 call()
             self.assertEqual(str(fault.exception), said)
-        text = printed(AUCTION)
+        text = read_results(AUCTION)
         for other, said in (
             (text.replace(b"\n", b"\r\n"), "the lines end with CR LF instead of LF alone"),
             (b"\xef\xbb\xbf" + text, "the text begins with a byte order mark"),
@@ -351,7 +351,7 @@ class Module(unittest.TestCase):
         if not modules.has_module("pandas"):
             self.skipTest("pandas is missing (Debian's python3-pandas)")
         Path(folder, "day.csv").write_bytes(AUCTION.read_bytes())
-        Path(folder, "results.txt").write_bytes(printed(AUCTION))
+        Path(folder, "results.txt").write_bytes(read_results(AUCTION))
         if not modules.has_module("pyarrow"):
             example = example.replace("to_parquet", "to_csv")
         ran = subprocess.run([sys.executable, "-B", "-c", example], cwd=folder, env={**os.environ, "PYTHONPATH": str(support.TOOLS)})

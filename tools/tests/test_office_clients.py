@@ -18,7 +18,7 @@ from pathlib import Path
 from unittest import mock
 
 from office_support import DAY, aiohttp, commands
-from support import AUCTION, AUCTION_RESULTS, QUARTERS, QUARTERS_RESULTS, SUNNY, SUNNY_RESULTS, TOOLS, tool
+from support import AUCTION, AUCTION_RESULTS, QUARTERS, QUARTERS_RESULTS, SUNNY, SUNNY_RESULTS, TOOLS, run_tool
 
 from dam_tools import office as client
 from lib.journal import journal
@@ -181,7 +181,7 @@ class Requests(unittest.TestCase):
         """No number but the own gain, and no name, stands in a reason that compares with another selection."""
         codes = set()
         for day in (SUNNY, SUNNY_RESULTS), (AUCTION, AUCTION_RESULTS), (QUARTERS, QUARTERS_RESULTS):
-            made = json.loads(tool("table", "--rows", "statement", "--json", "--quiet", *map(str, day))[1])
+            made = json.loads(run_tool("table", "--rows", "statement", "--json", "--quiet", *map(str, day))[1])
             for row in made["rows"]:
                 codes.add(row["code"])
                 shown = published.without_words_of_others(row)

@@ -17,7 +17,7 @@ from pathlib import Path
 from unittest import mock
 
 from office_support import DAY, FUTURE, NAMES, SECONDS, Disk, Office, commands, opener
-from support import AUCTION, TOOLS, TOP, tool, unsaid
+from support import AUCTION, TOOLS, TOP, run_help_for_unsaid, run_tool
 
 from lib.sheets import sheets
 from lib.tool import command, modules
@@ -79,10 +79,10 @@ class Setup(Office):
         """Nobody would see it, and a further day prints only new ones."""
         self.participants("participant\nGAS\n")
         words, path = ["--close", "12:00", "--participants", self.office.path.parent / "p.csv"], self.office.path
-        self.assertEqual(tool("office", "init", path, "--day", "2099-11-29", *words)[0], command.DONE)
+        self.assertEqual(run_tool("office", "init", path, "--day", "2099-11-29", *words)[0], command.DONE)
         self.participants("participant\nGAS\nWIND\n")
-        self.assertEqual(tool("office", "init", path, "--day", "2099-11-29", *words)[:2], (command.NO_INPUT, b""))
-        status, out, _ = tool("office", "init", path, "--day", "2099-11-30", *words)
+        self.assertEqual(run_tool("office", "init", path, "--day", "2099-11-29", *words)[:2], (command.NO_INPUT, b""))
+        status, out, _ = run_tool("office", "init", path, "--day", "2099-11-30", *words)
         self.assertEqual((status, [line[:5] for line in out.splitlines()[-1:]]), (command.DONE, [b"WIND."]))
         self.assertEqual(sorted(self.office.list_days()), ["2099-11-29", "2099-11-30"])
 
@@ -153,7 +153,7 @@ class Setup(Office):
         """By a start, and by a further day before it is made and a token is printed."""
         self.participants("participant\nGAS\n")
         words = ["--close", "12:00", "--participants", self.office.path.parent / "p.csv"]
-        self.assertEqual(tool("office", "init", self.office.path, "--day", "2099-11-29", *words)[0], command.DONE)
+        self.assertEqual(run_tool("office", "init", self.office.path, "--day", "2099-11-29", *words)[0], command.DONE)
         public = self.office.path_of(folder.PUBLIC)
         kept = public.read_bytes()
         self.participants("participant\nGAS\nWIND\n")
@@ -162,7 +162,7 @@ class Setup(Office):
             with self.subTest(other=other):
                 with self.assertRaisesRegex(command.Stop, "operator.pem.pub isn't the public key of operator.pem"):
                     serving.Office(self.office, programs.Programs("dam", "dam-desk"), observed.Log(io.StringIO()))
-                status, out, err = tool("office", "init", self.office.path, "--day", "2099-11-30", *words)
+                status, out, err = run_tool("office", "init", self.office.path, "--day", "2099-11-30", *words)
                 self.assertEqual((status, out), (command.NO_INPUT, b""))
                 self.assertIn("isn't the public key of operator.pem", err)
                 self.assertEqual(list(self.office.list_days()), ["2099-11-29"])
@@ -244,7 +244,7 @@ class Setup(Office):
         made.create_sheet("notes", 0).append(["x"])
         made.save(path)
         words = ["--day", "2099-11-29", "--close", "12:00", "--participants", path, "--json"]
-        status, out, err = tool("office", "init", self.office.path, *words)
+        status, out, err = run_tool("office", "init", self.office.path, *words)
         self.assertEqual((status, err), (command.DONE, f"office: note: {path}: of 2 sheets, 'Sheet' was read\n"))
         self.assertEqual(list(json.loads(out)["tokens"]), ["A", "GAS"])
         self.assertEqual(self.office.list_days()["2099-11-29"].read_terms().shares, {"A": 100, "GAS": 9_899})
@@ -285,7 +285,7 @@ class Setup(Office):
     def test_a_demo_that_closes_too_early(self):
         """Before the orders are in that are its own."""
         for seconds in ("0", "-1", "86401", "1.5", "x"):
-            self.assertEqual(tool("office", "demo", "--no-browser", "--seconds", seconds)[0], command.COMMAND_LINE, seconds)
+            self.assertEqual(run_tool("office", "demo", "--no-browser", "--seconds", seconds)[0], command.COMMAND_LINE, seconds)
         told = mock.Mock(is_ready=mock.Mock(wait=mock.AsyncMock()), submit=mock.AsyncMock(side_effect=day_writer.Refused("Closed", "closed")))
         with self.assertRaisesRegex(command.Stop, r"^the demo's own orders weren't entered \(closed\): give more --seconds$") as raised:
             asyncio.run(demo.enter_orders(told))
@@ -295,50 +295,50 @@ class Setup(Office):
         room = self.office.path.parent
         (room / "p.csv").write_text("participant\nGAS\n")
         words = ["--day", "2099-11-28", "--close", "12:00", "--participants", room / "p.csv"]
-        status, out, err = tool("office", "init", self.office.path, *words, "--json")
+        status, out, err = run_tool("office", "init", self.office.path, *words, "--json")
         self.assertEqual((status, err), (0, ""))
         made = json.loads(out)
         self.assertEqual((made["command"], list(made["tokens"]), made["closes"]), ("init", ["GAS"], "2099-11-27T11:00:00+00:00"))
-        self.assertEqual(tool("office", "init", self.office.path, *words)[0], command.NO_INPUT)
-        self.assertEqual(tool("office", "serve", self.office.path, "--host", "0.0.0.0")[0], command.COMMAND_LINE)
+        self.assertEqual(run_tool("office", "init", self.office.path, *words)[0], command.NO_INPUT)
+        self.assertEqual(run_tool("office", "serve", self.office.path, "--host", "0.0.0.0")[0], command.COMMAND_LINE)
         said = f"office: {room} isn't the folder of an office: tools/office init makes one\n"
-        self.assertEqual(tool("office", "serve", room), (command.NO_INPUT, b"", said))
+        self.assertEqual(run_tool("office", "serve", room), (command.NO_INPUT, b"", said))
         held, aside = self.office.path_of(folder.PARTICIPANTS), self.office.path_of("aside")
         held.rename(aside)
         said = f"office: {held} is missing: put it back\n"
-        self.assertEqual(tool("office", "serve", self.office.path), (command.NO_INPUT, b"", said))
+        self.assertEqual(run_tool("office", "serve", self.office.path), (command.NO_INPUT, b"", said))
         aside.rename(held)
-        self.assertEqual(tool("office", "revoke", self.office.path, "OIL")[0], command.NO_INPUT)
-        status, out, _ = tool("office", "renew", self.office.path, "GAS")
+        self.assertEqual(run_tool("office", "revoke", self.office.path, "OIL")[0], command.NO_INPUT)
+        status, out, _ = run_tool("office", "renew", self.office.path, "GAS")
         self.assertTrue(tokens.Register(self.office.path_of(folder.PARTICIPANTS)).is_token_of("GAS", out.decode().strip()))
-        self.assertEqual(tool("office", "publish", self.office.path)[0], command.NO_INPUT)
-        self.assertEqual(tool("office", "revoke", self.office.path, "GAS")[0], 0)
+        self.assertEqual(run_tool("office", "publish", self.office.path)[0], command.NO_INPUT)
+        self.assertEqual(run_tool("office", "revoke", self.office.path, "GAS")[0], 0)
         words[1] = "2099-11-29"
-        status, out, _ = tool("office", "init", self.office.path, *words)
+        status, out, _ = run_tool("office", "init", self.office.path, *words)
         self.assertEqual((status, out.decode().splitlines()[-1]), (0, "GAS has no token, which was revoked: renew gives it a new one"))
         words[1] = "2099-11-30"
-        made = json.loads(tool("office", "init", self.office.path, *words, "--json")[1])
+        made = json.loads(run_tool("office", "init", self.office.path, *words, "--json")[1])
         self.assertEqual((made["revoked"], made["tokens"]), (["GAS"], {}))
-        self.assertEqual(tool("office", "status", self.office.path, "--desk", "true")[0], 0)
+        self.assertEqual(run_tool("office", "status", self.office.path, "--desk", "true")[0], 0)
 
     def test_words_like_the_end_of_options(self):
         """The first `--` ends the options, and each further one is a word: a day `--` isn't the only day, which could not be opened again."""
         self.participants("participant\nGAS\n")
-        tool("office", "init", self.office.path, "--day", "2099-11-29", "--close", "12:00", "--participants", self.table)
+        run_tool("office", "init", self.office.path, "--day", "2099-11-29", "--close", "12:00", "--participants", self.table)
         (day,) = self.office.list_days().values()
         for name in ("close", "publish"):
             for words in ([self.office.path, "--", "--"], ["--", self.office.path, "--"]):
                 said = "office: there is no day --: there is 2099-11-29\n"
-                self.assertEqual(tool("office", name, *words), (command.NO_INPUT, b"", said), words)
+                self.assertEqual(run_tool("office", name, *words), (command.NO_INPUT, b"", said), words)
         for name in ("revoke", "renew"):
-            status, out, err = tool("office", name, self.office.path, "--", "--")
+            status, out, err = run_tool("office", name, self.office.path, "--", "--")
             self.assertEqual((status, out), (command.COMMAND_LINE, b""))
             self.assertIn("argument NAME: '--' should be 1 to 8 letters A to Z\n", err)
-        status, out, err = tool("office", "close", self.office.path, "--", "--", "--")
+        status, out, err = run_tool("office", "close", self.office.path, "--", "--", "--")
         self.assertEqual((status, out, err.splitlines()[-1]), (command.COMMAND_LINE, b"", "office: error: unrecognized arguments: --"))
         self.assertFalse(day.has(folder.CLOSE_NOW))
         said = b"2099-11-29 will be closed once the office is served\n"
-        self.assertEqual(tool("office", "close", self.office.path, "--"), (command.DONE, said, ""))
+        self.assertEqual(run_tool("office", "close", self.office.path, "--"), (command.DONE, said, ""))
         self.assertTrue(day.has(folder.CLOSE_NOW))
 
     def test_the_members_of_each_record_are_described(self):
@@ -349,12 +349,12 @@ class Setup(Office):
             if name == "publish":
                 (file,) = (files.path_of(folder.RESULTS) for files in self.office.list_days().values())
                 file.touch()
-            made = json.loads(tool("office", name, self.office.path, *more, "--json")[1])
+            made = json.loads(run_tool("office", name, self.office.path, *more, "--json")[1])
             parts = [part for day in made.get("days", []) for part in (day, *(of_one for of_one in day["commands"].values()))]
             seen += parts
             with self.subTest(name):
                 self.assertEqual((made["status"], made["message"]), (0, None))
-                self.assertEqual(unsaid("office", made, *parts), set())
+                self.assertEqual(run_help_for_unsaid("office", made, *parts), set())
         self.assertEqual(len(seen), 2)
 
     def test_the_events_of_the_page(self):
@@ -402,7 +402,7 @@ class Setup(Office):
                 path.unlink()
             path.mkdir()  # which no user can read as a file
             with self.subTest(path=path.name, asked=asked[0]):
-                status, out, err = tool("office", *asked)
+                status, out, err = run_tool("office", *asked)
                 said = f"not served, 1 participant\n{DAY}: can't be read\n".encode() if asked[0] == "status" else b""
                 self.assertEqual((status, out), (command.NO_INPUT, said))
                 self.assertIn(f"{path} can't be used: Is a directory", err)
@@ -549,7 +549,7 @@ class Setup(Office):
             kept = path.read_bytes()
             for damage in (b"{", b"[" * 100_000, *others(json.loads(kept))):
                 path.write_bytes(damage)
-                status, _, err = tool("office", "status", self.office.path, "--desk", "true")
+                status, _, err = run_tool("office", "status", self.office.path, "--desk", "true")
                 self.assertEqual(status, command.NO_INPUT)
                 self.assertIn(f"{path} can't be used: it isn't {kind}", err)
             path.write_bytes(kept)
@@ -613,7 +613,7 @@ class Setup(Office):
                 self.office.list_days()[DAY].read_terms()
             self.assertEqual(str(fault.exception), said)
             if by_status:
-                status, _, err = tool("office", "status", self.office.path, "--desk", "true")
+                status, _, err = run_tool("office", "status", self.office.path, "--desk", "true")
                 self.assertEqual((status, err), (command.NO_INPUT, f"office: {DAY}: {said}\n"))
 
     def test_the_status_has_the_other_days_of_one_that_cant_be_read(self):
@@ -622,11 +622,11 @@ class Setup(Office):
         later = "2026-11-30"
         setup.make_day(self.office, folder.Terms(later, 24, FUTURE, "UTC", dict.fromkeys(NAMES, 10)))
         self.office.list_days()[DAY].path_of(folder.TERMS).write_bytes(b"{")
-        status, out, err = tool("office", "status", self.office.path, "--desk", "true")
+        status, out, err = run_tool("office", "status", self.office.path, "--desk", "true")
         self.assertEqual((status, out.decode().splitlines()[1]), (command.NO_INPUT, f"{DAY}: can't be read"))
         self.assertTrue(out.decode().splitlines()[2].startswith(f"{later}: open, 0 entries"))
         self.assertIn(f"{DAY}: ", err)
-        status, out, _ = tool("office", "status", self.office.path, "--desk", "true", "--json")
+        status, out, _ = run_tool("office", "status", self.office.path, "--desk", "true", "--json")
         made = json.loads(out)
         self.assertEqual((status, made["status"], [one["day"] for one in made["days"]]), (command.NO_INPUT,) * 2 + ([DAY, later],))
         self.assertIn("terms.json can't be used", made["days"][0]["fault"])
@@ -722,7 +722,7 @@ class Setup(Office):
                 self.assertEqual(setup.is_closing_late(self.terms(day="2026-11-29", close=close)), is_late)
         self.participants("participant\nGAS\n")
         words = ["--day", "2099-11-28", "--close", "2099-11-28T12:00", "--participants", self.office.path.parent / "p.csv"]
-        status, _, err = tool("office", "init", self.office.path, *words)
+        status, _, err = run_tool("office", "init", self.office.path, *words)
         self.assertEqual(status, 0)
         self.assertIn("note: 2099-11-28 closes after it has begun", err)
 

@@ -11,7 +11,7 @@ import time
 import unittest
 from pathlib import Path
 
-from support import AUCTION, AUCTION_RESULTS, TOOLS, TOP, heed_interrupts, new_folder, printed
+from support import AUCTION, AUCTION_RESULTS, TOOLS, TOP, heed_interrupts, new_folder, read_results
 
 from lib.journal import book, journal
 from lib.runs import which
@@ -286,7 +286,7 @@ class Upgrade(unittest.TestCase):
                 day = Path(folder, "archive", name)
                 day.mkdir(parents=True)
                 Path(day, "day.csv").write_bytes(AUCTION.read_bytes())
-                Path(day, "results.txt").write_bytes(printed(AUCTION))
+                Path(day, "results.txt").write_bytes(read_results(AUCTION))
                 Path(day, "replies.txt").write_text(replies)
             Path(folder, "replies").write_text(replies)
             line = f'case $1 in clear) cat "{AUCTION_RESULTS}" ;; *) cat "{folder}/replies" ;; esac'

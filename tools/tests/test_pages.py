@@ -9,7 +9,7 @@ import tempfile
 import unittest
 from pathlib import Path
 
-from support import AUCTION, AUCTION_RESULTS, SUNNY, TOP, book, journal, printed, selection, tool
+from support import AUCTION, AUCTION_RESULTS, SUNNY, TOP, book, journal, read_results, run_tool, selection
 
 from lib.audit import best
 from lib.crates.specs import Repository
@@ -236,7 +236,7 @@ class Pages(unittest.TestCase):
                 self.assertEqual(named, sorted(file.stem for file in (path.parent / "src").glob("*.rt") if file.stem != "lib"))
 
     def test_the_first_example_is_printed(self):
-        lines = printed(SUNNY).decode().splitlines()
+        lines = read_results(SUNNY).decode().splitlines()
         quoted = [line.split("  ")[0] for line in EXAMPLE.search((TOP / "README.md").read_text())[1].splitlines() if line != ".."]
         self.assertGreater(len(quoted), 4)
         self.assertEqual(quoted, [line for line in lines if line in quoted])
@@ -261,7 +261,7 @@ class Pages(unittest.TestCase):
 
     def test_the_table_of_orders_makes_a_journal(self):
         table = re.search(r"```text\n(participant,order,.*?)```", (TOP / "docs" / "USING.md").read_text(), re.DOTALL)[1]
-        status, made, said = tool("table", "--journal", "-", data=table.encode())
+        status, made, said = run_tool("table", "--journal", "-", data=table.encode())
         self.assertEqual((status, said), (0, ""))
         closed, reasons = book.run(journal.read_journal(made))
         self.assertEqual(reasons, [None] * len(table.splitlines()))
@@ -302,7 +302,7 @@ class Pages(unittest.TestCase):
 
 class Definitions(unittest.TestCase):
     def test_each_that_a_public_contract_cites_is_on_the_page(self):
-        status, page, _ = tool("reading-list", "--definitions")
+        status, page, _ = run_tool("reading-list", "--definitions")
         self.assertEqual(status, 0)
         on_page = sections(page.decode())
         cited = {(node, function) for node, function in Repository(TOP).cited()}

@@ -8,7 +8,7 @@ from pathlib import Path
 from unittest import mock
 
 import support
-from support import AUCTION, AUCTION_RESULTS, FIRST, QUARTERS, day_of, journal_of, results_of, tool
+from support import AUCTION, AUCTION_RESULTS, FIRST, QUARTERS, day_of, journal_of, results_of, run_tool
 
 from lib.base import rules
 from lib.results import trades
@@ -38,13 +38,13 @@ class Missing(unittest.TestCase):
             "apt-get install python3-matplotlib python3-jinja2"
         )
         for name, words in (("plot", self.words("matplotlib")), ("report", both)):
-            status, out, err = tool(name, AUCTION, python=without)
+            status, out, err = run_tool(name, AUCTION, python=without)
             self.assertEqual((status, out), (command.FAILED, b""))
             self.assertEqual(err, f"{name}: it needs {words}\n")
         blocks = [f"submit,A,K{number},block,sell,1,1:1,," for number in range(rules.MOST_BLOCKS)]
         day = journal_of(*blocks)
         text = day + b"results\n" + results_of(day, frozenset())
-        status, out, err = tool("audit", "--best", "-", data=text, python=without)
+        status, out, err = run_tool("audit", "--best", "-", data=text, python=without)
         self.assertEqual((status, out), (command.FAILED, b""))
         self.assertEqual(err, f"audit: it needs {self.words('numpy')}\n")
 
@@ -66,7 +66,7 @@ class Pictures(unittest.TestCase):
     def test_what_the_pictures_of_the_auction_day_say(self):
         from lib.pictures import canvas, pictures
 
-        day = day_of(AUCTION.read_bytes(), support.printed(AUCTION))
+        day = day_of(AUCTION.read_bytes(), support.read_results(AUCTION))
         drawn = canvas.picture(pictures.day_picture(day), "svg", words_as_text=True).decode()
         said = ["GAS EVENING", "sell 90 MW at 93.00 EUR/MWh", "paradoxically rejected", "surplus at these prices, EUR"]
         said += ["supporting prices", ">24<", ">23:00<"]
@@ -79,7 +79,7 @@ class Pictures(unittest.TestCase):
     def test_what_the_pictures_of_a_quarter_hour_day_say(self):
         from lib.pictures import canvas, pictures
 
-        day = day_of(QUARTERS.read_bytes(), support.printed(QUARTERS))
+        day = day_of(QUARTERS.read_bytes(), support.read_results(QUARTERS))
         drawn = canvas.picture(pictures.day_picture(day), "svg", words_as_text=True).decode()
         for words in ("GAS RAMP", "900.00", ">00:00<", ">93<", ">23:00<"):
             self.assertIn(words, drawn)
@@ -103,7 +103,7 @@ class Pictures(unittest.TestCase):
         from lib.pictures import canvas, curves, pictures
 
         data = journal_of("submit,A,B1,hour,buy,9000,8:8,,", "submit,B,S1,hour,sell,8000,8:8,,")
-        auction = day_of(AUCTION.read_bytes(), support.printed(AUCTION))
+        auction = day_of(AUCTION.read_bytes(), support.read_results(AUCTION))
         few = day_of(data, results_of(data, frozenset()))
         for width in canvas.WIDTHS.values():
             sheet = curves.CurveSheet(width)
@@ -132,7 +132,7 @@ class Pictures(unittest.TestCase):
     def test_links_groups_and_surpluses_of_blocks(self):
         from lib.pictures import canvas, pictures
 
-        day = day_of(AUCTION.read_bytes(), support.printed(AUCTION))
+        day = day_of(AUCTION.read_bytes(), support.read_results(AUCTION))
         for width in canvas.WIDTHS.values():
             figure = pictures.blocks_picture(day, width)
             (axes,) = figure.axes
@@ -148,7 +148,7 @@ class Pictures(unittest.TestCase):
         from lib.pictures import pictures
 
         for case in (AUCTION, QUARTERS):
-            day = day_of(case.read_bytes(), support.printed(case))
+            day = day_of(case.read_bytes(), support.read_results(case))
             bars = sum(volume > 0 for parts in trades.volume_shares(day).values() for volume in parts.values())
             bars *= day.problem.periods == 24
             self.assertEqual(len(pictures.prices_picture(day).axes[1].patches), bars)
@@ -158,7 +158,7 @@ class Pictures(unittest.TestCase):
     def test_the_same_day_gives_the_same_bytes(self):
         from lib.pictures import canvas, pictures
 
-        day = day_of(AUCTION.read_bytes(), support.printed(AUCTION))
+        day = day_of(AUCTION.read_bytes(), support.read_results(AUCTION))
         one, other = (canvas.picture(pictures.day_picture(day), "svg") for _ in range(2))
         self.assertEqual(one, other)
 
@@ -186,20 +186,20 @@ class Pictures(unittest.TestCase):
             begins = {"svg": b"<?xml", "png": b"\x89PNG"}
             for name in PICTURES:
                 words = [f"--picture={name}"]
-                self.assertEqual(tool("plot", *texts, *words, "-o", f"{folder}/a.svg"), (0, b"", ""))
+                self.assertEqual(run_tool("plot", *texts, *words, "-o", f"{folder}/a.svg"), (0, b"", ""))
                 self.assertTrue(Path(folder, "a.svg").read_bytes().startswith(begins["svg"]))
-            self.assertEqual(tool("plot", *texts, "--period", 19, "-o", f"{folder}/a.png"), (0, b"", ""))
+            self.assertEqual(run_tool("plot", *texts, "--period", 19, "-o", f"{folder}/a.png"), (0, b"", ""))
             self.assertTrue(Path(folder, "a.png").read_bytes().startswith(begins["png"]))
-            self.assertEqual(tool("plot", *texts, "--period", 19, "-o", "-")[1][:5], begins["svg"])
-            status, _, err = tool("plot", *texts, "--period", 7, "--picture", "blocks", "-o", f"{folder}/b.svg")
+            self.assertEqual(run_tool("plot", *texts, "--period", 19, "-o", "-")[1][:5], begins["svg"])
+            status, _, err = run_tool("plot", *texts, "--period", 7, "--picture", "blocks", "-o", f"{folder}/b.svg")
             self.assertEqual((status, "not allowed with" in err), (command.COMMAND_LINE, True))
-            self.assertEqual(tool("plot", *texts, "--pict", "day")[0], command.COMMAND_LINE)
-            self.assertEqual(tool("plot", *texts, "-o", f"{folder}/.PNG"), (0, b"", ""))
+            self.assertEqual(run_tool("plot", *texts, "--pict", "day")[0], command.COMMAND_LINE)
+            self.assertEqual(run_tool("plot", *texts, "-o", f"{folder}/.PNG"), (0, b"", ""))
             self.assertTrue(Path(folder, ".PNG").read_bytes().startswith(begins["png"]))
             for words in (["-o", f"{folder}/a.gif"], ["-o", "svg"], ["-o", f"{folder}/a.svg/png"], ["--period", 25, "-o", f"{folder}/a.svg"], ["--picture=x"]):
-                self.assertEqual(tool("plot", *texts, *words)[0], command.COMMAND_LINE)
-            self.assertEqual(tool("plot", *texts, "-o", f"{folder}/none/a.svg")[0], command.NO_INPUT)
-            status, _, err = tool("plot", AUCTION, AUCTION, "-o", f"{folder}/a.svg")
+                self.assertEqual(run_tool("plot", *texts, *words)[0], command.COMMAND_LINE)
+            self.assertEqual(run_tool("plot", *texts, "-o", f"{folder}/none/a.svg")[0], command.NO_INPUT)
+            status, _, err = run_tool("plot", AUCTION, AUCTION, "-o", f"{folder}/a.svg")
             self.assertEqual((status, "has a journal instead of results" in err), (command.NO_INPUT, True))
 
 

@@ -9,7 +9,7 @@ import unittest
 from fractions import Fraction
 
 import support
-from support import AUCTION, AUCTION_RESULTS, FIRST, QUARTERS, TOP, day_of, printed, results_of, tool
+from support import AUCTION, AUCTION_RESULTS, FIRST, QUARTERS, TOP, day_of, read_results, results_of, run_tool
 
 from lib.base import clock, rules, text
 from lib.results import published, trades
@@ -56,7 +56,7 @@ class Curves(unittest.TestCase):
         self.assertGreater(points, 100)
 
     def test_an_hour_of_the_auction_day(self):
-        rows = [row[1:] for row in published.curves(day_of(AUCTION.read_bytes(), printed(AUCTION))) if row[0] == 19]
+        rows = [row[1:] for row in published.curves(day_of(AUCTION.read_bytes(), read_results(AUCTION))) if row[0] == 19]
         self.assertEqual(
             rows,
             [
@@ -73,7 +73,7 @@ class Curves(unittest.TestCase):
 
 class Blocks(unittest.TestCase):
     def test_the_auction_day(self):
-        rows = {row["order"]: row for row in read(tables.TABLES["blocks"](day_of(AUCTION.read_bytes(), printed(AUCTION))))}
+        rows = {row["order"]: row for row in read(tables.TABLES["blocks"](day_of(AUCTION.read_bytes(), read_results(AUCTION))))}
         # EXAMPLES.md works these out.
         self.assertEqual(rows["NOON"]["family_welfare_eur"], "3016400.000")
         self.assertEqual(rows["UNIT-7"]["family_welfare_eur"], "3024330.000")
@@ -85,8 +85,8 @@ class Blocks(unittest.TestCase):
 class Figures(unittest.TestCase):
     def test_means_by_hand(self):
         # 24 prices; those from 8:00 to 20:00 are the periods 9 to 20.
-        day = day_of(AUCTION.read_bytes(), printed(AUCTION))
-        prices = [int(line.split(b",")[2]) for line in printed(AUCTION).splitlines() if line.startswith(b"period")]
+        day = day_of(AUCTION.read_bytes(), read_results(AUCTION))
+        prices = [int(line.split(b",")[2]) for line in read_results(AUCTION).splitlines() if line.startswith(b"period")]
         found = {row["figure"]: row["value"] for row in read(published.figures(day))}
         self.assertEqual(Fraction(found["base_price"]), Fraction(round(Fraction(sum(prices), 24)), 100))
         self.assertEqual(Fraction(found["peak_price"]), Fraction(round(Fraction(sum(prices[8:20]), 12)), 100))
@@ -167,7 +167,7 @@ class Times(unittest.TestCase):
     @unittest.skipUnless(modules.has_zone(shapes.ZONE), "the time zones are missing (Debian's tzdata)")
     def test_command_line(self):
         texts = [AUCTION, AUCTION_RESULTS]
-        rows = tool("table", *texts, "--date", "2026-11-25", "--only", "8-9;19")[1].decode().splitlines()
+        rows = run_tool("table", *texts, "--date", "2026-11-25", "--only", "8-9;19")[1].decode().splitlines()
         self.assertEqual(rows[0].split(",")[:2], ["period", "begins"])
         self.assertEqual([row.split(",")[1] for row in rows[1:]], [f"2026-11-25T{hour}:00:00+01:00" for hour in ("07", "08", "18")])
         for words, said in (
@@ -182,13 +182,13 @@ class Times(unittest.TestCase):
             (["--long", "--participant", "GAS"], "--long can't be used with statement: give --rows orders --long"),
             (["--only", "8", "--participant", "GAS"], "statement, which has no column of periods: give --rows orders --long"),
         ):
-            status, out, err = tool("table", *texts, *words)
+            status, out, err = run_tool("table", *texts, *words)
             self.assertEqual((status, out, said in err), (command.COMMAND_LINE, b"", True), err)
 
 
 class Json(unittest.TestCase):
     def test_every_table_has_the_columns_of_the_page(self):
-        day = day_of(QUARTERS.read_bytes(), printed(QUARTERS))
+        day = day_of(QUARTERS.read_bytes(), read_results(QUARTERS))
         for name, of in tables.TABLES.items():
             heads = next(iter(of(day)))
             section = re.search(rf"^\*\*{name}\*\*.*?(?=^\*\*|^## )", PAGE, re.MULTILINE | re.DOTALL)[0]
@@ -205,7 +205,7 @@ class Json(unittest.TestCase):
 
     def test_the_schema(self):
         kinds = {"string": str, "number": (int, float), "integer": int, "boolean": bool, "array": list}
-        for data, text in ((QUARTERS.read_bytes(), printed(QUARTERS)), (FIRST, results_of(FIRST, frozenset()))):
+        for data, text in ((QUARTERS.read_bytes(), read_results(QUARTERS)), (FIRST, results_of(FIRST, frozenset()))):
             day = day_of(data, text)
             for form in (tables.TABLES, tables.LONG):
                 for name, of in form.items():
@@ -222,7 +222,7 @@ class Json(unittest.TestCase):
                             self.assertEqual(len(row["periods"]), len(row["volume_mw"]))
 
     def test_values_are_those_of_the_cells(self):
-        day = day_of(AUCTION.read_bytes(), printed(AUCTION))
+        day = day_of(AUCTION.read_bytes(), read_results(AUCTION))
         rows = json.loads(shapes.as_json("periods", tables.periods(day), {}))["rows"]
         self.assertEqual([row["price_eur_mwh"] for row in rows], [cents / 100 for cents in day.said.prices])
         rows = json.loads(shapes.as_json("blocks", tables.TABLES["blocks"](day), {}))["rows"]
@@ -231,9 +231,9 @@ class Json(unittest.TestCase):
 
     def test_command_line(self):
         texts = [AUCTION, AUCTION_RESULTS]
-        made = json.loads(tool("table", *texts, "--json", "--rows", "curves", "--only", "19")[1])
+        made = json.loads(run_tool("table", *texts, "--json", "--rows", "curves", "--only", "19")[1])
         self.assertEqual((made["table"], len(made["rows"]), made["day"]["welfare_eur"]), ("curves", 7, 3021520.0))
-        made = json.loads(tool("table", AUCTION, "--json", "--rows", "commands")[1])
+        made = json.loads(run_tool("table", AUCTION, "--json", "--rows", "commands")[1])
         self.assertEqual((made["day"], made["rows"][92]["reason"]), ({"date": None, "periods": 24, "hours_per_period": 1.0}, "HasChildren"))
 
 

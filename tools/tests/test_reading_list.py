@@ -6,7 +6,7 @@ import tempfile
 import unittest
 from pathlib import Path
 
-from support import TOOLS, loaded, tool
+from support import TOOLS, load_tool, run_tool
 
 from lib.tool import command
 
@@ -104,7 +104,7 @@ class ReadingList(unittest.TestCase):
 
     def few(self, names):
         """The output of the tool for the few definitions with these names in the repository of this test."""
-        module = loaded("reading-list")
+        module = load_tool("reading-list")
         module.FIRST = {"run_clear": {"Sizes": names}}
         with tempfile.TemporaryDirectory() as folder:
             self.repository(folder)
@@ -141,11 +141,11 @@ pub fn law()
     ensures { ⊥ → ⊥ }
 {}
 """
-        self.assertEqual(loaded("reading-list").clause_lines(text), 5)
+        self.assertEqual(load_tool("reading-list").clause_lines(text), 5)
 
     def theorem(self, listed, others, is_printed=True):
         """The tool's theorem with these definitions in the repository of this test."""
-        module = loaded("reading-list")
+        module = load_tool("reading-list")
         module.THEOREM = {"run_clear": (is_printed, listed, others)}
         with tempfile.TemporaryDirectory() as folder:
             self.repository(folder)
@@ -173,10 +173,10 @@ pub fn law()
             self.theorem(["IsSize"], ["Printed"])
 
     def test_the_pages_have_the_lists_of_this_repository(self):
-        self.assertEqual(tool("reading-list", "--check"), (0, b"", ""))
+        self.assertEqual(run_tool("reading-list", "--check"), (0, b"", ""))
 
     def test_lists_that_are_right_are_not_written_again(self):
-        module = loaded("reading-list")
+        module = load_tool("reading-list")
 
         def renewed(text, theorem, sizes):
             parts = {"theorem": (lambda _: theorem, str.__eq__), "sizes": (lambda _: sizes, module.is_near)}
@@ -190,7 +190,7 @@ pub fn law()
 
     def test_the_page_of_definitions(self):
         """Every definition of a module needs a sentence, also one that the page leaves out."""
-        module = loaded("reading-list")
+        module = load_tool("reading-list")
         with tempfile.TemporaryDirectory() as folder:
             self.repository(folder)
             sizes = Path(folder, "crates/lower/specs/Sizes.antt")
@@ -207,7 +207,7 @@ pub fn law()
                 module.definitions_list(module.Repository(Path(folder)))
 
     def test_sizes_may_differ_by_a_tenth(self):
-        is_near = loaded("reading-list").is_near
+        is_near = load_tool("reading-list").is_near
         self.assertTrue(is_near("| `a_1` | 1,000 | 0 |\n", "| `a_1` | 1,100 | 0 |\n"))
         self.assertFalse(is_near("| 1,000 |", "| 1,200 |"))
         self.assertFalse(is_near("| 0 |", "| 1 |"))
@@ -216,7 +216,7 @@ pub fn law()
     def test_names_are_followed_to_what_they_stand_on(self):
         with tempfile.TemporaryDirectory() as folder:
             self.repository(folder)
-            status, printed, errors = tool("reading-list", "--top", folder, "--names", "run_day")
+            status, printed, errors = run_tool("reading-list", "--top", folder, "--names", "run_day")
             self.assertEqual((status, errors), (0, ""))
             self.assertEqual(
                 set(printed.decode().splitlines()),
@@ -233,7 +233,7 @@ pub fn law()
     def test_each_function_adds_to_those_before_it(self):
         with tempfile.TemporaryDirectory() as folder:
             self.repository(folder)
-            _, printed, _ = tool("reading-list", "--top", folder)
+            _, printed, _ = run_tool("reading-list", "--top", folder)
             lines = printed.decode().splitlines()
             self.assertEqual(lines[0], "1. For `run_replay` (`dam_engines`):")
             self.assertIn("   - `lower/specs/`: `Limits`, `Sizes` (`IsSize`)", lines)
@@ -264,14 +264,14 @@ pub fn law()
         with tempfile.TemporaryDirectory() as folder:
             self.repository(folder)
             Path(folder, "crates/lower/specs/Limits.antt").write_text("abbrev pub least : ℕ\nleast = 1\n")
-            status, printed, errors = tool("reading-list", "--top", folder)
+            status, printed, errors = run_tool("reading-list", "--top", folder)
             self.assertEqual((status, printed), (3, b""))
             self.assertIn("lower/specs/Limits.antt has no definition most", errors)
 
     def test_files_that_cannot_be_read_or_written(self):
         with tempfile.TemporaryDirectory() as folder:
             said = f"reading-list: {folder}/crates.txt can't be read: No such file or directory\n"
-            self.assertEqual(tool("reading-list", "--top", folder), (command.NO_INPUT, b"", said))
+            self.assertEqual(run_tool("reading-list", "--top", folder), (command.NO_INPUT, b"", said))
         with open("/dev/full", "wb") as full:
             ran = subprocess.run([sys.executable, TOOLS / "reading-list"], stdout=full, stderr=subprocess.PIPE, text=True)
         said = "reading-list: standard output can't be written: No space left on device\n"

@@ -16,7 +16,7 @@ import unittest
 from pathlib import Path
 
 from signed import DAY, NEEDS_CRYPTOGRAPHY, InFolder, lines_of, replies_of, sealed_of, verdict_of
-from support import AUCTION, FIRST, QUARTERS, SUNNY, TOOLS, TOP, tool, unsaid
+from support import AUCTION, FIRST, QUARTERS, SUNNY, TOOLS, TOP, run_help_for_unsaid, run_tool
 
 from lib.journal import book, journal
 from lib.seal import heads, merkle
@@ -514,7 +514,7 @@ class Command(InFolder):
 
     def test_the_members_of_each_record_are_described(self):
         def record(name, *words):
-            return json.loads(tool("receipts", name, "--json", *words)[1])
+            return json.loads(run_tool("receipts", name, "--json", *words)[1])
 
         self.seal()
         receipt, head, key = "sealed/receipts/STAD.jsonl", "sealed/head.json", ["--key", "key.pem"]
@@ -527,12 +527,12 @@ class Command(InFolder):
         for one, parts in [(one, []) for one in made] + [(found, found["receipts"]), (wrong, wrong["findings"])]:
             with self.subTest(one["command"]):
                 self.assertIsNone(one["message"])
-                self.assertEqual(unsaid("receipts", one, *parts), set())
+                self.assertEqual(run_help_for_unsaid("receipts", one, *parts), set())
         self.assertTrue(found["receipts"] and wrong["findings"])
 
     def error(self, status, *words):
         """What `verify` says on standard error."""
-        ran = tool("receipts", "verify", "sealed/receipts/STAD.jsonl", "--key", "key.pem.pub", "--head", "sealed/head.json", *words)
+        ran = run_tool("receipts", "verify", "sealed/receipts/STAD.jsonl", "--key", "key.pem.pub", "--head", "sealed/head.json", *words)
         self.assertEqual(ran[:2], (status, b""))
         return ran[2]
 
@@ -690,7 +690,7 @@ class Command(InFolder):
         self.addCleanup(os.chdir, here)
         here.joinpath(gone).rmdir()
         words = [here / "day.csv", here / "replies.txt", "--day", DAY, "--key", here / "key.pem", "-o", "sealed"]
-        self.assertEqual(tool("receipts", "seal", *words), (3, b"", "receipts: sealed can't be made: No such file or directory\n"))
+        self.assertEqual(run_tool("receipts", "seal", *words), (3, b"", "receipts: sealed can't be made: No such file or directory\n"))
 
     def test_files_of_other_kinds(self):
         self.seal()

@@ -12,7 +12,7 @@ import unittest.mock
 from pathlib import Path
 
 import support
-from support import AUCTION, AUCTION_RESULTS, FIRST, QUARTERS, SUNNY, day_of, journal_of, printed, results_of, tool
+from support import AUCTION, AUCTION_RESULTS, FIRST, QUARTERS, SUNNY, day_of, journal_of, read_results, results_of, run_tool
 
 from lib.results import trades
 from lib.tool import command, modules
@@ -106,8 +106,8 @@ class Page(unittest.TestCase):
                 self.assertEqual(re.findall(r'(?:fill|stroke)[:=] ?"?(#[0-9a-f]{6})', text), [])
 
     def test_what_it_says_of_the_auction_day(self):
-        read = Reader(self.page(AUCTION.read_bytes(), printed(AUCTION)))
-        day = day_of(AUCTION.read_bytes(), printed(AUCTION))
+        read = Reader(self.page(AUCTION.read_bytes(), read_results(AUCTION)))
+        day = day_of(AUCTION.read_bytes(), read_results(AUCTION))
         for row in day.problem.rows:
             name = f"{row.who} {row.name}" if row.order.kind == "block" else row.name
             self.assertIn(name, read.texts)
@@ -124,7 +124,7 @@ class Page(unittest.TestCase):
             self.assertTrue(any(words in text for text in read.texts), words)
 
     def test_what_it_says_of_a_quarter_hour_day(self):
-        read = Reader(self.page(QUARTERS.read_bytes(), printed(QUARTERS)))
+        read = Reader(self.page(QUARTERS.read_bytes(), read_results(QUARTERS)))
         # 4,000 units of welfare and surplus are one EUR.
         for words in (
             "96 periods",
@@ -160,13 +160,13 @@ class Page(unittest.TestCase):
         self.assertIn("<b>Period 7</b> 06:00 to 07:00: <span class=\"soft\">no trade</span>", text)
 
     def test_participants_add_up(self):
-        texts = [words for words in Reader(self.page(AUCTION.read_bytes(), printed(AUCTION))).texts if words]
+        texts = [words for words in Reader(self.page(AUCTION.read_bytes(), read_results(AUCTION))).texts if words]
         at = texts.index("all")
         self.assertEqual(texts[at + 1 : at + 7], ["89", f"12{THIN}910.0", f"12{THIN}910.0", *[f"1{THIN}238{THIN}670.00"] * 2, "0.00"])
 
     def test_tables_and_pictures_have_words(self):
         for case in (AUCTION, QUARTERS):
-            text = self.page(case.read_bytes(), printed(case), [1])
+            text = self.page(case.read_bytes(), read_results(case), [1])
             read = Reader(text)
             tables, pictures = read.elements.count("table"), read.elements.count("figure")
             self.assertGreater(tables, 5)
@@ -179,7 +179,7 @@ class Page(unittest.TestCase):
         self.assertIn("The price goes from 50.00 EUR/MWh in period 1 to 165.00 EUR/MWh in period 75.", text)
 
     def test_areas_that_show_values(self):
-        text = self.page(AUCTION.read_bytes(), printed(AUCTION), [19])
+        text = self.page(AUCTION.read_bytes(), read_results(AUCTION), [19])
         for words in (
             "<title>period 19, 18:00 to 19:00: 165.00 EUR/MWh, 730.0 MW</title>",
             "<title>GAS START: accepted; loses at the prices by itself, and with STAY and EVENING it gains 9,760.00 EUR</title>",
@@ -188,14 +188,14 @@ class Page(unittest.TestCase):
         self.assertRegex(text, r"<title>supply: [0-9.,]+ to [0-9.,]+ MW at [0-9.,]+ EUR/MWh</title>")
 
     def test_the_tables_have_the_decision_first(self):
-        text = self.page(AUCTION.read_bytes(), printed(AUCTION))
+        text = self.page(AUCTION.read_bytes(), read_results(AUCTION))
         heads = re.findall(r"<th scope=\"col\"[^>]*>([^<]*)</th>", text[text.index('id="blocks"') :])
         self.assertEqual(heads[:4], ["block", "decision", "reason", "surplus, EUR"])
         self.assertIn("blocks name this one as their parent", text)
 
     def test_the_page_of_a_participant(self):
         texts = [AUCTION, AUCTION_RESULTS, "-o", "-"]
-        status, out, err = tool("report", *texts, "--participant", "GAS")
+        status, out, err = run_tool("report", *texts, "--participant", "GAS")
         read, text = Reader(out.decode()), out.decode()
         self.assertEqual((status, err, read.wrong), (0, "", []))
         self.assertIn("auction-day: GAS", read.texts)
@@ -209,13 +209,13 @@ class Page(unittest.TestCase):
         # Blocks stand before hourly orders, and so do the commands that follow on them.
         own = [words for words in read.texts if words in ("START", "STAY", "EVENING", "FLEX-1", "FLEX-24")]
         self.assertLess(max(at for at, words in enumerate(own) if words in ("START", "STAY", "EVENING")), own.index("FLEX-1"))
-        found = tool("report", *texts, "--participant", "NOBODY", "--curves", "none")
+        found = run_tool("report", *texts, "--participant", "NOBODY", "--curves", "none")
         self.assertEqual(found, (command.NO_INPUT, b"", "report: NOBODY has no command in the journal\n"))
-        self.assertEqual(tool("report", *texts, "--participant", "gas")[0], command.COMMAND_LINE)
+        self.assertEqual(run_tool("report", *texts, "--participant", "gas")[0], command.COMMAND_LINE)
 
     def test_a_participants_rejected_block_says_which_limit_it_needed(self):
         """As the page of the day does, with amounts written alike."""
-        day, whys = day_of(AUCTION.read_bytes(), printed(AUCTION)), []
+        day, whys = day_of(AUCTION.read_bytes(), read_results(AUCTION)), []
         place = next(place for place, block in enumerate(day.problem.blocks) if block.name == "UNIT-7")
         with unittest.mock.patch("lib.whatif.limits.of_rejected", lambda *_: {place: "With a limit of 92.00 EUR/MWh."}):
             for who in (None, "OLD"):
@@ -228,7 +228,7 @@ class Page(unittest.TestCase):
         """Several processes draw them, in their order."""
         from lib.report import page
 
-        day = day_of(QUARTERS.read_bytes(), printed(QUARTERS))
+        day = day_of(QUARTERS.read_bytes(), read_results(QUARTERS))
         numbers = list(range(60, 60 + page.FEW_CURVES + 2))
         with page.draw_all_curves(day, numbers) as many:
             for child in multiprocessing.active_children():  # which this process ends at Ctrl-C
@@ -241,7 +241,7 @@ class Page(unittest.TestCase):
         """The limits go from -40 to 3,000 EUR/MWh; those far from the price are said in words."""
         from lib.pictures import canvas, curves, pictures
 
-        day = day_of(SUNNY.read_bytes(), printed(SUNNY))
+        day = day_of(SUNNY.read_bytes(), read_results(SUNNY))
         for number in (13, 20):
             drawn = canvas.picture(pictures.period_picture(day, number), "svg", words_as_text=True).decode()
             self.assertIn("limits go up to 3,000.00 EUR/MWh", drawn)
@@ -251,11 +251,11 @@ class Page(unittest.TestCase):
             self.assertTrue(bottom < day.said.prices[number - 1] / 100 < top)
 
     def test_wrong_results_are_said_to_be_wrong(self):
-        wrong = printed(AUCTION).replace(b"period,1,9200", b"period,1,9300")
+        wrong = read_results(AUCTION).replace(b"period,1,9200", b"period,1,9300")
         text = self.page(AUCTION.read_bytes(), wrong)
         self.assertIn("These results break the rules of the market.", text)
         self.assertIn("period 1: the price is 9300", text)
-        self.assertNotIn("These results break the rules of the market.", self.page(AUCTION.read_bytes(), printed(AUCTION)))
+        self.assertNotIn("These results break the rules of the market.", self.page(AUCTION.read_bytes(), read_results(AUCTION)))
 
     def test_results_that_cannot_be_are_shown_as_wrong(self):
         case = support.cases("clear")["too-large-block"]
@@ -272,27 +272,27 @@ class Page(unittest.TestCase):
 
     def test_command_line(self):
         day = FIRST + b"results\n" + results_of(FIRST, frozenset())
-        status, out, err = tool("report", "-", "-o", "-", "--curves", "none", "--title", "Today", data=day)
+        status, out, err = run_tool("report", "-", "-o", "-", "--curves", "none", "--title", "Today", data=day)
         self.assertEqual((status, err, b"<title>Today</title>" in out), (0, "", True))
         self.assertNotIn(b"Supply and demand in period", out)
-        out = tool("report", "-", "-o", "-", "--curves", "none", "--title", "a\u00a0\udcff", data=day)[1]
+        out = run_tool("report", "-", "-o", "-", "--curves", "none", "--title", "a\u00a0\udcff", data=day)[1]
         self.assertIn("<title>a\u00a0\\xff</title>".encode(), out)
         words = ["--date", "2026-11-25"] if modules.has_zone("Europe/Berlin") else []
-        out = tool("report", "-", "-o", "-", "--curves", "4, 3-4,3", *words, data=day)[1]
+        out = run_tool("report", "-", "-o", "-", "--curves", "4, 3-4,3", *words, data=day)[1]
         self.assertEqual([out.count(b"<figcaption>Supply and demand in period %d" % number) for number in (3, 4, 5)], [1, 1, 0])
         self.assertEqual(b"Wednesday, 25 November 2026. A delivery day of 24 periods" in out, bool(words))
         with tempfile.TemporaryDirectory() as folder:
             out = Path(folder, "none", "a.html")
-            self.assertEqual(tool("report", "-", "--curves", "none", "-o", out, data=day)[0], command.NO_INPUT)
+            self.assertEqual(run_tool("report", "-", "--curves", "none", "-o", out, data=day)[0], command.NO_INPUT)
 
     def test_wrong_command_lines(self):
         texts = [AUCTION, AUCTION_RESULTS, "-o", "-"]
         for words in ("25", "x", "1-25", "9-8", "0", ""):
-            self.assertEqual(tool("report", *texts, "--curves", words)[0], command.COMMAND_LINE)
-        self.assertEqual(tool("report", *texts, "--curve", "3")[0], command.COMMAND_LINE)
+            self.assertEqual(run_tool("report", *texts, "--curves", words)[0], command.COMMAND_LINE)
+        self.assertEqual(run_tool("report", *texts, "--curve", "3")[0], command.COMMAND_LINE)
         if modules.has_zone("Europe/Berlin"):
             for words in ("2026-03-29", "25.11.2026"):
-                self.assertEqual(tool("report", *texts, "--date", words)[0], command.COMMAND_LINE)
+                self.assertEqual(run_tool("report", *texts, "--date", words)[0], command.COMMAND_LINE)
 
 
 if __name__ == "__main__":

@@ -15,7 +15,7 @@ import unittest
 import unittest.mock
 from pathlib import Path
 
-from support import AUCTION, TOOLS, doctored, journal_of, new_folder, results_of, tool
+from support import AUCTION, TOOLS, journal_of, new_folder, results_of, run_tool, write_doctored_program
 
 from lib.base import rules, text
 from lib.journal import book, journal
@@ -285,19 +285,19 @@ class Tool(unittest.TestCase):
     @unittest.skipUnless(which.BUILT.exists(), "the program isn't built")
     def test_a_table(self):
         words = self.journal, self.table, "--program", which.BUILT
-        status, out, err = tool("whatif", "scenarios", *words)
+        status, out, err = run_tool("whatif", "scenarios", *words)
         self.assertEqual((status, err), (0, ""))
         self.assertEqual([(row["scenario"], row["welfare_eur"], row["change_eur"]) for row in rows(out)],
                          [("as is", "20.000", "0.000"), ("mill", "80.000", "60.000"), ("high", "0.000", "-20.000")])
-        found = rows(tool("whatif", "scenarios", "--rows", "orders", "--participant", "GEN", *words)[1])
+        found = rows(run_tool("whatif", "scenarios", "--rows", "orders", "--participant", "GEN", *words)[1])
         self.assertEqual([row["order"] for row in found], ["UNIT"] * 3)
         self.assertEqual([row["outcome"] for row in found], ["accepted", "rejected", "rejected"])
-        found = rows(tool("whatif", "scenarios", "--rows", "participants", *words)[1])
+        found = rows(run_tool("whatif", "scenarios", "--rows", "participants", *words)[1])
         self.assertEqual([row["participant"] for row in found], ["CITY", "GEN", "CITY", "GEN", "WIND", "CITY", "GEN"])
         self.assertEqual([row["gain_eur"] for row in found if row["participant"] == "GEN"], ["20.000", "0.000", "0.000"])
-        found = rows(tool("whatif", "scenarios", "--rows", "prices", *words)[1])
+        found = rows(run_tool("whatif", "scenarios", "--rows", "prices", *words)[1])
         self.assertEqual((len(found), found[0]["price_eur_mwh"], found[24]["change_eur_mwh"]), (72, "50.00", "-20.00"))
-        self.assertEqual(tool("whatif", "scenarios", *words, "--jobs", "1")[1], out)
+        self.assertEqual(run_tool("whatif", "scenarios", *words, "--jobs", "1")[1], out)
 
     @unittest.skipUnless(which.BUILT.exists(), "the program isn't built")
     def test_results_that_break_the_rules(self):
@@ -308,9 +308,9 @@ class Tool(unittest.TestCase):
             ("MILL", "s/^welfare,/welfare,1/", "scenario mill", "results line 2: the welfare is 180000 "),
             ("6000", "s/,rejected,/,accepted,/", "scenario high", "results line 28: block GEN,UNIT: it is accepted and loses "),
         ):
-            words = "scenarios", self.journal, self.table, "--program", doctored(self.folder, which.BUILT, mark, edit)
+            words = "scenarios", self.journal, self.table, "--program", write_doctored_program(self.folder, which.BUILT, mark, edit)
             for shown in scenarios.TABLES:
-                status, out, err = tool("whatif", *words, "--rows", shown)
+                status, out, err = run_tool("whatif", *words, "--rows", shown)
                 self.assertEqual((status, out, len(err.splitlines())), (command.DIFFERS, b"", 1), err)
                 self.assertTrue(err.startswith(f"whatif: the program's results of {name} break the rules ({place}"), err)
 
@@ -329,8 +329,8 @@ class Tool(unittest.TestCase):
             (marks[15], price, "scenario 16", "block GEN,UNIT: the surplus is "),
             (marks[16], welfare, "scenario 17", "results line 2: the welfare is 1"),
         ):
-            program = doctored(self.folder, which.BUILT, mark, edit)
-            status, out, err = tool("whatif", "scenarios", "--sample", 17, "--participant", "GEN", self.journal, "--program", program)
+            program = write_doctored_program(self.folder, which.BUILT, mark, edit)
+            status, out, err = run_tool("whatif", "scenarios", "--sample", 17, "--participant", "GEN", self.journal, "--program", program)
             self.assertEqual((status, out == b""), (command.DIFFERS, True) if name else (0, False), err)
             if name:
                 self.assertTrue(err.startswith(f"whatif: the program's results of {name} break the rules ({place}"), err)
@@ -346,10 +346,10 @@ class Tool(unittest.TestCase):
         program.chmod(0o755)
         words = "scenarios", self.journal, self.table, "--program", program
         shown = [*names[:-1], "'-1"]  # none is a formula
-        self.assertEqual([row["scenario"] for row in rows(tool("whatif", *words)[1])], shown)
-        self.assertEqual([row["scenario"] for row in json.loads(tool("whatif", *words, "--json")[1])["rows"]], names)
+        self.assertEqual([row["scenario"] for row in rows(run_tool("whatif", *words)[1])], shown)
+        self.assertEqual([row["scenario"] for row in json.loads(run_tool("whatif", *words, "--json")[1])["rows"]], names)
         path = Path(self.folder, "a.xlsx")
-        self.assertEqual(tool("whatif", *words, "-o", path), (0, b"", ""))
+        self.assertEqual(run_tool("whatif", *words, "-o", path), (0, b"", ""))
         self.assertEqual([cells[0] for _, cells in sheets.read_rows(path.read_bytes())[0]], ["scenario", *names])
 
     def test_characters_that_no_name_has(self):
@@ -357,39 +357,40 @@ class Tool(unittest.TestCase):
         for character in "\x1b", "\t", "\x7f", "\x85", "\ufffe":
             self.table.write_text(f"{COMMANDS}a,,,,,,,,,,\na{character}b,,,,,,,,,,\n")
             said = f"whatif: {self.table}: line 3, column scenario: 'a{text.escaped(character)}b' has a control character: remove it\n"
-            self.assertEqual(tool("whatif", "scenarios", "--program", "/bin/true", self.journal, self.table), (command.NO_INPUT, b"", said))
+            found = run_tool("whatif", "scenarios", "--program", "/bin/true", self.journal, self.table)
+            self.assertEqual(found, (command.NO_INPUT, b"", said))
 
     def test_a_name_that_no_cell_holds(self):
         """An apostrophe, or the escape of an escape, makes it longer than it was in the table."""
         for name in ("=" + "x" * 32_766, "_x0041_" + "x" * 32_755):
             self.table.write_text(f"{COMMANDS}{name[:-1]},,,,,,,,,,\n{name},,,,,,,,,,\n")
             said = f"line 3, column scenario: '{name[:80]}..' ({len(name):,} characters) would be too long for a cell of the output: shorten it"
-            found = tool("whatif", "scenarios", "--program", "/bin/true", self.journal, self.table)
+            found = run_tool("whatif", "scenarios", "--program", "/bin/true", self.journal, self.table)
             self.assertEqual(found, (command.NO_INPUT, b"", f"whatif: {self.table}: {said}\n"))
 
     def test_notes_come_before_a_fault(self):
         self.table.write_text(self.table.read_text().replace("group", "group,note"))
         note = f"whatif: {self.table}: the column 'note' isn't used\n"
-        found = tool("whatif", "scenarios", "--program", "/bin/true", self.journal, self.table)
+        found = run_tool("whatif", "scenarios", "--program", "/bin/true", self.journal, self.table)
         self.assertEqual(found, (3, b"", f"{note}whatif: the day as it was: /bin/true printed no results of this journal\n"))
-        self.assertNotIn("note", tool("whatif", "scenarios", "--quiet", "--program", "/bin/true", self.journal, self.table)[2])
+        self.assertNotIn("note", run_tool("whatif", "scenarios", "--quiet", "--program", "/bin/true", self.journal, self.table)[2])
 
     @unittest.skipUnless(which.BUILT.exists() and modules.has_module("numpy"), "the program isn't built, or numpy is missing")
     def test_a_sample(self):
         words = "--sample", 30, "--participant", "OLD", AUCTION, "--program", which.BUILT
-        status, out, err = tool("whatif", "scenarios", *words)
+        status, out, err = run_tool("whatif", "scenarios", *words)
         (row,) = rows(out)
         self.assertEqual((status, row["order"], row["scenarios"]), (0, "UNIT-7", "30"))
         self.assertIn(f"OLD UNIT-7 is accepted in {row['accepted']} of 30 scenarios", err)
-        self.assertEqual(tool("whatif", "scenarios", *words, "--jobs", "1", "--quiet"), (0, out, ""))
-        self.assertNotEqual(tool("whatif", "scenarios", *words, "--price-sd", "30")[1], out)
-        orders = rows(tool("whatif", "scenarios", "--rows", "orders", "--order", "UNIT-7", *words)[1])
+        self.assertEqual(run_tool("whatif", "scenarios", *words, "--jobs", "1", "--quiet"), (0, out, ""))
+        self.assertNotEqual(run_tool("whatif", "scenarios", *words, "--price-sd", "30")[1], out)
+        orders = rows(run_tool("whatif", "scenarios", "--rows", "orders", "--order", "UNIT-7", *words)[1])
         accepted = [row for row in orders if row["outcome"] == "accepted"]
         self.assertEqual((len(orders), str(len(accepted))), (30, row["accepted"]))
         if modules.has_module("matplotlib"):
             for name, begin in (("a.svg", b"<?xml"), ("a.png", b"\x89PNG")):
                 path = Path(self.folder, name)
-                self.assertEqual(tool("whatif", "scenarios", "--quiet", *words, "-o", path), (0, out, ""))
+                self.assertEqual(run_tool("whatif", "scenarios", "--quiet", *words, "-o", path), (0, out, ""))
                 self.assertTrue(path.read_bytes().startswith(begin))
         self.assertIn("<!-- median of the surplus: ", Path(self.folder, "a.svg").read_text())
 
@@ -400,7 +401,7 @@ class Tool(unittest.TestCase):
             program.write_text(f"#!/bin/sh\ncat > /dev/null\nprintf 'day,24\\nwelfare,0\\n{printed}'\n")
             program.chmod(0o755)
             for name in ("change", "scenarios"):
-                found = tool("whatif", name, "--quiet", "--program", program, self.journal, self.table)
+                found = run_tool("whatif", name, "--quiet", "--program", program, self.journal, self.table)
                 self.assertEqual(found, (command.NO_INPUT, b"", f"whatif: {cleared.NO_RESULTS}\n"), printed)
 
     def test_few_files(self):
@@ -440,13 +441,13 @@ class Tool(unittest.TestCase):
             ([*table[:3], AUCTION], 3, None),
         ):
             with self.subTest(said):
-                found = tool("whatif", "scenarios", *words, "-o", out)
+                found = run_tool("whatif", "scenarios", *words, "-o", out)
                 self.assertEqual((found[0], found[1], len(found[2].splitlines())), (status, b"", 1), found[2])
                 if said:
                     self.assertEqual(found[2], f"whatif: {said}\n")
                 self.assertFalse(out.exists())
         for option, word in (("--sample", "0"), ("--price-sd", "-1"), ("--volume-sd", "x"), ("--jobs", "0")):
-            self.assertEqual(tool("whatif", "scenarios", *table, option, word)[0], 2)
+            self.assertEqual(run_tool("whatif", "scenarios", *table, option, word)[0], 2)
 
     @unittest.skipUnless(modules.has_module("distributed"), "dask is missing (Debian's python3-distributed)")
     def test_a_cluster_that_is_not_there(self):
@@ -454,7 +455,7 @@ class Tool(unittest.TestCase):
             ("here", "should be an address such as tcp://10.0.0.1:8786"),
             ("tcp://127.0.0.1:1", "can't be reached: Connection refused"),
         ):
-            found = tool("whatif", "scenarios", "--program", "/bin/true", self.journal, self.table, "--cluster", address)
+            found = run_tool("whatif", "scenarios", "--program", "/bin/true", self.journal, self.table, "--cluster", address)
             self.assertEqual(found, (3, b"", f"whatif: the cluster {address} {said}\n"))
 
     def test_a_cluster_that_closes_at_once(self):

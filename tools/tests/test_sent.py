@@ -7,7 +7,7 @@ import time
 import unittest
 from pathlib import Path
 
-from support import AUCTION, AUCTION_RESULTS, journal_of, printed, tool, written
+from support import AUCTION, AUCTION_RESULTS, journal_of, read_results, run_tool, writing_files
 
 import days
 from lib.base import rules, subsequence
@@ -18,8 +18,8 @@ from lib.tool import command, modules
 
 def audit(published, own, who="A", *words):
     """A run of the tool on a journal and a participant's sent commands."""
-    with written(journal=published, sent=own) as (journal, sent_file):
-        status, out, err = tool("audit", journal, "--sent", sent_file, "--participant", who, *words)
+    with writing_files(journal=published, sent=own) as (journal, sent_file):
+        status, out, err = run_tool("audit", journal, "--sent", sent_file, "--participant", who, *words)
         return status, out.decode(), err.replace(f"{journal.parent}/", "")
 
 
@@ -112,7 +112,7 @@ class Worked(unittest.TestCase):
         said = f"sent record 2 is record 2 (command 1) of the journal; the book's reply is done: {OWN[0]}"
         self.assertEqual((status, out.count("\n"), said in out), (command.DONE, 5, True))
         self.assertEqual(audit(PUBLISHED, own.replace(b"\n", b"\r\n\r\n"))[0], command.DONE)
-        day = AUCTION.read_bytes() + b"results\n" + printed(AUCTION)
+        day = AUCTION.read_bytes() + b"results\n" + read_results(AUCTION)
         self.assertEqual(audit(day, text_of(own_lines(AUCTION.read_bytes(), "GAS")), "GAS")[0], command.DONE)
         table = b"participant,order,kind,side,price_eur_mwh,periods,volume_mw\nB,H1,hour,sell,0.50,1,1\n"
         self.assertEqual(audit(PUBLISHED.replace(b"cancel,B,H1,,,,,,\n", b""), table, "B")[0], command.DONE)
@@ -190,8 +190,8 @@ class Worked(unittest.TestCase):
     def test_a_workbook(self):
         with tempfile.TemporaryDirectory() as folder:
             path = Path(folder, "orders.xlsx")
-            tool("table", "--quiet", "--rows", "orders", AUCTION, AUCTION_RESULTS, "-o", path)
-            status, out, err = tool("audit", AUCTION, "--sent", path, "--participant", "STAD")
+            run_tool("table", "--quiet", "--rows", "orders", AUCTION, AUCTION_RESULTS, "-o", path)
+            status, out, err = run_tool("audit", AUCTION, "--sent", path, "--participant", "STAD")
             said = "as sent: 24 commands of STAD, each once, in their order, and no others (65 of others left out)"
             self.assertEqual((status, out.decode().splitlines()[0], err), (command.DONE, said, ""))
 
@@ -211,7 +211,7 @@ class Worked(unittest.TestCase):
         self.assertEqual(json.loads(audit(b"", data, "A", "--json")[1])["notes"], [])
 
     def test_with_results_the_lines_are_checked_too(self):
-        data, right = AUCTION.read_bytes(), printed(AUCTION)
+        data, right = AUCTION.read_bytes(), read_results(AUCTION)
         own = text_of(own_lines(data, "GAS"))
         with tempfile.TemporaryDirectory() as folder:
             paths = [Path(folder, name) for name in ("journal", "results", "sent")]
@@ -220,7 +220,7 @@ class Worked(unittest.TestCase):
             def run(results, sent, *more):
                 for path, content in zip(paths, (data, results, sent)):
                     path.write_bytes(content)
-                status, out, _ = tool("audit", *words, *more)
+                status, out, _ = run_tool("audit", *words, *more)
                 return status, out.decode()
 
             status, out = run(right, own, "--best")
@@ -279,9 +279,9 @@ class Worked(unittest.TestCase):
             ["--sent", AUCTION, "--participant", "GAS", "--replies"],
             [AUCTION, "--sent", AUCTION, "--participant", "GAS", "--replies"],
         ):
-            self.assertEqual(tool("audit", AUCTION, *words)[:2], (command.COMMAND_LINE, b""), words)
-        self.assertEqual(tool("audit", "-", "--sent", "-", "--participant", "GAS")[0], command.COMMAND_LINE)
-        status, _, err = audit(printed(AUCTION), text_of(OWN))
+            self.assertEqual(run_tool("audit", AUCTION, *words)[:2], (command.COMMAND_LINE, b""), words)
+        self.assertEqual(run_tool("audit", "-", "--sent", "-", "--participant", "GAS")[0], command.COMMAND_LINE)
+        status, _, err = audit(read_results(AUCTION), text_of(OWN))
         self.assertEqual((status, err), (command.NO_INPUT, "audit: journal has results instead of a journal\n"))
 
 

@@ -8,7 +8,7 @@ import time
 import unittest
 from pathlib import Path
 
-from support import AUCTION, AUCTION_RESULTS, TOP, journal_of, printed, results_of, tool
+from support import AUCTION, AUCTION_RESULTS, TOP, journal_of, read_results, results_of, run_tool
 
 from lib.base import clock, rules, text
 from lib.journal import journal
@@ -45,8 +45,8 @@ class Columns(unittest.TestCase):
         self.assertEqual(lines, ["submit,A,H,hour,buy,100,8:50,,"])
         self.assertEqual(notes, ["the column 'comment' isn't used", "the column 'x\\x1b' isn't used"])
         data = table(f"{self.ROW},a", header=f"{HEADER},comment")
-        self.assertEqual(tool("table", "--journal", "-", data=data)[2], "table: standard input: the column 'comment' isn't used\n")
-        self.assertEqual(tool("table", "--journal", "--quiet", "-", data=data)[2], "")
+        self.assertEqual(run_tool("table", "--journal", "-", data=data)[2], "table: standard input: the column 'comment' isn't used\n")
+        self.assertEqual(run_tool("table", "--journal", "--quiet", "-", data=data)[2], "")
 
     def test_a_column_without_a_name(self):
         """It may be one that orders have; if its cells are empty too, it separates others."""
@@ -89,10 +89,10 @@ class Columns(unittest.TestCase):
             one, other = Path(folder, "a.csv"), Path(folder, "b.csv")
             one.write_bytes(table("A,K1,block,buy,1,8,5,,"))
             other.write_bytes(table("A,K2,block,buy,1,8,5,K1,", "B,H,hour,buy,1,8,5,,").replace(b",", b";"))
-            status, out, err = tool("table", "--journal", "--open", one, other)
+            status, out, err = run_tool("table", "--journal", "--open", one, other)
             self.assertEqual((status, err, out.count(b"submit")), (0, "", 3))
             other.write_bytes(table("A,K1,block,buy,1,8,x,,", "B,H,hour,buy,1,8,5,,"))
-            status, out, err = tool("table", "--journal", one, other)
+            status, out, err = run_tool("table", "--journal", one, other)
             said = [
                 f"table: {other}: line 2, column volume_mw: 'x' should be a number of MW, such as 92.5",
                 f"table: {other}: line 2, column order: A has an order K1 in line 2 of {one} (NameTaken)",
@@ -149,13 +149,13 @@ class ForSpreadsheets(unittest.TestCase):
     def test_words_are_never_a_formula(self):
         data = journal_of("submit,A,-1,hour,buy,100,8:10,,", "submit,A,-K-2,block,sell,-100,8:10,,-G")
         results = results_of(data, frozenset())
-        status, out, _ = tool("table", "--rows", "orders", "-", data=data + b"results\n" + results)
+        status, out, _ = run_tool("table", "--rows", "orders", "-", data=data + b"results\n" + results)
         rows = list(csv.reader(io.StringIO(out.decode())))
         self.assertEqual((status, rows[1][1], rows[2][1], rows[2][4], rows[2][8]), (0, "'-1", "'-K-2", "-1.00", "'-G"))
-        status, again, _ = tool("table", "--journal", "-", data=out)
+        status, again, _ = run_tool("table", "--journal", "-", data=out)
         self.assertEqual((status, again), (0, data))
         for name in ("orders", "blocks", "commands", "statement", "participants"):
-            out = tool("table", "--rows", name, "-", data=data + b"results\n" + results)[1].decode()
+            out = run_tool("table", "--rows", name, "-", data=data + b"results\n" + results)[1].decode()
             for row in csv.reader(io.StringIO(out)):
                 for cell in row:
                     if cell.startswith(sheets.FORMULA):
@@ -179,7 +179,7 @@ class ForSpreadsheets(unittest.TestCase):
             self.assertEqual(sheets.unescaped(shown), name)
 
     def test_a_journal_is_no_table_of_orders(self):
-        status, _, err = tool("table", "--journal", AUCTION)
+        status, _, err = run_tool("table", "--journal", AUCTION)
         self.assertEqual((status, err), (command.NO_INPUT, f"table: {AUCTION}: this seems to be a journal already\n"))
 
     def test_an_empty_number(self):
@@ -195,8 +195,8 @@ class ForSpreadsheets(unittest.TestCase):
             data = table(",".join(cells))
             said = f"line 2, column {column}: '{zeros[:80]}..' (5,002 characters) has more than {said} after the decimal point"
             self.assertEqual(wrong(",".join(cells)), [said])
-            self.assertEqual(tool("table", "--journal", "-", data=data), (command.NO_INPUT, b"", f"table: standard input: {said}\n"))
-            status, out, _ = tool("audit", AUCTION, "--sent", "-", "--participant", "GAS", "--json", data=data)
+            self.assertEqual(run_tool("table", "--journal", "-", data=data), (command.NO_INPUT, b"", f"table: standard input: {said}\n"))
+            status, out, _ = run_tool("audit", AUCTION, "--sent", "-", "--participant", "GAS", "--json", data=data)
             self.assertEqual((status, zeros[:80] in out.decode()), (command.NO_INPUT, True))
 
     def test_a_space_that_separates_thousands(self):
@@ -225,12 +225,12 @@ class ForSpreadsheets(unittest.TestCase):
             self.assertEqual(wrong(f"A,K,block,buy,1,{periods},{volumes},,"), [said])
 
     def test_a_decimal_comma(self):
-        status, out, _ = tool("table", "--decimal-comma", "--rows", "orders", *TEXTS)
+        status, out, _ = run_tool("table", "--decimal-comma", "--rows", "orders", *TEXTS)
         rows = list(csv.reader(io.StringIO(out.decode()), delimiter=";"))
         self.assertEqual((status, rows[1][4:7]), (0, ["300,00", "1", "360,0"]))
         self.assertNotIn(".", out.decode())
-        right = tool("table", "--journal", "-", data=tool("table", "--rows", "orders", *TEXTS)[1])[1]
-        self.assertEqual(tool("table", "--journal", "-", data=out)[1], right)
+        right = run_tool("table", "--journal", "-", data=run_tool("table", "--rows", "orders", *TEXTS)[1])[1]
+        self.assertEqual(run_tool("table", "--journal", "-", data=out)[1], right)
 
     @WITH_EXCEL
     def test_workbooks(self):
@@ -238,23 +238,23 @@ class ForSpreadsheets(unittest.TestCase):
 
         with tempfile.TemporaryDirectory() as folder:
             path, every = Path(folder, "a.xlsx"), Path(folder, "all.XLSX")
-            self.assertEqual(tool("table", "--quiet", "--rows", "orders", *TEXTS, "-o", path)[::2], (0, ""))
-            self.assertEqual(tool("table", "--quiet", "--all", every, *TEXTS)[::2], (0, ""))
+            self.assertEqual(run_tool("table", "--quiet", "--rows", "orders", *TEXTS, "-o", path)[::2], (0, ""))
+            self.assertEqual(run_tool("table", "--quiet", "--all", every, *TEXTS)[::2], (0, ""))
             sheet = openpyxl.load_workbook(path)["orders"]
             self.assertEqual([cell.value for cell in sheet[2]][:7], ["STAD", "LOAD-1", "hour", "buy", 300.0, "1", 360.0])
             self.assertEqual(sheet.freeze_panes, "A2")
             book = openpyxl.load_workbook(every)
             self.assertEqual(len(book.sheetnames), 8)
             self.assertEqual([cell.value for cell in book["periods"][20]][:5], [19, 1.0, 165.0, 730.0, True])
-            right = tool("table", "--journal", "-", data=tool("table", "--rows", "orders", *TEXTS)[1])[1]
+            right = run_tool("table", "--journal", "-", data=run_tool("table", "--rows", "orders", *TEXTS)[1])[1]
             for name, note in ((path, ""), (every, f"table: {every}: of 8 sheets, 'orders' was read\n")):
-                self.assertEqual(tool("table", "--journal", name), (0, right, note))
+                self.assertEqual(run_tool("table", "--journal", name), (0, right, note))
             data = journal_of("submit,A,-1,hour,buy,100,8:10,,")
             Path(folder, "day").write_bytes(data + b"results\n" + results_of(data, frozenset()))
-            tool("table", "--rows", "orders", Path(folder, "day"), "-o", path)
+            run_tool("table", "--rows", "orders", Path(folder, "day"), "-o", path)
             cell = openpyxl.load_workbook(path)["orders"]["B2"]
             self.assertEqual((cell.value, cell.data_type), ("-1", "s"))
-            self.assertEqual(tool("table", "--journal", path)[1], data)
+            self.assertEqual(run_tool("table", "--journal", path)[1], data)
 
     @WITH_EXCEL
     def test_several_volumes_of_a_workbook_are_a_text(self):
@@ -278,19 +278,19 @@ class ForSpreadsheets(unittest.TestCase):
         sheet.append(["A", "H2", "hour", "buy", 1, datetime.datetime(2026, 8, 20), 1])
         out = io.BytesIO()
         book.save(out)
-        status, _, err = tool("table", "--journal", "-", data=out.getvalue())
+        status, _, err = run_tool("table", "--journal", "-", data=out.getvalue())
         said = "table: standard input: line 4, column periods: '2026-08-20' should be periods and runs of them, such as 8, 8-20 or 1;3;5-7,"
         self.assertEqual((status, err.startswith(said)), (command.NO_INPUT, True), err)
         sheet.delete_rows(4)
         out = io.BytesIO()
         book.save(out)
-        status, text, _ = tool("table", "--journal", "-", "--open", data=out.getvalue())
+        status, text, _ = run_tool("table", "--journal", "-", "--open", data=out.getvalue())
         self.assertEqual(text.decode().splitlines()[1:], ["submit,A,H1,hour,buy,30,8:450,,", "submit,A,K1,block,buy,1250,9:10;10:25,,"])
 
     @WITH_EXCEL
     def test_broken_workbooks(self):
         for data in (sheets.XLSX, sheets.XLSX + bytes(1_000)):
-            status, out, err = tool("table", "--journal", "-", data=data)
+            status, out, err = run_tool("table", "--journal", "-", data=data)
             said = "table: standard input: line 1: the Excel workbook can't be read: "
             self.assertEqual((status, out, err.startswith(said)), (command.NO_INPUT, b"", True), err)
 
@@ -300,7 +300,7 @@ class Tolerance(unittest.TestCase):
 
     def read(self, data, *words):
         """The submits of the journal of a table, and the notes."""
-        status, out, err = tool("table", "--journal", "--open", *words, "-", data=data)
+        status, out, err = run_tool("table", "--journal", "--open", *words, "-", data=data)
         self.assertEqual(status, 0, err)
         return out.decode().splitlines()[1:], [line.removeprefix("table: standard input: ") for line in err.splitlines()]
 
@@ -320,12 +320,12 @@ class Tolerance(unittest.TestCase):
         self.assertEqual(self.read(table("A,k,hour,buy,1,8,5,,"))[1], ["names are in capitals: 'k' was read as K"])
         self.assertEqual(self.read(table(*rows), "--quiet")[1], [])
         # two names that differ by capitals alone are one
-        said = tool("table", "--journal", "-", data=table("A,K,hour,buy,1,8,5,,", "a,k,hour,buy,1,9,5,,"))
+        said = run_tool("table", "--journal", "-", data=table("A,K,hour,buy,1,8,5,,", "a,k,hour,buy,1,9,5,,"))
         words = "table: standard input: line 3, column order: A has an order K in line 2 of standard input (NameTaken)\n"
         self.assertEqual(said[::2], (command.NO_INPUT, words))
         # other characters, and names of other tools, stay faults
         for name in ("my_k", "\u00f8", "ABCDEFGHIJKLm", "", "stra\u00df", "\ufb01x", "\u0131-\u017f"):
-            self.assertEqual(tool("table", "--journal", "-", data=table(f"A,{name},hour,buy,1,8,5,,"))[0], command.NO_INPUT)
+            self.assertEqual(run_tool("table", "--journal", "-", data=table(f"A,{name},hour,buy,1,8,5,,"))[0], command.NO_INPUT)
         self.assertIn("write TOWN", wrong(rows[0])[0])
 
     def test_texts_in_other_codes(self):
@@ -367,10 +367,10 @@ class Tolerance(unittest.TestCase):
             ([("x", orders("H")), ("orders", orders("I"))], "I", ["of 2 sheets, 'orders' was read"]),
         ):
             self.assertEqual(self.read(saved(*sheets_of)), ([f"submit,A,{name},hour,buy,100,8:50,,"], said))
-        status, _, err = tool("table", "--journal", "-", data=saved(notes, ("more", [["x"]])))
+        status, _, err = run_tool("table", "--journal", "-", data=saved(notes, ("more", [["x"]])))
         self.assertEqual((status, "line 1: there is no column participant, order, kind" in err), (command.NO_INPUT, True), err)
         self.assertIn("table: standard input: of 2 sheets, 'notes' was read\n", err)
-        err = tool("table", "--journal", "-", data=saved(notes, ("x", [*orders("H"), ["A", "I", "hour", "buy", 1, "99", 5]])))[2]
+        err = run_tool("table", "--journal", "-", data=saved(notes, ("x", [*orders("H"), ["A", "I", "hour", "buy", 1, "99", 5]])))[2]
         said = ["line 3, column periods: the day has periods 1 to 24, so there is no period 99 (PeriodOutOfDay)"]
         said += ["of 2 sheets, 'x' was read"]
         self.assertEqual(err.splitlines(), [f"table: standard input: {words}" for words in said])
@@ -382,7 +382,7 @@ class Tolerance(unittest.TestCase):
 
         with tempfile.TemporaryDirectory() as folder:
             path = Path(folder, "orders.xlsx")
-            self.assertEqual(tool("table", "--template", path), (0, b"", ""))
+            self.assertEqual(run_tool("table", "--template", path), (0, b"", ""))
             book = openpyxl.load_workbook(path)
             self.assertEqual(book.sheetnames, ["orders", "examples"])
             for sheet in book:
@@ -395,18 +395,18 @@ class Tolerance(unittest.TestCase):
             wanted = {**words, "E2:E5000": ("decimal", *limits)}
             self.assertEqual({str(check.sqref): (check.type, check.formula1, check.formula2) for check in checks}, wanted)
             self.assertEqual([column for column in "ABCDEFGHI" if sheet.column_dimensions[column].number_format == "@"], list("ABFHI"))
-            status, out, err = tool("table", "--journal", "--open", path)
+            status, out, err = run_tool("table", "--journal", "--open", path)
             self.assertEqual((status, out), (0, b"day,24,,,,,,,\n"))
             self.assertEqual(err.splitlines()[0], f"table: {path}: of 2 sheets, 'orders' was read")
             for row in list(examples.iter_rows(min_row=2, values_only=True)):
                 sheet.append(row)
             book.save(path)
-            made = tool("table", "--journal", "--open", "--quiet", path)[1].decode().splitlines()[1:]
+            made = run_tool("table", "--journal", "--open", "--quiet", path)[1].decode().splitlines()[1:]
             self.assertEqual(made, ["submit,NORD,WIND-8,hour,sell,1200,8:450,,",
                                     f"submit,GAS,UNIT-1,block,sell,6800,{';'.join(f'{number}:100' for number in range(8, 21))},,"])
             for words in (["--template", path, path], ["--template", path, "--journal"], ["--template", "a.csv"], ["--journal"]):
-                self.assertEqual(tool("table", *words)[0], command.COMMAND_LINE)
-            self.assertEqual(tool("table", "--template", "/nowhere/a.xlsx")[0], command.NO_INPUT)
+                self.assertEqual(run_tool("table", *words)[0], command.COMMAND_LINE)
+            self.assertEqual(run_tool("table", "--template", "/nowhere/a.xlsx")[0], command.NO_INPUT)
 
     @WITH_EXCEL
     def test_a_template_that_was_filled_in_stays(self):
@@ -415,7 +415,7 @@ class Tolerance(unittest.TestCase):
             path.write_bytes(b"filled in")
             link.symlink_to("gone.xlsx")
             for place in (path, link):
-                status, out, err = tool("table", "--template", place)
+                status, out, err = run_tool("table", "--template", place)
                 said = f"table: {place} is there already, and may have been filled in: write to another file\n"
                 self.assertEqual((status, out, err), (command.COMMAND_LINE, b"", said))
             self.assertEqual((path.read_bytes(), sorted(os.listdir(folder))), (b"filled in", ["link.xlsx", "orders.xlsx"]))
@@ -434,7 +434,7 @@ class Statement(unittest.TestCase):
     DAY = DATA + b"results\n" + results_of(DATA, frozenset())
 
     def rows(self, *words):
-        status, out, err = tool("table", "--quiet", *words, "-", data=self.DAY)
+        status, out, err = run_tool("table", "--quiet", *words, "-", data=self.DAY)
         self.assertEqual((status, err), (0, ""))
         return list(csv.DictReader(io.StringIO(out.decode())))
 
@@ -472,14 +472,14 @@ class Statement(unittest.TestCase):
         """Such as one whose name is misspelt: a script would take an empty table for an answer."""
         said = (command.NO_INPUT, b"", "table: C has no command in the journal\n")
         for words in ([], ["--rows", "orders"], ["--rows", "commands"], ["--quiet"]):
-            self.assertEqual(tool("table", "--participant", "C", *words, "-", data=self.DAY), said)
+            self.assertEqual(run_tool("table", "--participant", "C", *words, "-", data=self.DAY), said)
 
     def test_amounts_add_up(self):
         texts = [AUCTION, AUCTION_RESULTS]
-        out = tool("table", "--rows", "statement", *texts)[1].decode()
+        out = run_tool("table", "--rows", "statement", *texts)[1].decode()
         total = sum(float(row["amount_eur"] or 0) for row in csv.DictReader(io.StringIO(out)))
         self.assertAlmostEqual(total, 0)
-        self.assertIn(printed(AUCTION).decode().splitlines()[-1].split(",")[2], out)
+        self.assertIn(read_results(AUCTION).decode().splitlines()[-1].split(",")[2], out)
 
 
 if __name__ == "__main__":

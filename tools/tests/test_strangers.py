@@ -4,7 +4,7 @@ import tempfile
 import unittest
 from pathlib import Path
 
-from support import AUCTION, printed, tool
+from support import AUCTION, read_results, run_tool
 
 from lib.base import text
 
@@ -30,7 +30,7 @@ class Safe(unittest.TestCase):
 class Tools(unittest.TestCase):
     def said(self, name, *words, data=b""):
         """The output of a tool, which nothing in it may change: neither a terminal, nor a line of 1,000 characters."""
-        _, out, err = tool(name, *words, data=data)
+        _, out, err = run_tool(name, *words, data=data)
         lines = (out.decode() + err).splitlines()
         for line in lines:
             self.assertTrue(line.isprintable(), ascii(line))
@@ -65,7 +65,7 @@ class Tools(unittest.TestCase):
             self.assertIn(shown, self.said("table", "--journal", "-", data=f"{heads}\n{','.join(line)}\n".encode()))
 
     def test_lines_of_results_and_names_of_files(self):
-        data, right = AUCTION.read_bytes(), printed(AUCTION)
+        data, right = AUCTION.read_bytes(), read_results(AUCTION)
         for long in (BAD, "9" * 6_000):
             wrong = right.replace(b"period,3,", b"period,3," + long.encode())
             self.assertIn(text.safe(long)[:10], self.said("audit", AUCTION, "-", data=wrong))

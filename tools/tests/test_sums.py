@@ -4,7 +4,7 @@ import json
 import unittest
 
 import support
-from support import AUCTION, QUARTERS, audit, cleared_cases, journal_of, printed, problem, results_of
+from support import AUCTION, QUARTERS, cleared_cases, journal_of, problem, read_results, results_of, run_audit
 from test_audit import changed_numbers
 
 from lib.results import results, sums, trades
@@ -119,14 +119,14 @@ class Sums(unittest.TestCase):
 class Tool(unittest.TestCase):
     def test_the_money_is_one_line(self):
         for case in (AUCTION, QUARTERS):
-            day = support.day_of(case.read_bytes(), printed(case))
+            day = support.day_of(case.read_bytes(), read_results(case))
             amount = day.problem.euros(sum(total.paid for total in trades.totals(day).values()))
-            status, out, _ = audit(case.read_bytes(), printed(case))
+            status, out, _ = run_audit(case.read_bytes(), read_results(case))
             wanted = f"by adding: buyers pay {amount} EUR, sellers receive {amount} EUR; "
             self.assertEqual((status, out.decode().count(f"\n{wanted}")), (command.DONE, 1))
 
     def test_faults_and_amounts_are_in_the_record(self):
-        status, out, _ = audit(FAMILY, ACCEPTED.replace(b"K1,accepted,-5000", b"K1,accepted,-250001"), "--json")
+        status, out, _ = run_audit(FAMILY, ACCEPTED.replace(b"K1,accepted,-5000", b"K1,accepted,-250001"), "--json")
         made = json.loads(out)
         self.assertEqual((status, made["checked"]), (command.DIFFERS, ["results", "sums"]))
         self.assertEqual([fault["kind"] for fault in made["faults"]], ["surplus", "loss", "sum"])
@@ -135,13 +135,13 @@ class Tool(unittest.TestCase):
         self.assertEqual([day["paid_eur"], day["received_eur"]], ["780.000", "780.000"])
         self.assertEqual([day["hourly_surplus_eur"], day["block_surplus_eur"]], ["240.000", "-0.001"])
         # One unit more for TOWN, which nobody sells.
-        status, out, _ = audit(FAMILY, ACCEPTED.replace(b"B1,120", b"B1,121"), "--json")
+        status, out, _ = run_audit(FAMILY, ACCEPTED.replace(b"B1,120", b"B1,121"), "--json")
         made = json.loads(out)
         self.assertEqual([made["day"]["paid_eur"], made["day"]["received_eur"]], ["784.000", "780.000"])
         self.assertEqual([fault["kind"] for fault in made["faults"]], ["executed", "money", "sum"])
 
     def test_a_day_that_cannot_be_read_has_no_amounts(self):
-        made = json.loads(audit(FAMILY, ACCEPTED[:-10], "--json")[1])
+        made = json.loads(run_audit(FAMILY, ACCEPTED[:-10], "--json")[1])
         self.assertNotIn("paid_eur", made["day"])
 
 

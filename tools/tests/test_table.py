@@ -12,7 +12,7 @@ from fractions import Fraction
 from pathlib import Path
 
 import support
-from support import AUCTION, AUCTION_RESULTS, FIRST, QUARTERS, QUARTERS_RESULTS, day_of, printed, results_of, tool
+from support import AUCTION, AUCTION_RESULTS, FIRST, QUARTERS, QUARTERS_RESULTS, day_of, read_results, results_of, run_tool
 
 from lib.base import rules, text
 from lib.journal import book, journal
@@ -68,7 +68,7 @@ class Results(unittest.TestCase):
             self.assertEqual(figures["block_surplus"], total(accepted, "surplus_eur"))
 
     def test_the_auction_day(self):
-        day = day_of(AUCTION.read_bytes(), printed(AUCTION))
+        day = day_of(AUCTION.read_bytes(), read_results(AUCTION))
         periods, orders, participants = (read(of(day)) for of in (tables.periods, tables.orders, tables.participants))
         row = periods[18]
         self.assertEqual((row["period"], row["price_eur_mwh"], row["volume_mw"]), ("19", "165.00", "730.0"))
@@ -276,13 +276,13 @@ class CommandLine(unittest.TestCase):
         texts = [AUCTION, AUCTION_RESULTS]
         with tempfile.TemporaryDirectory() as folder:
             note = "table: 1 of 94 commands was refused (of GAS): see --rows commands\n"
-            self.assertEqual(tool("table", *texts, "--all", folder), (0, b"", note))
+            self.assertEqual(run_tool("table", *texts, "--all", folder), (0, b"", note))
             for name in tables.TABLES:
                 said = "" if name in ("commands", "statement") else note
-                self.assertEqual(tool("table", *texts, "--rows", name), (0, Path(folder, f"{name}.csv").read_bytes(), said))
-            status, out, _ = tool("table", "--journal", Path(folder, "orders.csv"))
+                self.assertEqual(run_tool("table", *texts, "--rows", name), (0, Path(folder, f"{name}.csv").read_bytes(), said))
+            status, out, _ = run_tool("table", "--journal", Path(folder, "orders.csv"))
             self.assertEqual((status, out.splitlines()[0], out.splitlines()[-1]), (0, b"day,24,,,,,,,", b"close,,,,,,,,"))
-            status, out, _ = tool("table", "--journal", "-", "--open", "--periods=25", data=f"{HEADER}\n{HOUR}\n".encode())
+            status, out, _ = run_tool("table", "--journal", "-", "--open", "--periods=25", data=f"{HEADER}\n{HOUR}\n".encode())
             self.assertEqual((status, out), (0, b"day,25,,,,,,,\nsubmit,NORD,WIND-8,hour,sell,1250,8:450,,\n"))
 
     def test_the_page_names_the_tables_with_periods(self):
@@ -296,12 +296,12 @@ class CommandLine(unittest.TestCase):
         for name in tables.TABLES:
             for more, is_done in ((["--only", "8"], name in shown), (["--date", "2026-11-25"], name in shown), (["--date", "2026-11-25", "--json"], True)):
                 with self.subTest(name, more=more):
-                    status, _, said = tool("table", *texts, "--rows", name, *more)
+                    status, _, said = run_tool("table", *texts, "--rows", name, *more)
                     self.assertEqual(status, command.DONE if is_done else command.COMMAND_LINE)
                     self.assertEqual("give --rows orders --long" in said, name == "statement" and not is_done)
 
         names = ["command", "what", "order", "price_eur_mwh", "periods", "volume_mw", "reply", "reason"]
-        status, out, err = tool("table", "--rows", "commands", "-", data=FIRST)
+        status, out, err = run_tool("table", "--rows", "commands", "-", data=FIRST)
         self.assertEqual((status, err), (0, ""))
         rows = [[row[name] for name in names] for row in csv.DictReader(io.StringIO(out.decode()))]
         self.assertEqual(rows[0], ["1", "submit", "WIND-8", "12.00", "8", "45.0", "done", ""])
@@ -312,24 +312,24 @@ class CommandLine(unittest.TestCase):
         self.assertEqual(len(rows), 15)
         # A journal that is still open has commands too, and the text of a day has.
         opened = FIRST.replace(b"close,,,,,,,,\n", b"")
-        self.assertEqual(len(tool("table", "--rows", "commands", "-", data=opened)[1].splitlines()), 15)
-        day = AUCTION.read_bytes() + b"results\n" + printed(AUCTION)
-        out = tool("table", "--rows", "commands", "-", data=day)[1].decode()
-        self.assertEqual(out, tool("table", "--rows", "commands", AUCTION, AUCTION_RESULTS)[1].decode())
+        self.assertEqual(len(run_tool("table", "--rows", "commands", "-", data=opened)[1].splitlines()), 15)
+        day = AUCTION.read_bytes() + b"results\n" + read_results(AUCTION)
+        out = run_tool("table", "--rows", "commands", "-", data=day)[1].decode()
+        self.assertEqual(out, run_tool("table", "--rows", "commands", AUCTION, AUCTION_RESULTS)[1].decode())
         self.assertIn("93,cancel,GAS,START,,,,,,,,refused,HasChildren\n", out)
         self.assertIn(",amend,NORD,WIND-9,,,2.00,9,130.0,,,done,\n", out)
 
     def test_quarter_hours(self):
         rows = f"{HEADER}\nNORD,WIND,hour,sell,12.5,96,45,,\nA,K1,block,sell,60,1-96,0.1,,\n"
-        status, out, _ = tool("table", "--journal", "-", "--periods=96", data=rows.encode())
+        status, out, _ = run_tool("table", "--journal", "-", "--periods=96", data=rows.encode())
         day, hour, block, close = out.splitlines()
         self.assertEqual((status, day, hour), (0, b"day,96,,,,,,,", b"submit,NORD,WIND,hour,sell,1250,96:450,,"))
         self.assertEqual((block.count(b":1;"), close), (95, b"close,,,,,,,,"))
-        self.assertEqual(tool("table", "--journal", "-", "--periods=91", data=rows.encode())[0], command.COMMAND_LINE)
+        self.assertEqual(run_tool("table", "--journal", "-", "--periods=91", data=rows.encode())[0], command.COMMAND_LINE)
         texts = [QUARTERS, QUARTERS_RESULTS]
-        periods = tool("table", *texts)[1].decode().splitlines()
+        periods = run_tool("table", *texts)[1].decode().splitlines()
         self.assertEqual((len(periods), periods[96].split(",")[:5]), (97, ["96", "0.25", "74.00", "385.0", "yes"]))
-        orders = tool("table", *texts, "--rows", "orders")[1].decode().splitlines()
+        orders = run_tool("table", *texts, "--rows", "orders")[1].decode().splitlines()
         # A quarter of an hour of 375 MW, at 50 EUR; and 15 MW at 98 EUR.
         self.assertIn("STAD,LOAD-1,hour,buy,300.00,1,375.0,,,93.750,93.750,in full,,-4687.50000", orders)
         self.assertIn("GAS,FLEX-60,hour,sell,98.00,60,205.0,,,51.250,3.750,in part,,367.50000", orders)
@@ -337,7 +337,7 @@ class CommandLine(unittest.TestCase):
     def test_some_periods(self):
         texts = [AUCTION, AUCTION_RESULTS]
         for words in ("1,3,5-7", "1;3;5-7"):
-            rows = tool("table", *texts, "--only", words)[1].decode().splitlines()[1:]
+            rows = run_tool("table", *texts, "--only", words)[1].decode().splitlines()[1:]
             self.assertEqual([row.split(",")[0] for row in rows], ["1", "3", "5", "6", "7"])
 
     @unittest.skipUnless(modules.has_zone("Europe/Berlin"), "the time zones are missing (Debian's tzdata)")
@@ -345,9 +345,9 @@ class CommandLine(unittest.TestCase):
         texts = [AUCTION, AUCTION_RESULTS]
         for date in ("9999-12-31", "0001-01-01"):
             said = f"--date {date} is the first or the last day of the calendar: it should be another\n"
-            self.assertEqual(tool("table", *texts, "--date", date), (command.COMMAND_LINE, b"", f"table: {said}"))
+            self.assertEqual(run_tool("table", *texts, "--date", date), (command.COMMAND_LINE, b"", f"table: {said}"))
             if modules.has_module("matplotlib") and modules.has_module("jinja2"):
-                self.assertEqual(tool("report", *texts, "-o", "-", "--date", date), (command.COMMAND_LINE, b"", f"report: {said}"))
+                self.assertEqual(run_tool("report", *texts, "-o", "-", "--date", date), (command.COMMAND_LINE, b"", f"report: {said}"))
 
     def test_more_cells_than_the_header_has(self):
         """A number with a comma is two cells, also if the row's last one is empty."""
@@ -359,23 +359,23 @@ class CommandLine(unittest.TestCase):
             (f"{heads},,", "NORD,A,hour,buy,12,8,100,,,", 10),
         ):
             for end in ("", "NORD,B,hour,buy,12,8,100\n"):
-                status, out, err = tool("table", "--journal", "-", data=f"{header}\n{row}\n{end}".encode())
+                status, out, err = run_tool("table", "--journal", "-", data=f"{header}\n{row}\n{end}".encode())
                 width = header.rstrip(",").count(",") + 1
                 said = f"table: standard input: line 2: it has {cells} cells, but the header has {width}\n"
                 self.assertEqual((status, out, err), (command.NO_INPUT, b"", said), row)
         for header, row in ((heads, "NORD,A,hour,buy,12,8,100"), (f"{heads},,", "NORD,A,hour,buy,12,8,100,"), (heads, ",,,,,,,,,,,")):
-            status, out, err = tool("table", "--journal", "-", data=f"{header}\n{row}\n".encode())
+            status, out, err = run_tool("table", "--journal", "-", data=f"{header}\n{row}\n".encode())
             self.assertEqual((status, b"NORD" in out), (0, "NORD" in row), err)
 
     def test_the_value_of_an_option_like_the_end_of_options(self):
         texts = [AUCTION, AUCTION_RESULTS]
         for option in ("--participant", "--only", "--rows", "--date", "--periods"):
-            status, out, err = tool("table", *texts, f"{option}=--")
+            status, out, err = run_tool("table", *texts, f"{option}=--")
             self.assertEqual((status in (command.COMMAND_LINE, command.NO_INPUT), out, "--" in err), (True, b"", True), (option, err))
         with tempfile.TemporaryDirectory() as folder:
             words = [support.TOOLS / "table", *texts, "--out=--"]
             self.assertEqual(subprocess.run([sys.executable, *words], cwd=folder, capture_output=True).returncode, 0)
-            self.assertEqual(Path(folder, "--").read_bytes(), tool("table", *texts)[1])
+            self.assertEqual(Path(folder, "--").read_bytes(), run_tool("table", *texts)[1])
 
     def test_a_zone_file_that_is_none(self):
         with tempfile.TemporaryDirectory() as folder:
@@ -392,13 +392,13 @@ class CommandLine(unittest.TestCase):
             output.workbook_bytes({"few": [["hour"]], "prices": [["hour"]] * (most + 1)})
 
     def test_a_table_without_orders(self):
-        status, out, err = tool("table", "--journal", "-", data=f"{HEADER}\n".encode())
+        status, out, err = run_tool("table", "--journal", "-", data=f"{HEADER}\n".encode())
         self.assertEqual((status, out), (0, b"day,24,,,,,,,\nclose,,,,,,,,\n"))
         self.assertEqual(err, "table: standard input has no orders: the day of the journal is empty\n")
 
     def test_faults(self):
         texts = [AUCTION, AUCTION_RESULTS]
-        status, out, err = tool("table", "--journal", "-", data=f"{HEADER}\n{HOUR},x\n".encode())
+        status, out, err = run_tool("table", "--journal", "-", data=f"{HEADER}\n{HOUR},x\n".encode())
         self.assertEqual((status, out), (command.NO_INPUT, b""))
         self.assertEqual(err, "table: standard input: line 2: it has 10 cells, but the header has 9\n")
         for words in (
@@ -414,23 +414,23 @@ class CommandLine(unittest.TestCase):
             [*texts, "--all", ".", "--rows", "orders"],
             [*texts, "--all", ".", "-o", "a.csv"],
         ):
-            status, out, err = tool("table", *words)
+            status, out, err = run_tool("table", *words)
             self.assertEqual((status, out, "can't be used with" in err), (command.COMMAND_LINE, b"", True), words)
         said = "table: --periods can't be used with tables of results: it belongs to --journal\n"
-        self.assertEqual(tool("table", *texts, "--periods", "24"), (command.COMMAND_LINE, b"", said))
+        self.assertEqual(run_tool("table", *texts, "--periods", "24"), (command.COMMAND_LINE, b"", said))
         said = "table: --only 99: it should be periods and runs of them, such as 8, 8-20 or 1,3,5-7, from 1 to 24\n"
-        self.assertEqual(tool("table", *texts, "--only", "99"), (command.COMMAND_LINE, b"", said))
+        self.assertEqual(run_tool("table", *texts, "--only", "99"), (command.COMMAND_LINE, b"", said))
         for words in ([*texts, "--row", "orders"], ["--journ", AUCTION], ["--journal", "-", "--period", "24"]):
-            status, out, err = tool("table", *words)
+            status, out, err = run_tool("table", *words)
             self.assertEqual((status, "unrecognized arguments" in err), (command.COMMAND_LINE, True), words)
-        self.assertEqual(tool("table", "--rows", "rows", AUCTION)[0], command.COMMAND_LINE)
-        self.assertEqual(tool("table", AUCTION)[0], command.NO_INPUT)
-        status, _, err = tool("table", "-", data=b"day,24,,,,,,,\nresults\nday,24\n")
+        self.assertEqual(run_tool("table", "--rows", "rows", AUCTION)[0], command.COMMAND_LINE)
+        self.assertEqual(run_tool("table", AUCTION)[0], command.NO_INPUT)
+        status, _, err = run_tool("table", "-", data=b"day,24,,,,,,,\nresults\nday,24\n")
         self.assertEqual(
             (status, err),
             (command.NO_INPUT, "table: no command of standard input closes the book, so it has no results\n"),
         )
-        self.assertEqual(tool("table", AUCTION, AUCTION_RESULTS, "-o", "/nowhere/a.csv")[0], command.NO_INPUT)
+        self.assertEqual(run_tool("table", AUCTION, AUCTION_RESULTS, "-o", "/nowhere/a.csv")[0], command.NO_INPUT)
 
 
 if __name__ == "__main__":

@@ -10,7 +10,7 @@ from pathlib import Path
 from unittest import mock
 
 from signed import DAY, NEEDS_CRYPTOGRAPHY, Audited, lines_of, replies_of, sealed_of
-from support import AUCTION, SUNNY, TOP, tool
+from support import AUCTION, SUNNY, TOP, run_tool
 
 from lib.journal import book, journal
 from lib.seal import heads
@@ -285,9 +285,9 @@ class Audit(Audited):
         self.run_tool(0, "keys", "other.pem")
         signed = ["--salts", "sealed/salts.json", "--head", "sealed/head.json"]
         said = "sealed/head.json isn't signed by this key: it isn't the operator's, or it was changed"
-        ran = tool("audit", "day.csv", "results.txt", *signed, "--key", "other.pem.pub")
+        ran = run_tool("audit", "day.csv", "results.txt", *signed, "--key", "other.pem.pub")
         self.assertEqual(ran, (1, f"wrong: {said}\n".encode(), ""))
-        status, out, err = tool("audit", "day.csv", "results.txt", *signed, "--key", "other.pem.pub", "--json")
+        status, out, err = run_tool("audit", "day.csv", "results.txt", *signed, "--key", "other.pem.pub", "--json")
         made = json.loads(out)
         self.assertEqual((status, made["verdict"], [fault["words"] for fault in made["faults"]], err), (1, "wrong", [said], ""))
         self.audit(0, "day.csv", "--day", DAY)
@@ -317,10 +317,10 @@ class Audit(Audited):
 
     def test_command_lines_of_the_audit(self):
         for words in (["--head", "h"], ["--day", "d"], ["--salts", "s", "--key", "k"], ["--receipts", "r"], ["--earlier", "e"]):
-            self.assertEqual(tool("audit", "day.csv", "results.txt", *words)[0], 2)
-        self.assertEqual(tool("audit", "--days", ".", "--head", "h", "--salts", "s", "--key", "k")[0], 2)
+            self.assertEqual(run_tool("audit", "day.csv", "results.txt", *words)[0], 2)
+        self.assertEqual(run_tool("audit", "--days", ".", "--head", "h", "--salts", "s", "--key", "k")[0], 2)
         for words in (["--head", "-", "--salts", "-", "--key", "k"], ["--head", "h", "--salts", "s", "--key", "k", "--earlier", "-", "--receipts", "-"]):
-            self.assertEqual(tool("audit", "day.csv", "results.txt", *words)[0], 2)
+            self.assertEqual(run_tool("audit", "day.csv", "results.txt", *words)[0], 2)
 
 
 if __name__ == "__main__":

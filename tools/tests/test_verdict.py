@@ -15,14 +15,14 @@ import unittest
 import unittest.mock
 from pathlib import Path
 
-from support import AUCTION, AUCTION_RESULTS, QUARTERS, TOOLS, TOP, audit, cleared_cases, journal_of, printed, results_of, tool
+from support import AUCTION, AUCTION_RESULTS, QUARTERS, TOOLS, TOP, cleared_cases, journal_of, read_results, results_of, run_audit, run_tool
 
 from lib.audit import verdict
 from lib.base import rules
 from lib.results import faults, results
 from lib.tool import command
 
-DATA, TEXT = AUCTION.read_bytes(), printed(AUCTION)
+DATA, TEXT = AUCTION.read_bytes(), read_results(AUCTION)
 MARK = b"\xef\xbb\xbf"
 PRINTED = {"CR LF": TEXT.replace(b"\n", b"\r\n"), "CR": TEXT.replace(b"\n", b"\r")}
 
@@ -49,15 +49,15 @@ class Encoding(unittest.TestCase):
         for text, said in self.others():
             with self.subTest(said):
                 wanted = f"the encoding differs: {said}\n{self.RIGHT}"
-                self.assertEqual(audit(DATA, text), (command.ENCODING, wanted.encode(), ""))
+                self.assertEqual(run_audit(DATA, text), (command.ENCODING, wanted.encode(), ""))
                 for one, other in (b"welfare,3", b"welfare,4"), (b"accepted", b"rejected"), (b"period,2,", b"period,3,"):
                     encoding = "utf-16" if said.endswith("UTF-16") else "latin-1"
                     wrong = text.decode(encoding).replace(one.decode(), other.decode(), 1).encode(encoding)
                     if wrong != text:
-                        status, out, _ = audit(DATA, wrong, "--best")
+                        status, out, _ = run_audit(DATA, wrong, "--best")
                         self.assertEqual((status, out.startswith(wanted.splitlines()[0].encode())), (command.DIFFERS, True))
         both = MARK + PRINTED["CR LF"]
-        status, out, _ = audit(DATA, both)
+        status, out, _ = run_audit(DATA, both)
         self.assertEqual((status, out.count(b"the encoding differs: ")), (command.ENCODING, 2))
 
     def test_many_fields_in_quotes(self):
@@ -77,26 +77,26 @@ class Encoding(unittest.TestCase):
     def test_replies_and_days(self):
         replies = b"day,24\r\n1,done\r\n"
         said = b"the encoding differs: the lines end with CR LF instead of LF alone\nas the rules say: 1 reply\n"
-        self.assertEqual(audit(journal_of(), replies, "--replies"), (command.ENCODING, said, ""))
+        self.assertEqual(run_audit(journal_of(), replies, "--replies"), (command.ENCODING, said, ""))
         day = DATA + b"results\n" + TEXT
         for other, part in (
             (day.replace(b"\n", b"\r\n"), b"the journal of the day isn't in its written form"),
             (day.replace(b"day,24,", b'"day",24,'), b"the journal of the day isn't in its written form"),
             (day.replace(b"results\n", b"results\r\n"), b"the line 'results' ends with CR LF instead of LF alone"),
         ):
-            status, out, _ = tool("audit", "-", data=other)
+            status, out, _ = run_tool("audit", "-", data=other)
             self.assertEqual((status, part in out), (command.ENCODING, True))
-        self.assertEqual(audit(DATA.replace(b"\n", b"\r\n"), TEXT)[0], command.DONE)
+        self.assertEqual(run_audit(DATA.replace(b"\n", b"\r\n"), TEXT)[0], command.DONE)
 
     def test_a_better_selection_is_wrong_in_each_encoding(self):
         worse = results_of(DATA, frozenset({0, 1})).replace(b"\n", b"\r\n")
-        self.assertEqual(audit(DATA, worse)[0], command.ENCODING)
-        self.assertEqual(audit(DATA, worse, "--best")[0], command.DIFFERS)
+        self.assertEqual(run_audit(DATA, worse)[0], command.ENCODING)
+        self.assertEqual(run_audit(DATA, worse, "--best")[0], command.DIFFERS)
 
 
 class Record(unittest.TestCase):
     def record(self, data, text, *words):
-        status, out, err = audit(data, text, "--json", *words)
+        status, out, err = run_audit(data, text, "--json", *words)
         made = json.loads(out)
         self.assertEqual((made["status"], made["verdict"]), (status, verdict.OF_STATUS[status]))
         self.assertEqual((made["version"], made["seconds"] >= 0), (rules.VERSION, True))
@@ -113,7 +113,7 @@ class Record(unittest.TestCase):
         self.assertEqual((made["day"]["welfare_eur"], made["day"]["accepted"], made["day"]["refused"]), ("3021520.000", 6, 1))
 
     def test_amounts_of_quarter_hours(self):
-        made, _ = self.record(QUARTERS.read_bytes(), printed(QUARTERS))
+        made, _ = self.record(QUARTERS.read_bytes(), read_results(QUARTERS))
         self.assertEqual((made["day"]["welfare_eur"], made["day"]["paid_eur"]), ("3098696.75000", "885657.75000"))
 
     def test_each_fault_is_a_record(self):
@@ -162,7 +162,7 @@ class Record(unittest.TestCase):
         self.assertEqual((made["verdict"], made["search"]["tried"], made["search"]["selections"]), ("undecided", 0, 512))
         self.assertEqual((made["search"]["better"], made["search"]["how"]), (None, None))
         for words in ("--quiet", "--all"):
-            self.assertEqual(audit(DATA, TEXT, "--json", words)[0], command.COMMAND_LINE)
+            self.assertEqual(run_audit(DATA, TEXT, "--json", words)[0], command.COMMAND_LINE)
 
     def test_a_record_if_files_or_memory_run_out(self):
         """Its status is the tool's, also if an import fails."""
@@ -189,7 +189,7 @@ class Record(unittest.TestCase):
             path = Path(os.fsdecode(os.fsencode(folder) + b"/a\xff\xe9.csv"))
             path.write_bytes(DATA)
             for words in ([path, AUCTION_RESULTS], [path, "/nowhere"], ["--days", folder]):
-                made = json.loads(tool("audit", "--json", *words)[1])
+                made = json.loads(run_tool("audit", "--json", *words)[1])
                 found = made["days"][0] if "days" in made else made
                 self.assertEqual(found["inputs"][0]["file"], f"{folder}/a\\xff\\xe9.csv")
                 json.dumps(made, ensure_ascii=False).encode()
@@ -211,9 +211,9 @@ class Record(unittest.TestCase):
     def test_other_texts(self):
         made, _ = self.record(journal_of(), b"day,24\n1,refused,Closed\n", "--replies")
         self.assertEqual((made["checked"], [fault["kind"] for fault in made["faults"]]), (["replies"], ["reply"]))
-        status, out, _ = tool("audit", "--json", "-", data=DATA + b"results\n" + TEXT)
+        status, out, _ = run_tool("audit", "--json", "-", data=DATA + b"results\n" + TEXT)
         self.assertEqual((status, json.loads(out)["inputs"][0]["role"]), (0, "day"))
-        status, out, _ = tool("audit", "--json", AUCTION, "--sent", "-", "--participant", "A", data=b"submit,A,B,hour,buy,1,1:1,,\n")
+        status, out, _ = run_tool("audit", "--json", AUCTION, "--sent", "-", "--participant", "A", data=b"submit,A,B,hour,buy,1,1:1,,\n")
         self.assertEqual((status, [fault["kind"] for fault in json.loads(out)["faults"]]), (1, ["missing"]))
 
     def test_the_worked_cases(self):
@@ -231,7 +231,7 @@ class Version(unittest.TestCase):
         self.assertIn('\ndynamic = ["version"]\n', text)
         self.assertIn('\nversion = { attr = "tools.lib.base.rules.VERSION" }\n', text)
         for name in ("audit", "lint", "plot", "report", "table"):
-            self.assertEqual(tool(name, "--version"), (0, f"{name} {rules.VERSION}\n".encode(), ""))
+            self.assertEqual(run_tool(name, "--version"), (0, f"{name} {rules.VERSION}\n".encode(), ""))
 
 
 if __name__ == "__main__":

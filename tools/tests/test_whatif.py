@@ -17,7 +17,7 @@ from fractions import Fraction
 from pathlib import Path
 
 import support
-from support import AUCTION, AUCTION_RESULTS, FIRST, QUARTERS, QUARTERS_RESULTS, journal_of, new_folder, printed, tool
+from support import AUCTION, AUCTION_RESULTS, FIRST, QUARTERS, QUARTERS_RESULTS, journal_of, new_folder, read_results, run_tool
 
 import compare
 from lib.base import rules, text
@@ -219,7 +219,7 @@ class Page(unittest.TestCase):
 class Day(unittest.TestCase):
     def test_numbers_are_those_of_the_tables(self):
         """The amounts, outcomes and sums of a cleared day, and those that the tables have of the same results."""
-        for data, text in ((AUCTION.read_bytes(), printed(AUCTION)), (QUARTERS.read_bytes(), printed(QUARTERS))):
+        for data, text in ((AUCTION.read_bytes(), read_results(AUCTION)), (QUARTERS.read_bytes(), read_results(QUARTERS))):
             day = support.day_of(data, text)
             both = cleared.Cleared.of_day(day), cleared.Cleared.of_text(day.book.rows, day.problem.periods, text)
             write = changes.Written(both[0])
@@ -275,7 +275,7 @@ class Tools(unittest.TestCase):
         return path
 
     def whatif(self, *words, data=b""):
-        return tool("whatif", words[0], "--program", self.program, *words[1:], data=data)
+        return run_tool("whatif", words[0], "--program", self.program, *words[1:], data=data)
 
     def rows(self, out):
         return list(csv.DictReader(io.StringIO(out.decode())))
@@ -332,17 +332,17 @@ class Tools(unittest.TestCase):
         for name, lines in (("a", SMALL), ("b", (*SMALL, more.read_text().strip()))):
             data = journal_of(*lines)
             days += [self.file(f"{name}.csv", data), self.file(f"{name}.txt", support.results_of(data, best(data)))]
-        self.assertEqual(tool("compare", "--participant", "GEN", *days)[:2], (0, out))
-        status, again, _ = tool("compare", *days)
+        self.assertEqual(run_tool("compare", "--participant", "GEN", *days)[:2], (0, out))
+        status, again, _ = run_tool("compare", *days)
         self.assertIn(b"executed,MWh,WIND,MILL,,,2.0,,,in full\n", again)
-        self.assertEqual(tool("compare", *days[:2], *days[:2])[2], "compare: nothing differs\n")
+        self.assertEqual(run_tool("compare", *days[:2], *days[:2])[2], "compare: nothing differs\n")
         # without MILL and UNIT nothing is traded, and the price says nothing
         none = self.whatif("change", self.journal, "-", data=b"cancel,GEN,UNIT,,,,,,\n")[1]
         self.assertIn(b"price,EUR/MWh,,,1,50.00,,,,\nvolume,MW,,,1,2.0,0.0,-2.0,,\n", none)
         # a table of orders is such a change too, and so is standard input
         table = b"participant,order,kind,side,price_eur_mwh,periods,volume_mw\nWIND,MILL,hour,sell,10,1,2\n"
         self.assertEqual(self.whatif("change", self.journal, "-", "--participant", "GEN", data=table)[:2], (0, out))
-        self.assertEqual(len(json.loads(tool("compare", "--json", *days)[1])["rows"]), len(again.splitlines()) - 1)
+        self.assertEqual(len(json.loads(run_tool("compare", "--json", *days)[1])["rows"]), len(again.splitlines()) - 1)
 
     def test_amends_and_cancels_change_a_day(self):
         status, out, _ = self.whatif("change", self.journal, "-", data=b"cancel,GEN,UNIT,,,,,,\n")
@@ -472,10 +472,11 @@ class Tools(unittest.TestCase):
             self.assertEqual((status, word in err), (2, True))
         days = AUCTION, AUCTION_RESULTS, QUARTERS, QUARTERS_RESULTS
         said = "compare: the days have 24 and 96 periods, so their prices can't be compared\n"
-        self.assertEqual(tool("compare", *days), (3, b"", said))
-        self.assertEqual(tool("compare", "--participant", "NONE", *days[:2], *days[:2])[2], "compare: NONE has no order in either book\n")
-        self.assertEqual(tool("compare", days[0], days[3], *days[:2])[0], 3)
-        self.assertEqual(tool("compare", "-o", days[0], *days[:2], *days[:2])[0], 2)
+        self.assertEqual(run_tool("compare", *days), (3, b"", said))
+        said = run_tool("compare", "--participant", "NONE", *days[:2], *days[:2])[2]
+        self.assertEqual(said, "compare: NONE has no order in either book\n")
+        self.assertEqual(run_tool("compare", days[0], days[3], *days[:2])[0], 3)
+        self.assertEqual(run_tool("compare", "-o", days[0], *days[:2], *days[:2])[0], 2)
 
     def test_output_that_can_not_be_written(self):
         for name, words in (
@@ -491,10 +492,10 @@ class Tools(unittest.TestCase):
         self.assertEqual((status, out, err), (3, b"", "whatif: /nowhere/a.csv can't be written: No such file or directory\n"))
 
     def test_no_program_and_one_that_fails(self):
-        status, out, err = tool("whatif", "limit", "--program", "/nowhere/dam", self.journal, "--participant", "GEN", "--order", "UNIT")
+        status, out, err = run_tool("whatif", "limit", "--program", "/nowhere/dam", self.journal, "--participant", "GEN", "--order", "UNIT")
         self.assertEqual((status, out, err), (command.FAILED, b"", "whatif: /nowhere/dam can't be run: No such file or directory\n"))
         with unittest.mock.patch.dict(os.environ, {"DAM_LIBRARY": "/nowhere/libdam.so"}):
-            status, out, err = tool("whatif", "limit", self.journal, "--participant", "GEN", "--order", "UNIT")
+            status, out, err = run_tool("whatif", "limit", self.journal, "--participant", "GEN", "--order", "UNIT")
         self.assertEqual((status, out), (command.FAILED, b""))
         self.assertRegex(err, "^whatif: the library /nowhere/libdam.so can't be used: .*\n$")
         limit = ["limit", self.journal, "--participant", "GEN"]
@@ -549,7 +550,7 @@ class Tools(unittest.TestCase):
         sample = ["limit", self.journal, *town, "--from", "50", "--to", "50.01", "--step", "0.01"]
         cases += [(sample, "buy,5001,", "the day with a limit of 50.01 EUR/MWh", *welfare)]
         for words, mark, name, edit, place in cases:
-            self.program = support.doctored(self.folder, real, mark, edit)
+            self.program = support.write_doctored_program(self.folder, real, mark, edit)
             with self.subTest(words=words, mark=mark, edit=edit):
                 status, out, err = self.whatif(*words)
                 self.assertEqual((status, out, len(err.splitlines())), (command.DIFFERS, b"", 1), err)
@@ -564,7 +565,7 @@ class Tools(unittest.TestCase):
             ("s/,rejected,/,accepted,/", command.DIFFERS, "results line 28: block GEN,UNIT: it is accepted and loses "),
             ("s/^welfare,/welfare,1/", command.DONE, ""),
         ):
-            self.program = support.doctored(self.folder, real, f"sell,{middle},", edit)
+            self.program = support.write_doctored_program(self.folder, real, f"sell,{middle},", edit)
             found = self.whatif(*words)
             self.assertEqual((found[0], said in found[2], found[1] == right[1]), (status, True, not said), found)
 
@@ -581,7 +582,7 @@ class Tools(unittest.TestCase):
         ):
             Path(self.folder, "pids").unlink(missing_ok=True)
             with unittest.mock.patch.object(by_program, "RUN_SECONDS", 3):
-                found = support.tool("whatif", *words, "--program", hang)
+                found = support.run_tool("whatif", *words, "--program", hang)
             said = f"whatif: {begin}{hang} took longer than 3 seconds\n"
             self.assertEqual(found, (command.FAILED, b"", said), words)
             self.assertTrue(all(map(ends, Path(self.folder, "pids").read_text().split())))

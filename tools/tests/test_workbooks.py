@@ -11,7 +11,7 @@ import zipfile
 from pathlib import Path
 from unittest import mock
 
-from support import AUCTION, tool
+from support import AUCTION, run_tool
 
 import workbooks as made
 from lib.runs import errors
@@ -52,12 +52,12 @@ class Read(unittest.TestCase):
     """Reads workbooks of two sheets."""
 
     def fault(self, data):
-        status, out, err = tool("table", "--journal", "-", data=data)
+        status, out, err = run_tool("table", "--journal", "-", data=data)
         self.assertEqual((status, out), (command.NO_INPUT, b""), err)
         return err.removesuffix(f"table: standard input: {READ}\n").removeprefix("table: standard input: ").removesuffix("\n")
 
     def orders(self, data):
-        status, out, err = tool("table", "--journal", "--open", "-", data=data)
+        status, out, err = run_tool("table", "--journal", "--open", "-", data=data)
         self.assertEqual((status, err), (0, f"table: standard input: {READ}\n"))
         return [(fields[2], fields[8]) for fields in csv.reader(out.decode().splitlines()[1:])]
 
@@ -185,7 +185,7 @@ class Faults(Read):
         with tempfile.TemporaryDirectory() as folder:
             path = Path(folder, "orders.xlsx")
             path.write_bytes(data)
-            status, _, err = tool("audit", AUCTION, "--sent", path, "--participant", "GAS")
+            status, _, err = run_tool("audit", AUCTION, "--sent", path, "--participant", "GAS")
             self.assertEqual((status, said in err), (command.NO_INPUT, True), err)
         for read in (lambda: changes.read_changes(data, 24), lambda: scenarios.read_table("a table", data, Book(24))):
             with self.assertRaisesRegex(errors.Fault, said):
