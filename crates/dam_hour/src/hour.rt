@@ -126,10 +126,10 @@ impl Matched {
         LeftVolumes {
             buys: self
                 .bought
-                .saturating_sub(hour.sums_better_than(Side::Buy, self.low).volume),
+                .saturating_sub(hour.better_sums(Side::Buy, self.low).volume),
             sells: self
                 .sold
-                .saturating_sub(hour.sums_better_than(Side::Sell, self.low).volume),
+                .saturating_sub(hour.better_sums(Side::Sell, self.low).volume),
         }
     }
 
@@ -229,7 +229,7 @@ impl<A: Allocator> Hour<A> {
     }
 
     /// The sums of the steps of one side that are better than a price.
-    pub(crate) fn sums_better_than(&self, side: Side, price: Price) -> Sums
+    pub(crate) fn better_sums(&self, side: Side, price: Price) -> Sums
         ensures volume { result.volume ≡ better_volume side price self.now }
         ensures small { result.volume ≤ most_steps * greatest_volume }
         ensures gain { signed side (result.value -ℤ price *ℤ pos result.volume)

@@ -24,7 +24,7 @@ impl VolumeRange {
         ensures small { result.most ≤ most_steps * greatest_volume }
     {
         VolumeRange {
-            least: hour.sums_better_than(side, price).volume,
+            least: hour.better_sums(side, price).volume,
             most: hour.volume_not_worse_than(side, price),
         }
     }
@@ -47,8 +47,8 @@ pub(crate) fn full_surplus<A: Allocator>(hour: &Hour<A>, price: Price) -> u64
     ensures value { result ≡ full_surplus price hour.now }
     ensures small { result ≤ 2 * (most_steps * (price_span * greatest_volume)) }
 {
-    let buys = hour.sums_better_than(Side::Buy, price);
-    let sells = hour.sums_better_than(Side::Sell, price);
+    let buys = hour.better_sums(Side::Buy, price);
+    let sells = hour.better_sums(Side::Sell, price);
     let buyers_gain = buys.value - value_at(price, buys.volume);
     let sellers_gain = value_at(price, sells.volume) - sells.value;
     buyers_gain as u64 + sellers_gain as u64

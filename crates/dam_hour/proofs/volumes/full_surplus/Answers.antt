@@ -27,11 +27,11 @@ difference_from a b g e small within = omega (arith, ints, e, small, within.0, w
 pub returns-clause-value : goal.returns-clause-value
 returns-clause-value g c =
     let at = c.value_at.ensures in let at' = c.value_at-2.ensures in
-    let own = c.sums_better_than-buys.ensures.gain in let own' = c.sums_better_than-sells.ensures.gain in
-    let buys = difference_from c.sums_better_than-buys.result.value c.value_at.result _ (ap₂ (λ (a b : ℤ). a -ℤ b) refl at.value
-    ∙ own) c.sums_better_than-buys.ensures.gain_small (at.at_least, at.at_most) in
-    let sells = difference c.value_at-2.result c.sums_better_than-sells.result.value _ (let is = at'.value in
-    omega (arith, ints, is, own')) c.sums_better_than-sells.ensures.gain_small (at'.at_least, at'.at_most) in
+    let own = c.better_sums-buys.ensures.gain in let own' = c.better_sums-sells.ensures.gain in
+    let buys = difference_from c.better_sums-buys.result.value c.value_at.result _ (ap₂ (λ (a b : ℤ). a -ℤ b) refl at.value
+    ∙ own) c.better_sums-buys.ensures.gain_small (at.at_least, at.at_most) in
+    let sells = difference c.value_at-2.result c.better_sums-sells.result.value _ (let is = at'.value in
+    omega (arith, ints, is, own')) c.better_sums-sells.ensures.gain_small (at'.at_least, at'.at_most) in
     let whole = full_gain c.args.price c.args.hour.now in
     omega (arith, buys, sells, whole)
 
@@ -39,12 +39,12 @@ pub overflow_add-result : goal.overflow_add-result
 overflow_add-result g c =
     let value = returns-clause-value g c in
     let whole = full_gain c.args.price c.args.hour.now in
-    let small = c.sums_better_than-buys.ensures.gain_small in let small' = c.sums_better_than-sells.ensures.gain_small in
+    let small = c.better_sums-buys.ensures.gain_small in let small' = c.better_sums-sells.ensures.gain_small in
     omega (arith, value, whole, small, small')
 
 pub returns-clause-small : goal.returns-clause-small
 returns-clause-small g c =
     let value = returns-clause-value g c in
     let whole = full_gain c.args.price c.args.hour.now in
-    let small = c.sums_better_than-buys.ensures.gain_small in let small' = c.sums_better_than-sells.ensures.gain_small in
+    let small = c.better_sums-buys.ensures.gain_small in let small' = c.better_sums-sells.ensures.gain_small in
     omega (arith, value, whole, small, small')

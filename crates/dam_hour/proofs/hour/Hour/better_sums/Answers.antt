@@ -4,7 +4,7 @@ use Rattle.dam_hour.specs.Best.{signed}
 use Rattle.dam_hour.specs.inside.Ladder.{IsCut}
 use Rattle.dam_hour.proofs.Ladders.{volume_before, none_in_front, gain_before}
 use Rattle.dam_hour.proofs.Positions.{front_small, gain_small}
-use Rattle.dam_hour.proofs.hour.Hour.sums_better_than.Goals as goal
+use Rattle.dam_hour.proofs.hour.Hour.better_sums.Goals as goal
 
 pub returns-clause-volume : goal.returns-clause-volume
 returns-clause-volume g c =
