@@ -9,7 +9,7 @@ use Rattle.dam_blocks.specs.declared.hindrances.Hindrances.{Hindrances}
 use Rattle.dam_blocks.specs.Problem.{IsParent}
 use Rattle.dam_blocks.specs.Family.{names}
 use Rattle.dam_blocks.specs.Selection.{accepts, are_of_one_group, accepted_of_group, IsAllowed}
-use Rattle.dam_blocks.specs.inside.Hindrances.{places_where, group_members, count_accepted, AreHindrances}
+use Rattle.dam_blocks.specs.inside.Hindrances.{places_where, group_places, count_accepted, AreHindrances}
 use Rattle.dam_blocks.proofs.Descending.{named}
 use Rattle.dam_blocks.proofs.GroupCounts.{count_none}
 use Rattle.dam_blocks.proofs.RowByRow.{drop_at}
@@ -170,7 +170,7 @@ counted g (c ∷ bs) at sel (false ∷ xs) h =
 from_first : (sel : List Bool) (k : ℕ) → accepts sel (0 + k) ≡ accepts sel k
 from_first sel k = ap (λ (n : ℕ). accepts sel n) (let same_place : 0 + k ≡ k = omega arith in same_place)
 
-counted_group : (g : Block) (bs : List Block) (sel : List Bool) → count_accepted sel (group_members g bs) ≡ accepted_of_group g bs sel
+counted_group : (g : Block) (bs : List Block) (sel : List Bool) → count_accepted sel (group_places g bs) ≡ accepted_of_group g bs sel
 counted_group g bs sel = counted g bs 0 sel sel (from_first sel)
 
 -- ---- their effect

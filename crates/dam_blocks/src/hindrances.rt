@@ -1,6 +1,6 @@
 ghost use Rattle.std.specs.Prelude.{◌≡◌, ◌≤◌, length, IfOk};
 ghost use Rattle.dam_book.specs.Limits.{most_blocks};
-ghost use Rattle.dam_blocks.specs.inside.Hindrances.{parents_of, group_members, count_accepted, AreAllHindrances};
+ghost use Rattle.dam_blocks.specs.inside.Hindrances.{parent_places, group_places, count_accepted, AreAllHindrances};
 
 use crate::family::is_parent;
 use crate::links::are_of_one_group;
@@ -21,9 +21,9 @@ pub(crate) struct Hindrances {
 }
 
 /// The place of the block's parent, if it has one.
-fn parents_of(blocks: &[Block], block: &Block) -> ArrayVec<u8, MOST_BLOCKS>
+fn parent_places(blocks: &[Block], block: &Block) -> ArrayVec<u8, MOST_BLOCKS>
     requires { length blocks.now ≤ most_blocks }
-    ensures { result.items ≡ parents_of block.now blocks.now }
+    ensures { result.items ≡ parent_places block.now blocks.now }
 {
     let mut places = ArrayVec::new();
     for (at, other) in blocks.iter().enumerate() {
@@ -35,9 +35,9 @@ fn parents_of(blocks: &[Block], block: &Block) -> ArrayVec<u8, MOST_BLOCKS>
 }
 
 /// The places of the blocks of the block's group, its own among them.
-fn group_members(blocks: &[Block], block: &Block) -> ArrayVec<u8, MOST_BLOCKS>
+fn group_places(blocks: &[Block], block: &Block) -> ArrayVec<u8, MOST_BLOCKS>
     requires { length blocks.now ≤ most_blocks }
-    ensures { result.items ≡ group_members block.now blocks.now }
+    ensures { result.items ≡ group_places block.now blocks.now }
 {
     let mut places = ArrayVec::new();
     for (at, other) in blocks.iter().enumerate() {
@@ -59,8 +59,8 @@ pub(crate) fn all_hindrances<A: Allocator>(
     let mut all = Vec::with_capacity(alloc, blocks.len())?;
     for place in 0..blocks.len() {
         let block = &blocks[place];
-        let parents = parents_of(blocks, block);
-        let group = group_members(blocks, block);
+        let parents = parent_places(blocks, block);
+        let group = group_places(blocks, block);
         all.push(Hindrances { parents, group })?;
     }
     Ok(all)

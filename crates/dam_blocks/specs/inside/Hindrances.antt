@@ -12,12 +12,12 @@ places_where test at (b ∷ bs) =
     if test b then at ∷ places_where test (at + 1) bs else places_where test (at + 1) bs
 
 -- the place of the block's parent, if it has one
-abbrev pub parents_of : Block → List Block → List ℕ
-parents_of block blocks = places_where (λ b. names b block) 0 blocks
+abbrev pub parent_places : Block → List Block → List ℕ
+parent_places block blocks = places_where (λ b. names b block) 0 blocks
 
 -- the places of the blocks of its group, its own among them
-abbrev pub group_members : Block → List Block → List ℕ
-group_members block blocks = places_where (λ b. are_of_one_group block b) 0 blocks
+abbrev pub group_places : Block → List Block → List ℕ
+group_places block blocks = places_where (λ b. are_of_one_group block b) 0 blocks
 
 -- how many of the places the selection accepts
 abbrev pub count_accepted : List Bool → List ℕ → ℕ
@@ -27,8 +27,8 @@ count_accepted selection (j ∷ places) =
 
 -- the hindrances of the block
 pub record AreHindrancesOf (block : Block) (blocks : List Block) (own : Hindrances) : Type 0 where
-  pub parents : own.parents.items ≡ parents_of block blocks
-  pub group : own.group.items ≡ group_members block blocks
+  pub parents : own.parents.items ≡ parent_places block blocks
+  pub group : own.group.items ≡ group_places block blocks
 
 -- the hindrances of the block at place i
 pub record AreHindrances (blocks : List Block) (i : ℕ) (own : Hindrances) : Type 0 where

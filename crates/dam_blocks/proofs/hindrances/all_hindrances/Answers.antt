@@ -11,13 +11,13 @@ pub loop-place-preserved : goal.loop-place-preserved
 loop-place-preserved g c =
     let blocks = c.args.blocks.now in let before = c.loop-place.all.items in let place = c.loop-place.place in
     let block = c.index-blocks-place.result in
-    let own : Hindrances = record { parents = c.parents_of-parents.result; group = c.group_members-group.result } in
+    let own : Hindrances = record { parents = c.parent_places-parents.result; group = c.group_places-group.result } in
     let is : c.push.new.self.items ≡ before ++ own ∷ [] = c.in_ok-push.ensures.items in
     let many = c.loop-place.invariant.as_many in
     let here : AreHindrances blocks place own = record {
       block = block;
       stands = slice_get_read blocks _ place block refl c.loop-place-test.true c.index-blocks-place.is;
-      are = record { parents = c.parents_of-parents.ensures; group = c.group_members-group.ensures };
+      are = record { parents = c.parent_places-parents.ensures; group = c.group_places-group.ensures };
     } in
     let last = subst (λ (n : ℕ). AreHindrances blocks n own) (sym many) here in
     record {

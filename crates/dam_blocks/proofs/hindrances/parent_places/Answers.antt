@@ -3,8 +3,8 @@ use Rattle.std.proofs.Common.{ℕ, ◌+◌, List, ◌∙◌, sym, subst, refl, r
 use Rattle.std.proofs.lemmas.Option.{slice_get_read}
 use Rattle.dam_blocks.specs.Family.{names}
 use Rattle.dam_blocks.proofs.Hindering.{AreFoundSoFar, found_more, found_same, found_all}
-use Rattle.dam_blocks.proofs.hindrances.parents_of.Goals.{then-is_parent, else-is_parent}
-use Rattle.dam_blocks.proofs.hindrances.parents_of.Goals as goal
+use Rattle.dam_blocks.proofs.hindrances.parent_places.Goals.{then-is_parent, else-is_parent}
+use Rattle.dam_blocks.proofs.hindrances.parent_places.Goals as goal
 
 pub loop-at-preserved : goal.loop-at-preserved
 loop-at-preserved c =

@@ -3,8 +3,8 @@ use Rattle.std.proofs.Common.{ℕ, ◌+◌, List, ◌∙◌, sym, subst, refl, r
 use Rattle.std.proofs.lemmas.Option.{slice_get_read}
 use Rattle.dam_blocks.specs.Selection.{are_of_one_group}
 use Rattle.dam_blocks.proofs.Hindering.{AreFoundSoFar, found_more, found_same, found_all}
-use Rattle.dam_blocks.proofs.hindrances.group_members.Goals.{then-are_of_one_group, else-are_of_one_group}
-use Rattle.dam_blocks.proofs.hindrances.group_members.Goals as goal
+use Rattle.dam_blocks.proofs.hindrances.group_places.Goals.{then-are_of_one_group, else-are_of_one_group}
+use Rattle.dam_blocks.proofs.hindrances.group_places.Goals as goal
 
 pub loop-at-preserved : goal.loop-at-preserved
 loop-at-preserved c =
