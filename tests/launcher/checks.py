@@ -49,10 +49,10 @@ class CheckTests(RepositoryCase):
         for name in ("low", "left", "right"):
             self.at.write(f"crates/{name}/out/rlib/{name}.rlib/checked", name)
         crates = check.Crates(f"{self.at.top}/copied")
-        crates.line("rt: low proved")
-        crates.line("rt: left is kept: an earlier run on this machine proved the same files over the same libraries")
-        crates.line("rt: right NOT PROVED")
-        rows = list(crates.rows())
+        crates.take_line("rt: low proved")
+        crates.take_line("rt: left is kept: an earlier run on this machine proved the same files over the same libraries")
+        crates.take_line("rt: right NOT PROVED")
+        rows = list(crates.stop_and_list_rows())
         self.assertEqual(sorted(os.listdir(f"{self.at.top}/copied")), ["left.rlib", "low.rlib"])
         self.assertEqual(self.at.read("copied/left.rlib/checked"), "left")
         self.assertIn("proved 0.0 minutes after the start", rows[0])
@@ -77,8 +77,8 @@ class CheckTests(RepositoryCase):
             crates = check.Crates(f"{self.at.top}/copied")
             counted = {("low", False, str(proof.pid)), ("low", True, str(edit.pid))}
             self.wait_for(lambda: {it for it, seconds in list(crates.seconds.items()) if seconds} == counted)
-            crates.line("rt: low proved")
-            self.assertEqual(len(list(crates.rows())), 1)
+            crates.take_line("rt: low proved")
+            self.assertEqual(len(list(crates.stop_and_list_rows())), 1)
             self.assertEqual(set(crates.seconds), counted)
 
     def test_the_totals_are_written_with_the_commit(self):
@@ -87,18 +87,18 @@ class CheckTests(RepositoryCase):
         SourceFileLoader("check", check.__file__).exec_module(check)
         whole = check.Part("all")
         whole.passed, whole.failed = 7, 1
-        before = check.state()
+        before = check.query_clean_commit()
         self.assertIsNone(before, "no repository")
         self.at.write(".gitignore", "out/\ncrates/*/out/\n")
         names = [word for who in ("user.name", "user.email") for word in ("-c", f"{who}=test")]
         for line in (["init", "--quiet"], ["add", "--all"], [*names, "commit", "--quiet", "-m", "all"]):
             self.assertEqual(self.at.run("git", *line, cwd=self.at.top)[0], 0)
-        commit = check.state()
+        commit = check.query_clean_commit()
         self.assertEqual(commit, self.at.run("git", "rev-parse", "HEAD", cwd=self.at.top)[1].strip())
         for changed, of in ((None, commit), ("crates/low/src/lib.rt", None)):
             if changed:
                 self.at.write(changed, "changed meanwhile")
-            check.tell(whole, commit, False)
+            check.write_record(whole, commit, False)
             told = json.loads(self.at.read("out/check.json"))
             self.assertEqual((told["commit"], told["command"], told["passed"], told["failed"]), (of, "./check", 7, 1))
 
